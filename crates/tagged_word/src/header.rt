@@ -1,0 +1,66 @@
+//! The first word of a cell: its shape and its object's number.
+ghost use Rattle.std.specs.Prelude.{◌≡◌, ◌≢◌, ◌<◌, ◌↔◌, IfSome, IsNone};
+ghost use Rattle.tagged_word.specs.Headers.{IsHeader, header_bits};
+
+use crate::word::Word;
+
+/// A cell's shape and the number of its object.
+#[derive(Clone, Copy, Debug, PartialEq, Eq)]
+pub struct Header {
+    pub shape: u32,
+    pub object: u32,
+}
+
+const SHAPES: u32 = 65536;
+
+impl Header {
+    /// The word that a cell with this header begins with.
+    pub fn word(self) -> Word
+        requires { self.shape < 65536 }
+        ensures { result.0 ≡ header_bits self }
+    {
+        Word(self.object as u64 * 4_294_967_296 + (self.shape as u64 * 4 + 2))
+    }
+
+    /// The header that a word has the bits of; none for bits of no header.
+    pub fn parse(word: Word) -> Option<Header>
+        ensures parses { (header : Header) → IsHeader header → word.0 ≡ header_bits header →
+            result ≡ Some header }
+        ensures one { IfSome result (λ header. IsHeader header × (word.0 ≡ header_bits header)) }
+        ensures none { IsNone result
+            ↔ ((header : Header) → IsHeader header → word.0 ≢ header_bits header) }
+    {
+        let low = (word.0 % 4_294_967_296) as u32;
+        let header = Header {
+            shape: low / 4,
+            object: (word.0 / 4_294_967_296) as u32,
+        };
+        if low % 4 == 2 && header.shape < SHAPES {
+            Some(header)
+        } else {
+            None
+        }
+    }
+}
+
+#[cfg(test)]
+mod tests {
+    use super::*;
+
+    #[test]
+    fn a_header_and_its_word_stand_for_one_another(rt: HostRuntime) {
+        let header = Header {
+            shape: 9,
+            object: 3,
+        };
+        assert_eq!(rt; header.word(), Word(0x0000_0003_0000_0026));
+        assert_eq!(rt; Header::parse(Word(0x0000_0003_0000_0026)), Some(header));
+    }
+
+    #[test]
+    fn bits_that_are_no_headers_are_refused(rt: HostRuntime) {
+        assert_eq!(rt; Header::parse(Word(0x0000_0003_0000_0024)), None);
+        assert_eq!(rt; Header::parse(Word(0x0000_0003_0004_0026)), None);
+        assert_eq!(rt; Header::parse(Word(0x0000_0003_8000_0026)), None);
+    }
+}
