@@ -1,0 +1,41 @@
+-- When a weak map has no room, where every entry counts.
+use Rattle.std.proofs.Common.{◌≡◌, ◌==◌, ◌&&◌, ◌∙◌, ap, refl, ℕ, ◌+◌, Bool, true, false, cond, List, [], ◌∷◌, length, Option, Some, None, is_none, is_some, not, nat_le, arith, zero-add}
+use Rattle.std.specs.Prelude.{count_by, if◌then◌else◌}
+use Rattle.std.proofs.lemmas.Bool.Decides.{nat_tests}
+use Rattle.std.proofs.lemmas.List.Sums.{sum_by-cons}
+use Rattle.ideal_graph.specs.declared.value.Value.{Value}
+use Rattle.ideal_graph.specs.declared.object.Entry.{Entry}
+use Rattle.ideal_graph.specs.Objects.{entry_value}
+use Rattle.ideal_graph.specs.Meaning.{no_entry_for, weak_most}
+use Rattle.ideal_graph.specs.Steps.{ideal_limits}
+use Rattle.ideal_graph.proofs.Places.{has_key}
+
+-- one entry more is counted where it has the key
+no_key-cons : (here : Bool) (n : ℕ) (value : Value) (rest : Option Value) → (n == 0) ≡ is_none rest → (cond here 1 0 + n == 0) ≡ is_none (if here then Some value else rest)
+no_key-cons true n value rest same = grind (arith, nat_tests)
+no_key-cons false n value rest same = rw zero-add same
+
+-- no entry is counted that has the key where the key has no value
+no_key : (entries : List Entry) (key : ℕ) → (count_by (has_key key) entries == 0) ≡ is_none (entry_value entries key)
+no_key [] key = refl
+no_key (entry ∷ entries) key =
+    ap (λ n. n == 0) (sum_by-cons (λ e. cond (has_key key e) 1 0) entry entries)
+    ∙ no_key-cons (has_key key entry) (count_by (has_key key) entries) entry.value (entry_value entries key) (no_key entries key)
+
+-- as many are counted as there are
+count_by-all : (entries : List Entry) → count_by (λ entry. true) entries ≡ length entries
+count_by-all [] = refl
+count_by-all (entry ∷ entries) = omega (arith, sum_by-cons (λ e. 1) entry entries, count_by-all entries)
+
+-- a test for nothing, by the test for something
+pub is_none-is : (found : Option Value) (new : Bool) → is_some found ≡ not new → new ≡ is_none found
+is_none-is None true says = refl
+is_none-is None false says = cc
+is_none-is (Some value) true says = cc
+is_none-is (Some value) false says = refl
+
+-- so there is no room for a new key in a full map
+pub no_entry_for-is : (entries : List Entry) (key : ℕ) → no_entry_for ideal_limits [] entries key ≡ (is_none (entry_value entries key) && nat_le weak_most (length entries))
+no_entry_for-is entries key =
+    ap (λ new. new && nat_le weak_most (count_by (λ entry. true) entries)) (no_key entries key)
+    ∙ ap (λ n. is_none (entry_value entries key) && nat_le weak_most n) (count_by-all entries)

@@ -1,0 +1,110 @@
+//! The commands that bind variables, to new objects or to values.
+ghost use Rattle.std.specs.Prelude.{◌≡◌, [], OnOk, OnErr};
+ghost use Rattle.std.specs.Ordering.{nat_cmp};
+ghost use Rattle.std.specs.FinMap.{insert, remove, from_entries};
+ghost use Rattle.ideal_graph.specs.declared.command.Command.{Command};
+ghost use Rattle.ideal_graph.specs.Graphs.{make};
+ghost use Rattle.ideal_graph.specs.Meaning.{done};
+ghost use Rattle.ideal_graph.specs.Steps.{Steps};
+ghost use Rattle.ideal_graph.specs.Lookups.{Answers};
+
+use super::lookups::integer;
+use super::{Ideal, IdealStop, Said};
+use crate::command::{FaultWord, Operand};
+use crate::object::{Elements, Entries, Fields, Object};
+use crate::value::Value;
+use std::alloc::AllocError;
+use std::collections::BTreeMap;
+
+impl Ideal {
+    /// Binds `x` to a new plain object.
+    pub(super) fn make_plain(&mut self, x: u32, cap: u32) -> Result<Said, IdealStop>
+        ensures { Steps self.old self.new (Command.New x cap) result }
+    {
+        let fields = Fields::new(self.alloc);
+        self.make(x, Object::Plain { cap, fields })
+    }
+
+    /// Binds `x` to a new list.
+    pub(super) fn make_list(&mut self, x: u32) -> Result<Said, IdealStop>
+        ensures { Steps self.old self.new (Command.List x) result }
+    {
+        let elements = Elements::new(self.alloc);
+        self.make(x, Object::List { elements })
+    }
+
+    /// Binds `x` to a new weak map.
+    pub(super) fn make_weak(&mut self, x: u32) -> Result<Said, IdealStop>
+        ensures { Steps self.old self.new (Command.Weak x) result }
+    {
+        let entries = Entries::new(self.alloc);
+        self.make(x, Object::Weak { entries })
+    }
+
+    /// Binds `x` to the object, as one more.
+    fn make(&mut self, x: u32, object: Object) -> Result<Said, IdealStop>
+        ensures { Answers self.old self.new (done (make self.old.graph x object) []) result }
+    {
+        let Ok(number) = u32::try_from(self.objects.len()) else {
+            return Err(IdealStop::NoMemory);
+        };
+        self.objects.reserve(1)?;
+        bind(&mut self.bindings, x, Value::Ref(number))?;
+        self.objects.push_reserved(object);
+        Ok(Said::nothing(self.alloc))
+    }
+
+    /// Binds `x` to the value.
+    pub(super) fn let_value(&mut self, x: u32, v: Operand) -> Result<Said, IdealStop>
+        ensures { Steps self.old self.new (Command.LetValue x v) result }
+    {
+        let value = self.value(v)?;
+        bind(&mut self.bindings, x, value)?;
+        Ok(Said::nothing(self.alloc))
+    }
+
+    /// Unbinds `x`.
+    pub(super) fn drop_var(&mut self, x: u32) -> Result<Said, IdealStop>
+        ensures { Steps self.old self.new (Command.DropVar x) result }
+    {
+        self.bound(x)?;
+        unbind(&mut self.bindings, x);
+        Ok(Said::nothing(self.alloc))
+    }
+
+    /// Binds `x` to the sum of its integer and the value.
+    pub(super) fn add(&mut self, x: u32, v: Operand) -> Result<Said, IdealStop>
+        ensures { Steps self.old self.new (Command.Add x v) result }
+    {
+        let first = self.bound(x)?;
+        let second = self.value(v)?;
+        let first = integer(first)?;
+        let second = integer(second)?;
+        let Some(sum) = first.checked_add(second) else {
+            return Err(IdealStop::ScriptFault(FaultWord::Overflow));
+        };
+        bind(&mut self.bindings, x, Value::Int(sum))?;
+        Ok(Said::nothing(self.alloc))
+    }
+}
+
+/// Binds the variable to the value.
+pub(super) fn bind(
+    bindings: &mut BTreeMap<u32, Value>,
+    x: u32,
+    value: Value,
+) -> Result<(), AllocError>
+    ensures ok { OnOk result
+        (from_entries {R = nat_cmp} bindings.new.entries ≡ insert (from_entries bindings.old.entries) x value) }
+    ensures err { OnErr result (bindings.new.entries ≡ bindings.old.entries) }
+{
+    bindings.insert(x, value)?;
+    Ok(())
+}
+
+/// Unbinds the variable.
+fn unbind(bindings: &mut BTreeMap<u32, Value>, x: u32)
+    ensures { from_entries {R = nat_cmp} bindings.new.entries ≡ remove (from_entries bindings.old.entries) x }
+{
+    bindings.remove(&x);
+}
