@@ -1,0 +1,9 @@
+-- The pieces that were collected are those between line feeds.
+use Rattle.std.proofs.Common.{eqb, rules}
+use Rattle.std.proofs.lemmas.Iterator.Splits.{YieldsList-from_slice_split}
+use Rattle.std.proofs.lemmas.Iterator.Consumers.{map_from_collect}
+use Rattle.script_text.proofs.lines.line_pieces.Goals as goal
+
+pub returns : goal.returns
+returns c =
+    map_from_collect _ c.collect.ensures.ran (YieldsList-from_slice_split _ (λ b. eqb b 10) c.args.source.now c.split.ensures.rest c.split.ensures.done c.split.ensures.closure (λ x b q h. search rules))

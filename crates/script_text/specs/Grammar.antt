@@ -1,0 +1,118 @@
+-- What a source is read as: a script, or the first line that is refused.
+use Rattle.std.specs.Prelude.{ℕ, suc, ◌||◌, List, [], ◌∷◌, length, fold, flat_map, Option, Some, None, Result, Ok, Err, nat_lt, if◌then◌else◌, codes}
+use Rattle.script_text.specs.declared.table.Keyword.{Keyword}
+use Rattle.script_text.specs.declared.table.Keyword.TheVariants as keyword
+use Rattle.script_text.specs.declared.script.Line.{Line}
+use Rattle.script_text.specs.declared.script.Why.{Why}
+use Rattle.script_text.specs.declared.script.Why.TheVariants.{Long, Command, NotBuilt, Count, Name, Integer, Value, Nesting, End, Open}
+use Rattle.script_text.specs.declared.script.BadScript.{BadScript}
+use Rattle.script_text.specs.declared.script.BadScript.TheVariants.{BadLine, TooManyNames}
+use Rattle.script_text.specs.Lines.{lines_of}
+use Rattle.script_text.specs.Table.{places_of, unbuilt_today}
+use Rattle.script_text.specs.Phrases.{Phrase, phrase_of_line}
+use Rattle.script_text.specs.Names.{first_uses, with_name, variables_of, fields_of}
+use Rattle.script_text.specs.Scripts.{ScriptText, Spoken, operands_of, what_of, end_after}
+
+-- a reason as it is written
+abbrev pub why_text : Why → List ℕ
+why_text Long = codes "long"
+why_text Command = codes "command"
+why_text NotBuilt = codes "notbuilt"
+why_text Count = codes "count"
+why_text Name = codes "name"
+why_text Integer = codes "integer"
+why_text Value = codes "value"
+why_text Nesting = codes "nesting"
+why_text End = codes "end"
+why_text Open = codes "open"
+
+-- The lines whose `repeat` is open, the innermost first, after a command at a line; or why it may not stand there.
+abbrev pub nest : ℕ → List ℕ → Keyword → Result (List ℕ) Why
+nest number open' keyword.Repeat = if nat_lt (length open') 4 then Ok (number ∷ open') else Err Nesting
+nest number [] keyword.End = Err End
+nest number (innermost ∷ outer) keyword.End = Ok outer
+nest number open' _ = Ok open'
+
+-- a phrase and those that follow it
+abbrev pub followed : Spoken → Result (List Spoken) BadScript → Result (List Spoken) BadScript
+followed spoken (Err stop) = Err stop
+followed spoken (Ok more) = Ok (spoken ∷ more)
+
+abbrev pub nested : Spoken → Result (List ℕ) Why → (List ℕ → Result (List Spoken) BadScript) → Result (List Spoken) BadScript
+nested spoken (Err why) more = Err (BadLine spoken.number why)
+nested spoken (Ok open') more = followed spoken (more open')
+
+abbrev pub spoken_then : ℕ → List ℕ → Result (Option Phrase) Why → (List ℕ → Result (List Spoken) BadScript) → Result (List Spoken) BadScript
+spoken_then number open' (Err why) more = Err (BadLine number why)
+spoken_then number open' (Ok None) more = more open'
+spoken_then number open' (Ok (Some phrase)) more =
+    nested (record { number = number; phrase = phrase }) (nest number open' phrase.keyword) more
+
+-- at the end of the source no `repeat` may be open
+abbrev pub closed : List ℕ → Result (List Spoken) BadScript
+closed [] = Ok []
+closed (innermost ∷ outer) = Err (BadLine innermost Open)
+
+-- The phrases of lines, the first with this number, inside the `repeat`s that are open; or the line that is refused.
+abbrev pub spoken_from : List Keyword → ℕ → List ℕ → List (List ℕ) → Result (List Spoken) BadScript
+spoken_from unbuilt number open' [] = closed open'
+spoken_from unbuilt number open' (line ∷ lines) =
+    spoken_then number open' (phrase_of_line unbuilt line) (λ inner. spoken_from unbuilt (suc number) inner lines)
+
+-- the most names of variables and of fields
+abbrev pub variables_most : ℕ
+variables_most = 1024
+
+abbrev pub fields_most : ℕ
+fields_most = 4096
+
+-- the first line that, with those before it, has too many names; these were there before
+abbrev pub past_limit : List (List ℕ) → List (List ℕ) → List Spoken → Option ℕ
+past_limit variables fields [] = None
+past_limit variables fields (spoken ∷ more) =
+    let variables' = fold with_name variables (variables_of spoken.phrase) in
+    let fields' = fold with_name fields (fields_of spoken.phrase) in
+    if nat_lt variables_most (length variables') || nat_lt fields_most (length fields') then Some spoken.number
+    else past_limit variables' fields' more
+
+-- the `repeat`s that are open after a command at this place
+abbrev pub open_after : ℕ → List ℕ → Keyword → List ℕ
+open_after at open' keyword.Repeat = at ∷ open'
+open_after at [] keyword.End = []
+open_after at (innermost ∷ outer) keyword.End = outer
+open_after at open' _ = open'
+
+abbrev pub innermost_of : List ℕ → ℕ
+innermost_of [] = 0
+innermost_of (innermost ∷ outer) = innermost
+
+-- the lines of phrases, the first at this place, inside the `repeat`s that are open
+abbrev pub lines_from : List (List ℕ) → List (List ℕ) → ℕ → List ℕ → List Spoken → List Line
+lines_from variables fields at open' [] = []
+lines_from variables fields at open' (spoken ∷ more) =
+    let operands = operands_of variables fields (places_of spoken.phrase.keyword) spoken.phrase.operands in
+    record { number = spoken.number; what = what_of (end_after 0 (suc at) more) (innermost_of open') spoken.phrase.keyword operands }
+    ∷ lines_from variables fields (suc at) (open_after at open' spoken.phrase.keyword) more
+
+-- the script of some phrases: variables and fields are numbered apart, in order of first appearance
+abbrev pub script_of : List Spoken → ScriptText
+script_of spoken =
+    let variables = first_uses (flat_map (λ s. variables_of s.phrase) spoken) in
+    let fields = first_uses (flat_map (λ s. fields_of s.phrase) spoken) in
+    record { lines = lines_from variables fields 0 [] spoken; variables = variables; fields = fields }
+
+abbrev pub within_limit : List Spoken → Option ℕ → Result ScriptText BadScript
+within_limit spoken None = Ok (script_of spoken)
+within_limit spoken (Some line) = Err (TooManyNames line)
+
+abbrev pub script_or_stop : Result (List Spoken) BadScript → Result ScriptText BadScript
+script_or_stop (Ok spoken) = within_limit spoken (past_limit [] [] spoken)
+script_or_stop (Err stop) = Err stop
+
+-- What a source is read as, where these commands are not built. Lines are numbered from 1.
+abbrev pub reading_with : List Keyword → List ℕ → Result ScriptText BadScript
+reading_with unbuilt source = script_or_stop (spoken_from unbuilt 1 [] (lines_of source))
+
+-- what a source is read as, with the commands that are built today
+abbrev pub reading : List ℕ → Result ScriptText BadScript
+reading source = reading_with unbuilt_today source

@@ -1,0 +1,15 @@
+pub mod Lines
+pub mod Tokens
+pub mod Table
+pub mod Phrases
+pub mod Names
+pub mod Scripts
+pub mod Blocks
+pub mod Grammar
+pub mod Unrolled
+pub mod Pieces
+pub mod Shown
+pub mod Sound
+pub mod Laws
+pub mod UnrolledLaws
+pub mod Printed

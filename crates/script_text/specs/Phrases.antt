@@ -1,0 +1,78 @@
+-- A line as a phrase: a keyword with operands, whose names are still as they are written.
+use Rattle.std.specs.Prelude.{ℕ, List, [], ◌∷◌, length, Option, Some, None, Result, Ok, Err, ℤ, pos, negsuc, ◌==◌, nat_le, nat_lt, codes, bytes_eq, if◌then◌else◌}
+use Rattle.std.specs.List.{list_any}
+use Rattle.script_text.specs.declared.table.Keyword.{Keyword}
+use Rattle.script_text.specs.declared.table.Place.{Place}
+use Rattle.script_text.specs.declared.table.Place.TheVariants as place
+use Rattle.script_text.specs.declared.script.Why.{Why}
+use Rattle.script_text.specs.declared.script.Why.TheVariants as why
+use Rattle.script_text.specs.Lines.{tokens_of}
+use Rattle.script_text.specs.Tokens.{is_name, integer_of}
+use Rattle.script_text.specs.Table.{keywords, keyword_among, same_keyword, places_of}
+
+-- an operand as it is written
+pub data Written : Type 0 where
+  integer : ℤ → Written
+  undefined : Written
+  name : List ℕ → Written
+
+-- a command with its operands
+pub record Phrase : Type 0 where
+  pub keyword : Keyword
+  pub operands : List Written
+
+-- the name that the token is, or this reason
+abbrev pub name_or : Why → List ℕ → Result Written Why
+name_or reason token = if is_name token then Ok (name token) else Err reason
+
+abbrev pub literal_up_to : ℕ → Option ℤ → Result Written Why
+literal_up_to most None = Err why.Integer
+literal_up_to most (Some (pos n)) = if nat_le n most then Ok (integer (pos n)) else Err why.Integer
+literal_up_to most (Some (negsuc n)) = Err why.Integer
+
+abbrev pub integer_or : Option ℤ → Result Written Why → Result Written Why
+integer_or None other = other
+integer_or (Some v) other = Ok (integer v)
+
+-- what the token says at this place, or why it may not stand there
+abbrev pub written_at : Place → List ℕ → Result Written Why
+written_at place.Variable token = name_or why.Name token
+written_at place.Field token = name_or why.Name token
+written_at place.Value token =
+    if bytes_eq token (codes "undefined") then Ok undefined else integer_or (integer_of token) (name_or why.Value token)
+written_at (place.Literal most) token = literal_up_to most (integer_of token)
+
+abbrev pub joined : Result Written Why → Result (List Written) Why → Result (List Written) Why
+joined (Err reason) more = Err reason
+joined (Ok written) (Err reason) = Err reason
+joined (Ok written) (Ok more) = Ok (written ∷ more)
+
+-- what the tokens say at these places, or why the first that may not stand there may not
+abbrev pub written_all : List Place → List (List ℕ) → Result (List Written) Why
+written_all [] tokens = Ok []
+written_all (place ∷ places) [] = Ok []
+written_all (place ∷ places) (token ∷ tokens) = joined (written_at place token) (written_all places tokens)
+
+abbrev pub phrase_with : Keyword → Result (List Written) Why → Result (Option Phrase) Why
+phrase_with keyword (Err reason) = Err reason
+phrase_with keyword (Ok operands) = Ok (Some (record { keyword = keyword; operands = operands }))
+
+-- a command with these tokens as its operands
+abbrev pub with_operands : Keyword → List (List ℕ) → Result (Option Phrase) Why
+with_operands keyword tokens =
+    if length tokens == length (places_of keyword) then phrase_with keyword (written_all (places_of keyword) tokens)
+    else Err why.Count
+
+abbrev pub if_built : List Keyword → List (List ℕ) → Option Keyword → Result (Option Phrase) Why
+if_built unbuilt tokens None = Err why.Command
+if_built unbuilt tokens (Some keyword) =
+    if list_any (same_keyword keyword) unbuilt then Err why.NotBuilt else with_operands keyword tokens
+
+-- the phrase of some tokens, where these commands are not built; nothing where there are no tokens
+abbrev pub phrase_of : List Keyword → List (List ℕ) → Result (Option Phrase) Why
+phrase_of unbuilt [] = Ok None
+phrase_of unbuilt (first ∷ tokens) = if_built unbuilt tokens (keyword_among keywords first)
+
+-- the phrase of a line, or why the line is refused whatever stands before it
+abbrev pub phrase_of_line : List Keyword → List ℕ → Result (Option Phrase) Why
+phrase_of_line unbuilt line = if nat_lt 4096 (length line) then Err why.Long else phrase_of unbuilt (tokens_of line)

@@ -1,0 +1,90 @@
+-- The table of the commands: the word of each, and what its operands are.
+use Rattle.std.specs.Prelude.{ℕ, Bool, Option, Some, None, codes, bytes_eq, if◌then◌else◌, List as Row, [], ◌∷◌}
+use Rattle.script_text.specs.declared.table.Keyword.{Keyword}
+use Rattle.script_text.specs.declared.table.Keyword.TheVariants.{New, List, Weak, Let, Drop, Add, Set, Get, Del, Push, Put, At, Shift, Trunc, WPut, WGet, WDel, Print, Same, Alike, Shape, Repeat, End, Scavenge, Mark, Finish, Gc, Census}
+use Rattle.script_text.specs.declared.table.Place.{Place}
+use Rattle.script_text.specs.declared.table.Place.TheVariants.{Variable, Field, Value, Literal}
+
+-- the word of a command
+abbrev pub keyword_text : Keyword → Row ℕ
+keyword_text New = codes "new"
+keyword_text List = codes "list"
+keyword_text Weak = codes "weak"
+keyword_text Let = codes "let"
+keyword_text Drop = codes "drop"
+keyword_text Add = codes "add"
+keyword_text Set = codes "set"
+keyword_text Get = codes "get"
+keyword_text Del = codes "del"
+keyword_text Push = codes "push"
+keyword_text Put = codes "put"
+keyword_text At = codes "at"
+keyword_text Shift = codes "shift"
+keyword_text Trunc = codes "trunc"
+keyword_text WPut = codes "wput"
+keyword_text WGet = codes "wget"
+keyword_text WDel = codes "wdel"
+keyword_text Print = codes "print"
+keyword_text Same = codes "same"
+keyword_text Alike = codes "alike"
+keyword_text Shape = codes "shape"
+keyword_text Repeat = codes "repeat"
+keyword_text End = codes "end"
+keyword_text Scavenge = codes "scavenge"
+keyword_text Mark = codes "mark"
+keyword_text Finish = codes "finish"
+keyword_text Gc = codes "gc"
+keyword_text Census = codes "census"
+
+-- all commands
+abbrev pub keywords : Row Keyword
+keywords =
+    New ∷ List ∷ Weak ∷ Let ∷ Drop ∷ Add ∷ Set ∷ Get ∷ Del ∷ Push ∷ Put ∷ At ∷ Shift ∷ Trunc ∷ WPut ∷ WGet ∷ WDel ∷ Print
+    ∷ Same ∷ Alike ∷ Shape ∷ Repeat ∷ End ∷ Scavenge ∷ Mark ∷ Finish ∷ Gc ∷ Census ∷ []
+
+-- what the operands of a command are, in order
+abbrev pub places_of : Keyword → Row Place
+places_of New = Variable ∷ Literal 8 ∷ []
+places_of List = Variable ∷ []
+places_of Weak = Variable ∷ []
+places_of Let = Variable ∷ Value ∷ []
+places_of Drop = Variable ∷ []
+places_of Add = Variable ∷ Value ∷ []
+places_of Set = Variable ∷ Field ∷ Value ∷ []
+places_of Get = Variable ∷ Variable ∷ Field ∷ []
+places_of Del = Variable ∷ Field ∷ []
+places_of Push = Variable ∷ Value ∷ []
+places_of Put = Variable ∷ Value ∷ Value ∷ []
+places_of At = Variable ∷ Variable ∷ Value ∷ []
+places_of Shift = Variable ∷ Value ∷ []
+places_of Trunc = Variable ∷ Value ∷ []
+places_of WPut = Variable ∷ Value ∷ Value ∷ []
+places_of WGet = Variable ∷ Variable ∷ Value ∷ []
+places_of WDel = Variable ∷ Value ∷ []
+places_of Print = Value ∷ []
+places_of Same = Value ∷ Value ∷ []
+places_of Alike = Variable ∷ Variable ∷ []
+places_of Shape = Variable ∷ []
+places_of Repeat = Literal 20000000 ∷ []
+places_of End = []
+places_of Scavenge = []
+places_of Mark = []
+places_of Finish = []
+places_of Gc = []
+places_of Census = []
+
+-- the command with this word, if it is one of these
+abbrev pub keyword_among : Row Keyword → Row ℕ → Option Keyword
+keyword_among [] token = None
+keyword_among (keyword ∷ more) token =
+    if bytes_eq token (keyword_text keyword) then Some keyword else keyword_among more token
+
+-- two commands have the same word
+abbrev pub same_keyword : Keyword → Keyword → Bool
+same_keyword a b = bytes_eq (keyword_text a) (keyword_text b)
+
+-- the commands that are not built
+abbrev pub unbuilt_today : Row Keyword
+unbuilt_today =
+    List ∷ Weak ∷ Let ∷ Drop ∷ Add ∷ Del ∷ Push ∷ Put ∷ At ∷ Shift ∷ Trunc ∷ WPut ∷ WGet ∷ WDel
+    ∷ Same ∷ Alike ∷ Shape ∷ Repeat ∷ End ∷ Scavenge ∷ Mark ∷ Finish ∷ Gc ∷ Census ∷ []

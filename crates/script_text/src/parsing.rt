@@ -1,0 +1,46 @@
+//! Reading a source as a script.
+ghost use Rattle.std.specs.Prelude.{◌≡◌, ◌≢◌, IfOk, IfErr, Ok, Err, All};
+ghost use Rattle.script_text.specs.Grammar.{reading_with};
+ghost use Rattle.script_text.specs.Table.{unbuilt_today};
+ghost use Rattle.script_text.specs.Sound.{IsBuilt};
+
+use crate::lines::lines;
+use crate::numbering::Numbering;
+use crate::script::{BadScript, Script};
+use crate::speech::phrases_of;
+use crate::table::{Keyword, UNBUILT_TODAY};
+use std::alloc::Global;
+
+/// Reads a source as a script. A source of 4 GiB or more is refused as `NoMemory`.
+pub fn parse<'s>(alloc: Global, source: &'s [u8]) -> Result<Script<'s>, BadScript>
+    ensures script { IfOk result (λ script. reading_with unbuilt_today source.now ≡ Ok script) }
+    ensures built { IfOk result (λ script. All (λ line. IsBuilt unbuilt_today line.what) script.lines) }
+    ensures refused { IfErr result (λ stop.
+        stop ≢ BadScript.NoMemory → reading_with unbuilt_today source.now ≡ Err stop) }
+{
+    parse_with_table(alloc, source, UNBUILT_TODAY)
+}
+
+/// Reads a source as a script, where these commands are not built.
+pub(crate) fn parse_with_table<'s>(
+    alloc: Global,
+    source: &'s [u8],
+    unbuilt: &[Keyword],
+) -> Result<Script<'s>, BadScript>
+    ensures script { IfOk result (λ script. reading_with unbuilt.now source.now ≡ Ok script) }
+    ensures refused { IfErr result (λ stop.
+        stop ≢ BadScript.NoMemory → reading_with unbuilt.now source.now ≡ Err stop) }
+{
+    if source.len() > u32::MAX as usize {
+        return Err(BadScript::NoMemory);
+    }
+    let lines = lines(alloc, source)?;
+    let spoken = phrases_of(alloc, unbuilt, &lines)?;
+    let numbering = Numbering::of(alloc, &spoken)?;
+    let lines = numbering.lines(alloc, &spoken)?;
+    Ok(Script::new(
+        lines,
+        numbering.variables.into_names(),
+        numbering.fields.into_names(),
+    ))
+}

@@ -1,0 +1,184 @@
+//! A script as it was read.
+ghost use Rattle.std.specs.Prelude.{◌≡◌, ◌<◌, ◌≤◌, Some, length, map, slice_get};
+ghost use Rattle.script_text.specs.Grammar.{why_text};
+ghost use Rattle.script_text.specs.Sound.{script_text, IsNumbered, IsMatched, IsSound};
+
+use ideal_graph::Command;
+use std::alloc::{AllocError, AllocFailed};
+use std::marker::Model;
+
+/// Why a line is refused. Where several reasons hold, it is the first in this order.
+#[derive(Clone, Copy, Debug, PartialEq, Eq)]
+pub enum Why {
+    /// It has over 4,096 bytes.
+    Long,
+    /// Its first word is no command.
+    Command,
+    /// The command is not built.
+    NotBuilt,
+    /// It has another number of operands.
+    Count,
+    /// An operand has to be a name.
+    Name,
+    /// An operand has to be an integer of a range.
+    Integer,
+    /// An operand has to be a value.
+    Value,
+    /// Four `repeat` are open already.
+    Nesting,
+    /// No `repeat` is open.
+    End,
+    /// The `repeat` has no `end`.
+    Open,
+}
+
+impl Why {
+    /// The reason as a bad script's line writes it.
+    pub fn text(self) -> &'static str
+        ensures { result.now ≡ why_text self }
+    {
+        match self {
+            Why::Long => "long",
+            Why::Command => "command",
+            Why::NotBuilt => "notbuilt",
+            Why::Count => "count",
+            Why::Name => "name",
+            Why::Integer => "integer",
+            Why::Value => "value",
+            Why::Nesting => "nesting",
+            Why::End => "end",
+            Why::Open => "open",
+        }
+    }
+}
+
+/// Why a source is no script.
+#[derive(Clone, Copy, Debug, PartialEq, Eq)]
+pub enum BadScript {
+    /// The first line that is refused, counted from 1; where there is none, the innermost open `repeat`.
+    BadLine { line: u32, why: Why },
+    /// The line, the first such, names more than 1,024 variables or 4,096 fields with the lines before it.
+    TooManyNames { line: u32 },
+    /// Memory was refused; so is a source of 4 GiB or more.
+    NoMemory,
+}
+
+impl From<AllocError> for BadScript {
+    ghost use Rattle.std.specs.Prelude.{◌≡◌};
+    ghost use Rattle.script_text.specs.declared.script.BadScript.TheVariants.{NoMemory};
+
+    ghost from_gives = { λ _ stop. stop ≡ NoMemory };
+
+    fn from(_refused: AllocError) -> Self {
+        BadScript::NoMemory
+    }
+}
+
+impl<T: Drop> From<AllocFailed<T>> for BadScript {
+    ghost use Rattle.std.specs.Prelude.{◌≡◌};
+    ghost use Rattle.script_text.specs.declared.script.BadScript.TheVariants.{NoMemory};
+
+    ghost from_gives = { λ _ stop. stop ≡ NoMemory };
+
+    fn from(_refused: AllocFailed<T>) -> Self {
+        BadScript::NoMemory
+    }
+}
+
+/// What a line does.
+#[derive(Clone, Copy, Debug, PartialEq, Eq)]
+pub enum What {
+    /// It runs a command.
+    Run(Command),
+    /// The lines up to its `end` are run so many times. The `end` is the line of this place, counted from 0.
+    Repeat { times: u32, end_at: u32 },
+    /// It ends the `repeat` of this place, counted from 0.
+    End { repeat_at: u32 },
+}
+
+/// A line, with its number in the source, counted from 1.
+#[derive(Clone, Copy, Debug, PartialEq, Eq)]
+pub struct Line {
+    pub number: u32,
+    pub what: What,
+}
+
+/// A script over the source that it was read from.
+#[derive(Drop)]
+pub struct Script<'s> {
+    lines: Vec<Line>,
+    variables: Vec<&'s [u8]>,
+    fields: Vec<&'s [u8]>,
+}
+
+impl<'s> Model for Script<'s> {
+    ghost use Rattle.std.specs.Prelude.{map};
+    ghost use Rattle.script_text.specs.Scripts.{ScriptText};
+    ghost use Rattle.script_text.specs.Sound.{script_text, IsSound};
+
+    ghost Value = { ScriptText };
+
+    ghost view = { λ script. script_text script.lines.items
+        (map (λ name. name.now) script.variables.items)
+        (map (λ name. name.now) script.fields.items) };
+
+    ghost invariant = { λ script. IsSound (script_text script.lines.items
+        (map (λ name. name.now) script.variables.items)
+        (map (λ name. name.now) script.fields.items)) };
+}
+
+impl<'s> Script<'s> {
+    pub fn lines(&self) -> &[Line]
+        ensures all { result.now ≡ self.now.lines }
+        ensures numbered { IsNumbered self.now }
+        ensures matched { IsMatched self.now.lines }
+    {
+        &self.lines
+    }
+
+    /// How many variables the script names.
+    pub fn variables(&self) -> u32
+        ensures count { result ≡ length self.now.variables }
+        ensures few { result ≤ 1024 }
+    {
+        self.variables.len() as u32
+    }
+
+    /// How many fields the script names.
+    pub fn fields(&self) -> u32
+        ensures count { result ≡ length self.now.fields }
+        ensures few { result ≤ 4096 }
+    {
+        self.fields.len() as u32
+    }
+
+    /// The name of a variable, by its number.
+    pub fn variable(&self, n: u32) -> &'s [u8]
+        requires { n < length self.now.variables }
+        ensures { slice_get self.now.variables n ≡ Some result.now }
+    {
+        self.variables[n as usize]
+    }
+
+    /// The name of a field, by its number.
+    pub fn field(&self, n: u32) -> &'s [u8]
+        requires { n < length self.now.fields }
+        ensures { slice_get self.now.fields n ≡ Some result.now }
+    {
+        self.fields[n as usize]
+    }
+
+    /// A script of these lines, variables and fields.
+    pub(crate) fn new(lines: Vec<Line>, variables: Vec<&'s [u8]>, fields: Vec<&'s [u8]>) -> Self
+        requires { IsSound (script_text lines.items
+            (map (λ name. name.now) variables.items) (map (λ name. name.now) fields.items)) }
+        ensures { result ≡ script_text lines.items
+            (map (λ name. name.now) variables.entry.items) (map (λ name. name.now) fields.entry.items) }
+    {
+        Script {
+            lines,
+            variables,
+            fields,
+        }
+    }
+}

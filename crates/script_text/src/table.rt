@@ -1,0 +1,201 @@
+//! The table of the commands: the word of each, and what its operands are.
+ghost use Rattle.std.specs.Prelude.{◌≡◌, ◌≤◌, length};
+ghost use Rattle.std.specs.List.{list_any};
+ghost use Rattle.script_text.specs.Table.{keyword_text, keywords, keyword_among, same_keyword, places_of};
+
+/// The first word of a line.
+#[derive(Clone, Copy, Debug, PartialEq, Eq)]
+pub enum Keyword {
+    New,
+    List,
+    Weak,
+    Let,
+    Drop,
+    Add,
+    Set,
+    Get,
+    Del,
+    Push,
+    Put,
+    At,
+    Shift,
+    Trunc,
+    WPut,
+    WGet,
+    WDel,
+    Print,
+    Same,
+    Alike,
+    Shape,
+    Repeat,
+    End,
+    Scavenge,
+    Mark,
+    Finish,
+    Gc,
+    Census,
+}
+
+/// What an operand has to be.
+#[derive(Clone, Copy, Debug, PartialEq, Eq)]
+pub enum Place {
+    /// The name of a variable.
+    Variable,
+    /// The name of a field.
+    Field,
+    /// An integer, `undefined`, or the name of a variable.
+    Value,
+    /// An integer from 0 to this one.
+    Literal { most: u32 },
+}
+
+/// The commands that are not built.
+pub(crate) const UNBUILT_TODAY: &[Keyword] = &[
+    Keyword::List,
+    Keyword::Weak,
+    Keyword::Let,
+    Keyword::Drop,
+    Keyword::Add,
+    Keyword::Del,
+    Keyword::Push,
+    Keyword::Put,
+    Keyword::At,
+    Keyword::Shift,
+    Keyword::Trunc,
+    Keyword::WPut,
+    Keyword::WGet,
+    Keyword::WDel,
+    Keyword::Same,
+    Keyword::Alike,
+    Keyword::Shape,
+    Keyword::Repeat,
+    Keyword::End,
+    Keyword::Scavenge,
+    Keyword::Mark,
+    Keyword::Finish,
+    Keyword::Gc,
+    Keyword::Census,
+];
+
+/// The command with this word.
+pub(crate) fn keyword_of(token: &[u8]) -> Option<Keyword>
+    ensures { result ≡ keyword_among keywords token.now }
+{
+    for keyword in keywords() {
+        if token == word(*keyword) {
+            return Some(*keyword);
+        }
+    }
+    None
+}
+
+/// Whether the command is one of these.
+pub(crate) fn is_among(keyword: Keyword, keywords: &[Keyword]) -> bool
+    ensures { result ≡ list_any (same_keyword keyword) keywords.now }
+{
+    keywords.iter().any(|other| word(keyword) == word(*other))
+}
+
+/// What the operands of a command are, in order.
+pub(crate) fn places(keyword: Keyword) -> &'static [Place]
+    ensures all { result.now ≡ places_of keyword }
+    ensures few { length result.now ≤ 3 }
+{
+    match keyword {
+        Keyword::New => &[Place::Variable, Place::Literal { most: 8 }],
+        Keyword::List | Keyword::Weak | Keyword::Drop | Keyword::Shape => &[Place::Variable],
+        Keyword::Let
+        | Keyword::Add
+        | Keyword::Push
+        | Keyword::Shift
+        | Keyword::Trunc
+        | Keyword::WDel => &[Place::Variable, Place::Value],
+        Keyword::Set => &[Place::Variable, Place::Field, Place::Value],
+        Keyword::Get => &[Place::Variable, Place::Variable, Place::Field],
+        Keyword::Del => &[Place::Variable, Place::Field],
+        Keyword::Put | Keyword::WPut => &[Place::Variable, Place::Value, Place::Value],
+        Keyword::At | Keyword::WGet => &[Place::Variable, Place::Variable, Place::Value],
+        Keyword::Print => &[Place::Value],
+        Keyword::Same => &[Place::Value, Place::Value],
+        Keyword::Alike => &[Place::Variable, Place::Variable],
+        Keyword::Repeat => &[Place::Literal { most: 20_000_000 }],
+        Keyword::End
+        | Keyword::Scavenge
+        | Keyword::Mark
+        | Keyword::Finish
+        | Keyword::Gc
+        | Keyword::Census => &[],
+    }
+}
+
+/// All commands.
+fn keywords() -> &'static [Keyword]
+    ensures { result.now ≡ keywords }
+{
+    &[
+        Keyword::New,
+        Keyword::List,
+        Keyword::Weak,
+        Keyword::Let,
+        Keyword::Drop,
+        Keyword::Add,
+        Keyword::Set,
+        Keyword::Get,
+        Keyword::Del,
+        Keyword::Push,
+        Keyword::Put,
+        Keyword::At,
+        Keyword::Shift,
+        Keyword::Trunc,
+        Keyword::WPut,
+        Keyword::WGet,
+        Keyword::WDel,
+        Keyword::Print,
+        Keyword::Same,
+        Keyword::Alike,
+        Keyword::Shape,
+        Keyword::Repeat,
+        Keyword::End,
+        Keyword::Scavenge,
+        Keyword::Mark,
+        Keyword::Finish,
+        Keyword::Gc,
+        Keyword::Census,
+    ]
+}
+
+/// The word of a command.
+fn word(keyword: Keyword) -> &'static [u8]
+    ensures { result.now ≡ keyword_text keyword }
+{
+    match keyword {
+        Keyword::New => b"new",
+        Keyword::List => b"list",
+        Keyword::Weak => b"weak",
+        Keyword::Let => b"let",
+        Keyword::Drop => b"drop",
+        Keyword::Add => b"add",
+        Keyword::Set => b"set",
+        Keyword::Get => b"get",
+        Keyword::Del => b"del",
+        Keyword::Push => b"push",
+        Keyword::Put => b"put",
+        Keyword::At => b"at",
+        Keyword::Shift => b"shift",
+        Keyword::Trunc => b"trunc",
+        Keyword::WPut => b"wput",
+        Keyword::WGet => b"wget",
+        Keyword::WDel => b"wdel",
+        Keyword::Print => b"print",
+        Keyword::Same => b"same",
+        Keyword::Alike => b"alike",
+        Keyword::Shape => b"shape",
+        Keyword::Repeat => b"repeat",
+        Keyword::End => b"end",
+        Keyword::Scavenge => b"scavenge",
+        Keyword::Mark => b"mark",
+        Keyword::Finish => b"finish",
+        Keyword::Gc => b"gc",
+        Keyword::Census => b"census",
+    }
+}
