@@ -1,0 +1,16 @@
+pub mod Addresses
+pub mod Bindings
+pub mod Classes
+pub mod Growth
+pub mod NewCells
+pub mod Ranges
+pub mod Shown
+pub mod WriteLaws
+pub mod PlaceLaws
+pub mod SearchLaws
+pub mod FieldLaws
+pub mod Replacements
+pub mod ShownWithField
+pub mod FoundLaws
+pub mod Meanings
+pub mod Agreement
