@@ -1,0 +1,7 @@
+mod Flows
+mod Counts
+mod Runs
+mod Unrolling
+mod Steps
+mod Statuses
+mod Outcomes

@@ -1,0 +1,29 @@
+//! Points that threads pass, where a test may hold them.
+
+/// Where a thread stands when it passes a gate.
+#[derive(Clone, Copy, Debug, PartialEq, Eq)]
+pub enum Point {
+    /// A helper has loaded the slots of a cell.
+    HelperLoaded,
+    /// A helper has exchanged the colour of a cell.
+    HelperExchanged,
+    /// A worker has copied a cell.
+    WorkerLoaded,
+    /// A worker has exchanged the header of a cell.
+    WorkerExchanged,
+    /// A command was carried out while a cycle is open.
+    CommandDone,
+}
+
+/// What threads pass at named points. Tests hold threads here; the program never does.
+pub trait Gate: Sync {
+    fn pass(&self, point: Point);
+}
+
+/// A gate that holds nobody.
+#[derive(Clone, Copy, Debug)]
+pub struct OpenGate;
+
+impl Gate for OpenGate {
+    fn pass(&self, _point: Point) {}
+}
