@@ -1,7 +1,4 @@
-mod Flows
-mod Counts
-mod Runs
-mod Unrolling
-mod Steps
-mod Statuses
-mod Outcomes
+mod Pieces
+mod Excess
+mod Answering
+mod Concluding

@@ -1,104 +1,167 @@
--- What a run answers and writes.
-use Rattle.std.specs.Prelude.{◌≡◌, ℕ, ◌+◌, ◌*◌, ◌<◌, ◌≤◌, ◌⊎◌, List, [], ◌∷◌, ◌++◌, length, take, drop, Option, Some, None, IsNone, MatchOption, Contains, Result, Ok, Err, codes}
-use Rattle.ideal_graph.specs.declared.command.Command.{Command}
-use Rattle.ideal_graph.specs.Graphs.{Graph}
-use Rattle.ideal_graph.specs.Meaning.{Outcome, done, fault, does}
-use Rattle.ideal_graph.specs.Run.{Executed, Told, told}
+-- What a run comes to, and what of it the sink took.
+use Rattle.std.specs.Prelude.{◌≡◌, ◌⊎◌, ℕ, ◌+◌, ◌<◌, ◌≤◌, List, [], ◌∷◌, ◌++◌, length, drop, Option, Some, None, IfSome, MatchOption, Contains, Result, Ok, Err}
+use Rattle.command_line.specs.declared.invocation.Sizes.{Sizes}
+use Rattle.command_line.specs.declared.invocation.Invocation.TheVariants.{Run}
+use Rattle.command_line.specs.Invocations.{built_invocation_of, unbuilt_today, BeginsBuilt}
 use Rattle.script_text.specs.declared.script.BadScript.{BadScript}
-use Rattle.script_text.specs.declared.script.BadScript.TheVariants.{BadLine, TooManyNames, NoMemory}
+use Rattle.script_text.specs.declared.script.BadScript.TheVariants as bad
 use Rattle.script_text.specs.Scripts.{ScriptText}
 use Rattle.script_text.specs.Grammar.{reading}
-use Rattle.script_text.specs.Unrolled.{executed_lines}
-use Rattle.mutator.specs.Cells.{heap_words, FirstWords}
-use Rattle.mutator.specs.Shows.{Shows}
-use Rattle.mutator.specs.Carries.{first_limits, need_of}
-use Rattle.heap_run.specs.declared.ended.Ended.{Ended}
+use Rattle.byte_ends.specs.Faults.{Rose}
+use Rattle.byte_ends.specs.Source.{IsInput}
+use Rattle.byte_ends.specs.Sink.{Appends, AppendsSome}
+use Rattle.heap_script.specs.declared.finished.How.{How}
+use Rattle.heap_script.specs.declared.finished.How.TheVariants as how
+use Rattle.mutator.specs.declared.output.TheConstants.{OUTPUT_BYTES}
+use Rattle.heap_script.specs.Runs.{Reached, ComesTo, need_at, FillsOutput}
 use Rattle.heap_run.specs.declared.ended.Kept.{Kept}
-use Rattle.heap_run.specs.Texts.{fault_line, bad_script_line, names_line, heap_full_line, no_memory_line}
+use Rattle.heap_run.specs.declared.ended.Ended.{Ended}
+use Rattle.heap_run.specs.declared.last_line.LastLine.{LastLine}
+use Rattle.heap_run.specs.declared.last_line.LastLine.TheVariants as last
+use Rattle.heap_run.specs.Texts.{last_bytes, status_of, sink_fault_status}
 
--- the words are the one word `run`
-abbrev pub IsRun : List (List ℕ) → Type 0
-IsRun words = words ≡ codes "run" ∷ []
+-- the most bytes of a source
+abbrev pub source_most : ℕ
+source_most = 1048576
 
--- how a run ended: its status, the line that stopped it, the words that it wanted, and its last line
-pub record Ending : Type 0 where
-  pub status : ℕ
-  pub line : ℕ
-  pub need : ℕ
-  pub text : List ℕ
+-- the words ask for the run of a script with these sizes
+abbrev pub AsksToRun : List (List ℕ) → Sizes → Type 0
+AsksToRun words sizes = built_invocation_of unbuilt_today words ≡ Some (Run sizes)
 
--- before this command, at this line, the run ends: by its fault, or since the heap has not the words that it needs
-abbrev pub StopsAt : FirstWords → ℕ → Command → Outcome → Ending → Type 0
-StopsAt heap number command (fault word) ending =
-    ending ≡ record { status = 1; line = number; need = 0; text = fault_line number word }
-StopsAt heap number command (done graph text) ending =
-    (heap_words < heap.used + need_of command)
-    × (ending ≡ record { status = 3; line = number; need = need_of command; text = heap_full_line number })
+-- the words ask for nothing that is built
+abbrev pub AsksForNothing : List (List ℕ) → Type 0
+AsksForNothing words = built_invocation_of unbuilt_today words ≡ None
 
--- a line that runs no command ends no run
-abbrev pub StopsBefore : List (List ℕ) → FirstWords → Graph → ℕ → Option Command → Ending → Type 0
-StopsBefore names heap graph number None ending = ⊥
-StopsBefore names heap graph number (Some command) ending =
-    StopsAt heap number command (does first_limits names graph command) ending
+-- what a source had left before a run and has after it, where it tells that, and its counts of faults
+pub record Input : Type 0 where
+  pub before : Option (List ℕ)
+  pub after : Option (List ℕ)
+  pub faults_before : ℕ
+  pub faults_after : ℕ
 
--- with these lines still to be executed, the run ends: where there are none, or before the first of them
-abbrev pub Ends : List (List ℕ) → FirstWords → Graph → List Executed → Ending → Type 0
-Ends names heap graph [] ending = ending ≡ record { status = 0; line = 0; need = 0; text = [] }
-Ends names heap graph (next ∷ more) ending = StopsBefore names heap graph next.number next.command ending
+-- the same by its parts
+abbrev pub input_of : Option (List ℕ) → Option (List ℕ) → ℕ → ℕ → Input
+input_of before after faults_before faults_after =
+    record { before = before; after = after; faults_before = faults_before; faults_after = faults_after }
 
--- the kept heap shows the graph after the executed lines
-pub record Stands (script : ScriptText) (kept : Kept) : Type 0 where
-  pub within : kept.executed ≤ length (executed_lines script.lines)
-  -- two root words for each variable of the script, and no others
-  pub rooted : length kept.image.roots ≡ 2 * length script.variables
-  pub so_far : Told
-  pub told : told first_limits script.fields (take kept.executed (executed_lines script.lines)) ≡ Some so_far
-  pub shown : Shows kept.image so_far.graph
+-- no read failed
+abbrev pub NoReadFailed : Input → Type 0
+NoReadFailed input = input.faults_after ≡ input.faults_before
 
--- The script was run: the run ended behind the executed lines, and what was written is what those lines tell
--- and then the last line.
-pub record Ran (script : ScriptText) (status : ℕ) (kept : Kept) (written : List ℕ) : Type 0 where
-  pub stands : Stands script kept
-  pub last : List ℕ
-  pub ends : Ends script.fields kept.image stands.so_far.graph (drop kept.executed (executed_lines script.lines))
-      (record { status = status; line = kept.line; need = kept.need; text = last })
-  pub bytes : written ≡ stands.so_far.bytes ++ last
+-- these bytes are all that the source had left; they were read to their end, and no read failed
+pub record ReadsAll (input : Input) (bytes : List ℕ) : Type 0 where
+  pub all : IsInput input.before bytes
+  pub few : length bytes ≤ source_most
+  pub none_left : IfSome input.before (λ _. input.after ≡ Some [])
+  pub steady : NoReadFailed input
 
--- the source is no script: the first line that is refused is written, and there is no heap
-abbrev pub Refuses : Result ScriptText BadScript → ℕ → List ℕ → Type 0
-Refuses (Ok script) status written = ⊥
-Refuses (Err NoMemory) status written = ⊥
-Refuses (Err (BadLine line why)) status written = (status ≡ 2) × (written ≡ bad_script_line line why)
-Refuses (Err (TooManyNames line)) status written = (status ≡ 2) × (written ≡ names_line line)
+-- the source had more bytes than it may have; one byte more than that was read
+pub record ReadsTooMany (input : Input) : Type 0 where
+  pub many : IfSome input.before (λ left. (source_most < length left) × (input.after ≡ Some (drop (source_most + 1) left)))
+  pub steady : NoReadFailed input
 
-abbrev pub Runs : Result ScriptText BadScript → ℕ → Kept → List ℕ → Type 0
-Runs (Ok script) status kept written = Ran script status kept written
-Runs (Err stop) status kept written = ⊥
+-- the last line of a source that is no script
+abbrev pub refusal_of : BadScript → Option LastLine
+refusal_of (bad.BadLine line why) = Some (last.BadScript line why)
+refusal_of (bad.TooManyNames line) = Some (last.TooManyNames line)
+refusal_of bad.NoMemory = None
 
--- no line stopped the script, or the run ended before the next line
-abbrev pub Halts : ScriptText → Kept → Graph → Type 0
-Halts script kept graph =
-    ((kept.line ≡ 0) × (kept.need ≡ 0))
-    ⊎ ((status : ℕ) × (last : List ℕ) × Ends script.fields kept.image graph (drop kept.executed (executed_lines script.lines))
-    (record { status = status; line = kept.line; need = kept.need; text = last }))
+-- the last line of a script that came to this at a line; a sink that failed is no end of a script
+abbrev pub last_line_of : How → ℕ → LastLine
+last_line_of how.End line = last.Nothing
+last_line_of (how.Fault word) line = last.Fault line word
+last_line_of (how.HeapFull need) line = last.HeapFull line
+last_line_of (how.SinkFault need) line = last.Nothing
+last_line_of how.LineLimit line = last.LineLimit line
 
--- The source is a script, and the kept heap shows the graph after the executed lines. So it is whatever became of the
--- bytes that were written.
-abbrev pub KeepsGraph : Result ScriptText BadScript → Kept → Type 0
-KeepsGraph (Ok script) kept = (stands : Stands script kept) × Halts script kept stands.so_far.graph
-KeepsGraph (Err stop) kept = ⊥
+-- nothing was read, or all was
+abbrev pub ReadsNoneOrAll : Input → Type 0
+ReadsNoneOrAll input =
+    ((input.after ≡ input.before) × NoReadFailed input) ⊎ ((bytes : List ℕ) × ReadsAll input bytes)
 
--- memory was refused before the heap was opened
-abbrev pub WantsMemory : Ended → List ℕ → Type 0
-WantsMemory ended written = (ended.status ≡ 7) × IsNone ended.kept × (written ≡ no_memory_line)
+-- What is told before the last line, the last line where the run comes to one, and the heap that is kept.
+pub record Answer : Type 0 where
+  pub told : List ℕ
+  pub last : Option LastLine
+  pub kept : Option Kept
+
+-- an answer before a heap is opened: a last line, and nothing kept
+abbrev pub unopened : LastLine → Answer
+unopened line = record { told = []; last = Some line; kept = None }
+
+-- What a run comes to, by the words and the source.
+pub data Comes (words : List (List ℕ)) (input : Input) : Answer → Type 0 where
+  -- the words are refused, and nothing is read
+  bad_words : AsksForNothing words → input.after ≡ input.before → NoReadFailed input
+      → Comes words input (unopened last.BadWords)
+  -- memory was refused, which is free; but not where the words begin with no command that is built, nor between two reads
+  no_memory : BeginsBuilt words → ReadsNoneOrAll input → Comes words input (unopened last.NoMemory)
+  -- a read failed
+  read_fault : (sizes : Sizes) → AsksToRun words sizes → Rose input.faults_before input.faults_after
+      → Comes words input (unopened last.ReadFault)
+  -- the source is too long
+  too_long : (sizes : Sizes) → AsksToRun words sizes → ReadsTooMany input
+      → Comes words input (unopened last.SourceTooLong)
+  -- the source is no script
+  no_script : (sizes : Sizes) (bytes : List ℕ) (stop : BadScript) (line : LastLine)
+      → AsksToRun words sizes → ReadsAll input bytes → reading bytes ≡ Err stop → refusal_of stop ≡ Some line
+      → Comes words input (unopened line)
+  -- the source is a script, and its run came to an end
+  ended : (sizes : Sizes) (bytes : List ℕ) (script : ScriptText) (kept : Kept) (came : How)
+      → AsksToRun words sizes → ReadsAll input bytes → reading bytes ≡ Ok script
+      → (reached : Reached script kept.image kept.executed)
+      → ComesTo script kept.image kept.executed reached.so_far came kept.line → kept.need ≡ need_at came
+      → Comes words input (record {
+        told = reached.so_far.bytes;
+        last = Some (last_line_of came kept.line);
+        kept = Some kept;
+      })
+  -- the source is a script, and the sink failed between two of its lines, where an output was due
+  cut_short : (sizes : Sizes) (bytes : List ℕ) (script : ScriptText) (kept : Kept)
+      → AsksToRun words sizes → ReadsAll input bytes → reading bytes ≡ Ok script
+      → (reached : Reached script kept.image kept.executed) → kept.line ≡ 0 → kept.need ≡ 0
+      → FillsOutput reached.so_far.bytes
+      → Comes words input (record { told = reached.so_far.bytes; last = None; kept = Some kept })
+
+-- the bytes of a last line, if there is one
+abbrev pub bytes_of : Option LastLine → List ℕ
+bytes_of None = []
+bytes_of (Some line) = last_bytes line
+
+-- What the sink took of an answer, with which status. It took all, no write failed, and the status is that of the last
+-- line. Or a write failed, and the status is 5: it took a front of the answer, not all of it; of what was told no more is
+-- missing than one output holds.
+pub data Taken (old new : List ℕ → Type 0) (faults_old faults_new : ℕ) : Answer → ℕ → Type 0 where
+  all : (told : List ℕ) (line : LastLine) (kept : Option Kept)
+      → Appends old new (told ++ last_bytes line) → faults_new ≡ faults_old
+      → Taken old new faults_old faults_new (record { told = told; last = Some line; kept = kept }) (status_of line)
+  front : (answer : Answer) → (some : AppendsSome old new (answer.told ++ bytes_of answer.last))
+      → length answer.told ≤ some.count + OUTPUT_BYTES → Rose faults_old faults_new
+      → Taken old new faults_old faults_new answer sink_fault_status
 
 -- a heap is kept at the statuses of a script that was run, and none at the others; the sink may fail before or after
-abbrev pub IsOpened : Ended → Type 0
-IsOpened ended =
-    MatchOption ended.kept (Contains (2 ∷ 4 ∷ 5 ∷ 6 ∷ 7 ∷ 64 ∷ []) ended.status) (λ _. Contains (0 ∷ 1 ∷ 3 ∷ 5 ∷ []) ended.status)
+abbrev pub IsOpened : ℕ → Option Kept → Type 0
+IsOpened status kept =
+    MatchOption kept (Contains (2 ∷ 4 ∷ 5 ∷ 6 ∷ 7 ∷ 64 ∷ []) status) (λ _. Contains (0 ∷ 1 ∷ 3 ∷ 5 ∷ 8 ∷ []) status)
 
--- What the program answers and writes for a source: it refuses it, or runs it. Want of memory alone is free.
-abbrev pub Answers : List ℕ → Ended → List ℕ → Type 0
-Answers source ended written =
-    WantsMemory ended written
-    ⊎ MatchOption ended.kept (Refuses (reading source) ended.status written) (λ kept. Runs (reading source) ended.status kept written)
+-- the source is a script, and the kept heap shows the graph after the executed lines
+abbrev pub KeepsGraph : Result ScriptText BadScript → Kept → Type 0
+KeepsGraph (Ok script) kept = Reached script kept.image kept.executed
+KeepsGraph (Err stop) kept = ⊥
+
+-- How a run ended, with this status and this heap, is what the words and the source come to, and the sink took of it
+-- what it took.
+pub record Answers (words : List (List ℕ)) (input : Input) (old new : List ℕ → Type 0) (faults_old faults_new : ℕ)
+    (ended : Ended) : Type 0 where
+  pub answer : Answer
+  pub kept : answer.kept ≡ ended.kept
+  pub comes : Comes words input answer
+  pub taken : Taken old new faults_old faults_new answer ended.status
+
+-- the same of a run whose source was read as these bytes, for all words that ask for a run
+pub record Runs (bytes : List ℕ) (old new : List ℕ → Type 0) (faults_old faults_new : ℕ) (ended : Ended) : Type 0 where
+  pub answer : Answer
+  pub kept : answer.kept ≡ ended.kept
+  pub comes : (words : List (List ℕ)) (input : Input) (sizes : Sizes) → AsksToRun words sizes → ReadsAll input bytes
+      → Comes words input answer
+  pub taken : Taken old new faults_old faults_new answer ended.status

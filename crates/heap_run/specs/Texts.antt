@@ -1,35 +1,45 @@
--- The last line of a run.
-use Rattle.std.specs.Prelude.{ℕ, List, [], ◌∷◌, ◌++◌, codes, decimal}
-use Rattle.ideal_graph.specs.declared.command.FaultWord.{FaultWord}
-use Rattle.ideal_graph.specs.Commands.{fault_text}
-use Rattle.script_text.specs.declared.script.Why.{Why}
+-- The last line of a run, and the status that goes with it.
+use Rattle.std.specs.Prelude.{ℕ, List, [], ◌++◌, codes, decimal}
+use Rattle.heap_command.specs.Commands.{fault_text}
+use Rattle.object_graph.specs.Texts.{line}
 use Rattle.script_text.specs.Grammar.{why_text}
+use Rattle.heap_run.specs.declared.last_line.LastLine.{LastLine}
+use Rattle.heap_run.specs.declared.last_line.LastLine.TheVariants.{Nothing, Fault, BadScript, TooManyNames, HeapFull, ReadFault, SourceTooLong, NoMemory, LineLimit, BadWords}
 
--- a text as a line
-abbrev pub line_of : List ℕ → List ℕ
-line_of text = text ++ 10 ∷ []
+-- a head, the number of a line, and a reason
+abbrev pub reason_line : List ℕ → ℕ → List ℕ → List ℕ
+reason_line head number reason = line (head ++ decimal number ++ codes " " ++ reason)
 
-abbrev pub fault_line : ℕ → FaultWord → List ℕ
-fault_line line word = line_of (codes "fault " ++ decimal line ++ codes " " ++ fault_text word)
+-- a head and the number of a line
+abbrev pub numbered_line : List ℕ → ℕ → List ℕ
+numbered_line head number = line (head ++ decimal number)
 
-abbrev pub bad_script_line : ℕ → Why → List ℕ
-bad_script_line line why = line_of (codes "bad script " ++ decimal line ++ codes " " ++ why_text why)
+-- the bytes of a last line
+abbrev pub last_bytes : LastLine → List ℕ
+last_bytes Nothing = []
+last_bytes (Fault at word) = reason_line (codes "fault ") at (fault_text word)
+last_bytes (BadScript at why) = reason_line (codes "bad script ") at (why_text why)
+last_bytes (TooManyNames at) = reason_line (codes "bad script ") at (codes "names")
+last_bytes (HeapFull at) = numbered_line (codes "heap full ") at
+last_bytes ReadFault = line (codes "read fault")
+last_bytes SourceTooLong = line (codes "source too long")
+last_bytes NoMemory = line (codes "no memory")
+last_bytes (LineLimit at) = numbered_line (codes "line limit ") at
+last_bytes BadWords = line (codes "bad words")
 
--- a script with too many names
-abbrev pub names_line : ℕ → List ℕ
-names_line line = line_of (codes "bad script " ++ decimal line ++ codes " " ++ codes "names")
+-- the status of a run whose sink failed
+abbrev pub sink_fault_status : ℕ
+sink_fault_status = 5
 
-abbrev pub heap_full_line : ℕ → List ℕ
-heap_full_line line = line_of (codes "heap full " ++ decimal line)
-
-abbrev pub read_fault_line : List ℕ
-read_fault_line = line_of (codes "read fault")
-
-abbrev pub too_long_line : List ℕ
-too_long_line = line_of (codes "source too long")
-
-abbrev pub no_memory_line : List ℕ
-no_memory_line = line_of (codes "no memory")
-
-abbrev pub bad_words_line : List ℕ
-bad_words_line = line_of (codes "bad words")
+-- the status of a run that has this last line
+abbrev pub status_of : LastLine → ℕ
+status_of Nothing = 0
+status_of (Fault at word) = 1
+status_of (BadScript at why) = 2
+status_of (TooManyNames at) = 2
+status_of (HeapFull at) = 3
+status_of ReadFault = 4
+status_of SourceTooLong = 6
+status_of NoMemory = 7
+status_of (LineLimit at) = 8
+status_of BadWords = 64

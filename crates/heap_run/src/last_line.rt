@@ -1,91 +1,155 @@
-//! The last line of a run, written without taking memory.
-ghost use Rattle.std.specs.Prelude.{◌≡◌, ◌≢◌, ◌≤◌, ◌⊎◌, ◌++◌, codes, decimal, OnOk, OnErr};
-ghost use Rattle.heap_run.specs.Outside.{Rose, Appends};
-ghost use Rattle.heap_run.specs.Texts.{line_of, heap_full_line};
-ghost use Rattle.heap_run.specs.Endings.{ending_of};
+//! The last line of a run and its status. It is written without taking memory.
+ghost use Rattle.std.specs.Prelude.{◌≡◌, ◌≢◌, ◌++◌, codes, decimal, OnOk, OnErr};
+ghost use Rattle.byte_ends.specs.Faults.{Rose};
+ghost use Rattle.byte_ends.specs.Sink.{Appends, AppendsSome};
+ghost use Rattle.heap_script.specs.declared.finished.How.TheVariants.{SinkFault as FailedSink};
+ghost use Rattle.heap_run.specs.Texts.{reason_line, numbered_line, last_bytes, status_of};
+ghost use Rattle.heap_run.specs.Answers.{last_line_of};
 
-use crate::ending::End;
-use crate::outside::{Failed, Sink};
-use crate::writing::write_all;
+use byte_ends::{Failed, Sink, write_all};
+use heap_command::FaultWord;
+use heap_script::{Finished, How};
 use itoa::Buffer;
+use script_text::Why;
 
-/// Writes what waits and then the last line of this end, and answers the status: the end's, or that
-/// of a sink that fails. A sink that failed before is left alone.
-pub fn conclude<K: Sink>(sink: &mut K, waiting: &[u8], end: End) -> u8
-    ensures written { result ≢ 5 → (result ≡ (ending_of end).status)
-        × Appends (K.taken sink.old) (K.taken sink.new) (waiting.now ++ (ending_of end).text) }
-    ensures status { (result ≡ (ending_of end).status) ⊎ (result ≡ 5) }
-    ensures sink_fault { result ≡ 5 → end ≢ End.SinkFault →
-        Rose (K.faults sink.old) (K.faults sink.new) }
-    ensures counted { K.faults sink.old ≤ K.faults sink.new }
-{
-    match end {
-        End::SinkFault => end.status(),
-        _ => match write_end(sink, waiting, end) {
-            Ok(()) => end.status(),
-            Err(Failed) => End::SinkFault.status(),
-        },
+/// The status of a run whose sink failed.
+pub(crate) const SINK_FAULT: u8 = 5;
+
+/// What a run writes behind what its script tells.
+#[derive(Clone, Copy, Debug, PartialEq, Eq)]
+pub enum LastLine {
+    /// The script came to its end.
+    Nothing,
+    /// The command of the line is a fault.
+    Fault { line: u32, word: FaultWord },
+    /// The line of the source is refused.
+    BadScript { line: u32, why: Why },
+    /// The source has too many names, from this line on.
+    TooManyNames { line: u32 },
+    /// The heap has no room for the words that the command of the line needs.
+    HeapFull { line: u32 },
+    /// A read failed.
+    ReadFault,
+    /// The source has more bytes than it may have.
+    SourceTooLong,
+    /// Memory was refused before the first command.
+    NoMemory,
+    /// As many lines were executed as may be before this one.
+    LineLimit { line: u32 },
+    /// The words of the command line are refused.
+    BadWords,
+}
+
+impl LastLine {
+    /// The last line of a script that came to this end. A sink that failed is no end, and is not asked.
+    pub(crate) fn of(finished: &Finished) -> LastLine
+        ensures { result ≡ last_line_of finished.now.how finished.now.line }
+    {
+        let line = finished.line;
+        match finished.how {
+            How::End | How::SinkFault { .. } => LastLine::Nothing,
+            How::Fault(word) => LastLine::Fault { line, word },
+            How::HeapFull { .. } => LastLine::HeapFull { line },
+            How::LineLimit => LastLine::LineLimit { line },
+        }
     }
-}
 
-fn write_end<K: Sink>(sink: &mut K, waiting: &[u8], end: End) -> Result<(), Failed>
-    ensures appended { OnOk result
-        (Appends (K.taken sink.old) (K.taken sink.new) (waiting.now ++ (ending_of end).text)) }
-    ensures failed { OnErr result (Rose (K.faults sink.old) (K.faults sink.new)) }
-    ensures counted { K.faults sink.old ≤ K.faults sink.new }
-{
-    write_all(sink, waiting)?;
-    write_last_line(sink, end)
-}
+    /// The status that the process is to end with.
+    pub(crate) fn status(self) -> u8
+        ensures { result ≡ status_of self }
+    {
+        match self {
+            LastLine::Nothing => 0,
+            LastLine::Fault { .. } => 1,
+            LastLine::BadScript { .. } | LastLine::TooManyNames { .. } => 2,
+            LastLine::HeapFull { .. } => 3,
+            LastLine::ReadFault => 4,
+            LastLine::SourceTooLong => 6,
+            LastLine::NoMemory => 7,
+            LastLine::LineLimit { .. } => 8,
+            LastLine::BadWords => 64,
+        }
+    }
 
-fn write_last_line<K: Sink>(sink: &mut K, end: End) -> Result<(), Failed>
-    ensures appended { OnOk result
-        (Appends (K.taken sink.old) (K.taken sink.new) (ending_of end).text) }
-    ensures failed { OnErr result (Rose (K.faults sink.old) (K.faults sink.new)) }
-    ensures counted { K.faults sink.old ≤ K.faults sink.new }
-{
-    match end {
-        End::Done | End::SinkFault => Ok(()),
-        End::Fault { line, word } => write_reason(sink, "fault ", line, word.text()),
-        End::BadScript { line, why } => write_reason(sink, "bad script ", line, why.text()),
-        End::TooManyNames { line } => write_reason(sink, "bad script ", line, "names"),
-        End::HeapFull { line, .. } => write_heap_full(sink, line),
-        End::ReadFault => write_all(sink, b"read fault\n"),
-        End::SourceTooLong => write_all(sink, b"source too long\n"),
-        End::NoMemory => write_all(sink, b"no memory\n"),
-        End::BadWords => write_all(sink, b"bad words\n"),
+    /// Writes the line, and answers the status: its own, or that of a sink that failed.
+    pub(crate) fn conclude<K: Sink>(self, sink: &mut K) -> u8
+        ensures written { result ≢ 5 → (result ≡ status_of self)
+            × Appends (K.HasTaken sink.old) (K.HasTaken sink.new) (last_bytes self)
+            × (K.faults sink.new ≡ K.faults sink.old) }
+        ensures failed { result ≡ 5 →
+            AppendsSome (K.HasTaken sink.old) (K.HasTaken sink.new) (last_bytes self)
+            × Rose (K.faults sink.old) (K.faults sink.new) }
+    {
+        match self.write(sink) {
+            Ok(()) => self.status(),
+            Err(Failed) => SINK_FAULT,
+        }
+    }
+
+    fn write<K: Sink>(self, sink: &mut K) -> Result<(), Failed>
+        ensures appended { OnOk result
+            (Appends (K.HasTaken sink.old) (K.HasTaken sink.new) (last_bytes self)) }
+        ensures stopped { OnErr result
+            (AppendsSome (K.HasTaken sink.old) (K.HasTaken sink.new) (last_bytes self)) }
+        ensures failed { OnErr result (Rose (K.faults sink.old) (K.faults sink.new)) }
+        ensures steady { OnOk result (K.faults sink.new ≡ K.faults sink.old) }
+    {
+        match self {
+            LastLine::Nothing => write_all(sink, b""),
+            LastLine::Fault { line, word } => write_reason(sink, "fault ", line, word.text()),
+            LastLine::BadScript { line, why } => write_reason(
+                sink,
+                "bad script ",
+                line,
+                why.text(),
+            ),
+            LastLine::TooManyNames { line } => write_reason(sink, "bad script ", line, "names"),
+            LastLine::HeapFull { line } => write_numbered(sink, "heap full ", line),
+            LastLine::ReadFault => write_all(sink, b"read fault\n"),
+            LastLine::SourceTooLong => write_all(sink, b"source too long\n"),
+            LastLine::NoMemory => write_all(sink, b"no memory\n"),
+            LastLine::LineLimit { line } => write_numbered(sink, "line limit ", line),
+            LastLine::BadWords => write_all(sink, b"bad words\n"),
+        }
     }
 }
 
 /// Writes a line of a head, a number, a space and a reason.
 fn write_reason<K: Sink>(sink: &mut K, head: &str, line: u32, reason: &str) -> Result<(), Failed>
-    ensures appended { OnOk result (Appends (K.taken sink.old) (K.taken sink.new)
-        (line_of (head.now ++ decimal line ++ codes " " ++ reason.now))) }
+    ensures appended { OnOk result (Appends (K.HasTaken sink.old) (K.HasTaken sink.new)
+        (reason_line head.now line reason.now)) }
+    ensures stopped { OnErr result (AppendsSome (K.HasTaken sink.old) (K.HasTaken sink.new)
+        (reason_line head.now line reason.now)) }
     ensures failed { OnErr result (Rose (K.faults sink.old) (K.faults sink.new)) }
-    ensures counted { K.faults sink.old ≤ K.faults sink.new }
+    ensures steady { OnOk result (K.faults sink.new ≡ K.faults sink.old) }
 {
-    write_numbered(sink, head, line)?;
+    write_head(sink, head, line)?;
     write_all(sink, b" ")?;
     write_all(sink, reason.as_bytes())?;
     write_all(sink, b"\n")
 }
 
-fn write_heap_full<K: Sink>(sink: &mut K, line: u32) -> Result<(), Failed>
+/// Writes a line of a head and a number.
+fn write_numbered<K: Sink>(sink: &mut K, head: &str, line: u32) -> Result<(), Failed>
     ensures appended { OnOk result
-        (Appends (K.taken sink.old) (K.taken sink.new) (heap_full_line line)) }
+        (Appends (K.HasTaken sink.old) (K.HasTaken sink.new) (numbered_line head.now line)) }
+    ensures stopped { OnErr result
+        (AppendsSome (K.HasTaken sink.old) (K.HasTaken sink.new) (numbered_line head.now line)) }
     ensures failed { OnErr result (Rose (K.faults sink.old) (K.faults sink.new)) }
-    ensures counted { K.faults sink.old ≤ K.faults sink.new }
+    ensures steady { OnOk result (K.faults sink.new ≡ K.faults sink.old) }
 {
-    write_numbered(sink, "heap full ", line)?;
+    write_head(sink, head, line)?;
     write_all(sink, b"\n")
 }
 
 /// Writes a head and a number.
-fn write_numbered<K: Sink>(sink: &mut K, head: &str, line: u32) -> Result<(), Failed>
+fn write_head<K: Sink>(sink: &mut K, head: &str, line: u32) -> Result<(), Failed>
     ensures appended { OnOk result
-        (Appends (K.taken sink.old) (K.taken sink.new) (head.now ++ decimal line)) }
+        (Appends (K.HasTaken sink.old) (K.HasTaken sink.new) (head.now ++ decimal line)) }
+    ensures stopped { OnErr result
+        (AppendsSome (K.HasTaken sink.old) (K.HasTaken sink.new) (head.now ++ decimal line)) }
     ensures failed { OnErr result (Rose (K.faults sink.old) (K.faults sink.new)) }
-    ensures counted { K.faults sink.old ≤ K.faults sink.new }
+    ensures steady { OnOk result (K.faults sink.new ≡ K.faults sink.old) }
 {
     write_all(sink, head.as_bytes())?;
     write_all(sink, Buffer::new().format(line).as_bytes())

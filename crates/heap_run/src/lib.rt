@@ -1,28 +1,21 @@
 //! The whole program as one call: from the words and the source to the bytes and the status.
 //!
-//! Model: a source is what it has left, a sink what it has taken, each with a count of faults; both
-//! may tell no bytes. What `run` answers and writes is `Answers` of `specs/Answers.antt`.
-//! Below: `tagged_word`, `ideal_graph`, `script_text`, `mutator`. Above: the program `heaprun`.
+//! Model: a source is what it has left and a sink which bytes it may have taken, each with a count of
+//! faults; both may tell nothing. `Comes` of `specs/Answers.antt` says what a run comes to, and
+//! `Taken` what of it the sink took.
+//! Invariant: none of its own. Each part hands on what the call below it promised.
 #![tactic(auto)]
 
 mod ended;
-mod ending;
-mod execute;
-mod gate;
-mod interpreter;
 mod last_line;
-mod memory;
-mod outside;
 mod program;
 mod reading;
-mod standard;
 #[cfg(test)]
 mod tests;
-mod writing;
 
+pub use byte_ends::{
+    Failed, MemSink, MemSource, Sink, Source, StdSink, StdSource, SureSource, Tally,
+};
+pub use crew::{Gate, OpenGate, Point};
 pub use ended::{Ended, Kept};
-pub use gate::{Gate, OpenGate, Point};
-pub use memory::{MemSink, MemSource};
-pub use outside::{Failed, Sink, Source};
-pub use program::run;
-pub use standard::{StdSink, StdSource};
+pub use program::{run, run_without_words};

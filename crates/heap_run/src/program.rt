@@ -1,168 +1,178 @@
-//! The program as one call.
-ghost use Rattle.std.specs.Prelude.{◌≡◌, ◌≢◌, ◌+◌, ◌*◌, ◌<◌, ◌≤◌, ◌⊎◌, ◌↔◌, ℕ, List, [], ◌∷◌, ◌++◌, Contains, map, length, codes, string_bytes, Some, IsNone, IsSome, IfSome, IsTrue, MatchOption};
-ghost use Rattle.ideal_graph.specs.Graphs.{start};
+//! The program as one call. Its last line stands in `last_line`, the run of a script in `heap_script`.
+ghost use Rattle.std.specs.Prelude.{◌≡◌, ◌≢◌, ℕ, List, [], map, length, string_bytes, Some, None, Ok, IfSome};
+ghost use Rattle.object_graph.specs.Graphs.{start};
 ghost use Rattle.script_text.specs.Grammar.{reading};
-ghost use Rattle.mutator.specs.Cells.{field_numbers};
-ghost use Rattle.mutator.specs.Shows.{Shows};
-ghost use Rattle.heap_run.specs.Outside.{Rose, Appends, IsInput};
-ghost use Rattle.heap_run.specs.Texts.{read_fault_line, too_long_line, bad_words_line};
-ghost use Rattle.heap_run.specs.Answers.{IsRun, IsOpened, Answers, KeepsGraph, Halts, Stands, Ran};
-ghost use Rattle.heap_run.specs.Endings.{ending_of, IsUnopened};
-ghost use Rattle.heap_run.specs.Progress.{AreBuilt};
+ghost use Rattle.mutator.specs.Heap.{HasVariables, Shows};
+ghost use Rattle.byte_ends.specs.Faults.{Rose};
+ghost use Rattle.byte_ends.specs.Source.{IsInput};
+ghost use Rattle.byte_ends.specs.Sink.{Appends, AppendsSome};
+ghost use Rattle.heap_script.specs.Runs.{AreBuilt, IsCut};
+ghost use Rattle.heap_run.specs.Texts.{last_bytes, status_of};
+ghost use Rattle.heap_run.specs.Answers.{Answers, Runs, KeepsGraph, IsOpened, Taken, input_of, last_line_of, unopened};
 
 use crate::ended::{Ended, Kept};
-use crate::ending::End;
-use crate::gate::Gate;
-use crate::interpreter::run_lines;
-use crate::last_line::conclude;
-use crate::outside::{Sink, Source};
+use crate::last_line::{LastLine, SINK_FAULT};
 use crate::reading::{ReadStop, read_source};
+use byte_ends::{Sink, Source};
+use command_line::{Invocation, WordsStop, read_words};
+use crew::Gate;
+use heap_script::{Finished, How, run_script};
 use mutator::{FirstHeap, Output};
 use script_text::{BadScript, Script, parse};
 use std::alloc::Global;
 use std::thread::Threads;
 
 /// Runs the program. `words` are the words of the command line without the program's name, `source`
-/// is the script, and `sink` takes what it writes and the last line. Threads and gates are not used
-/// so far.
+/// is the script, and `sink` takes what it writes and the last line. The sizes that the words give
+/// are checked and have no effect so far; threads and gates are not used so far.
+///
+/// Where a heap is kept, it shows the graph after the executed lines, whatever became of the bytes.
 pub fn run<S: Source, K: Sink, G: Gate, R: Threads + Sync>(
-    _rt: &R,
+    rt: &R,
     alloc: Global,
     words: &[String],
     source: &mut S,
     sink: &mut K,
-    _gate: &G,
+    gate: &G,
 ) -> Ended
-    // Words other than the one word `run` are refused, and nothing is read.
-    ensures bad_words { ¬ IsRun (map string_bytes words.now) → result.status ≢ 5 →
-        (result.status ≡ 64) × Appends (K.taken sink.old) (K.taken sink.new) bad_words_line }
-    ensures unopened { ¬ IsRun (map string_bytes words.now) →
-        IsNone result.kept × (S.left source.new ≡ S.left source.old) }
+    ensures answers { Answers (map string_bytes words.now)
+        (input_of (S.left source.old) (S.left source.new) (S.faults source.old) (S.faults source.new))
+        (K.HasTaken sink.old) (K.HasTaken sink.new) (K.faults sink.old) (K.faults sink.new) result }
 
-    // Where neither failed, the program answers and writes what the source means.
-    ensures answered { IsRun (map string_bytes words.now) →
-        result.status ≢ 4 → result.status ≢ 5 → result.status ≢ 6 →
-        (input : List ℕ) × (written : List ℕ) × IsInput (S.left source.old) input
-        × (result.status ≢ 7 → length input ≤ 1048576) × Answers input result written
-        × Appends (K.taken sink.old) (K.taken sink.new) written }
-
-    // The heap that is kept shows the graph after the executed lines of the whole source.
+    // The heap that is kept, of every run.
     ensures kept { IfSome result.kept (λ kept. (input : List ℕ)
         × IsInput (S.left source.old) input × KeepsGraph (reading input) kept) }
     ensures whole { IfSome result.kept (λ _.
         IfSome (S.left source.old) (λ _. S.left source.new ≡ Some [])) }
-    ensures opened { IsOpened result }
-
-    // When each of the other ends comes.
-    ensures read_fault { result.status ≡ 4 → Rose (S.faults source.old) (S.faults source.new)
-        × Appends (K.taken sink.old) (K.taken sink.new) read_fault_line }
-    ensures sink_fault { result.status ≡ 5 → Rose (K.faults sink.old) (K.faults sink.new) }
-    ensures too_long { result.status ≡ 6 →
-        IfSome (S.left source.old) (λ all. 1048576 < length all)
-        × Appends (K.taken sink.old) (K.taken sink.new) too_long_line }
-    ensures short { IsRun (map string_bytes words.now) →
-        result.status ≢ 4 → result.status ≢ 5 → result.status ≢ 6 → result.status ≢ 7 →
-        IfSome (S.left source.old) (λ all. length all ≤ 1048576) }
-    ensures refused_words { result.status ≡ 64 → ¬ IsRun (map string_bytes words.now) }
-    ensures source_counted { S.faults source.old ≤ S.faults source.new }
-    ensures sink_counted { K.faults sink.old ≤ K.faults sink.new }
+    ensures opened { IsOpened result.status result.kept }
 {
-    if !is_run(words) {
-        return give_up(sink, End::BadWords);
-    }
-    match read_source(alloc, source) {
-        Ok(bytes) => run_source(alloc, &bytes, sink),
-        Err(ReadStop::Fault) => give_up(sink, End::ReadFault),
-        Err(ReadStop::TooLong) => give_up(sink, End::SourceTooLong),
-        Err(ReadStop::NoMemory) => give_up(sink, End::NoMemory),
-    }
+    run_words(rt, alloc, words, source, sink, gate)
 }
 
-/// Whether the words are the one word `run`.
-fn is_run(words: &[String]) -> bool
-    ensures { IsTrue result ↔ IsRun (map string_bytes words.now) }
+/// What a run ends with where memory was refused before there were words to give it.
+pub fn run_without_words<K: Sink>(sink: &mut K) -> Ended
+    ensures unopened { result.kept ≡ None }
+    ensures taken { Taken (K.HasTaken sink.old) (K.HasTaken sink.new)
+        (K.faults sink.old) (K.faults sink.new) (unopened LastLine.NoMemory) result.status }
 {
-    words.len() == 1 && words[0].as_str() == "run"
+    give_up(sink, LastLine::NoMemory)
+}
+
+/// Reads the words, and does what they ask for.
+fn run_words<S: Source, K: Sink, G: Gate, R: Threads + Sync>(
+    rt: &R,
+    alloc: Global,
+    words: &[String],
+    source: &mut S,
+    sink: &mut K,
+    gate: &G,
+) -> Ended
+    ensures { Answers (map string_bytes words.now)
+        (input_of (S.left source.old) (S.left source.new) (S.faults source.old) (S.faults source.new))
+        (K.HasTaken sink.old) (K.HasTaken sink.new) (K.faults sink.old) (K.faults sink.new) result }
+{
+    match read_words(alloc, words) {
+        Ok(Invocation::Run(_)) => {}
+        Ok(_) => unreachable!(),
+        Err(WordsStop::BadWords) => return give_up(sink, LastLine::BadWords),
+        Err(WordsStop::NoMemory) => return give_up(sink, LastLine::NoMemory),
+    }
+    match read_source(alloc, source) {
+        Ok(bytes) => run_source(rt, alloc, &bytes, sink, gate),
+        Err(ReadStop::Fault) => give_up(sink, LastLine::ReadFault),
+        Err(ReadStop::TooLong) => give_up(sink, LastLine::SourceTooLong),
+        Err(ReadStop::NoMemory) => give_up(sink, LastLine::NoMemory),
+    }
 }
 
 /// Ends without a heap.
-fn give_up<K: Sink>(sink: &mut K, end: End) -> Ended
-    requires { IsUnopened end }
-    ensures unopened { IsNone result.kept }
-    ensures opened { IsOpened result }
-    ensures written { result.status ≢ 5 → (result.status ≡ (ending_of end).status)
-        × Appends (K.taken sink.old) (K.taken sink.new) (ending_of end).text }
-    ensures status { (result.status ≡ (ending_of end).status) ⊎ (result.status ≡ 5) }
-    ensures sink_fault { result.status ≡ 5 → Rose (K.faults sink.old) (K.faults sink.new) }
-    ensures counted { K.faults sink.old ≤ K.faults sink.new }
+fn give_up<K: Sink>(sink: &mut K, last: LastLine) -> Ended
+    ensures unopened { result.kept ≡ None }
+    ensures taken { Taken (K.HasTaken sink.old) (K.HasTaken sink.new)
+        (K.faults sink.old) (K.faults sink.new) (unopened last) result.status }
 {
-    let status = conclude(sink, b"", end);
+    let status = last.conclude(sink);
     Ended { status, kept: None }
 }
 
-/// Reads a source as a script and runs it.
-fn run_source<K: Sink>(alloc: Global, source: &[u8], sink: &mut K) -> Ended
-    ensures answered { result.status ≢ 5 → (written : List ℕ) × Answers source.now result written
-        × Appends (K.taken sink.old) (K.taken sink.new) written }
-    ensures kept { IfSome result.kept (KeepsGraph (reading source.now)) }
-    ensures opened { IsOpened result }
-    ensures status { (result.status ≢ 4) × (result.status ≢ 6) × (result.status ≢ 64) }
-    ensures sink_fault { result.status ≡ 5 → Rose (K.faults sink.old) (K.faults sink.new) }
-    ensures counted { K.faults sink.old ≤ K.faults sink.new }
+/// Reads a source as a script and runs it. All memory is taken before the first command.
+fn run_source<K: Sink, G: Gate, R: Threads + Sync>(
+    rt: &R,
+    alloc: Global,
+    source: &[u8],
+    sink: &mut K,
+    gate: &G,
+) -> Ended
+    ensures { Runs source.now (K.HasTaken sink.old) (K.HasTaken sink.new)
+        (K.faults sink.old) (K.faults sink.new) result }
 {
     let script = match parse(alloc, source) {
         Ok(script) => script,
         Err(BadScript::BadLine { line, why }) => {
-            return give_up(sink, End::BadScript { line, why });
+            return give_up(sink, LastLine::BadScript { line, why });
         }
         Err(BadScript::TooManyNames { line }) => {
-            return give_up(sink, End::TooManyNames { line });
+            return give_up(sink, LastLine::TooManyNames { line });
         }
-        Err(BadScript::NoMemory) => return give_up(sink, End::NoMemory),
+        Err(BadScript::NoMemory) => return give_up(sink, LastLine::NoMemory),
     };
     let Ok(heap) = FirstHeap::new(alloc, script.variables()) else {
-        return give_up(sink, End::NoMemory);
+        return give_up(sink, LastLine::NoMemory);
     };
     let Ok(out) = Output::new(alloc) else {
-        return give_up(sink, End::NoMemory);
+        return give_up(sink, LastLine::NoMemory);
     };
-    prove!(script.fields() <= 4096);
-    run_script(heap, out, &script, sink)
+    run_on_heap(rt, heap, out, &script, sink, gate)
 }
 
-/// Runs a script on a new heap, and keeps the heap.
-fn run_script<K: Sink>(
+/// Runs a script on a heap that was just opened, and keeps the heap.
+fn run_on_heap<K: Sink, G: Gate, R: Threads + Sync>(
+    rt: &R,
     mut heap: FirstHeap,
     mut out: Output,
     script: &Script<'_>,
     sink: &mut K,
+    gate: &G,
 ) -> Ended
     requires shown { Shows heap start }
-    requires rooted { length heap.roots ≡ 2 * length script.now.variables }
-    requires fields { length script.now.fields ≤ field_numbers }
+    requires variables { HasVariables heap (length script.now.variables) }
     requires built { AreBuilt script.now.lines }
     requires empty { out ≡ [] }
-    ensures kept_heap { IsSome result.kept }
-    ensures opened { IsOpened result }
-    ensures answered { result.status ≢ 5 → (written : List ℕ)
-        × IfSome result.kept (λ kept. Ran script.now result.status kept written)
-        × Appends (K.taken sink.old) (K.taken sink.new) written }
-    ensures kept { IfSome result.kept (λ kept.
-        (stands : Stands script.now kept) × Halts script.now kept stands.so_far.graph) }
-    ensures status { (result.status ≢ 4) × (result.status ≢ 6) × (result.status ≢ 64) }
-    ensures sink_fault { result.status ≡ 5 → Rose (K.faults sink.old) (K.faults sink.new) }
-    ensures counted { K.faults sink.old ≤ K.faults sink.new }
+    ensures { (bytes : List ℕ) → reading bytes ≡ Ok script.now →
+        Runs bytes (K.HasTaken sink.old) (K.HasTaken sink.new)
+        (K.faults sink.old) (K.faults sink.new) result }
 {
-    let finished = run_lines(&mut heap, script, &mut out, sink);
-    let status = conclude(sink, out.bytes(), finished.end);
+    let finished = run_script(rt, &mut heap, script, &mut out, sink, false, gate);
+    let status = conclude(&finished, sink);
     let kept = Kept {
         image: heap,
-        need: finished.end.need(),
-        line: finished.end.line(),
+        need: finished.how.need(),
+        line: finished.line,
         executed: finished.executed,
     };
     Ended {
         status,
         kept: Some(kept),
+    }
+}
+
+/// Writes the last line of a script that was run, and answers the status.
+fn conclude<K: Sink>(finished: &Finished, sink: &mut K) -> u8
+    ensures cut { IsCut finished.now.how → (result ≡ 5) × (sink.new ≡ sink.old) }
+    ensures written { ¬ IsCut finished.now.how → result ≢ 5 →
+        let last = last_line_of finished.now.how finished.now.line in (result ≡ status_of last)
+        × Appends (K.HasTaken sink.old) (K.HasTaken sink.new) (last_bytes last)
+        × (K.faults sink.new ≡ K.faults sink.old) }
+    ensures failed { ¬ IsCut finished.now.how → result ≡ 5 →
+        let last = last_line_of finished.now.how finished.now.line in
+        AppendsSome (K.HasTaken sink.old) (K.HasTaken sink.new) (last_bytes last)
+        × Rose (K.faults sink.old) (K.faults sink.new) }
+{
+    match finished.how {
+        // Nothing is written behind a write that failed: the sink has a front of the bytes, and no more.
+        How::SinkFault { .. } => SINK_FAULT,
+        How::End | How::Fault(_) | How::HeapFull { .. } | How::LineLimit => {
+            LastLine::of(finished).conclude(sink)
+        }
     }
 }

@@ -1,15 +1,16 @@
-//! The whole program over memory.
+//! The whole program over memory, by values from the language's description.
 ghost use Rattle.std.specs.Prelude.{◌≤◌};
 
-use crate::{Ended, MemSink, MemSource, OpenGate, StdSink, StdSource, run};
+use crate::{Ended, MemSink, MemSource, OpenGate, run};
 use std::test::Fail;
 use std::thread::Threads;
 
-const FIRST: &str = "new x 2\nset x a 5\nget y x a\nprint y\n";
+mod ends;
+mod limits;
 
 /// The heap of a run, as far as tests look at it.
 #[derive(Clone, Copy, Debug, PartialEq, Eq)]
-struct Tally {
+struct KeptSeen {
     executed: u64,
     line: u32,
     need: u32,
@@ -17,38 +18,67 @@ struct Tally {
 
 /// What a run came to.
 #[derive(Debug, Drop)]
-struct Seen {
+struct RunSeen {
     status: u8,
     written: Vec<u8>,
-    kept: Option<Tally>,
+    seen: Option<KeptSeen>,
 }
 
-/// Runs a script with so many bytes a call, where the calls of these numbers fail; 0 is none.
-fn run_with<R: Threads + Sync + AllocGlobal>(
-    rt: &R,
-    script: &[u8],
+/// How a source gives and a sink takes: so many bytes a call, and the calls of these numbers fail; 0 is
+/// none.
+#[derive(Clone, Copy)]
+struct Pace {
     most: usize,
     failing_read: u64,
     failing_write: u64,
-) -> Result<Seen, Fail>
-    requires { 1 ≤ most }
+}
+
+/// Pace at which nothing fails.
+const SURE: Pace = Pace {
+    most: 4096,
+    failing_read: 0,
+    failing_write: 0,
+};
+
+/// Runs a script under the words `run`.
+fn came<R: Threads + Sync + AllocGlobal>(rt: &R, script: &[u8], ends: Pace) -> Result<RunSeen, Fail>
+    requires { 1 ≤ ends.most }
+{
+    came_by(rt, &["run"], script, ends)
+}
+
+fn came_by<R: Threads + Sync + AllocGlobal>(
+    rt: &R,
+    given: &[&str],
+    script: &[u8],
+    ends: Pace,
+) -> Result<RunSeen, Fail>
+    requires { 1 ≤ ends.most }
 {
     let alloc = rt.alloc();
-    let words = vec![in alloc; String::from_str(alloc, "run")?]?;
+    let mut words = Vec::new(alloc);
+    for word in given {
+        words.push(String::from_str(alloc, word)?)?;
+    }
     let bytes = script.to_vec(alloc)?;
-    let mut source = MemSource::new(bytes, most, vec![in alloc; failing_read]?);
-    let mut sink = MemSink::new(alloc, 1 << 20, most, vec![in alloc; failing_write]?)?;
+    let mut source = MemSource::new(bytes, ends.most, vec![in alloc; ends.failing_read]?);
+    let mut sink = MemSink::new(
+        alloc,
+        1 << 20,
+        ends.most,
+        vec![in alloc; ends.failing_write]?,
+    )?;
     let ended = run(rt, alloc, &words, &mut source, &mut sink, &OpenGate);
-    Ok(Seen {
+    Ok(RunSeen {
         status: ended.status,
         written: sink.bytes().to_vec(alloc)?,
-        kept: tally_of(&ended),
+        seen: seen_of(&ended),
     })
 }
 
-fn tally_of(ended: &Ended) -> Option<Tally> {
+fn seen_of(ended: &Ended) -> Option<KeptSeen> {
     match &ended.kept {
-        Some(kept) => Some(Tally {
+        Some(kept) => Some(KeptSeen {
             executed: kept.executed,
             line: kept.line,
             need: kept.need,
@@ -57,179 +87,129 @@ fn tally_of(ended: &Ended) -> Option<Tally> {
     }
 }
 
-/// A script that names so many variables, one in each line.
-fn naming(rt: &HostRuntime, variables: u32) -> Result<Vec<u8>, Fail> {
-    let mut script = Vec::new(rt.alloc());
-    for n in 0..variables {
-        let line = format!(in rt.alloc(); "new x{n} 0\n")?;
-        script.extend_from_slice(line.as_bytes())?;
-    }
-    Ok(script)
-}
-
-/// So many copies of a line.
-fn repeated(rt: &HostRuntime, line: &str, count: u32) -> Result<Vec<u8>, Fail> {
-    let mut script = Vec::new(rt.alloc());
-    for _turn in 0..count {
-        script.extend_from_slice(line.as_bytes())?;
-    }
-    Ok(script)
+fn seen(executed: u64, line: u32, need: u32) -> Option<KeptSeen> {
+    Some(KeptSeen {
+        executed,
+        line,
+        need,
+    })
 }
 
 #[test]
 fn scripts_write_their_values_and_their_last_line(rt: HostRuntime) -> Result<(), Fail> {
     let table = [
-        (FIRST, "5\n", 0),
+        ("new x 2\nset x a 5\nget y x a\nprint y\n", "5\n", 0),
         ("", "", 0),
         ("print 5", "5\n", 0),
-        ("new x 1\nset x a 5\nset x b 6", "fault 3 fieldsfull\n", 1),
-        ("list x", "bad script 1 notbuilt\n", 2),
-        ("print 1\nprint 2\nget y q f", "1\n2\nfault 3 unbound\n", 1),
-        ("print 1\nget y q", "bad script 2 count\n", 2),
-        ("print 9223372036854775808", "bad script 1 value\n", 2),
-        ("# c\n\n\tprint  5 # d\r\n \nprint 6", "5\n6\n", 0),
+        ("repeat 0\nprint 1\nend\nprint 2", "2\n", 0),
         (
-            "print 9223372036854775807\nprint -9223372036854775808\n",
-            "9223372036854775807\n-9223372036854775808\n",
+            "let i 0\nrepeat 2\nrepeat 3\nadd i 1\nend\nprint i\nend",
+            "3\n6\n",
             0,
+        ),
+        (
+            "  print\t-7 # seven\r\n\r\nprint undefined",
+            "-7\nundefined\n",
+            0,
+        ),
+        ("print 9223372036854775807", "9223372036854775807\n", 0),
+        ("new x 1\nset x a 5\nset x b 6", "fault 3 fieldsfull\n", 1),
+        ("print 1\nprint 2\nget y q f", "1\n2\nfault 3 unbound\n", 1),
+        (
+            "let x 9223372036854775807\nadd x 1",
+            "fault 2 overflow\n",
+            1,
+        ),
+        ("let x undefined\nadd x 1", "fault 2 notint\n", 1),
+        ("drop q", "fault 1 unbound\n", 1),
+        ("let x 1\nset x a 1", "fault 2 notobject\n", 1),
+        (
+            "print 1\nprint 2\nget y q f\nget y q",
+            "bad script 4 count\n",
+            2,
+        ),
+        ("list x", "bad script 1 notbuilt\n", 2),
+        ("make x", "bad script 1 command\n", 2),
+        ("print 007", "bad script 1 value\n", 2),
+        ("new x 9", "bad script 1 integer\n", 2),
+        ("set x 1a 0", "bad script 1 name\n", 2),
+        ("print 1\nend", "bad script 2 end\n", 2),
+        ("print 1\nrepeat 2\n", "bad script 2 open\n", 2),
+        (
+            "repeat 1\nrepeat 1\nrepeat 1\nrepeat 1\nrepeat 1",
+            "bad script 5 nesting\n",
+            2,
         ),
     ];
     for (script, written, status) in table {
         for most in [1usize, 4096] {
-            let seen = run_with(&rt, script.as_bytes(), most, 0, 0)?;
-            assert_eq!(rt; seen.written.as_slice(), written.as_bytes(), "{script}");
-            assert_eq!(rt; seen.status, status, "{script}");
+            let came = came(&rt, script.as_bytes(), Pace { most, ..SURE })?;
+            assert_eq!(rt; came.written.as_slice(), written.as_bytes(), "{script}");
+            assert_eq!(rt; came.status, status, "{script}");
         }
     }
+    Ok(())
+}
+
+#[test]
+fn the_same_is_the_same_integer_undefined_or_object(rt: HostRuntime) -> Result<(), Fail> {
+    let script = b"new x 0\nnew y 0\nlet z x\nlet u undefined\nlet w 5000000000\n\
+        same x z\nsame x y\nsame 3 3\nsame 3 4\nsame w 5000000000\nsame w 5000000001\n\
+        same u undefined\nsame u 0\nsame x 0\nsame x u";
+    let came = came(&rt, script, SURE)?;
+    let text = "true\nfalse\ntrue\nfalse\ntrue\nfalse\ntrue\nfalse\nfalse\nfalse\n";
+    assert_eq!(rt; came.written.as_slice(), text.as_bytes());
     Ok(())
 }
 
 #[test]
 fn the_kept_heap_counts_executed_lines(rt: HostRuntime) -> Result<(), Fail> {
     let table = [
-        (FIRST, 4, 0),
-        ("", 0, 0),
-        ("new x 1\nset x a 5\nset x b 6", 2, 3),
+        ("", seen(0, 0, 0)),
+        ("new x 2\nset x a 5\nget y x a\nprint y", seen(4, 0, 0)),
+        ("new x 1\nset x a 5\nset x b 6", seen(2, 3, 0)),
+        ("repeat 0\nprint 1\nend\nprint 2", seen(2, 0, 0)),
+        ("repeat 6000\nnew x 8\nend", seen(10_485, 2, 25)),
+        ("list x", None),
     ];
-    for (script, executed, line) in table {
-        let seen = run_with(&rt, script.as_bytes(), 4096, 0, 0)?;
-        let tally = Tally {
-            executed,
-            line,
-            need: 0,
-        };
-        assert_eq!(rt; seen.kept, Some(tally), "{script}");
-    }
-    assert_eq!(rt; run_with(&rt, b"list x", 4096, 0, 0)?.kept, None);
-    Ok(())
-}
-
-#[test]
-fn a_full_heap_names_the_line_and_the_words_that_it_wants(rt: HostRuntime) -> Result<(), Fail> {
-    let script = repeated(&rt, "new x 8\n", 5243)?;
-    let seen = run_with(&rt, &script, 4096, 0, 0)?;
-    assert_eq!(rt; seen.status, 3);
-    assert_eq!(rt; seen.written.as_slice(), b"heap full 5243\n".as_slice());
-    let tally = Tally {
-        executed: 5242,
-        line: 5243,
-        need: 25,
-    };
-    assert_eq!(rt; seen.kept, Some(tally));
-    Ok(())
-}
-
-#[test]
-fn the_line_that_names_a_variable_too_many_is_refused(rt: HostRuntime) -> Result<(), Fail> {
-    let seen = run_with(&rt, &naming(&rt, 1024)?, 4096, 0, 0)?;
-    assert_eq!(rt; seen.status, 0);
-    let seen = run_with(&rt, &naming(&rt, 1025)?, 4096, 0, 0)?;
-    assert_eq!(rt; seen.status, 2);
-    assert_eq!(rt;
-        seen.written.as_slice(),
-        b"bad script 1025 names\n".as_slice()
-    );
-    assert_eq!(rt; seen.kept, None);
-    Ok(())
-}
-
-#[test]
-fn a_source_has_at_most_1048576_bytes(rt: HostRuntime) -> Result<(), Fail> {
-    let mut script = repeated(&rt, "\n", 1_048_576)?;
-    let seen = run_with(&rt, &script, 4096, 0, 0)?;
-    assert_eq!(rt; seen.status, 0);
-    assert_eq!(rt; seen.written.len(), 0);
-    script.push(b'\n')?;
-    let seen = run_with(&rt, &script, 4096, 0, 0)?;
-    assert_eq!(rt; seen.status, 6);
-    assert_eq!(rt; seen.written.as_slice(), b"source too long\n".as_slice());
-    Ok(())
-}
-
-#[test]
-fn words_other_than_run_are_refused_and_nothing_is_read(rt: HostRuntime) -> Result<(), Fail> {
-    let alloc = rt.alloc();
-    let table: [&[&str]; 4] = [&[], &["walk"], &["run", "run"], &["Run"]];
-    for given in table {
-        let mut words = Vec::new(alloc);
-        for word in given {
-            words.push(String::from_str(alloc, word)?)?;
-        }
-        let bytes = FIRST.as_bytes().to_vec(alloc)?;
-        let mut source = MemSource::new(bytes, 4096, Vec::new(alloc));
-        let mut sink = MemSink::new(alloc, 4096, 4096, Vec::new(alloc))?;
-        let ended = run(&rt, alloc, &words, &mut source, &mut sink, &OpenGate);
-        assert_eq!(rt; ended.status, 64);
-        assert_eq!(rt; sink.bytes(), b"bad words\n".as_slice());
-        assert_eq!(rt; source.left(), FIRST.as_bytes());
-    }
-    Ok(())
-}
-
-#[test]
-fn each_read_that_fails_is_a_read_fault(rt: HostRuntime) -> Result<(), Fail> {
-    for call in 1..=6 {
-        let seen = run_with(&rt, FIRST.as_bytes(), 8, call, 0)?;
-        assert_eq!(rt; seen.status, 4, "call {call}");
+    for (script, wanted) in table {
         assert_eq!(rt;
-            seen.written.as_slice(),
-            b"read fault\n".as_slice(),
-            "call {call}"
+            came(&rt, script.as_bytes(), SURE)?.seen,
+            wanted,
+            "{script}"
         );
     }
-    assert_eq!(rt; run_with(&rt, FIRST.as_bytes(), 8, 7, 0)?.status, 0);
     Ok(())
 }
 
 #[test]
-fn each_write_that_fails_leaves_the_front_of_the_output(rt: HostRuntime) -> Result<(), Fail> {
-    let script = b"print 1\nprint 2\nget y q f";
-    let whole = b"1\n2\nfault 3 unbound\n".as_slice();
-    let fronts = [0usize, 4, 8, 10, 11, 12, 16, 19];
-    for (before, front) in fronts.iter().enumerate() {
-        let call = before as u64 + 1;
-        let seen = run_with(&rt, script, 4, 0, call)?;
-        assert_eq!(rt; seen.status, 5, "call {call}");
-        assert_eq!(rt;
-            Some(seen.written.as_slice()),
-            whole.get(..*front),
-            "call {call}"
-        );
+fn the_words_are_read_before_the_source(rt: HostRuntime) -> Result<(), Fail> {
+    let accepted: [&[&str]; 4] = [
+        &["run"],
+        &["run", "--"],
+        &["run", "--young=64", "--pages", "1"],
+        &["run", "--young", "00064", "--helpers", "7"],
+    ];
+    for words in accepted {
+        let came = came_by(&rt, words, b"print 5", SURE)?;
+        assert_eq!(rt; came.written.as_slice(), b"5\n".as_slice());
+        assert_eq!(rt; came.status, 0);
     }
-    assert_eq!(rt; run_with(&rt, script, 4, 0, 9)?.written.as_slice(), whole);
-    Ok(())
-}
-
-#[test]
-fn readers_and_writers_of_std_serve(rt: HostRuntime) -> Result<(), Fail> {
-    let alloc = rt.alloc();
-    let words = vec![in alloc; String::from_str(alloc, "run")?]?;
-    let mut written = Vec::new(alloc);
-    let mut source = StdSource::new(FIRST.as_bytes());
-    let mut sink = StdSink::new(&mut written);
-    let ended = run(&rt, alloc, &words, &mut source, &mut sink, &OpenGate);
-    drop(sink);
-    assert_eq!(rt; ended.status, 0);
-    assert_eq!(rt; written.as_slice(), b"5\n".as_slice());
+    let refused: [&[&str]; 8] = [
+        &[],
+        &["Run"],
+        &["run", "x"],
+        &["run", "--pages", "513"],
+        &["run", "--young", "63"],
+        &["run", "--helpers", "8"],
+        &["check"],
+        &["gen", "0", "1"],
+    ];
+    for words in refused {
+        let came = came_by(&rt, words, b"print 5", SURE)?;
+        assert_eq!(rt; came.written.as_slice(), b"bad words\n".as_slice());
+        assert_eq!(rt; came.status, 64);
+        assert_eq!(rt; came.seen, None);
+    }
     Ok(())
 }

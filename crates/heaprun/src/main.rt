@@ -1,27 +1,25 @@
-//! Runs the heap script of standard input, and writes what it prints to standard output. The one
-//! word of the command line is `run`.
+//! Runs the heap script of standard input, and writes what it prints to standard output, as
+//! `heap_run::run` promises.
 #![tactic(auto)]
 
-use heap_run::{OpenGate, StdSink, StdSource, run};
+use heap_run::{OpenGate, StdSink, StdSource, run, run_without_words};
 use std::process::ExitCode;
 use std::{env, io};
 
-/// The status where memory is refused.
-const NO_MEMORY: u8 = 7;
-
 fn main(rt: HostRuntime) -> ExitCode {
-    let Ok(words) = words(&rt) else {
-        let _ = println!(rt; "no memory");
-        return ExitCode::from(NO_MEMORY);
-    };
-    let mut source = StdSource::new(rt.reader());
     let mut sink = StdSink::new(rt.stdout());
-    let ended = run(&rt, rt.alloc(), &words, &mut source, &mut sink, &OpenGate);
+    let ended = match words(&rt) {
+        Ok(words) => {
+            let mut source = StdSource::new(rt.reader());
+            run(&rt, rt.alloc(), &words, &mut source, &mut sink, &OpenGate)
+        }
+        Err(_) => run_without_words(&mut sink),
+    };
     ExitCode::from(ended.status)
 }
 
-/// The words behind the program's name. Where one of them is no text, which the word `run` is,
-/// there are none.
+/// The words after the program's name. Where one of them is no text there are none, and none are
+/// refused.
 fn words(rt: &HostRuntime) -> io::Result<Vec<String>> {
     let mut words = Vec::new(rt.alloc());
     match env::args(rt) {

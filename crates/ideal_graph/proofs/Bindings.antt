@@ -1,32 +1,30 @@
 -- A tree of bindings, seen as the map from each variable to its value.
-use Rattle.std.proofs.Common.{◌≡◌, ℕ, List, [], ◌∷◌, Option, Some, None, Result, cond, refl, sym, ap, ◌∙◌, subst}
-use Rattle.std.specs.Ordering.{nat_cmp, is_eq, eq_by_cmp}
+use Rattle.std.proofs.Common.{◌≡◌, ℕ, Option, Some, None, Result, cond, refl, sym, ap, ◌∙◌, subst}
+use Rattle.std.specs.Ordering.{nat_cmp, eq_by_cmp}
 use Rattle.std.specs.Cmp.{nat_cmp_total, eq_by_cmp_equiv}
 use Rattle.std.specs.Option.{ok_or}
-use Rattle.std.specs.FinMap.{get, insert, remove, from_entries, get-insert, get-remove, get-from_entries, same_map, nat_cmp-IsAntisymmetric}
-use Rattle.std.specs.FinMap.Entries.{find}
-use Rattle.std.specs.Map.{lookup}
+use Rattle.std.specs.FinMap.{get, insert, remove, from_entries, get-insert, get-remove, get-from_entries}
+use Rattle.std.specs.FinMap.{same_map, nat_cmp-IsAntisymmetric}
 use Rattle.std.specs.BTreeMap as tree
 use Rattle.std.specs.BTreeMap.{BTreeMap, Updates}
-use Rattle.ideal_graph.specs.declared.command.FaultWord.{FaultWord}
-use Rattle.ideal_graph.specs.declared.value.Value.{Value}
+use Rattle.heap_command.specs.declared.command.FaultWord.{FaultWord}
+use Rattle.object_graph.specs.declared.value.Value.{Value}
+use Rattle.object_graph.proofs.BoundValues.{entries_find}
 use Rattle.ideal_graph.specs.Lookups.{Finds}
 
 -- a look-up answers what is sought, or the fault
-pub Finds-ok_or : {A : Type 0} (word : FaultWord) (sought : Option A) (answer : Result A FaultWord) → answer ≡ ok_or sought word → Finds word sought answer
+pub Finds-ok_or : {A : Type 0} (word : FaultWord) (sought : Option A) (answer : Result A FaultWord)
+    → answer ≡ ok_or sought word → Finds word sought answer
 Finds-ok_or word None answer is = subst (λ r. Finds word None r) (sym is) (refl, refl)
 Finds-ok_or word (Some found) answer is = subst (λ r. Finds word (Some found) r) (sym is) refl
 
 -- the map of the entries answers as the tree does
-pub entries_find : (es : List (ℕ × Value)) (x : ℕ) → find nat_cmp x es ≡ lookup (λ k. is_eq (nat_cmp x k)) es
-entries_find [] x = refl
-entries_find (e ∷ es) x = ap (λ rest. cond (is_eq (nat_cmp x e.0)) (Some e.1) rest) (entries_find es x)
-
 pub get-entries : (m : BTreeMap ℕ Value) (x : ℕ) → get (from_entries {R = nat_cmp} m.entries) x ≡ tree.get nat_cmp m x
 get-entries m x = get-from_entries nat_cmp_total m.entries x ∙ entries_find m.entries x
 
 -- to update the tree at a variable is to insert into the map
-pub insert-entries : (m n : BTreeMap ℕ Value) (x : ℕ) (value : Value) → Updates nat_cmp m n x (Some value) → from_entries {R = nat_cmp} n.entries ≡ insert (from_entries m.entries) x value
+pub insert-entries : (m n : BTreeMap ℕ Value) (x : ℕ) (value : Value) → Updates nat_cmp m n x (Some value)
+    → from_entries {R = nat_cmp} n.entries ≡ insert (from_entries m.entries) x value
 insert-entries m n x value updates =
     same_map nat_cmp_total nat_cmp-IsAntisymmetric _ _ (λ q.
     get-entries n q
@@ -36,7 +34,8 @@ insert-entries m n x value updates =
     ∙ sym (get-insert nat_cmp_total (from_entries m.entries) x value q))
 
 -- to take a variable out of the tree is to remove it from the map
-pub remove-entries : (m n : BTreeMap ℕ Value) (x : ℕ) → Updates nat_cmp m n x None → from_entries {R = nat_cmp} n.entries ≡ remove (from_entries m.entries) x
+pub remove-entries : (m n : BTreeMap ℕ Value) (x : ℕ) → Updates nat_cmp m n x None
+    → from_entries {R = nat_cmp} n.entries ≡ remove (from_entries m.entries) x
 remove-entries m n x updates =
     same_map nat_cmp_total nat_cmp-IsAntisymmetric _ _ (λ q.
     get-entries n q

@@ -1,21 +1,6 @@
-pub mod Searches
-pub mod Places
-pub mod WeakMost
-pub mod SamePaths
-pub mod PathLists
-pub mod Bindings
-pub mod Runs
-pub mod RunBytes
-pub mod RunEnds
-pub mod ObjectLists
-pub mod Changes
-pub mod Stays
-pub mod Marking
-pub mod Holders
-pub mod BoundValues
-pub mod Rounds
-pub mod ReachedLinks
-pub mod Reaches
-pub mod DistinctKeys
-pub mod Held
-pub mod GraphsStay
+mod KeyedLists
+mod WeakMost
+mod SamePaths
+mod PathLists
+mod Bindings
+mod Holders

@@ -1,13 +1,13 @@
 -- Comparing two paths field by field.
 use Rattle.std.proofs.Common.{◌≡◌, List, [], ◌∷◌, refl}
 use Rattle.std.specs.Cmp.Lexicographic.{pointwise}
-use Rattle.ideal_graph.specs.declared.value.Rep.{Rep}
-use Rattle.ideal_graph.specs.declared.value.Rep.TheVariants.{Small, Wide, Tagged}
-use Rattle.ideal_graph.specs.declared.path.PathField.{PathField}
-use Rattle.ideal_graph.specs.contracts.value.RepPartialEq.TheImpl as rep_eq
-use Rattle.ideal_graph.specs.contracts.path.PathFieldPartialEq.TheImpl as field_eq
-use Rattle.ideal_graph.specs.Values.{same_rep}
-use Rattle.ideal_graph.specs.Paths.{same_fields}
+use Rattle.object_graph.specs.declared.value.Rep.{Rep}
+use Rattle.object_graph.specs.declared.value.Rep.TheVariants.{Small, Wide, Tagged}
+use Rattle.object_graph.specs.declared.path.PathField.{PathField}
+use Rattle.object_graph.specs.contracts.value.RepPartialEq.TheImpl as rep_eq
+use Rattle.object_graph.specs.contracts.path.PathFieldPartialEq.TheImpl as field_eq
+use Rattle.object_graph.specs.Values.{same_rep}
+use Rattle.object_graph.specs.Paths.{same_fields}
 
 -- what `==` answers of two representations
 rep_eq-same_rep : (a b : Rep) → rep_eq.eq-value.it a b ≡ same_rep a b

@@ -3,13 +3,13 @@ use Rattle.std.specs.Prelude.{ℕ, List, refl}
 use Rattle.std.specs.Coded.{Coded, code_by, coded×, coded_ℕ, coded_list}
 use Rattle.std.specs.Ordering.{nat_cmp}
 use Rattle.std.specs.FinMap.{FinMap, code}
-use Rattle.ideal_graph.specs.contracts.value.Value as value
-use Rattle.ideal_graph.specs.contracts.object.Object as object
-use Rattle.ideal_graph.specs.contracts.path.Path as path
-use Rattle.ideal_graph.specs.declared.value.Value.{Value}
-use Rattle.ideal_graph.specs.declared.object.Object.{Object}
-use Rattle.ideal_graph.specs.declared.path.Path.{Path}
-use Rattle.ideal_graph.specs.Graphs.{Graph}
+use Rattle.object_graph.specs.contracts.value.Value as value
+use Rattle.object_graph.specs.contracts.object.Object as object
+use Rattle.object_graph.specs.contracts.path.Path as path
+use Rattle.object_graph.specs.declared.value.Value.{Value}
+use Rattle.object_graph.specs.declared.object.Object.{Object}
+use Rattle.object_graph.specs.declared.path.Path.{Path}
+use Rattle.object_graph.specs.Graphs.{Graph}
 use Rattle.ideal_graph.specs.Steps.{NamedGraph}
 
 -- a graph is stored as its objects, its bindings and its paths

@@ -1,16 +1,4 @@
-pub mod Values
-pub mod Objects
-pub mod Paths
-pub mod Graphs
-pub mod Texts
-pub mod Reach
-pub mod Meaning
-pub mod Run
-pub mod Commands
 pub mod Steps
 pub mod Codes
 pub mod Lookups
-pub mod Laws
-pub mod Marks
-pub mod ReachLaws
-pub mod Invariants
+pub mod Keyings

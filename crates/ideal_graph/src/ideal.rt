@@ -1,7 +1,6 @@
 //! The plain, slow program whose contract is the meaning of the commands.
-ghost use Rattle.std.specs.Prelude.{◌≡◌, ◌^◌, map, length, IfOk, IfErr};
-ghost use Rattle.ideal_graph.specs.Commands.{IsWithin};
-ghost use Rattle.ideal_graph.specs.Graphs.{start};
+ghost use Rattle.std.specs.Prelude.{◌≡◌, map, IfOk, IfErr};
+ghost use Rattle.object_graph.specs.Graphs.{start};
 ghost use Rattle.ideal_graph.specs.Steps.{Steps};
 
 mod bindings;
@@ -17,10 +16,9 @@ mod tests;
 mod texts;
 mod weak;
 
-use crate::command::{Command, FaultWord};
-use crate::object::Object;
-use crate::path::{Path, first_paths};
-use crate::value::Value;
+use crate::paths::empty_paths;
+use heap_command::{Command, FaultWord};
+use object_graph::{Object, Path, Value};
 pub use reach::Census;
 use std::alloc::{AllocError, AllocFailed, Global};
 use std::collections::BTreeMap;
@@ -114,7 +112,7 @@ impl Ideal {
             ideal ≡ record { names = map (λ name. name.items) names.items; graph = start }) }
         ensures memory { IfErr result (λ stop. stop ≡ IdealStop.NoMemory) }
     {
-        let paths = first_paths(alloc)?;
+        let paths = empty_paths(alloc)?;
         Ok(Ideal {
             names,
             objects: Vec::new(alloc),
@@ -126,7 +124,6 @@ impl Ideal {
 
     /// Carries the command out. A fault and want of memory leave the graph as it was.
     pub fn step(&mut self, command: &Command) -> Result<Said, IdealStop>
-        requires { IsWithin (2 ^ 32) (length self.old.names) command.now }
         ensures { Steps self.old self.new command.now result }
     {
         match *command {

@@ -1,28 +1,18 @@
-//! The ideal object graph: what a heap script means, with no heap and no collection.
+//! The plain, slow program whose contract is the meaning of the commands. The running heap never
+//! uses it.
 //!
-//! Model: a `Graph` is the list of all objects ever made, what each variable is bound to, and the
-//! list of field paths. `does` of `specs/Meaning.antt` is the meaning of a command, and `told` of
-//! `specs/Run.antt` that of a list of executed lines. `Ideal` is the plain, slow program whose
-//! contract is that meaning; the running heap never uses it.
-//! Below: `tagged_word`. Above: `script_text`, `mutator`, `heap_run`.
+//! Model: `Ideal` is a `NamedGraph` of `specs/Steps.antt`, a graph with the names of its fields by
+//! number. `Steps` says what a step may answer: the command's meaning, or want of memory.
+//! Invariant: a fault and want of memory leave the graph as it was.
 #![tactic(auto)]
 
-mod command;
 mod ideal;
-mod laws;
+mod keyed;
 mod marks;
-mod object;
-mod path;
-mod reach_laws;
-mod value;
+mod paths;
 
-pub use command::{Command, FaultWord, Operand};
+pub use heap_command::{Command, FaultWord, Operand};
 pub use ideal::{Census, Ideal, IdealStop, Said};
-pub use laws::{
-    bytes_stay, collections_change_nothing, faults_stay, graphs_stay, objects_stay, paths_stay,
-    runs_agree, runs_end_once, runs_go_on,
+pub use object_graph::{
+    Elements, Entries, Entry, Field, Fields, Object, Path, PathField, PathFields, Rep, Value,
 };
-pub use object::{Elements, Entries, Entry, Field, Fields, Object};
-pub use path::{Path, PathField, PathFields};
-pub use reach_laws::{reach_has_the_bound, reach_is_closed, reach_is_least};
-pub use value::{Rep, Value};

@@ -1,11 +1,10 @@
 //! Marks of objects: a mark for each object, by the object's number.
 ghost use Rattle.std.specs.Prelude.{◌≡◌, ◌&&◌, count_by};
 ghost use Rattle.std.specs.List.{list_any};
-ghost use Rattle.ideal_graph.specs.Reach.{is_marked, refers_to, links, marked_entries};
-ghost use Rattle.ideal_graph.specs.Marks.{MarksAlso};
+ghost use Rattle.object_graph.specs.Reach.{is_marked, refers_to, links, marked_entries};
+ghost use Rattle.object_graph.specs.Marks.{MarksAlso};
 
-use crate::object::{Entry, Field, Object};
-use crate::value::Value;
+use object_graph::{Entry, Field, Object, Value};
 
 /// Whether the object of this number is marked.
 pub(crate) fn is_marked(marks: &[bool], number: u32) -> bool

@@ -5,26 +5,26 @@ use Rattle.std.proofs.lemmas.List.{take_all, take-take, take-append-le}
 use Rattle.std.proofs.lemmas.List.Elements.{All-head, All-tail}
 use Rattle.std.proofs.lemmas.List.Sums.{sum_by-cons, sum_by_more, sum_by-take-le}
 use Rattle.std.proofs.lemmas.Option.{slice_get_within, get_or_from_slice_get}
-use Rattle.ideal_graph.specs.declared.object.Object.{Object}
-use Rattle.ideal_graph.specs.declared.object.Object.TheVariants as kind
+use Rattle.object_graph.specs.declared.object.Object.{Object}
+use Rattle.object_graph.specs.declared.object.Object.TheVariants as kind
 use Rattle.mutator.specs.Cells.{size_of, address_of}
-use Rattle.mutator.specs.Shows.{IsObject}
+use Rattle.mutator.specs.Heap.{FitsCell}
 
 -- an object that a cell can hold has a word at least
-pub size_positive : (n : ℕ) (object : Object) → IsObject n object → 1 ≤ size_of object
+pub size_positive : (n : ℕ) (object : Object) → FitsCell n object → 1 ≤ size_of object
 size_positive n (kind.Plain cap fields) is = omega arith
 size_positive n (kind.List elements) is = absurd is
 size_positive n (kind.Weak entries) is = absurd is
 
 -- there are no more objects than words of their cells
-pub count_le_words : (n : ℕ) (objects : List Object) → All (IsObject n) objects → length objects ≤ sum_by size_of objects
+pub count_le_words : (n : ℕ) (objects : List Object) → All (FitsCell n) objects → length objects ≤ sum_by size_of objects
 count_le_words n [] are = omega arith
 count_le_words n (object ∷ objects) are =
     omega (
       arith,
       sum_by-cons size_of object objects,
-      size_positive n object (All-head (IsObject n) object objects are),
-      count_le_words n objects (All-tail (IsObject n) object objects are),
+      size_positive n object (All-head (FitsCell n) object objects are),
+      count_le_words n objects (All-tail (FitsCell n) object objects are),
     )
 
 -- behind all objects stands the sum of their sizes

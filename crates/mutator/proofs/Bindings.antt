@@ -1,75 +1,103 @@
--- What a bound variable changes in a graph and in the heap that shows it.
-use Rattle.std.proofs.Common.{◌≡◌, ◌≢◌, ℕ, ◌+◌, ◌*◌, ◌<◌, true, false, cond, eqb, length, Some, slice_range, sym, ap, ◌∙◌, subst, arith, ⊎_elim, eq-eqb}
-use Rattle.std.specs.FinMap.{FinMap, get, insert, get-insert}
+-- What binding and unbinding a variable change in a graph, and in the heap that shows it.
+use Rattle.std.proofs.Common.{◌≡◌, ◌≢◌, ℕ, ◌+◌, ◌*◌, ◌<◌, true, false, cond, eqb, length, Option, Some, None, slice_range}
+use Rattle.std.proofs.Common.{sym, ap, ◌∙◌, subst, arith, ⊎_elim, eq-eqb}
+use Rattle.std.specs.FinMap.{FinMap, get, insert, remove, get-insert, get-remove}
 use Rattle.std.specs.Ordering.{nat_cmp, eq_by_cmp}
 use Rattle.std.specs.Cmp.{unsigned_tied}
 use Rattle.std.proofs.lemmas.Cmp.{nat_cmp_total}
 use Rattle.std.proofs.lemmas.Bool.{cases_eq}
 use Rattle.std.proofs.lemmas.Bool.Decides.{nat_tests}
-use Rattle.ideal_graph.specs.declared.value.Value.{Value}
-use Rattle.ideal_graph.specs.Graphs.{Graph, bind}
-use Rattle.mutator.specs.declared.reading.Pair.{Pair}
-use Rattle.mutator.specs.Cells.{FirstWords, variable_count, root_words, size_of, address_of}
-use Rattle.mutator.specs.Shows.{Shows, IsValue}
-use Rattle.mutator.specs.Pairs.{IsPairOf}
-use Rattle.mutator.specs.Binds.{BindsRoot}
+use Rattle.std.proofs.lemmas.Option.{none-some, same_Some}
+use Rattle.object_graph.specs.declared.value.Value.{Value}
+use Rattle.object_graph.specs.Graphs.{Graph, bind}
+use Rattle.mutator.specs.declared.pairs.Pair.{Pair}
+use Rattle.mutator.specs.Cells.{root_words, size_of, address_of}
+use Rattle.mutator.specs.Heap.{FirstWords, variable_count, Shows, FitsWords}
+use Rattle.mutator.specs.Pairs.{IsPairOf, pair_words}
+use Rattle.mutator.specs.Roots.{WritesRoot}
 
--- the bound variable has the value
-pub get-insert_same : (m : FinMap nat_cmp Value) (x y : ℕ) (value : Value) → y ≡ x →
-    get (insert m x value) y ≡ Some value
-get-insert_same m x y value same =
-    let test : eq_by_cmp nat_cmp y x ≡ true = unsigned_tied y x ∙ eq-eqb y x same in
-    get-insert nat_cmp_total m x value y ∙ ap (λ b. cond b (Some value) (get m y)) test
+-- the bindings where this variable has another one, or none
+pub record Rebinds (old new : FinMap nat_cmp Value) (x : ℕ) (bound : Option Value) : Type 0 where
+  pub here : (y : ℕ) → y ≡ x → get new y ≡ bound
+  pub others : (y : ℕ) → y ≢ x → get new y ≡ get old y
 
--- another variable keeps its value
-pub get-insert_other : (m : FinMap nat_cmp Value) (x y : ℕ) (value : Value) → y ≢ x →
-    get (insert m x value) y ≡ get m y
-get-insert_other m x y value other =
-    let apart : eqb y x ≡ false = grind (arith, nat_tests) in
-    get-insert nat_cmp_total m x value y ∙ ap (λ b. cond b (Some value) (get m y)) (unsigned_tied y x ∙ apart)
+-- look-ups that test for the variable are those of such bindings
+rebinds : (old new : FinMap nat_cmp Value) (x : ℕ) (bound : Option Value)
+    → ((y : ℕ) → get new y ≡ cond (eq_by_cmp nat_cmp y x) bound (get old y)) → Rebinds old new x bound
+rebinds old new x bound looked = record {
+  here = λ y same.
+      let test : eq_by_cmp nat_cmp y x ≡ true = unsigned_tied y x ∙ eq-eqb y x same in
+      looked y ∙ ap (λ b. cond b bound (get old y)) test;
+  others = λ y other.
+      let apart : eqb y x ≡ false = grind (arith, nat_tests) in
+      looked y ∙ ap (λ b. cond b bound (get old y)) (unsigned_tied y x ∙ apart);
+}
 
--- what holds of the value and of all values bound before holds of all values that are bound
-pub bound_values : (m : FinMap nat_cmp Value) (x : ℕ) (value : Value) (count : ℕ) →
-    IsValue count value →
-    ((y : ℕ) (v : Value) → get m y ≡ Some v → IsValue count v) →
-    (y : ℕ) (v : Value) → get (insert m x value) y ≡ Some v → IsValue count v
-bound_values m x value count is others y v e =
-    let P : Value → Type 0 = λ w. IsValue count w in
+-- what fits the words of a heap still does where a value that fits was bound, or none
+rebound_values : (old new : FinMap nat_cmp Value) (x : ℕ) (bound : Option Value) (count : ℕ) → Rebinds old new x bound
+    → ((value : Value) → bound ≡ Some value → FitsWords count value)
+    → ((y : ℕ) (value : Value) → get old y ≡ Some value → FitsWords count value)
+    → (y : ℕ) (value : Value) → get new y ≡ Some value → FitsWords count value
+rebound_values old new x bound count rebinds fits all y value is =
     ⊎_elim
-    (λ same. let there = get-insert_same m x y value same in let eq : value ≡ v = cc in subst P eq is)
-    (λ other. others y v (sym (get-insert_other m x y value other) ∙ e))
+    (λ same. fits value (sym (rebinds.here y same) ∙ is))
+    (λ other. all y value (sym (rebinds.others y other) ∙ is))
     (cases_eq y x)
 
--- the root words of all variables, after one of them was bound
-pub bound_roots : (old new : FirstWords) (graph : Graph) (x : ℕ) (pair : Pair) (value : Value) →
-    BindsRoot old new x pair → IsPairOf graph.objects value pair →
-    ((y : ℕ) → y < variable_count old →
-    slice_range old.roots (2 * y) (2 * y + 2) ≡ root_words graph.objects (get graph.bindings y)) →
-    (y : ℕ) → y < variable_count new →
-    slice_range new.roots (2 * y) (2 * y + 2) ≡ root_words graph.objects (get (insert graph.bindings x value) y)
-bound_roots old new graph x pair value binds is roots y lt =
+-- the root words of all variables, after those of one were written
+rebound_roots : (old new : FirstWords) (graph : Graph) (bindings : FinMap nat_cmp Value) (x : ℕ) (pair : Pair)
+    (bound : Option Value)
+    → WritesRoot old new x pair → Rebinds graph.bindings bindings x bound
+    → pair_words pair ≡ root_words graph.objects bound → Shows old graph
+    → (y : ℕ) → y < variable_count new
+    → slice_range new.roots (2 * y) (2 * y + 2) ≡ root_words graph.objects (get bindings y)
+rebound_roots old new graph bindings x pair bound writes rebinds words shown y lt =
     ⊎_elim
     (λ same.
-    ap (λ k. slice_range new.roots (2 * k) (2 * k + 2)) same ∙ binds.bound ∙ is.words
-    ∙ ap (root_words graph.objects) (sym (get-insert_same graph.bindings x y value same)))
+    ap (λ k. slice_range new.roots (2 * k) (2 * k + 2)) same ∙ writes.written ∙ words
+    ∙ ap (root_words graph.objects) (sym (rebinds.here y same)))
     (λ other.
-    binds.others y other ∙ roots y (omega (arith, binds.count))
-    ∙ ap (root_words graph.objects) (sym (get-insert_other graph.bindings x y value other)))
+    writes.others y other ∙ shown.roots y (omega (arith, writes.count))
+    ∙ ap (root_words graph.objects) (sym (rebinds.others y other)))
     (cases_eq y x)
 
--- the heap shows the graph with the variable bound
-pub Shows-bind : (old new : FirstWords) (graph : Graph) (x : ℕ) (pair : Pair) (value : Value) →
-    BindsRoot old new x pair → Shows old graph → IsPairOf graph.objects value pair →
-    Shows new (bind graph x value)
-Shows-bind old new graph x pair value binds shown is = record {
-  whole = ap length binds.words ∙ shown.whole;
+-- the heap whose root words were written shows the graph with these bindings
+shows_rebound : (old new : FirstWords) (graph : Graph) (bindings : FinMap nat_cmp Value) (x : ℕ) (pair : Pair)
+    (bound : Option Value)
+    → WritesRoot old new x pair → Rebinds graph.bindings bindings x bound
+    → pair_words pair ≡ root_words graph.objects bound
+    → ((value : Value) → bound ≡ Some value → FitsWords (length graph.objects) value)
+    → Shows old graph → Shows new (record graph { bindings = bindings })
+shows_rebound old new graph bindings x pair bound writes rebinds words fits shown = record {
+  whole = ap length writes.words ∙ shown.whole;
   objects = shown.objects;
   cells = λ number object found.
       let address = address_of graph.objects number in
-      ap (λ ws. slice_range ws address (address + size_of object)) binds.words
+      ap (λ ws. slice_range ws address (address + size_of object)) writes.words
       ∙ shown.cells number object found;
-  used = binds.used ∙ shown.used;
-  room = omega (arith, binds.used, shown.room);
-  roots = bound_roots old new graph x pair value binds is shown.roots;
-  bindings = bound_values graph.bindings x value (length graph.objects) is.is_value shown.bindings;
+  used = writes.used ∙ shown.used;
+  room = omega (arith, writes.used, shown.room);
+  roots = rebound_roots old new graph bindings x pair bound writes rebinds words shown;
+  bindings = rebound_values graph.bindings bindings x bound (length graph.objects) rebinds fits shown.bindings;
 }
+
+-- the heap shows the graph with the variable bound
+pub Shows-bind : (old new : FirstWords) (graph : Graph) (x : ℕ) (pair : Pair) (value : Value)
+    → WritesRoot old new x pair → Shows old graph → IsPairOf graph.objects value pair
+    → Shows new (bind graph x value)
+Shows-bind old new graph x pair value writes shown is =
+    let bindings = insert graph.bindings x value in
+    let Fits : Value → Type 0 = FitsWords (length graph.objects) in
+    shows_rebound old new graph bindings x pair (Some value) writes
+    (rebinds graph.bindings bindings x (Some value) (get-insert nat_cmp_total graph.bindings x value))
+    is.words (λ other same. subst Fits (same_Some value other same) is.is_value) shown
+
+-- the heap shows the graph with the variable unbound
+pub Shows-unbind : (old new : FirstWords) (graph : Graph) (x : ℕ) (pair : Pair)
+    → WritesRoot old new x pair → Shows old graph → pair_words pair ≡ root_words graph.objects None
+    → Shows new (record graph { bindings = remove graph.bindings x })
+Shows-unbind old new graph x pair writes shown words =
+    let bindings = remove graph.bindings x in
+    shows_rebound old new graph bindings x pair None writes
+    (rebinds graph.bindings bindings x None (get-remove nat_cmp_total graph.bindings x))
+    words (λ value some. absurd (none-some value some)) shown

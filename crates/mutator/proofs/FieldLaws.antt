@@ -1,15 +1,16 @@
 -- Where the field of a name is, and what giving a field a value leaves of the others.
-use Rattle.std.proofs.Common.{◌≡◌, ℕ, suc, zero, ◌+◌, ◌*◌, ◌<◌, ◌≤◌, Bool, true, false, cond, eqb, List, [], ◌∷◌, ◌++◌, length, Option, Some, None, refl, ap, ◌∙◌, subst, arith, take, drop, All}
+use Rattle.std.proofs.Common.{◌≡◌, ℕ, suc, zero, ◌+◌, ◌*◌, ◌<◌, ◌≤◌, Bool, true, false, cond, eqb, List, [], ◌∷◌, ◌++◌}
+use Rattle.std.proofs.Common.{length, Option, Some, None, refl, ap, ◌∙◌, subst, arith, take, drop, All}
 use Rattle.std.proofs.lemmas.List.{take_at}
 use Rattle.std.proofs.lemmas.List.Elements.{All-nil, All-cons, All-head, All-tail}
 use Rattle.std.proofs.lemmas.Option.{none-some, same_Some}
-use Rattle.ideal_graph.specs.Values.{rep_of}
-use Rattle.ideal_graph.specs.declared.value.Value.{Value}
-use Rattle.ideal_graph.specs.declared.object.Field.{Field}
-use Rattle.ideal_graph.specs.declared.object.Object.{Object}
-use Rattle.ideal_graph.specs.Objects.{field_value, with_field, revalued}
-use Rattle.mutator.specs.Cells.{field_numbers, value_words, field_words, place_words}
-use Rattle.mutator.specs.Shows.{IsField, IsValue}
+use Rattle.object_graph.specs.Values.{rep_of}
+use Rattle.object_graph.specs.declared.value.Value.{Value}
+use Rattle.object_graph.specs.declared.object.Field.{Field}
+use Rattle.object_graph.specs.declared.object.Object.{Object}
+use Rattle.object_graph.specs.Objects.{field_value, with_field, revalued}
+use Rattle.mutator.specs.Cells.{value_words, field_words, place_words}
+use Rattle.mutator.specs.Heap.{field_numbers, FitsPlace, FitsWords}
 use Rattle.mutator.specs.Places.{place_of}
 use Rattle.mutator.proofs.PlaceLaws.{length-value_words, length-field_words, place_words-cons}
 use Rattle.mutator.proofs.WriteLaws.{drop-append-add}
@@ -97,14 +98,14 @@ field_value_some fields name has =
 
 -- the value of a field is one of the graph
 pub field_value_is : (objects : ℕ) (fields : List Field) (name : ℕ) (value : Value) →
-    All (IsField objects) fields → field_value fields name ≡ Some value → IsValue objects value
+    All (FitsPlace objects) fields → field_value fields name ≡ Some value → FitsWords objects value
 field_value_is objects [] name value fine there = absurd (none-some value there)
 field_value_is objects (field ∷ fields) name value fine there =
-    let first : IsField objects field = All-head (IsField objects) field fields fine in
-    let rest : All (IsField objects) fields = All-tail (IsField objects) field fields fine in
-    let IsOne : Bool → Type 0 = λ b. cond b (Some field.value) (field_value fields name) ≡ Some value → IsValue objects value in
+    let first : FitsPlace objects field = All-head (FitsPlace objects) field fields fine in
+    let rest : All (FitsPlace objects) fields = All-tail (FitsPlace objects) field fields fine in
+    let IsOne : Bool → Type 0 = λ b. cond b (Some field.value) (field_value fields name) ≡ Some value → FitsWords objects value in
     elim (eqb field.name name) as IsOne [
-      | true ↦ λ e. subst (IsValue objects) (same_Some field.value value e) first.value
+      | true ↦ λ e. subst (FitsWords objects) (same_Some field.value value e) first.value
       | false ↦ λ e. field_value_is objects fields name value rest e
     ] there
 
@@ -125,16 +126,16 @@ length-with_field (field ∷ fields) name value (suc cap) within has =
 
 -- each field stays one that a place can hold
 pub All-with_field : (objects : ℕ) (fields : List Field) (name : ℕ) (value : Value) → name < field_numbers →
-    IsValue objects value → All (IsField objects) fields → All (IsField objects) (with_field fields name value)
+    FitsWords objects value → All (FitsPlace objects) fields → All (FitsPlace objects) (with_field fields name value)
 All-with_field objects [] name value small is fine =
     let added : Field = record { name = name; rep = rep_of value; value = value } in
-    All-cons (IsField objects) added [] (record { name = small; value = is }) (All-nil (IsField objects))
+    All-cons (FitsPlace objects) added [] (record { name = small; value = is }) (All-nil (FitsPlace objects))
 All-with_field objects (field ∷ fields) name value small is fine =
-    let first : IsField objects field = All-head (IsField objects) field fields fine in
-    let rest : All (IsField objects) fields = All-tail (IsField objects) field fields fine in
+    let first : FitsPlace objects field = All-head (FitsPlace objects) field fields fine in
+    let rest : All (FitsPlace objects) fields = All-tail (FitsPlace objects) field fields fine in
     let after : Bool → List Field = λ b. cond b (revalued field value ∷ fields) (field ∷ with_field fields name value) in
     let later = All-with_field objects fields name value small is rest in
-    elim (eqb field.name name) as (λ b. All (IsField objects) (after b)) [
-      | true ↦ All-cons (IsField objects) (revalued field value) fields (record { name = first.name; value = is }) rest
-      | false ↦ All-cons (IsField objects) field (with_field fields name value) first later
+    elim (eqb field.name name) as (λ b. All (FitsPlace objects) (after b)) [
+      | true ↦ All-cons (FitsPlace objects) (revalued field value) fields (record { name = first.name; value = is }) rest
+      | false ↦ All-cons (FitsPlace objects) field (with_field fields name value) first later
     ]

@@ -1,21 +1,23 @@
 -- What a heap holds of an object that was found.
-use Rattle.std.proofs.Common.{◌≡◌, All, ℕ, ◌+◌, ◌-◌, ◌*◌, ◌<◌, ◌≤◌, List, [], ◌∷◌, length, take, drop, get_or, slice_range, slice_get, Some, None, Option, unwrap_or, option_and_then, sym, refl, ap, ◌∙◌, subst, arith}
-use Rattle.std.proofs.lemmas.List.{drop-take, drop-drop, take-take, drop_more, get_or_read}
+use Rattle.std.proofs.Common.{◌≡◌, All, ℕ, ◌+◌, ◌-◌, ◌*◌, ◌<◌, ◌≤◌, List, ◌∷◌, length, take, drop, slice_range}
+use Rattle.std.proofs.Common.{slice_get, Some, None, Option, unwrap_or, option_and_then, sym, refl, ap, ◌∙◌, subst, arith}
+use Rattle.std.proofs.lemmas.List.{drop-take, drop-drop, take-take}
 use Rattle.std.proofs.lemmas.List.Elements.{All-get_or}
 use Rattle.std.proofs.lemmas.Option.{slice_get_within, get_or_from_slice_get, none-some, same_Some}
-use Rattle.ideal_graph.specs.declared.value.Value.{Value}
-use Rattle.ideal_graph.specs.declared.value.Value.TheVariants.{Int, Undefined, Ref}
-use Rattle.ideal_graph.specs.declared.object.Field.{Field}
-use Rattle.ideal_graph.specs.declared.object.Object.{Object}
-use Rattle.ideal_graph.specs.declared.object.Object.TheVariants.{Plain, List as ListOf, Weak}
-use Rattle.ideal_graph.specs.Graphs.{Graph, PlainObject, as_plain, plain_at}
+use Rattle.object_graph.specs.declared.value.Value.{Value}
+use Rattle.object_graph.specs.declared.value.Value.TheVariants.{Int, Undefined, Ref}
+use Rattle.object_graph.specs.declared.object.Field.{Field}
+use Rattle.object_graph.specs.declared.object.Object.{Object}
+use Rattle.object_graph.specs.declared.object.Object.TheVariants.{Plain, List as ListOf, Weak}
+use Rattle.object_graph.specs.Graphs.{Graph, PlainObject, as_plain, plain_at}
 use Rattle.mutator.specs.declared.reading.Found.{Found}
-use Rattle.mutator.specs.Cells.{FirstWords, value_words, place_words}
-use Rattle.mutator.specs.Shows.{Shows, IsObject, IsField}
-use Rattle.mutator.specs.declared.reading.Pair.{Pair}
-use Rattle.ideal_graph.specs.Objects.{field_value}
-use Rattle.mutator.specs.Pairs.{IsFound, IsPairOf, pair_words}
-use Rattle.mutator.specs.Places.{HasFields, place_of}
+use Rattle.mutator.specs.Cells.{value_words, place_words}
+use Rattle.mutator.specs.Heap.{FirstWords, Shows, FitsCell, FitsPlace}
+use Rattle.mutator.specs.declared.pairs.Pair.{Pair}
+use Rattle.object_graph.specs.Objects.{field_value}
+use Rattle.mutator.specs.Pairs.{IsPairOf, pair_words}
+use Rattle.mutator.specs.Reading.{IsFound}
+use Rattle.mutator.specs.Places.{HasFields, place_of, place_address}
 use Rattle.mutator.proofs.Shown.{PlainAt, cell_within}
 use Rattle.mutator.proofs.FieldLaws.{IsHeld, held, field_value_is}
 
@@ -25,13 +27,13 @@ plain_of : (heap : FirstWords) (graph : Graph) (found : Found) (fields : List Fi
 plain_of heap graph found fields has =
     let object = Plain found.cap fields in
     let there = slice_get_within graph.objects found.object object has.object in
-    let is = All-get_or (IsObject (length graph.objects)) graph.objects found.object object there has.shown.objects in
+    let is = All-get_or (FitsCell (length graph.objects)) graph.objects found.object object there has.shown.objects in
     let same = get_or_from_slice_get graph.objects found.object object object has.object in
-    record { found = has.object; is_object = subst (IsObject (length graph.objects)) same is }
+    record { found = has.object; is_object = subst (FitsCell (length graph.objects)) same is }
 
 -- it has no more fields than its cap, and each is one that a place can hold
 pub fields_held : (heap : FirstWords) (graph : Graph) (found : Found) (fields : List Field) →
-    HasFields heap graph found fields → (length fields ≤ found.cap) × All (IsField (length graph.objects)) fields
+    HasFields heap graph found fields → (length fields ≤ found.cap) × All (FitsPlace (length graph.objects)) fields
 fields_held heap graph found fields has =
     let is = (plain_of heap graph found fields has).is_object in (is.1, is.2)
 
@@ -61,12 +63,6 @@ places_shown heap graph found fields has =
     (ap (λ a. slice_range heap.words a (a + (1 + 3 * found.cap))) has.address
     ∙ has.shown.cells found.object (Plain found.cap fields) has.object)
 
--- two elements that follow one another
-two_at : (xs : List ℕ) (k d : ℕ) → k + 1 < length xs →
-    get_or xs k d ∷ get_or xs (k + 1) d ∷ [] ≡ take 2 (drop k xs)
-two_at xs k d lt =
-    sym (ap (take 2) (drop_more xs k d (omega arith) ∙ ap (λ r. get_or xs k d ∷ r) (drop_more xs (k + 1) d lt)))
-
 -- the front of a part that lies inside a range
 part_of_range : (xs : List ℕ) (from k m to : ℕ) → k + m ≤ to - from →
     take m (drop k (slice_range xs from to)) ≡ take m (drop (from + k) xs)
@@ -77,44 +73,36 @@ part_of_range xs from k m to inside =
     ∙ take-take m n (drop k (drop from xs)) (omega arith)
     ∙ ap (take m) (drop-drop k from xs)
 
--- two words that follow one another
-abbrev two_words : List ℕ → ℕ → ℕ → List ℕ
-two_words words at d = get_or words (at + 1) d ∷ get_or words (at + 2) d ∷ []
-
--- what stands in the place of a field that is there
-pair_shown : (heap : FirstWords) (graph : Graph) (found : Found) (fields : List Field) (name d : ℕ) (value : Value) →
-    HasFields heap graph found fields → place_of fields name < found.cap →
-    IsHeld graph.objects found.cap fields name value →
-    two_words heap.words (found.address + (1 + 3 * place_of fields name)) d ≡ value_words graph.objects value
-pair_shown heap graph found fields name d value has room held =
+-- the two words behind the name, in the place of a field that is there
+pair_shown : (heap : FirstWords) (graph : Graph) (found : Found) (fields : List Field) (name : ℕ) (value : Value)
+    → HasFields heap graph found fields → place_of fields name < found.cap
+    → IsHeld graph.objects found.cap fields name value
+    → let at = place_address found (place_of fields name) + 1 in
+    slice_range heap.words at (at + 2) ≡ value_words graph.objects value
+pair_shown heap graph found fields name value has room is_held =
     let i : ℕ = place_of fields name in
-    let at : ℕ = found.address + (1 + 3 * i) + 1 in
     let from : ℕ = found.address + 1 in
-    ap (λ k. get_or heap.words at d ∷ get_or heap.words k d ∷ []) (omega arith)
-    ∙ two_at heap.words at d (omega (arith, cell_inside heap graph found fields has))
-    ∙ ap (λ k. take 2 (drop k heap.words)) (omega arith)
+    let at : ℕ = place_address found i + 1 in
+    let two : at + 2 - at ≡ 2 = omega arith in
+    let behind : at ≡ from + (3 * i + 1) = omega arith in
+    ap (λ k. take k (drop at heap.words)) two
+    ∙ ap (λ k. take 2 (drop k heap.words)) behind
     ∙ sym (part_of_range heap.words from (3 * i + 1) 2 (from + 3 * found.cap) (omega arith))
     ∙ ap (λ r. take 2 (drop (3 * i + 1) r)) (places_shown heap graph found fields has)
-    ∙ held.words
+    ∙ is_held.words
 
 -- what was read from the place of a field that is there
-pub pair_read : (heap : FirstWords) (graph : Graph) (found : Found) (fields : List Field) (name i start : ℕ)
-    (items : List ℕ) (pair : Pair) →
-    HasFields heap graph found fields → place_of fields name ≡ i → i < length fields →
-    start ≡ found.address + (1 + 3 * i) → items ≡ heap.words →
-    pair.first ≡ get_or items (start + 1) pair.first → pair.second ≡ get_or items (start + 2) pair.second →
-    IsPairOf graph.objects (unwrap_or (field_value fields name) Undefined) pair
-pair_read heap graph found fields name i start items pair has at there begins same first second =
+pub pair_read : (heap : FirstWords) (graph : Graph) (found : Found) (fields : List Field) (name i : ℕ) (pair : Pair)
+    → HasFields heap graph found fields → place_of fields name ≡ i → i < length fields
+    → let at = place_address found i + 1 in pair_words pair ≡ slice_range heap.words at (at + 2)
+    → IsPairOf graph.objects (unwrap_or (field_value fields name) Undefined) pair
+pair_read heap graph found fields name i pair has at there read =
     let is = fields_held heap graph found fields has in
     let (value, is_held) = held graph.objects found.cap fields name (omega arith) is.0 in
-    let inside : start + 2 < length items = omega (arith, cell_inside heap graph found fields has, is.0, ap length same) in
-    let place : start ≡ found.address + (1 + 3 * place_of fields name) = omega arith in
-    let first_at = get_or_read items (start + 1) pair.first (omega arith) first 0 in
-    let second_at = get_or_read items (start + 2) pair.second inside second 0 in
     let words : pair_words pair ≡ value_words graph.objects value =
-    (λ j. first_at j ∷ second_at j ∷ [])
-    ∙ (λ j. two_words (same j) (place j) 0)
-    ∙ pair_shown heap graph found fields name 0 value has (omega (arith, is.0)) is_held
+    read
+    ∙ ap (λ k. slice_range heap.words (place_address found k + 1) (place_address found k + 1 + 2)) (sym at)
+    ∙ pair_shown heap graph found fields name value has (omega (arith, is.0)) is_held
     in
     let is_value = field_value_is (length graph.objects) fields name value is.1 is_held.there in
     subst (λ o. IsPairOf graph.objects (unwrap_or o Undefined) pair) (sym is_held.there)

@@ -13,4 +13,5 @@ pub mod Replacements
 pub mod ShownWithField
 pub mod FoundLaws
 pub mod Meanings
-pub mod Agreement
+pub mod SameWords
+pub mod Leaves

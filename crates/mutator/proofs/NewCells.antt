@@ -1,21 +1,22 @@
 -- How a heap comes to show a graph: at the start, and with an object more.
-use Rattle.std.proofs.Common.{◌≡◌, ℕ, ◌+◌, ◌*◌, ◌<◌, ◌≤◌, List, [], ◌∷◌, ◌++◌, length, slice_get, slice_range, Some, None, sym, ap, ◌∙◌, refl, subst, arith, zero, suc, ◌⊎◌, inl, inr, ⊎_elim}
+use Rattle.std.proofs.Common.{◌≡◌, ℕ, ◌+◌, ◌*◌, ◌<◌, ◌≤◌, List, [], ◌∷◌, ◌++◌, length, slice_get, slice_range, Some, None}
+use Rattle.std.proofs.Common.{sym, ap, ◌∙◌, refl, subst, arith, zero, suc, ◌⊎◌, inl, inr, ⊎_elim}
 use Rattle.std.specs.FinMap.{get, empty, get-empty}
 use Rattle.std.specs.Ordering.{nat_cmp}
 use Rattle.std.proofs.lemmas.List.Elements.{All-weaker, All-push}
 use Rattle.std.proofs.lemmas.List.Sums.{sum_by-append}
-use Rattle.ideal_graph.specs.declared.value.Value.{Value}
-use Rattle.ideal_graph.specs.declared.object.Object.{Object}
-use Rattle.ideal_graph.specs.declared.object.Object.TheVariants.{Plain}
-use Rattle.ideal_graph.specs.Graphs.{Graph, start}
-use Rattle.mutator.specs.Cells.{heap_words, FirstWords, variable_count, size_of, address_of, root_words, cell_words}
-use Rattle.mutator.specs.Shows.{Shows, IsField, IsObject}
+use Rattle.object_graph.specs.declared.value.Value.{Value}
+use Rattle.object_graph.specs.declared.object.Object.{Object}
+use Rattle.object_graph.specs.declared.object.Object.TheVariants.{Plain}
+use Rattle.object_graph.specs.Graphs.{Graph, start}
+use Rattle.mutator.specs.Cells.{size_of, address_of, root_words, cell_words}
+use Rattle.mutator.specs.Heap.{heap_words, FirstWords, variable_count, Shows, FitsPlace, FitsCell}
 use Rattle.mutator.proofs.Addresses.{address_of-append, address_of_all, cell_before}
 use Rattle.mutator.proofs.Ranges.{range_same}
 use Rattle.mutator.specs.Grows.{Grows}
 use Rattle.std.proofs.lemmas.List.{length_push}
 use Rattle.std.proofs.lemmas.Option.{slice_get_within}
-use Rattle.mutator.proofs.Growth.{IsValue-more, IsObject-more, root_words-append, cell_words-append}
+use Rattle.mutator.proofs.Growth.{FitsWords-more, FitsCell-more, root_words-append, cell_words-append}
 use Rattle.mutator.proofs.Shown.{object_shown}
 use Rattle.std.proofs.lemmas.List.Elements.{All-nil}
 
@@ -118,10 +119,10 @@ Shows-grow old new graph object cap grows shown count small room =
     let longer : count_before ≤ count_after = omega (arith, length_push graph.objects (Plain cap [])) in
     record {
       whole = grows.count ∙ shown.whole;
-      objects = All-push (IsObject count_after) graph.objects (Plain cap [])
-          (All-weaker (IsObject count_before) (IsObject count_after)
-          (λ o is. IsObject-more count_before count_after o longer is) graph.objects shown.objects)
-          (small, omega arith, All-nil (IsField count_after));
+      objects = All-push (FitsCell count_after) graph.objects (Plain cap [])
+          (All-weaker (FitsCell count_before) (FitsCell count_after)
+          (λ o is. FitsCell-more count_before count_after o longer is) graph.objects shown.objects)
+          (small, omega arith, All-nil (FitsPlace count_after));
       cells = grown_cells old new graph object cap grows shown count;
       used = omega (
         arith,
@@ -136,5 +137,5 @@ Shows-grow old new graph object cap grows shown count small room =
           ap (λ rs. slice_range rs (2 * x) (2 * x + 2)) grows.roots
           ∙ shown.roots x (omega (arith, ap length grows.roots))
           ∙ sym (root_words-append graph.objects more (get graph.bindings x) (shown.bindings x));
-      bindings = λ x value bound. IsValue-more count_before count_after value longer (shown.bindings x value bound);
+      bindings = λ x value bound. FitsWords-more count_before count_after value longer (shown.bindings x value bound);
     }

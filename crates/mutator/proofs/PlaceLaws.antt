@@ -1,20 +1,22 @@
 -- The places of a plain object, and what giving a field a value does to them.
-use Rattle.std.proofs.Common.{◌≡◌, ℕ, suc, zero, ◌+◌, ◌-◌, ◌*◌, ◌<◌, Bool, true, false, cond, eqb, List, [], ◌∷◌, ◌++◌, length, sym, refl, ap, ◌∙◌, arith, append_assoc, ◌+ℤ◌}
+use Rattle.std.proofs.Common.{◌≡◌, ℕ, suc, zero, ◌+◌, ◌-◌, ◌*◌, ◌<◌, Bool, true, false, cond, eqb, List, [], ◌∷◌, ◌++◌}
+use Rattle.std.proofs.Common.{length, sym, refl, ap, ◌∙◌, arith, append_assoc, ◌+ℤ◌}
 use Rattle.std.specs.Int.{cast_unsigned, w64}
 use Rattle.tagged_word.specs.Words.{small}
 use Rattle.std.proofs.lemmas.Bool.{eqb-true}
 use Rattle.std.proofs.lemmas.List.{drop_at}
-use Rattle.ideal_graph.specs.declared.value.Value.{Value}
-use Rattle.ideal_graph.specs.declared.value.Value.TheVariants.{Int, Undefined, Ref}
-use Rattle.ideal_graph.specs.declared.object.Field.{Field}
-use Rattle.ideal_graph.specs.declared.object.Object.{Object}
-use Rattle.ideal_graph.specs.Values.{rep_of}
-use Rattle.ideal_graph.specs.Objects.{with_field, revalued}
-use Rattle.mutator.specs.Cells.{value_words, field_words, unused_words, place_words}
+use Rattle.object_graph.specs.declared.value.Value.{Value}
+use Rattle.object_graph.specs.declared.value.Value.TheVariants.{Int, Undefined, Ref}
+use Rattle.object_graph.specs.declared.object.Field.{Field}
+use Rattle.object_graph.specs.declared.object.Object.{Object}
+use Rattle.object_graph.specs.Values.{rep_of}
+use Rattle.object_graph.specs.Objects.{with_field, revalued}
+use Rattle.mutator.specs.Cells.{value_words, name_bits, field_words, unused_words, place_words}
 use Rattle.mutator.specs.Writes.{overwritten}
 use Rattle.mutator.proofs.WriteLaws.{overwritten-append}
 use Rattle.mutator.specs.Places.{place_of}
 
+-- a choice between two lists of one length has that length
 length-cond : (b : Bool) (x y : List ℕ) (n : ℕ) → length x ≡ n → length y ≡ n → length (cond b x y) ≡ n
 length-cond true x y n p q = p
 length-cond false x y n p q = q
@@ -42,8 +44,9 @@ place_words-nil objects cap =
 
 -- the words of a place once a field of this name has the value
 abbrev pub filled_words : List Object → ℕ → Value → List ℕ
-filled_words objects name value = (name + name) ∷ value_words objects value
+filled_words objects name value = name_bits name ∷ value_words objects value
 
+-- those are three words
 pub length-filled_words : (objects : List Object) (name : ℕ) (value : Value) → length (filled_words objects name value) ≡ 3
 length-filled_words objects name value = ap suc (length-value_words objects value)
 

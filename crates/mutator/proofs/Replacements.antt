@@ -1,5 +1,6 @@
 -- What stays when an object is replaced by one of the same size.
-use Rattle.std.proofs.Common.{◌≡◌, ℕ, suc, zero, ◌+◌, ◌-◌, ◌<◌, ◌≢◌, List, [], ◌∷◌, ◌++◌, length, take, map, get_or, slice_get, Option, Some, None, sym, refl, ap, ◌∙◌, arith, set, sum, replicate}
+use Rattle.std.proofs.Common.{◌≡◌, ℕ, ◌+◌, ◌-◌, List, [], ◌∷◌, ◌++◌, length, take, map, get_or, slice_get, Option, Some, None}
+use Rattle.std.proofs.Common.{sym, refl, ap, ◌∙◌, set, sum, replicate}
 use Rattle.std.specs.List.{flat_map, sum_by}
 use Rattle.std.proofs.lemmas.List.{take-map, map-set, set-get_or, get_or-map}
 use Rattle.std.proofs.lemmas.List.Sums.{sum-map}
@@ -7,28 +8,12 @@ use Rattle.std.proofs.lemmas.Option.{get_or_from_slice_get, slice_get_within}
 use Rattle.tagged_word.specs.declared.word.Class.TheVariants as word
 use Rattle.tagged_word.specs.Words.{bits_of}
 use Rattle.tagged_word.specs.Headers.{header_bits}
-use Rattle.ideal_graph.specs.declared.value.Value.{Value}
-use Rattle.ideal_graph.specs.declared.value.Value.TheVariants.{Int, Undefined, Ref}
-use Rattle.ideal_graph.specs.declared.object.Field.{Field}
-use Rattle.ideal_graph.specs.declared.object.Object.{Object}
-use Rattle.ideal_graph.specs.declared.object.Object.TheVariants as kind
+use Rattle.object_graph.specs.declared.value.Value.{Value}
+use Rattle.object_graph.specs.declared.value.Value.TheVariants.{Int, Undefined, Ref}
+use Rattle.object_graph.specs.declared.object.Field.{Field}
+use Rattle.object_graph.specs.declared.object.Object.{Object}
+use Rattle.object_graph.specs.declared.object.Object.TheVariants as kind
 use Rattle.mutator.specs.Cells.{size_of, address_of, value_words, unused_words, place_words, cell_words, root_words}
-
--- the place that was written holds what was written
-pub slice_get-set_same : {A : Type 0} (xs : List A) (i : ℕ) (x : A) → i < length xs →
-    slice_get (set xs i x) i ≡ Some x
-slice_get-set_same [] i x lt = absurd (omega arith)
-slice_get-set_same (y ∷ xs) zero x lt = refl
-slice_get-set_same (y ∷ xs) (suc i) x lt = slice_get-set_same xs i x (omega arith)
-
--- every other place holds what it held
-pub slice_get-set_other : {A : Type 0} (xs : List A) (i j : ℕ) (x : A) → j ≢ i →
-    slice_get (set xs i x) j ≡ slice_get xs j
-slice_get-set_other [] i j x other = refl
-slice_get-set_other (y ∷ xs) zero zero x other = absurd (other refl)
-slice_get-set_other (y ∷ xs) zero (suc j) x other = refl
-slice_get-set_other (y ∷ xs) (suc i) zero x other = refl
-slice_get-set_other (y ∷ xs) (suc i) (suc j) x other = slice_get-set_other xs i j x (λ e. other (ap suc e))
 
 -- a front of a list has the same sum once a term is replaced by an equal one
 sum-take-set : {A : Type 0} (f : A → ℕ) (xs : List A) (i k : ℕ) (old new : A) → slice_get xs i ≡ Some old →

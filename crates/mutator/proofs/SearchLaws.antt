@@ -1,15 +1,16 @@
 -- What a search through the places of a plain object has found.
-use Rattle.std.proofs.Common.{◌≡◌, ℕ, suc, zero, ◌+◌, ◌-◌, ◌*◌, ◌<◌, ◌≤◌, false, cond, eqb, List, [], ◌∷◌, ◌++◌, length, drop, get_or, sym, refl, ap, ◌∙◌, ◌⊎◌, inl, inr, subst, arith, length-drop, ◌≢◌}
+use Rattle.std.proofs.Common.{◌≡◌, ℕ, suc, zero, ◌+◌, ◌-◌, ◌*◌, ◌<◌, ◌≤◌, false, cond, eqb, List, [], ◌∷◌, ◌++◌, length, drop}
+use Rattle.std.proofs.Common.{get_or, sym, refl, ap, ◌∙◌, ◌⊎◌, inl, inr, subst, arith, length-drop, ◌≢◌}
 use Rattle.std.proofs.lemmas.Bool.{eq-eqb}
 use Rattle.std.proofs.lemmas.Bool.Decides.{eqb_tells}
 use Rattle.std.proofs.lemmas.List.{drop-drop, get_or-drop}
-use Rattle.ideal_graph.specs.declared.object.Field.{Field}
-use Rattle.ideal_graph.specs.declared.object.Object.{Object}
+use Rattle.object_graph.specs.declared.object.Field.{Field}
+use Rattle.object_graph.specs.declared.object.Object.{Object}
 use Rattle.mutator.specs.Cells.{field_words, place_words}
 use Rattle.mutator.proofs.WriteLaws.{drop-append-add}
 use Rattle.mutator.specs.Places.{place_of, IsPlace}
-use Rattle.mutator.specs.declared.fields.Place.{Place}
-use Rattle.mutator.specs.declared.fields.Place.TheVariants.{Held, Unused}
+use Rattle.mutator.specs.declared.places.Place.{Place}
+use Rattle.mutator.specs.declared.places.Place.TheVariants.{Held, Unused}
 use Rattle.mutator.proofs.PlaceLaws.{length-field_words, place_words-cons, place_words-nil}
 
 -- the first i places hold other fields
@@ -37,6 +38,7 @@ abbrev first_word : List Field → ℕ
 first_word [] = 7
 first_word (field ∷ fields) = field.name + field.name
 
+-- the places of these fields begin with it
 first_word-place_words : (objects : List Object) (cap : ℕ) (fields : List Field) →
     get_or (place_words objects (suc cap) fields) 0 0 ≡ first_word fields
 first_word-place_words objects cap [] = ap (λ r. get_or r 0 0) (place_words-nil objects cap)
@@ -60,6 +62,7 @@ pub first_read : (objects : List Object) (cap : ℕ) (fields : List Field) (i : 
 first_read objects cap fields i places room within shown =
     ap (λ r. get_or r (3 * i) 0) shown ∙ get_or-place_words objects cap fields i room within
 
+-- where the first of the rest has the name, that is its place
 held_first : (rest : List Field) (name all place i : ℕ) → length rest ≡ all - i →
     place ≡ i + place_of rest name → first_word rest ≡ name + name → (place ≡ i) × (i < all)
 held_first [] name all place i left is same = absurd (omega arith)
@@ -74,6 +77,7 @@ pub IsPlace-held : (cap : ℕ) (fields : List Field) (name i : ℕ) → IsSearch
 IsPlace-held cap fields name i searched same =
     held_first (drop i fields) name (length fields) (place_of fields name) i (length-drop i fields) searched.behind same
 
+-- where the rest begins with a hole, there is none
 unused_first : (rest : List Field) (name all place i : ℕ) → length rest ≡ all - i → i ≤ all →
     place ≡ i + place_of rest name → first_word rest ≡ 7 → (place ≡ i) × (all ≡ i)
 unused_first [] name all place i left reached is same = (omega arith, omega arith)
@@ -93,6 +97,7 @@ IsPlace-unused cap fields name i room searched same =
 other_name : (a b : ℕ) → a ≢ b → eqb a b ≡ false
 other_name a b differs = elim (eqb_tells a b) [ inl h ↦ absurd (differs h.1) | inr h ↦ h.0 ]
 
+-- where the first of the rest has another name, the place is behind it
 other_first : (rest : List Field) (name all place i : ℕ) → length rest ≡ all - i → i ≤ all →
     place ≡ i + place_of rest name → first_word rest ≢ name + name → first_word rest ≢ 7 →
     (i + 1 ≤ all) × (place ≡ (i + 1) + place_of (drop 1 rest) name)

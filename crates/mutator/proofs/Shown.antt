@@ -1,15 +1,16 @@
 -- What a heap that shows a graph holds of each object.
-use Rattle.std.proofs.Common.{◌≡◌, ℕ, ◌+◌, ◌*◌, ◌<◌, ◌≤◌, zero, suc, List, [], ◌∷◌, length, get_or, Some, slice_get, Option, option_and_then, ap, ◌∙◌, refl, subst, arith}
+use Rattle.std.proofs.Common.{◌≡◌, ℕ, ◌+◌, ◌*◌, ◌<◌, ◌≤◌, zero, suc, List, [], ◌∷◌, length, get_or, Some, slice_get, Option}
+use Rattle.std.proofs.Common.{option_and_then, ap, ◌∙◌, refl, subst, arith}
 use Rattle.std.proofs.lemmas.Option.{slice_get_within, get_or_from_slice_get}
-use Rattle.ideal_graph.specs.declared.object.Field.{Field}
-use Rattle.ideal_graph.specs.declared.object.Object.{Object}
-use Rattle.ideal_graph.specs.declared.object.Object.TheVariants.{Plain, List as ListOf, Weak}
-use Rattle.ideal_graph.specs.declared.value.Value.TheVariants.{Ref}
-use Rattle.ideal_graph.specs.Graphs.{Graph, PlainObject, as_plain, plain_at}
+use Rattle.object_graph.specs.declared.object.Field.{Field}
+use Rattle.object_graph.specs.declared.object.Object.{Object}
+use Rattle.object_graph.specs.declared.object.Object.TheVariants.{Plain, List as ListOf, Weak}
+use Rattle.object_graph.specs.declared.value.Value.TheVariants.{Ref}
+use Rattle.object_graph.specs.Graphs.{Graph, PlainObject, as_plain, plain_at}
 use Rattle.tagged_word.specs.declared.header.Header.{Header}
 use Rattle.tagged_word.specs.Headers.{header_bits, IsHeader}
-use Rattle.mutator.specs.Cells.{FirstWords, address_of, place_words}
-use Rattle.mutator.specs.Shows.{Shows, IsObject}
+use Rattle.mutator.specs.Cells.{address_of, place_words}
+use Rattle.mutator.specs.Heap.{FirstWords, Shows, FitsCell}
 use Rattle.mutator.proofs.Addresses.{count_le_words, address_of_all, address_of_le, cell_before}
 use Rattle.mutator.proofs.Ranges.{range_first}
 
@@ -23,11 +24,12 @@ slice_get_below (x ∷ xs) (suc i) lt = slice_get_below xs i (omega arith)
 -- a plain object with its cap and fields, at a number
 pub record PlainAt (graph : Graph) (number cap : ℕ) (fields : List Field) : Type 0 where
   pub found : slice_get graph.objects number ≡ Some (Plain cap fields)
-  pub is_object : IsObject (length graph.objects) (Plain cap fields)
+  pub is_object : FitsCell (length graph.objects) (Plain cap fields)
 
+-- each object of the graph is a plain one
 as_plain_at : (graph : Graph) (number : ℕ) (object : Object) →
     slice_get graph.objects number ≡ Some object →
-    IsObject (length graph.objects) object →
+    FitsCell (length graph.objects) object →
     (cap : ℕ) × (fields : List Field) × PlainAt graph number cap fields
 as_plain_at graph number (Plain cap fields) found is = (cap, fields, record { found = found; is_object = is })
 as_plain_at graph number (ListOf elements) found is = absurd is
@@ -36,9 +38,9 @@ as_plain_at graph number (Weak entries) found is = absurd is
 -- each object that is there is one that a cell can hold
 pub object_shown : (heap : FirstWords) (graph : Graph) (number : ℕ) (object : Object) →
     Shows heap graph →
-    slice_get graph.objects number ≡ Some object → IsObject (length graph.objects) object
+    slice_get graph.objects number ≡ Some object → FitsCell (length graph.objects) object
 object_shown heap graph number object shown found =
-    let P : Object → Type 0 = λ o. IsObject (length graph.objects) o in
+    let P : Object → Type 0 = λ o. FitsCell (length graph.objects) o in
     subst P (get_or_from_slice_get graph.objects number object object found)
     (shown.objects number object (slice_get_within graph.objects number object found))
 
@@ -115,13 +117,15 @@ plain_found graph number cap fields n k at en ek =
     let same : here ≡ there = cc in
     ap (λ o. option_and_then (as_plain number) o) at.found ∙ ap (λ (o : PlainObject). Some o) same
 
--- what parses to the header that was read there is the object's header
-pub header_parsed : (heap : FirstWords) (graph : Graph) (number cap : ℕ) (fields : List Field) (items : List ℕ)
-    (address word : ℕ) (parsed : Option Header) →
-    Shows heap graph → PlainAt graph number cap fields → address ≡ address_of graph.objects number →
-    items ≡ heap.words → word ≡ get_or items address word →
-    ((header : Header) → IsHeader header → word ≡ header_bits header → parsed ≡ Some header) →
-    parsed ≡ Some (record { shape = 8 + cap; object = number })
-header_parsed heap graph number cap fields items address word parsed shown at there same read parses =
-    parses _ (is_header heap graph number cap fields shown at)
-    (header_read heap graph number cap fields items address word shown at there same read)
+-- the header that was read at an object's address, and the plain object that it is of
+pub header_parsed : (heap : FirstWords) (graph : Graph) (number : ℕ) (items : List ℕ) (address word : ℕ)
+    (parsed : Option Header)
+    → Shows heap graph → number < length graph.objects → address ≡ address_of graph.objects number
+    → items ≡ heap.words → word ≡ get_or items address word
+    → ((header : Header) → IsHeader header → word ≡ header_bits header → parsed ≡ Some header)
+    → (cap : ℕ) × (fields : List Field) × PlainAt graph number cap fields
+    × (parsed ≡ Some (record { shape = 8 + cap; object = number }))
+header_parsed heap graph number items address word parsed shown lt there same read parses =
+    let (cap, fields, at) = plain_below heap graph number shown lt in
+    let word_is = header_read heap graph number cap fields items address word shown at there same read in
+    (cap, fields, at, parses _ (is_header heap graph number cap fields shown at) word_is)

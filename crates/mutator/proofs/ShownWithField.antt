@@ -1,29 +1,31 @@
 -- A heap in which the place of a field was written shows the graph in which the field has the value.
-use Rattle.std.proofs.Common.{◌≡◌, ℕ, suc, ◌+◌, ◌*◌, ◌<◌, ◌≤◌, List, ◌∷◌, length, slice_get, slice_range, Some, set, All, sym, refl, ap, ◌∙◌, subst, inl, inr, arith, length-set}
+use Rattle.std.proofs.Common.{◌≡◌, ℕ, suc, ◌+◌, ◌*◌, ◌<◌, ◌≤◌, List, ◌∷◌, length, slice_get, slice_range, Some, set, All, sym}
+use Rattle.std.proofs.Common.{refl, ap, ◌∙◌, subst, inl, inr, arith, length-set}
 use Rattle.std.specs.FinMap.{get}
 use Rattle.std.proofs.lemmas.Bool.{cases_eq, cases_lt}
 use Rattle.std.proofs.lemmas.Option.{slice_get_within, get_or_from_slice_get, same_Some}
 use Rattle.std.proofs.lemmas.List.Elements.{All-get_or, All-set}
 use Rattle.tagged_word.specs.Headers.{header_bits}
-use Rattle.ideal_graph.specs.declared.value.Value.{Value}
-use Rattle.ideal_graph.specs.declared.object.Field.{Field}
-use Rattle.ideal_graph.specs.declared.object.Object.{Object}
-use Rattle.ideal_graph.specs.declared.object.Object.TheVariants.{Plain}
-use Rattle.ideal_graph.specs.declared.path.Path.{Path}
-use Rattle.ideal_graph.specs.Graphs.{Graph, PlainObject}
-use Rattle.ideal_graph.specs.Meaning.{refill}
-use Rattle.ideal_graph.specs.Objects.{with_field}
-use Rattle.mutator.specs.Cells.{field_numbers, FirstWords, size_of, address_of, value_words, place_words, cell_words}
-use Rattle.mutator.specs.Shows.{Shows, IsObject, IsValue}
+use Rattle.object_graph.specs.declared.value.Value.{Value}
+use Rattle.object_graph.specs.declared.object.Field.{Field}
+use Rattle.object_graph.specs.declared.object.Object.{Object}
+use Rattle.object_graph.specs.declared.object.Object.TheVariants.{Plain}
+use Rattle.object_graph.specs.declared.path.Path.{Path}
+use Rattle.object_graph.specs.Graphs.{Graph, PlainObject}
+use Rattle.object_graph.specs.Meaning.{refill}
+use Rattle.object_graph.specs.Objects.{with_field}
+use Rattle.mutator.specs.Cells.{size_of, address_of, value_words, name_bits, place_words, cell_words}
+use Rattle.mutator.specs.Heap.{field_numbers, FirstWords, Shows, FitsCell, FitsWords}
 use Rattle.mutator.specs.declared.reading.Found.{Found}
-use Rattle.mutator.specs.declared.reading.Pair.{Pair}
+use Rattle.mutator.specs.declared.pairs.Pair.{Pair}
 use Rattle.mutator.specs.Pairs.{IsPairOf, pair_words}
-use Rattle.mutator.specs.Places.{place_of, HasFields}
+use Rattle.mutator.specs.Places.{place_of, place_address, HasFields}
 use Rattle.mutator.specs.Writes.{overwritten}
 use Rattle.mutator.proofs.Addresses.{cell_before}
 use Rattle.mutator.proofs.FieldLaws.{length-with_field, All-with_field}
 use Rattle.mutator.proofs.PlaceLaws.{filled_words, length-filled_words, place_words-with_field}
-use Rattle.mutator.proofs.Replacements.{slice_get-set_same, slice_get-set_other, address_of-set, cell_words_same, root_words_same}
+use Rattle.object_graph.proofs.Lists.{slice_get-set_same, slice_get-set_other}
+use Rattle.mutator.proofs.Replacements.{address_of-set, cell_words_same, root_words_same}
 use Rattle.mutator.proofs.WriteLaws.{length-overwritten, range_before, range_behind, range_around}
 
 -- A heap shows a graph in which this object has room for the field, and the value is one of the graph.
@@ -32,7 +34,7 @@ pub record CanHold (heap : FirstWords) (graph : Graph) (plain : PlainObject) (na
   pub object : slice_get graph.objects plain.number ≡ Some (Plain plain.cap plain.fields)
   pub room : place_of plain.fields name < plain.cap
   pub small : name < field_numbers
-  pub is_value : IsValue (length graph.objects) value
+  pub is_value : FitsWords (length graph.objects) value
 
 -- the words of the heap once the place of the field was written
 abbrev with_place : FirstWords → Graph → PlainObject → ℕ → Value → List ℕ
@@ -40,7 +42,10 @@ with_place heap graph plain name value =
     overwritten heap.words (address_of graph.objects plain.number + (1 + 3 * place_of plain.fields name))
     (filled_words graph.objects name value)
 
-module _ {heap : FirstWords} {graph : Graph} {plain : PlainObject} {name : ℕ} {value : Value} (can : CanHold heap graph plain name value) where
+-- What stays and what changes once the place was written.
+module _ {heap : FirstWords} {graph : Graph} {plain : PlainObject} {name : ℕ} {value : Value}
+    (can : CanHold heap graph plain name value) where
+  -- the object that is given the field: its number, its fields then, and what it was and is
   abbrev number : ℕ
   number = plain.number
 
@@ -53,22 +58,26 @@ module _ {heap : FirstWords} {graph : Graph} {plain : PlainObject} {name : ℕ} 
   abbrev new : Object
   new = Plain plain.cap fields
 
+  -- the objects then, and how many there are
   abbrev objects : List Object
   objects = set graph.objects number new
 
   abbrev count : ℕ
   count = length graph.objects
 
-  -- where the place stands in the cell, and where in the heap
+  -- where the place stands in the cell
   abbrev inside : ℕ
   inside = 1 + 3 * place_of plain.fields name
 
+  -- where the cell of an object stands
   abbrev address : ℕ → ℕ
   address m = address_of graph.objects m
 
+  -- where it stands in the heap
   abbrev at : ℕ
   at = address number + inside
 
+  -- its words then, and those of the heap
   abbrev piece : List ℕ
   piece = filled_words graph.objects name value
 
@@ -79,9 +88,11 @@ module _ {heap : FirstWords} {graph : Graph} {plain : PlainObject} {name : ℕ} 
   abbrev IsCell : ℕ → Object → Type 0
   IsCell m object = slice_range words (address m) (address m + size_of object) ≡ cell_words graph.objects m object
 
+  -- a place has three words
   three : length piece ≡ 3
   three = length-filled_words graph.objects name value
 
+  -- the object is one of the graph
   there : number < count
   there = slice_get_within graph.objects number old can.object
 
@@ -89,6 +100,7 @@ module _ {heap : FirstWords} {graph : Graph} {plain : PlainObject} {name : ℕ} 
   same : (k : ℕ) → address_of objects k ≡ address k
   same k = address_of-set graph.objects number old new can.object refl k
 
+  -- there are as many objects
   same_count : length objects ≡ count
   same_count = length-set graph.objects number new
 
@@ -98,6 +110,7 @@ module _ {heap : FirstWords} {graph : Graph} {plain : PlainObject} {name : ℕ} 
       let before_all = cell_before graph.objects number old count can.object there in
       omega (arith, can.shown.whole, can.shown.room, can.shown.used, before_all)
 
+  -- the heap has as many words
   whole : length words ≡ length heap.words
   whole = length-overwritten heap.words piece at (omega (arith, cell_fits, three, can.room))
 
@@ -113,13 +126,14 @@ module _ {heap : FirstWords} {graph : Graph} {plain : PlainObject} {name : ℕ} 
       ∙ ap (λ k. overwritten (header ∷ places) k piece) behind_header
       ∙ ap (λ r. header ∷ r) (sym (place_words-with_field graph.objects plain.cap name value plain.fields can.room))
 
-  -- the cells of the objects before and behind it
+  -- the cell of an object before it
   cell_in_front : (m : ℕ) (object : Object) → slice_get graph.objects m ≡ Some object → m < number → IsCell m object
   cell_in_front m object found lt =
       range_before heap.words piece at (address m) (address m + size_of object)
       (omega (arith, cell_before graph.objects m object number found lt)) (omega (arith, cell_fits, can.room))
       ∙ can.shown.cells m object found
 
+  -- the cell of an object behind it
   cell_later : (m : ℕ) (object : Object) → slice_get graph.objects m ≡ Some object → number < m → IsCell m object
   cell_later m object found lt =
       range_behind heap.words piece at (address m) (address m + size_of object)
@@ -143,13 +157,14 @@ module _ {heap : FirstWords} {graph : Graph} {plain : PlainObject} {name : ℕ} 
             ]
       ]
 
-  -- the object, with the field and without it, is one that a cell can hold
-  old_held : IsObject count old
+  -- the object without the field is one that a cell can hold
+  old_held : FitsCell count old
   old_held =
-      subst (IsObject count) (get_or_from_slice_get graph.objects number old old can.object)
-      (All-get_or (IsObject count) graph.objects number old there can.shown.objects)
+      subst (FitsCell count) (get_or_from_slice_get graph.objects number old old can.object)
+      (All-get_or (FitsCell count) graph.objects number old there can.shown.objects)
 
-  new_held : IsObject count new
+  -- the object with the field is one that a cell can hold
+  new_held : FitsCell count new
   new_held = (
     old_held.0,
     length-with_field plain.fields name value plain.cap old_held.1 can.room,
@@ -161,15 +176,15 @@ module _ {heap : FirstWords} {graph : Graph} {plain : PlainObject} {name : ℕ} 
   shown_with_field paths = record {
     whole = whole ∙ can.shown.whole;
     objects =
-        subst (λ n. All (IsObject n) objects) (sym same_count)
-        (All-set (IsObject count) graph.objects number new new_held can.shown.objects);
+        subst (λ n. All (FitsCell n) objects) (sym same_count)
+        (All-set (FitsCell count) graph.objects number new new_held can.shown.objects);
     cells = λ m object found.
         ap (λ a. slice_range words a (a + size_of object)) (same m) ∙ cell_at m object found
         ∙ sym (cell_words_same objects graph.objects same m object);
     used = can.shown.used ∙ sym (same count) ∙ ap (address_of objects) (sym same_count);
     room = can.shown.room;
     roots = λ x lt. can.shown.roots x lt ∙ sym (root_words_same objects graph.objects same (get graph.bindings x));
-    bindings = λ x bound is. subst (λ n. IsValue n bound) (sym same_count) (can.shown.bindings x bound is);
+    bindings = λ x bound is. subst (λ n. FitsWords n bound) (sym same_count) (can.shown.bindings x bound is);
   }
 
 -- what a write into the place of the field leaves
@@ -177,7 +192,7 @@ pub shown_written : (old new : FirstWords) (graph : Graph) (found : Found) (fiel
     (value : Value) (pair : Pair) (paths : List Path) →
     HasFields old graph found fields → place_of fields name ≡ i → i < found.cap → name < field_numbers →
     IsPairOf graph.objects value pair →
-    new ≡ record old { words = overwritten old.words (found.address + (1 + 3 * i)) ((name + name) ∷ pair_words pair) } →
+    new ≡ record old { words = overwritten old.words (place_address found i) (name_bits name ∷ pair_words pair) } →
     Shows new
     (refill graph (record { number = found.object; cap = found.cap; fields = fields }) (with_field fields name value) paths)
 shown_written old new graph found fields name i value pair paths has at room small is written =
@@ -186,7 +201,7 @@ shown_written old new graph found fields name i value pair paths has at room sma
     record { shown = has.shown; object = has.object; room = omega arith; small = small; is_value = is.is_value }
     in
     let row : ℕ → ℕ → List ℕ → FirstWords = λ a k pair.
-    record old { words = overwritten old.words (a + (1 + 3 * k)) ((name + name) ∷ pair) }
+    record old { words = overwritten old.words (a + (1 + 3 * k)) (name_bits name ∷ pair) }
     in
     let same : new ≡ row (address_of graph.objects found.object) (place_of fields name) (value_words graph.objects value) =
     written ∙ (λ j. row (has.address j) (sym at j) (is.words j))

@@ -1,15 +1,17 @@
 -- What a part of a row holds once a piece of the row was overwritten.
-use Rattle.std.proofs.Common.{◌≡◌, ℕ, suc, ◌+◌, ◌-◌, ◌≤◌, List, [], ◌∷◌, ◌++◌, length, take, drop, slice_range, sym, refl, ap, ◌∙◌, arith, append_assoc, length-append, length-take, length-drop}
+use Rattle.std.proofs.Common.{◌≡◌, ℕ, suc, ◌+◌, ◌-◌, ◌≤◌, List, [], ◌∷◌, ◌++◌, length, take, drop, slice_range, sym, refl, ap}
+use Rattle.std.proofs.Common.{◌∙◌, arith, append_assoc, length-append, length-take, length-drop}
 use Rattle.std.proofs.lemmas.List.{take-take, drop-take, drop_at, length-take-le, take-append-drop}
 use Rattle.std.proofs.lemmas.Slice.{drop-put_mid, take-put_mid_below, between_is}
 use Rattle.mutator.specs.Writes.{overwritten}
 
--- `take` and `drop` go on behind what stands in front
+-- what is taken beyond what stands in front is taken from the rest
 pub take-append-add : {A : Type 0} (xs ys : List A) (n : ℕ) → take (length xs + n) (xs ++ ys) ≡ xs ++ take n ys
 take-append-add [] ys n = ap (λ k. take k ys) (omega arith)
 take-append-add (x ∷ xs) ys n =
     let e : suc (length xs) + n ≡ suc (length xs + n) = omega arith in rw e (ap (λ r. x ∷ r) (take-append-add xs ys n))
 
+-- what is dropped beyond what stands in front is dropped from the rest
 pub drop-append-add : {A : Type 0} (xs ys : List A) (n : ℕ) → drop (length xs + n) (xs ++ ys) ≡ drop n ys
 drop-append-add [] ys n = ap (λ k. drop k ys) (omega arith)
 drop-append-add (x ∷ xs) ys n =

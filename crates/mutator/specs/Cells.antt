@@ -1,33 +1,16 @@
--- The words of the first heap, and those of each value and object.
-use Rattle.std.specs.Prelude.{ℕ, ◌+◌, ◌-◌, ◌*◌, ◌/◌, ◌^◌, List, [], ◌∷◌, ◌++◌, length, take, replicate, flat_map, sum_by, Option, Some, None, pos, if◌then◌else◌}
+-- The cells of the first heap: the words of each value and object, and where they stand.
+use Rattle.std.specs.Prelude.{ℕ, ◌+◌, ◌-◌, ◌*◌, List, [], ◌∷◌, ◌++◌, length, take, replicate, flat_map, sum_by, Option, Some}
+use Rattle.std.specs.Prelude.{None, pos, if◌then◌else◌}
 use Rattle.std.specs.Int.{cast_unsigned, w64}
 use Rattle.tagged_word.specs.declared.word.Class.TheVariants as word
-use Rattle.tagged_word.specs.declared.odd.TheConstants.{UNDEFINED, HOLE, UNBOUND, WIDE}
+use Rattle.tagged_word.specs.Odds.{undefined_code, hole_code, unbound_code, wide_code}
 use Rattle.tagged_word.specs.Words.{small, bits_of}
 use Rattle.tagged_word.specs.Headers.{header_bits}
-use Rattle.ideal_graph.specs.declared.value.Value.{Value}
-use Rattle.ideal_graph.specs.declared.value.Value.TheVariants.{Int, Undefined, Ref}
-use Rattle.ideal_graph.specs.declared.object.Field.{Field}
-use Rattle.ideal_graph.specs.declared.object.Object.{Object}
-use Rattle.ideal_graph.specs.declared.object.Object.TheVariants as kind
-
--- how many words a heap has
-abbrev pub heap_words : ℕ
-heap_words = 131072
-
--- field names are numbered below this, so that each number is a small integer
-abbrev pub field_numbers : ℕ
-field_numbers = 2 ^ 30
-
--- the words of a heap, how many of them are used, and the root words of the variables
-pub record FirstWords : Type 0 where
-  pub words : List ℕ
-  pub used : ℕ
-  pub roots : List ℕ
-
--- how many variables a heap has
-abbrev pub variable_count : FirstWords → ℕ
-variable_count heap = length heap.roots / 2
+use Rattle.object_graph.specs.declared.value.Value.{Value}
+use Rattle.object_graph.specs.declared.value.Value.TheVariants.{Int, Undefined, Ref}
+use Rattle.object_graph.specs.declared.object.Field.{Field}
+use Rattle.object_graph.specs.declared.object.Object.{Object}
+use Rattle.object_graph.specs.declared.object.Object.TheVariants as kind
 
 -- How many words an object's cell has: a header, and a place of three words for each of its cap. Lists and weak maps
 -- have no cell on this heap.
@@ -43,22 +26,26 @@ address_of objects number = sum_by size_of (take number objects)
 -- the two words that hold a value; the second is 0 unless the integer is outside the small range
 abbrev pub value_words : List Object → Value → List ℕ
 value_words objects (Int v) =
-    if small v then bits_of (word.Small v) ∷ 0 ∷ [] else bits_of (word.Odd WIDE) ∷ cast_unsigned w64 v ∷ []
-value_words objects Undefined = bits_of (word.Odd UNDEFINED) ∷ 0 ∷ []
+    if small v then bits_of (word.Small v) ∷ 0 ∷ [] else bits_of (word.Odd wide_code) ∷ cast_unsigned w64 v ∷ []
+value_words objects Undefined = bits_of (word.Odd undefined_code) ∷ 0 ∷ []
 value_words objects (Ref number) = bits_of (word.Ref (address_of objects number)) ∷ 0 ∷ []
 
 -- the two root words of a variable
 abbrev pub root_words : List Object → Option Value → List ℕ
-root_words objects None = bits_of (word.Odd UNBOUND) ∷ 0 ∷ []
+root_words objects None = bits_of (word.Odd unbound_code) ∷ 0 ∷ []
 root_words objects (Some value) = value_words objects value
 
--- a place with a field: the number of the name as a small integer, and the value
+-- the word of a field's name: its number as a small integer
+abbrev pub name_bits : ℕ → ℕ
+name_bits name = bits_of (word.Small (pos name))
+
+-- a place with a field: the word of the name, and the value
 abbrev pub field_words : List Object → Field → List ℕ
-field_words objects field = bits_of (word.Small (pos field.name)) ∷ value_words objects field.value
+field_words objects field = name_bits field.name ∷ value_words objects field.value
 
 -- a place without a field
 abbrev pub unused_words : List ℕ
-unused_words = bits_of (word.Odd HOLE) ∷ bits_of (word.Odd UNDEFINED) ∷ 0 ∷ []
+unused_words = bits_of (word.Odd hole_code) ∷ bits_of (word.Odd undefined_code) ∷ 0 ∷ []
 
 -- the places of an object: its fields in order, and then those that are not used
 abbrev pub place_words : List Object → ℕ → List Field → List ℕ

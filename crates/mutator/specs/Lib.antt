@@ -1,9 +1,9 @@
 pub mod Cells
-pub mod Shows
+pub mod Heap
 pub mod Carries
 pub mod Pairs
-pub mod Binds
+pub mod Roots
+pub mod Reading
 pub mod Places
 pub mod Writes
 pub mod Grows
-pub mod Laws

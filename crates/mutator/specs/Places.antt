@@ -1,13 +1,13 @@
 -- Where a plain object keeps a field.
-use Rattle.std.specs.Prelude.{◌≡◌, ℕ, ◌+◌, ◌<◌, ◌==◌, if◌then◌else◌, List, [], ◌∷◌, length, Some, slice_get}
-use Rattle.ideal_graph.specs.declared.object.Field.{Field}
-use Rattle.ideal_graph.specs.declared.object.Object.TheVariants.{Plain}
-use Rattle.ideal_graph.specs.Graphs.{Graph}
+use Rattle.std.specs.Prelude.{◌≡◌, ℕ, ◌+◌, ◌*◌, ◌<◌, ◌==◌, if◌then◌else◌, List, [], ◌∷◌, length, Some, slice_get}
+use Rattle.object_graph.specs.declared.object.Field.{Field}
+use Rattle.object_graph.specs.declared.object.Object.TheVariants.{Plain}
+use Rattle.object_graph.specs.Graphs.{Graph}
 use Rattle.mutator.specs.declared.reading.Found.{Found}
-use Rattle.mutator.specs.declared.fields.Place.{Place}
-use Rattle.mutator.specs.declared.fields.Place.TheVariants.{Held, Unused, Full}
-use Rattle.mutator.specs.Cells.{FirstWords, address_of}
-use Rattle.mutator.specs.Shows.{Shows}
+use Rattle.mutator.specs.declared.places.Place.{Place}
+use Rattle.mutator.specs.declared.places.Place.TheVariants.{Held, Unused, Full}
+use Rattle.mutator.specs.Cells.{address_of}
+use Rattle.mutator.specs.Heap.{FirstWords, Shows}
 
 -- the heap shows a graph in which the object that was found has these fields
 pub record HasFields (heap : FirstWords) (graph : Graph) (found : Found) (fields : List Field)
@@ -15,6 +15,10 @@ pub record HasFields (heap : FirstWords) (graph : Graph) (found : Found) (fields
   pub shown : Shows heap graph
   pub object : slice_get graph.objects found.object ≡ Some (Plain found.cap fields)
   pub address : found.address ≡ address_of graph.objects found.object
+
+-- where in the heap a place of the object that was found begins: behind the header and the places before it
+abbrev pub place_address : Found → ℕ → ℕ
+place_address found i = found.address + (1 + 3 * i)
 
 -- The place of the field of this name, counted from 0. Where there is none, it is the first place
 -- without a field.

@@ -1,112 +1,54 @@
-//! Where a plain object keeps its fields.
-ghost use Rattle.std.specs.Prelude.{◌≡◌, ◌+◌, ◌*◌, ◌<◌, ◌≤◌, List, length, ◌∷◌, unwrap_or};
-ghost use Rattle.ideal_graph.specs.declared.object.Field.{Field};
-ghost use Rattle.ideal_graph.specs.declared.object.Object.{Object};
-ghost use Rattle.ideal_graph.specs.declared.value.Value.TheVariants.{Undefined};
-ghost use Rattle.ideal_graph.specs.Graphs.{Graph};
-ghost use Rattle.ideal_graph.specs.Objects.{field_value};
-ghost use Rattle.mutator.specs.Cells.{field_numbers, place_words};
-ghost use Rattle.mutator.specs.Pairs.{pair_words, IsPairOf};
-ghost use Rattle.mutator.specs.Places.{IsPlace, HasFields};
-ghost use Rattle.mutator.specs.Writes.{overwritten};
+//! The commands `set` and `get`, on the fields of an object. Where an object keeps a field is said
+//! in `places.rt`. A field stands by the number of its name, which is below 2^30.
+ghost use Rattle.std.specs.Prelude.{ℕ, List, []};
+ghost use Rattle.heap_command.specs.Commands.{IsWithin};
+ghost use Rattle.object_graph.specs.Graphs.{Graph};
+ghost use Rattle.mutator.specs.Carries.{Carries};
+ghost use Rattle.mutator.specs.Heap.{variable_count, field_numbers, Shows};
 
-use crate::heap::{FirstHeap, PLACE_WORDS};
-use crate::reading::{Found, Pair};
-use tagged_word::Word;
-use tagged_word::odd::HOLE;
+use crate::heap::FirstHeap;
+use crate::places::{Place, field_pair, place_in, write_place};
+use crate::reading::{bound_value, operand_pair, plain};
+use crate::roots::write_root;
+use crate::stop::Stop;
+use heap_command::{Command, FaultWord, Operand};
 
-/// Where an object keeps a field: places are counted from 0.
-#[derive(Clone, Copy, Debug, PartialEq, Eq)]
-pub enum Place {
-    /// The field is at this place.
-    Held(u32),
-    /// The object has no such field, and this is its first place without one.
-    Unused(u32),
-    /// The object has no such field, and each of its places holds one.
-    Full,
-}
-
-/// The place of a field in the object that was found.
-pub fn place_in(heap: &FirstHeap, found: Found, f: u32) -> Place
-    requires shown { (graph : Graph) × (fields : List Field)
-        × HasFields heap.now graph found fields }
-    requires small { f < field_numbers }
-    ensures { (graph : Graph) (fields : List Field) → HasFields heap.now graph found fields
-        → IsPlace found.cap fields f result }
+/// Gives the field `f` of the plain object `x` the value. A name that is new to the object takes
+/// its next place.
+///
+/// Stops with `unbound`, `notobject`, or `fieldsfull` where the name is new and the object has as
+/// many fields as its cap.
+pub fn set(heap: &mut FirstHeap, x: u32, f: u32, v: Operand) -> Result<(), Stop>
+    requires shown { (graph : Graph) × Shows heap.old graph }
+    requires within { IsWithin (variable_count heap.old) field_numbers (Command.Set x f v) }
+    ensures carried { (graph : Graph) (names : List (List ℕ)) → Shows heap.old graph →
+        Carries names heap.old heap.new graph (Command.Set x f v) [] result }
 {
-    let from = found.address as usize + 1;
-    let to = from + PLACE_WORDS as usize * found.cap as usize;
-    find_place(&heap.words[from..to], found.cap, f)
-}
-
-/// The pair that the field has, or that of `undefined` where there is no such field.
-pub fn field_pair(heap: &FirstHeap, found: Found, f: u32) -> Pair
-    requires shown { (graph : Graph) × (fields : List Field)
-        × HasFields heap.now graph found fields }
-    requires small { f < field_numbers }
-    ensures { (graph : Graph) (fields : List Field) → HasFields heap.now graph found fields
-        → IsPairOf graph.objects (unwrap_or (field_value fields f) Undefined) result }
-{
+    let target = bound_value(heap, x)?;
+    // The value is read before the object is judged: `unbound` comes before `notobject`.
+    let value = operand_pair(heap, v)?;
+    let found = plain(target)?;
     match place_in(heap, found, f) {
-        Place::Held(i) => {
-            let at = place_start(found, i);
-            Pair {
-                first: heap.words[at + 1],
-                second: heap.words[at + 2],
-            }
+        Place::Held(i) | Place::Unused(i) => {
+            write_place(heap, found, i, f, value);
+            Ok(())
         }
-        Place::Unused(_) | Place::Full => Pair::undefined(),
+        Place::Full => Err(Stop::Fault(FaultWord::FieldsFull)),
     }
 }
 
-/// Writes a field and its value into a place of the object that was found.
-pub fn write_place(heap: &mut FirstHeap, found: Found, i: u32, f: u32, value: Pair)
-    requires within { found.address + (1 + 3 * i) + 3 ≤ length heap.old.words }
-    requires small { f < field_numbers }
-    ensures { let at = found.address + (1 + 3 * i) in heap.new ≡ record heap.old {
-      words = overwritten heap.old.words at ((f + f) ∷ pair_words value);
-    } }
+/// Binds `y` to the field `f` of the plain object `x`, or to `undefined` where there is none.
+///
+/// Stops with `unbound` or `notobject`.
+pub fn get(heap: &mut FirstHeap, y: u32, x: u32, f: u32) -> Result<(), Stop>
+    requires shown { (graph : Graph) × Shows heap.old graph }
+    requires within { IsWithin (variable_count heap.old) field_numbers (Command.Get y x f) }
+    ensures carried { (graph : Graph) (names : List (List ℕ)) → Shows heap.old graph →
+        Carries names heap.old heap.new graph (Command.Get y x f) [] result }
 {
-    let at = place_start(found, i);
-    let place = [name_word(f), value.first, value.second];
-    heap.words[at..at + 3].copy_from_slice(&place);
-}
-
-// Where a place of the object that was found begins: behind the header and the places before it.
-fn place_start(found: Found, i: u32) -> usize
-    ensures { result ≡ found.address + (1 + 3 * i) }
-{
-    found.address as usize + (1 + PLACE_WORDS as usize * i as usize)
-}
-
-// The word of a field's name.
-fn name_word(f: u32) -> u64
-    requires { f < field_numbers }
-    ensures { result ≡ f + f }
-{
-    match Word::small(f as i64) {
-        Some(word) => word.0,
-        None => unreachable!(),
-    }
-}
-
-// Looks for a field in the places of an object.
-fn find_place(places: &[u64], cap: u32, f: u32) -> Place
-    requires whole { length places.now ≡ 3 * cap }
-    requires small { f < field_numbers }
-    ensures { (objects : List Object) (fields : List Field) → length fields ≤ cap
-        → places.now ≡ place_words objects cap fields → IsPlace cap fields f result }
-{
-    let wanted = name_word(f);
-    let unused = Word::odd(HOLE).0;
-    for i in 0..cap {
-        let word = places[PLACE_WORDS as usize * i as usize];
-        if word == wanted {
-            return Place::Held(i);
-        }
-        if word == unused {
-            return Place::Unused(i);
-        }
-    }
-    Place::Full
+    let target = bound_value(heap, x)?;
+    let found = plain(target)?;
+    let value = field_pair(heap, found, f);
+    write_root(heap, y, value);
+    Ok(())
 }

@@ -8,7 +8,10 @@ use tagged_word::NoMemory;
 /// How many bytes an `Output` holds at most.
 pub const OUTPUT_BYTES: u32 = 65_536;
 
-/// At most 65,536 bytes that wait to be handed on.
+/// The room in bytes that a command may need: none writes more.
+pub const ROOM: u32 = 4096;
+
+/// At most `OUTPUT_BYTES` bytes that wait to be handed on.
 #[derive(Drop)]
 pub struct Output {
     bytes: Vec<u8>,
@@ -16,26 +19,29 @@ pub struct Output {
 
 impl Model for Output {
     ghost use Rattle.std.specs.Prelude.{List, ℕ, ◌≤◌, length, vec_capacity};
+    ghost use Rattle.mutator.specs.declared.output.TheConstants.{OUTPUT_BYTES};
 
     ghost Value = { List ℕ };
 
     ghost view = { λ output. output.bytes.items };
 
-    ghost invariant = { λ output. (length output.bytes.items ≤ 65536) × (65536 ≤ vec_capacity output.bytes) };
+    ghost invariant = { λ output. (length output.bytes.items ≤ OUTPUT_BYTES)
+        × (OUTPUT_BYTES ≤ vec_capacity output.bytes) };
 }
 
 impl Output {
-    /// An output that holds nothing. Later calls need no memory.
+    /// An output that holds nothing. It takes all the memory that it needs, and fails for want of
+    /// memory alone: later calls need none.
     pub fn new(alloc: Global) -> Result<Output, NoMemory>
         ensures { IfOk result (λ output. output ≡ []) }
     {
-        let bytes = Vec::with_capacity(alloc, OUTPUT_BYTES as usize).map_err(|_| NoMemory)?;
+        let bytes = Vec::with_capacity(alloc, OUTPUT_BYTES as usize)?;
         Ok(Output { bytes })
     }
 
     /// How many bytes more there is room for.
     pub fn room(&self) -> u32
-        ensures { result + length self.now ≡ 65536 }
+        ensures { result + length self.now ≡ OUTPUT_BYTES }
     {
         OUTPUT_BYTES - self.bytes.len() as u32
     }
@@ -54,11 +60,12 @@ impl Output {
         self.bytes.clear();
     }
 
-    /// Puts a piece behind the bytes.
+    /// Puts a piece behind the bytes. Both together are at most `OUTPUT_BYTES` bytes.
     pub fn put(&mut self, piece: &[u8])
-        requires { length self.old + length piece.now ≤ 65536 }
+        requires { length self.old + length piece.now ≤ OUTPUT_BYTES }
         ensures { self.new ≡ self.old ++ piece.now }
     {
+        // The memory was taken when the output was made.
         if self.bytes.extend_from_slice(piece).is_err() {
             unreachable!();
         }

@@ -1,61 +1,12 @@
--- The lines of a source and the tokens of a line, as the pieces that std's `slice_split` gives.
-use Rattle.std.proofs.Common.{◌≡◌, ℕ, suc, ◌-◌, ◌<◌, ◌≤◌, Bool, true, false, cond, not, eqb, nat_lt, List, [], ◌∷◌, length, map, take, get_or, Some, None, refl, sym, ap, ◌∙◌, arith, Bor}
+-- The lines of a source, as the pieces that std's `slice_split` gives.
+use Rattle.std.proofs.Common.{◌≡◌, ℕ, suc, ◌-◌, ◌<◌, Bool, true, false, cond, eqb, List, [], ◌∷◌, length, map, take, get_or, refl, sym, ap, ◌∙◌, arith, Bor}
 use Rattle.std.specs.List as std
-use Rattle.std.specs.List.{slice_split, filter}
-use Rattle.std.proofs.lemmas.List.{length-map, take-map, take_all}
+use Rattle.std.specs.List.{slice_split}
+use Rattle.std.proofs.lemmas.List.{length-map, take-map}
 use Rattle.std.proofs.lemmas.Bool.{false≢true}
 use Rattle.std.proofs.lemmas.Bool.Decides.{nat_tests}
-use Rattle.script_text.specs.Lines.{onto_first, lines_of, is_blank, is_some_bytes, pieces_of, text_of}
+use Rattle.script_text.specs.Lines.{onto_first, lines_of}
 use Rattle.script_text.specs.Pieces.{is_empty, ends_empty, without_empty_end}
-
--- std's word for a byte before the first piece is ours
-onto_first-std : (b : ℕ) (pieces : List (List ℕ)) → std.onto_first b pieces ≡ onto_first b pieces
-onto_first-std b [] = refl
-onto_first-std b (piece ∷ pieces) = refl
-
--- the pieces of a text between its blanks
-pub slice_split-pieces_of : (text : List ℕ) → slice_split is_blank text ≡ pieces_of text
-slice_split-pieces_of [] = refl
-slice_split-pieces_of (b ∷ bs) =
-    ap (λ rest. cond (is_blank b) ([] ∷ rest) (std.onto_first b rest)) (slice_split-pieces_of bs)
-    ∙ ap (λ here. cond (is_blank b) ([] ∷ pieces_of bs) here) (onto_first-std b (pieces_of bs))
-
-some_given : (b : Bool) (n at : ℕ) → cond b (Some n) None ≡ Some at → n ≡ at
-some_given true n at e = cc
-some_given false n at e = cc
-
-none_given : (b : Bool) (n : ℕ) → cond b (Some n) None ≡ None → b ≡ false
-none_given true n e = cc
-none_given false n e = refl
-
-not_lt : (n m : ℕ) → nat_lt n m ≡ false → m ≤ n
-not_lt n m h = grind (arith, nat_tests)
-
--- a line with no `#` is its text
-pub text_of-all : (line : List ℕ) → std.position (λ b. eqb b 35) line ≡ None → line ≡ text_of line
-text_of-all line h =
-    let n = std.position_or_len (λ b. eqb b 35) line in
-    sym (take_all n line (not_lt n (length line) (none_given (nat_lt n (length line)) n h)))
-
--- the text of a line ends before its first `#`
-pub text_of-at : (line : List ℕ) (at : ℕ) → std.position (λ b. eqb b 35) line ≡ Some at → take at line ≡ text_of line
-text_of-at line at h =
-    let n = std.position_or_len (λ b. eqb b 35) line in
-    ap (λ k. take k line) (sym (some_given (nat_lt n (length line)) n at h))
-
--- a piece has some bytes where its length is not 0
-pub is_some_bytes-length : (piece : List ℕ) → not (eqb (length piece) 0) ≡ is_some_bytes piece
-is_some_bytes-length [] = refl
-is_some_bytes-length (b ∷ bs) = grind (arith, nat_tests)
-
--- the pieces that have some bytes, among slices
-pub map-filter_pieces : (pieces : List (Bor (List ℕ))) → map (λ piece. piece.now) (filter (λ piece. is_some_bytes piece.now) pieces) ≡ filter is_some_bytes (map (λ piece. piece.now) pieces)
-map-filter_pieces [] = refl
-map-filter_pieces (piece ∷ pieces) =
-    let now = λ (p : Bor (List ℕ)). p.now in
-    let some = λ (p : Bor (List ℕ)). is_some_bytes p.now in
-    elim (is_some_bytes piece.now) as (λ v. map now (cond v (piece ∷ filter some pieces) (filter some pieces)) ≡ cond v (piece.now ∷ filter is_some_bytes (map now pieces)) (filter is_some_bytes (map now pieces)))
-    [ true ↦ ap (λ rest. piece.now ∷ rest) (map-filter_pieces pieces) | false ↦ map-filter_pieces pieces ]
 
 -- there is a first piece
 pub record HasFirst (pieces : List (List ℕ)) : Type 0 where
@@ -63,10 +14,12 @@ pub record HasFirst (pieces : List (List ℕ)) : Type 0 where
   pub rest : List (List ℕ)
   pub is : pieces ≡ first ∷ rest
 
+-- a byte before the first of some pieces leaves a first piece
 onto_first-HasFirst : (b : ℕ) (pieces : List (List ℕ)) → HasFirst (std.onto_first b pieces)
 onto_first-HasFirst b [] = record { first = b ∷ []; rest = []; is = refl }
 onto_first-HasFirst b (piece ∷ pieces) = record { first = b ∷ piece; rest = pieces; is = refl }
 
+-- a split gives a first piece
 slice_split-HasFirst : (p : ℕ → Bool) (bs : List ℕ) → HasFirst (slice_split p bs)
 slice_split-HasFirst p [] = record { first = []; rest = []; is = refl }
 slice_split-HasFirst p (b ∷ bs) =
@@ -74,20 +27,25 @@ slice_split-HasFirst p (b ∷ bs) =
     [ true ↦ record { first = []; rest = slice_split p bs; is = refl } | false ↦ onto_first-HasFirst b (slice_split p bs) ]
 
 -- a byte before the first piece is a byte before the first line
-without_empty_end-onto_first : (b : ℕ) (piece : List ℕ) (pieces : List (List ℕ)) → without_empty_end (std.onto_first b (piece ∷ pieces)) ≡ onto_first b (without_empty_end (piece ∷ pieces))
+without_empty_end-onto_first : (b : ℕ) (piece : List ℕ) (pieces : List (List ℕ))
+    → without_empty_end (std.onto_first b (piece ∷ pieces)) ≡ onto_first b (without_empty_end (piece ∷ pieces))
 without_empty_end-onto_first b [] [] = refl
 without_empty_end-onto_first b (c ∷ cs) [] = refl
 without_empty_end-onto_first b piece (next ∷ pieces) = refl
 
+-- no pieces have no first
 none : {first : List ℕ} {rest : List (List ℕ)} → [] ≡ first ∷ rest → ⊥
 none e = cc
 
 -- a line feed ends a line that is empty
-without_empty_end-after_feed : (pieces : List (List ℕ)) → HasFirst pieces → without_empty_end ([] ∷ pieces) ≡ [] ∷ without_empty_end pieces
+without_empty_end-after_feed : (pieces : List (List ℕ)) → HasFirst pieces
+    → without_empty_end ([] ∷ pieces) ≡ [] ∷ without_empty_end pieces
 without_empty_end-after_feed [] h = absurd (none h.is)
 without_empty_end-after_feed (piece ∷ pieces) h = refl
 
-onto_first-lines : (b : ℕ) (pieces : List (List ℕ)) → HasFirst pieces → without_empty_end (std.onto_first b pieces) ≡ onto_first b (without_empty_end pieces)
+-- a byte before the first piece is a byte before the first line
+onto_first-lines : (b : ℕ) (pieces : List (List ℕ)) → HasFirst pieces
+    → without_empty_end (std.onto_first b pieces) ≡ onto_first b (without_empty_end pieces)
 onto_first-lines b [] h = refl
 onto_first-lines b (piece ∷ pieces) h = without_empty_end-onto_first b piece pieces
 
@@ -97,13 +55,17 @@ without_empty_end-slice_split [] = refl
 without_empty_end-slice_split (b ∷ bs) =
     let pieces = slice_split (λ c. eqb c 10) bs in
     let has = slice_split-HasFirst (λ c. eqb c 10) bs in
-    let at_feed : without_empty_end ([] ∷ pieces) ≡ [] ∷ lines_of bs = without_empty_end-after_feed pieces has ∙ ap (λ rest. [] ∷ rest) (without_empty_end-slice_split bs) in
-    let at_byte : without_empty_end (std.onto_first b pieces) ≡ onto_first b (lines_of bs) = onto_first-lines b pieces has ∙ ap (onto_first b) (without_empty_end-slice_split bs) in
-    elim (eqb b 10) as (λ v. without_empty_end (cond v ([] ∷ pieces) (std.onto_first b pieces)) ≡ cond v ([] ∷ lines_of bs) (onto_first b (lines_of bs)))
+    let at_feed : without_empty_end ([] ∷ pieces) ≡ [] ∷ lines_of bs =
+    without_empty_end-after_feed pieces has ∙ ap (λ rest. [] ∷ rest) (without_empty_end-slice_split bs) in
+    let at_byte : without_empty_end (std.onto_first b pieces) ≡ onto_first b (lines_of bs) =
+    onto_first-lines b pieces has ∙ ap (onto_first b) (without_empty_end-slice_split bs) in
+    elim (eqb b 10) as (λ v. without_empty_end (cond v ([] ∷ pieces) (std.onto_first b pieces)) ≡ cond v
+    ([] ∷ lines_of bs) (onto_first b (lines_of bs)))
     [ true ↦ at_feed | false ↦ at_byte ]
 
 -- an empty last piece is left out
-take-without_empty_end : (pieces : List (List ℕ)) → ends_empty pieces ≡ true → take (length pieces - 1) pieces ≡ without_empty_end pieces
+take-without_empty_end : (pieces : List (List ℕ)) → ends_empty pieces ≡ true
+    → take (length pieces - 1) pieces ≡ without_empty_end pieces
 take-without_empty_end [] h = refl
 take-without_empty_end ([] ∷ []) h = refl
 take-without_empty_end ((b ∷ bs) ∷ []) h = absurd (false≢true h)
@@ -124,7 +86,8 @@ length-is_empty [] = refl
 length-is_empty (b ∷ bs) = grind (arith, nat_tests)
 
 -- whether the last piece is empty, by its place
-pub last-ends_empty : (pieces : List (Bor (List ℕ))) (d : Bor (List ℕ)) → 0 < length pieces → eqb (length (get_or pieces (length pieces - 1) d).now) 0 ≡ ends_empty (map (λ piece. piece.now) pieces)
+pub last-ends_empty : (pieces : List (Bor (List ℕ))) (d : Bor (List ℕ)) → 0 < length pieces
+    → eqb (length (get_or pieces (length pieces - 1) d).now) 0 ≡ ends_empty (map (λ piece. piece.now) pieces)
 last-ends_empty [] d h = absurd (omega arith)
 last-ends_empty (piece ∷ []) d h = length-is_empty piece.now
 last-ends_empty (piece ∷ next ∷ pieces) d h =
@@ -132,7 +95,10 @@ last-ends_empty (piece ∷ next ∷ pieces) d h =
     ap (λ n. eqb (length (get_or (piece ∷ next ∷ pieces) n d).now) 0) here ∙ last-ends_empty (next ∷ pieces) d (omega arith)
 
 -- without an empty last piece, the pieces between line feeds are the lines
-pub lines_of-shorter : (source : List ℕ) (n : ℕ) (pieces : List (Bor (List ℕ))) → n ≡ length pieces → map (λ piece. piece.now) pieces ≡ slice_split (λ b. eqb b 10) source → ends_empty (map (λ piece. piece.now) pieces) ≡ true → map (λ piece. piece.now) (take (n - 1) pieces) ≡ lines_of source
+pub lines_of-shorter : (source : List ℕ) (n : ℕ) (pieces : List (Bor (List ℕ))) → n ≡ length pieces
+    → map (λ piece. piece.now) pieces ≡ slice_split (λ b. eqb b 10) source
+    → ends_empty (map (λ piece. piece.now) pieces) ≡ true
+    → map (λ piece. piece.now) (take (n - 1) pieces) ≡ lines_of source
 lines_of-shorter source n pieces len e h =
     let names = map (λ (piece : Bor (List ℕ)). piece.now) pieces in
     let count : n - 1 ≡ length names - 1 = ap (λ m. m - 1) (len ∙ sym (length-map pieces (λ piece. piece.now))) in
@@ -140,5 +106,6 @@ lines_of-shorter source n pieces len e h =
     ∙ ap without_empty_end e ∙ without_empty_end-slice_split source
 
 -- where the last piece is not empty, the pieces between line feeds are the lines
-pub lines_of-all : (source : List ℕ) (pieces : List (List ℕ)) → pieces ≡ slice_split (λ b. eqb b 10) source → ends_empty pieces ≡ false → pieces ≡ lines_of source
+pub lines_of-all : (source : List ℕ) (pieces : List (List ℕ)) → pieces ≡ slice_split (λ b. eqb b 10) source
+    → ends_empty pieces ≡ false → pieces ≡ lines_of source
 lines_of-all source pieces e h = all-without_empty_end pieces h ∙ ap without_empty_end e ∙ without_empty_end-slice_split source

@@ -1,27 +1,25 @@
-pub mod Cut
-pub mod Digits
-pub mod Ending
+mod Advancing
+mod Cut
+mod Depths
+mod Digits
+mod Ending
 pub mod Fits
-pub mod Gathered
-pub mod Inside
-pub mod Integers
-pub mod Limits
-pub mod Lining
-pub mod Matched
+mod Gathered
+mod Holding
+pub mod Left
+mod Lining
+mod Matched
+mod Nested
 pub mod Numbers
-pub mod Operands
-pub mod Passing
+mod Operands
+mod Phrasing
+pub mod Placed
+mod Positions
+mod Pushing
 pub mod Reading
-pub mod Reasons
-pub mod Refusals
+pub mod Scanning
+pub mod Speaking
+mod Staying
+mod Turning
 pub mod Unrolling
-pub mod Wholes
 pub mod Within
-pub mod Words
-pub mod Spacing
-pub mod Widths
-pub mod Feeds
-pub mod Spelling
-pub mod Again
-pub mod Standing
-pub mod Printing

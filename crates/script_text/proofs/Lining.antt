@@ -1,7 +1,5 @@
 -- The lines of phrases, one phrase after another.
-use Rattle.std.proofs.Common.{◌≡◌, ℕ, suc, ◌+◌, ◌<◌, List, [], ◌∷◌, ◌++◌, length, map, drop, get_or, slice_get, unwrap_or, add-one, append_assoc, drop-cons, refl, sym, ap, ◌∙◌, subst, arith}
-use Rattle.std.specs.List.{All}
-use Rattle.std.proofs.lemmas.List.Elements.{All-head, All-tail}
+use Rattle.std.proofs.Common.{◌≡◌, ℕ, suc, ◌+◌, ◌<◌, List, [], ◌∷◌, ◌++◌, length, map, drop, get_or, slice_get, unwrap_or, add-one, append_assoc, drop-cons, refl, sym, ap, ◌∙◌, arith}
 use Rattle.script_text.specs.declared.script.Line.{Line}
 use Rattle.script_text.specs.declared.script.What.{What}
 use Rattle.script_text.specs.declared.speech.Spoken.{Spoken as SpokenSlices}
@@ -9,53 +7,61 @@ use Rattle.script_text.specs.Scripts.{what_in, end_after}
 use Rattle.script_text.specs.Grammar.{lines_from, open_after, innermost_of}
 use Rattle.script_text.specs.Blocks.{ends_from}
 use Rattle.script_text.specs.Shown.{phrase_shown, spoken_shown}
-use Rattle.script_text.specs.Sound.{IsSmall}
 use Rattle.script_text.proofs.Ending.{get_or-ends_from}
 
 -- a line with this number
 abbrev pub line : ℕ → What → Line
 line number what = record { number = number; what = what }
 
-pub unwrap_or-innermost : (open' : List ℕ) → unwrap_or (slice_get open' 0) 0 ≡ innermost_of open'
+-- the top of a stack, or the first place
+unwrap_or-innermost : (open' : List ℕ) → unwrap_or (slice_get open' 0) 0 ≡ innermost_of open'
 unwrap_or-innermost [] = refl
 unwrap_or-innermost (innermost ∷ outer) = refl
 
--- the items from one that was read on
-pub drop-read : {X : Type 0} (xs : List X) (i : ℕ) (x : X) → i < length xs → x ≡ get_or xs i x → drop i xs ≡ x ∷ drop (i + 1) xs
-drop-read xs i x lt e = rw add-one (drop-cons xs i x lt ∙ ap (λ first. first ∷ drop (suc i) xs) (sym e))
+-- the items from one on
+pub drop-index : {X : Type 0} (xs : List X) (i : ℕ) (d : X) → i < length xs → drop i xs ≡ get_or xs i d ∷ drop (i + 1) xs
+drop-index xs i d lt = rw add-one (drop-cons xs i d lt)
 
 -- the line of a phrase, and those of the phrases after it
-pub lines_from-cons : (variables fields : List (List ℕ)) (xs : List SpokenSlices) (i : ℕ) (x : SpokenSlices) (open' inner : List ℕ) (ends repeats : ℕ) → drop i xs ≡ x ∷ drop (i + 1) xs → ends ≡ end_after 0 (i + 1) (map spoken_shown (drop (i + 1) xs)) → repeats ≡ innermost_of open' → inner ≡ open_after i open' x.phrase.keyword
-    → lines_from variables fields i open' (map spoken_shown (drop i xs)) ≡ line x.number (what_in variables fields ends repeats (phrase_shown x.phrase)) ∷ lines_from variables fields (i + 1) inner (map spoken_shown (drop (i + 1) xs))
+lines_from-cons : (variables fields : List (List ℕ)) (xs : List SpokenSlices) (i : ℕ) (x : SpokenSlices)
+    (open' inner : List ℕ) (ends repeats : ℕ) → drop i xs ≡ x ∷ drop (i + 1) xs → ends ≡ end_after 0 (i + 1)
+    (map spoken_shown (drop (i + 1) xs)) → repeats ≡ innermost_of open' → inner ≡ open_after i open' x.phrase.keyword
+    → lines_from variables fields i open' (map spoken_shown (drop i xs)) ≡ line x.number
+    (what_in variables fields ends repeats (phrase_shown x.phrase)) ∷ lines_from variables fields (i + 1) inner
+    (map spoken_shown (drop (i + 1) xs))
 lines_from-cons variables fields xs i x open' inner ends repeats split ends_is repeats_is inner_is =
     let more = map spoken_shown (drop (i + 1) xs) in
     let phrase = phrase_shown x.phrase in
     let line_of = λ (e r : ℕ). line x.number (what_in variables fields e r phrase) in
     let next : suc i ≡ i + 1 = omega arith in
     ap (λ all. lines_from variables fields i open' (map spoken_shown all)) split
-    ∙ ap (λ n. line_of (end_after 0 n more) (innermost_of open') ∷ lines_from variables fields n (open_after i open' x.phrase.keyword) more) next
-    ∙ ap (λ e. line_of e (innermost_of open') ∷ lines_from variables fields (i + 1) (open_after i open' x.phrase.keyword) more) (sym ends_is)
+    ∙ ap (λ n. line_of (end_after 0 n more) (innermost_of open') ∷ lines_from variables fields n
+    (open_after i open' x.phrase.keyword) more) next
+    ∙ ap
+    (λ e. line_of e (innermost_of open') ∷ lines_from variables fields (i + 1) (open_after i open' x.phrase.keyword) more)
+    (sym ends_is)
     ∙ ap (λ r. line_of ends r ∷ lines_from variables fields (i + 1) (open_after i open' x.phrase.keyword) more) (sym repeats_is)
     ∙ ap (λ deep. line_of ends repeats ∷ lines_from variables fields (i + 1) deep more) (sym inner_is)
 
 -- the line of a phrase that was read, with what was found of the blocks
-pub lines_from-read : (variables fields : List (List ℕ)) (xs : List SpokenSlices) (i : ℕ) (x : SpokenSlices) (open' inner all_ends : List ℕ) (ends repeats : ℕ) → i < length xs → x ≡ get_or xs i x → all_ends ≡ ends_from 0 (map spoken_shown xs) → ends ≡ get_or all_ends i 0 → repeats ≡ unwrap_or (slice_get open' 0) 0 → inner ≡ open_after i open' x.phrase.keyword
-    → lines_from variables fields i open' (map spoken_shown (drop i xs)) ≡ line x.number (what_in variables fields ends repeats (phrase_shown x.phrase)) ∷ lines_from variables fields (i + 1) inner (map spoken_shown (drop (i + 1) xs))
+pub lines_from-read : (variables fields : List (List ℕ)) (xs : List SpokenSlices) (i : ℕ) (x : SpokenSlices)
+    (open' inner all_ends : List ℕ) (ends repeats : ℕ) → i < length xs → drop i xs ≡ x ∷ drop (i + 1) xs
+    → all_ends ≡ ends_from 0 (map spoken_shown xs) → ends ≡ get_or all_ends i 0 → repeats ≡ unwrap_or
+    (slice_get open' 0) 0 → inner ≡ open_after i open' x.phrase.keyword
+    → lines_from variables fields i open' (map spoken_shown (drop i xs)) ≡ line x.number
+    (what_in variables fields ends repeats (phrase_shown x.phrase)) ∷ lines_from variables fields (i + 1) inner
+    (map spoken_shown (drop (i + 1) xs))
 lines_from-read variables fields xs i x open' inner all_ends ends repeats lt is found ends_is repeats_is inner_is =
     let here : suc (0 + i) ≡ i + 1 = omega arith in
     let next : suc i ≡ i + 1 = omega arith in
-    lines_from-cons variables fields xs i x open' inner ends repeats (drop-read xs i x lt is)
-    (ends_is ∙ ap (λ all. get_or all i 0) found ∙ get_or-ends_from xs 0 i 0 lt ∙ ap (λ n. end_after 0 n (map spoken_shown (drop (suc i) xs))) here ∙ ap (λ n. end_after 0 (i + 1) (map spoken_shown (drop n xs))) next)
+    lines_from-cons variables fields xs i x open' inner ends repeats is
+    (ends_is ∙ ap (λ all. get_or all i 0) found ∙ get_or-ends_from xs 0 i 0 lt
+    ∙ ap (λ n. end_after 0 n (map spoken_shown (drop (suc i) xs))) here
+    ∙ ap (λ n. end_after 0 (i + 1) (map spoken_shown (drop n xs))) next)
     (repeats_is ∙ unwrap_or-innermost open') inner_is
 
--- the line of a phrase is small where all are
-pub small-head : (first : Line) (lines all : List Line) → all ≡ first ∷ lines → All (λ l. IsSmall l.what) all → IsSmall first.what
-small-head first lines all e h = All-head (λ (l : Line). IsSmall l.what) first lines (subst (All (λ (l : Line). IsSmall l.what)) e h)
-
-pub small-tail : (first : Line) (lines all : List Line) → all ≡ first ∷ lines → All (λ l. IsSmall l.what) all → All (λ l. IsSmall l.what) lines
-small-tail first lines all e h = All-tail (λ (l : Line). IsSmall l.what) first lines (subst (All (λ (l : Line). IsSmall l.what)) e h)
-
 -- one more line was written
-pub lines-more : (done pushed : List Line) (next : Line) (lines rest all : List Line) → pushed ≡ done ++ next ∷ [] → rest ≡ next ∷ lines → done ++ rest ≡ all → pushed ++ lines ≡ all
+pub lines-more : (done pushed : List Line) (next : Line) (lines rest all : List Line) → pushed ≡ done ++ next ∷ []
+    → rest ≡ next ∷ lines → done ++ rest ≡ all → pushed ++ lines ≡ all
 lines-more done pushed next lines rest all e r h =
     ap (λ p. p ++ lines) e ∙ append_assoc done (next ∷ []) lines ∙ sym (ap (λ r. done ++ r) r) ∙ h

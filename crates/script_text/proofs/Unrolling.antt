@@ -1,10 +1,11 @@
 -- Lines whose blocks are matched are executed as if they stood alone.
-use Rattle.std.proofs.Common.{◌≡◌, List, [], ◌∷◌, ◌++◌, Some, None, sym, ap, ◌∙◌, append_assoc}
+use Rattle.std.proofs.Common.{◌≡◌, ℕ, List, [], ◌∷◌, ◌++◌, Some, None, sym, ap, ◌∙◌, append_assoc}
 use Rattle.std.proofs.lemmas.List.{append-nil}
-use Rattle.ideal_graph.specs.Run.{Executed}
+use Rattle.heap_command.specs.declared.command.Command.{Command}
+use Rattle.heap_command.specs.Executed.{Executed}
 use Rattle.script_text.specs.declared.script.Line.{Line}
 use Rattle.script_text.specs.Unrolled.{executed, turns, Block, unrolled_from, executed_lines}
-use Rattle.script_text.specs.UnrolledLaws.{run_line, repeat_line, end_line, IsWhole, none, run, block, UnrollsRuns, UnrollsBlocks}
+use Rattle.script_text.specs.Whole.{run_line, repeat_line, end_line, IsWhole, none, run, block}
 
 -- what whole lines are executed as
 abbrev unrolled_whole : (lines : List Line) → IsWhole lines → List Executed
@@ -14,7 +15,9 @@ unrolled_whole _ (block number times end_at last repeat_at body rest h k) =
     executed number None ∷ (turns times (unrolled_whole body h ++ (executed last None ∷ [])) ++ unrolled_whole rest k)
 
 -- whole lines stand behind those before them, and leave the open blocks as they are
-unrolled_from-whole : (lines : List Line) (h : IsWhole lines) (blocks : List Block) (so_far : List Executed) (more : List Line) → unrolled_from blocks so_far (lines ++ more) ≡ unrolled_from blocks (so_far ++ unrolled_whole lines h) more
+unrolled_from-whole :
+    (lines : List Line) (h : IsWhole lines) (blocks : List Block) (so_far : List Executed) (more : List Line)
+    → unrolled_from blocks so_far (lines ++ more) ≡ unrolled_from blocks (so_far ++ unrolled_whole lines h) more
 unrolled_from-whole _ none blocks so_far more = ap (λ s. unrolled_from blocks s more) (sym (append-nil so_far))
 unrolled_from-whole _ (run number command lines h) blocks so_far more =
     let here = executed number (Some command) in
@@ -35,14 +38,20 @@ executed_lines-whole : (lines : List Line) (h : IsWhole lines) → executed_line
 executed_lines-whole lines h = ap executed_lines (sym (append-nil lines)) ∙ unrolled_from-whole lines h [] [] []
 
 -- a command is executed once, and then what follows it
-pub unrolls_runs : UnrollsRuns
+pub unrolls_runs : (number : ℕ) (command : Command) (lines : List Line) → IsWhole lines
+    → executed_lines (run_line number command ∷ lines) ≡ executed number (Some command) ∷ executed_lines lines
 unrolls_runs number command lines h =
     executed_lines-whole (run_line number command ∷ lines) (run number command lines h)
     ∙ ap (λ rest. executed number (Some command) ∷ rest) (sym (executed_lines-whole lines h))
 
 -- a block is executed in its turns, and then what follows it
-pub unrolls_blocks : UnrollsBlocks
+pub unrolls_blocks : (number times end_at last repeat_at : ℕ) (body rest : List Line) → IsWhole body → IsWhole rest
+    → executed_lines (repeat_line number times end_at ∷ (body ++ (end_line last repeat_at ∷ rest)))
+    ≡ executed number None ∷ (turns times (executed_lines body ++ (executed last None ∷ [])) ++ executed_lines rest)
 unrolls_blocks number times end_at last repeat_at body rest h k =
-    executed_lines-whole (repeat_line number times end_at ∷ (body ++ (end_line last repeat_at ∷ rest))) (block number times end_at last repeat_at body rest h k)
-    ∙ ap (λ all. executed number None ∷ (turns times (all ++ (executed last None ∷ [])) ++ unrolled_whole rest k)) (sym (executed_lines-whole body h))
-    ∙ ap (λ after. executed number None ∷ (turns times (executed_lines body ++ (executed last None ∷ [])) ++ after)) (sym (executed_lines-whole rest k))
+    executed_lines-whole (repeat_line number times end_at ∷ (body ++ (end_line last repeat_at ∷ rest)))
+    (block number times end_at last repeat_at body rest h k)
+    ∙ ap (λ all. executed number None ∷ (turns times (all ++ (executed last None ∷ [])) ++ unrolled_whole rest k))
+    (sym (executed_lines-whole body h))
+    ∙ ap (λ after. executed number None ∷ (turns times (executed_lines body ++ (executed last None ∷ [])) ++ after))
+    (sym (executed_lines-whole rest k))

@@ -7,11 +7,12 @@ use Rattle.script_text.specs.declared.script.Why.{Why}
 use Rattle.script_text.specs.declared.script.Why.TheVariants.{Long, Command, NotBuilt, Count, Name, Integer, Value, Nesting, End, Open}
 use Rattle.script_text.specs.declared.script.BadScript.{BadScript}
 use Rattle.script_text.specs.declared.script.BadScript.TheVariants.{BadLine, TooManyNames}
+use Rattle.script_text.specs.Limits.{open_most, variables_most, fields_most}
 use Rattle.script_text.specs.Lines.{lines_of}
-use Rattle.script_text.specs.Table.{places_of, unbuilt_today}
+use Rattle.script_text.specs.Table.{unbuilt_today}
 use Rattle.script_text.specs.Phrases.{Phrase, phrase_of_line}
 use Rattle.script_text.specs.Names.{first_uses, with_name, variables_of, fields_of}
-use Rattle.script_text.specs.Scripts.{ScriptText, Spoken, operands_of, what_of, end_after}
+use Rattle.script_text.specs.Scripts.{ScriptText, Spoken, what_in, end_after}
 
 -- a reason as it is written
 abbrev pub why_text : Why → List ℕ
@@ -28,7 +29,7 @@ why_text Open = codes "open"
 
 -- The lines whose `repeat` is open, the innermost first, after a command at a line; or why it may not stand there.
 abbrev pub nest : ℕ → List ℕ → Keyword → Result (List ℕ) Why
-nest number open' keyword.Repeat = if nat_lt (length open') 4 then Ok (number ∷ open') else Err Nesting
+nest number open' keyword.Repeat = if nat_lt (length open') open_most then Ok (number ∷ open') else Err Nesting
 nest number [] keyword.End = Err End
 nest number (innermost ∷ outer) keyword.End = Ok outer
 nest number open' _ = Ok open'
@@ -38,11 +39,14 @@ abbrev pub followed : Spoken → Result (List Spoken) BadScript → Result (List
 followed spoken (Err stop) = Err stop
 followed spoken (Ok more) = Ok (spoken ∷ more)
 
+-- a phrase that may stand where it does, and those that follow it
 abbrev pub nested : Spoken → Result (List ℕ) Why → (List ℕ → Result (List Spoken) BadScript) → Result (List Spoken) BadScript
 nested spoken (Err why) more = Err (BadLine spoken.number why)
 nested spoken (Ok open') more = followed spoken (more open')
 
-abbrev pub spoken_then : ℕ → List ℕ → Result (Option Phrase) Why → (List ℕ → Result (List Spoken) BadScript) → Result (List Spoken) BadScript
+-- what a line says, and the phrases that follow it
+abbrev pub spoken_then : ℕ → List ℕ → Result (Option Phrase) Why → (List ℕ → Result (List Spoken) BadScript)
+    → Result (List Spoken) BadScript
 spoken_then number open' (Err why) more = Err (BadLine number why)
 spoken_then number open' (Ok None) more = more open'
 spoken_then number open' (Ok (Some phrase)) more =
@@ -58,13 +62,6 @@ abbrev pub spoken_from : List Keyword → ℕ → List ℕ → List (List ℕ) �
 spoken_from unbuilt number open' [] = closed open'
 spoken_from unbuilt number open' (line ∷ lines) =
     spoken_then number open' (phrase_of_line unbuilt line) (λ inner. spoken_from unbuilt (suc number) inner lines)
-
--- the most names of variables and of fields
-abbrev pub variables_most : ℕ
-variables_most = 1024
-
-abbrev pub fields_most : ℕ
-fields_most = 4096
 
 -- the first line that, with those before it, has too many names; these were there before
 abbrev pub past_limit : List (List ℕ) → List (List ℕ) → List Spoken → Option ℕ
@@ -82,6 +79,7 @@ open_after at [] keyword.End = []
 open_after at (innermost ∷ outer) keyword.End = outer
 open_after at open' _ = open'
 
+-- the innermost of the open `repeat`s
 abbrev pub innermost_of : List ℕ → ℕ
 innermost_of [] = 0
 innermost_of (innermost ∷ outer) = innermost
@@ -90,9 +88,9 @@ innermost_of (innermost ∷ outer) = innermost
 abbrev pub lines_from : List (List ℕ) → List (List ℕ) → ℕ → List ℕ → List Spoken → List Line
 lines_from variables fields at open' [] = []
 lines_from variables fields at open' (spoken ∷ more) =
-    let operands = operands_of variables fields (places_of spoken.phrase.keyword) spoken.phrase.operands in
-    record { number = spoken.number; what = what_of (end_after 0 (suc at) more) (innermost_of open') spoken.phrase.keyword operands }
-    ∷ lines_from variables fields (suc at) (open_after at open' spoken.phrase.keyword) more
+    let what = what_in variables fields (end_after 0 (suc at) more) (innermost_of open') spoken.phrase in
+    record { number = spoken.number; what = what } ∷ lines_from variables fields (suc at)
+    (open_after at open' spoken.phrase.keyword) more
 
 -- the script of some phrases: variables and fields are numbered apart, in order of first appearance
 abbrev pub script_of : List Spoken → ScriptText
@@ -101,10 +99,12 @@ script_of spoken =
     let fields = first_uses (flat_map (λ s. fields_of s.phrase) spoken) in
     record { lines = lines_from variables fields 0 [] spoken; variables = variables; fields = fields }
 
+-- the script of some phrases, or the first line with too many names
 abbrev pub within_limit : List Spoken → Option ℕ → Result ScriptText BadScript
 within_limit spoken None = Ok (script_of spoken)
 within_limit spoken (Some line) = Err (TooManyNames line)
 
+-- the script of the phrases that were read, or the line that is refused
 abbrev pub script_or_stop : Result (List Spoken) BadScript → Result ScriptText BadScript
 script_or_stop (Ok spoken) = within_limit spoken (past_limit [] [] spoken)
 script_or_stop (Err stop) = Err stop

@@ -1,3 +1,4 @@
+pub mod Limits
 pub mod Lines
 pub mod Tokens
 pub mod Table
@@ -10,6 +11,5 @@ pub mod Unrolled
 pub mod Pieces
 pub mod Shown
 pub mod Sound
-pub mod Laws
-pub mod UnrolledLaws
-pub mod Printed
+pub mod Whole
+pub mod Left

@@ -21,6 +21,7 @@ abbrev pub pieces_of : List ℕ → List (List ℕ)
 pieces_of [] = [] ∷ []
 pieces_of (b ∷ bs) = if is_blank b then [] ∷ pieces_of bs else onto_first b (pieces_of bs)
 
+-- there is a byte
 abbrev pub is_some_bytes : List ℕ → Bool
 is_some_bytes [] = false
 is_some_bytes (b ∷ bs) = true

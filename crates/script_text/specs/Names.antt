@@ -1,9 +1,6 @@
 -- Names get numbers in the order in which they first appear.
-use Rattle.std.specs.Prelude.{ℕ, suc, List, [], ◌∷◌, ◌++◌, Option, Some, None, is_some, option_map, unwrap_or, if◌then◌else◌, bytes_eq, fold}
-use Rattle.script_text.specs.declared.table.Place.{Place}
-use Rattle.script_text.specs.declared.table.Place.TheVariants.{Variable, Field, Value}
-use Rattle.script_text.specs.Phrases.{Phrase, Written, name}
-use Rattle.script_text.specs.Table.{places_of}
+use Rattle.std.specs.Prelude.{ℕ, suc, List, [], ◌∷◌, ◌++◌, Option, Some, None, is_some, option_map, unwrap_or, if◌then◌else◌, bytes_eq, fold, flat_map}
+use Rattle.script_text.specs.Phrases.{Phrase, Written, variable, field, bound}
 
 -- where the name stands in the list
 abbrev pub place_of : List (List ℕ) → List ℕ → Option ℕ
@@ -22,25 +19,26 @@ with_name names new = if is_some (place_of names new) then names else names ++ n
 abbrev pub first_uses : List (List ℕ) → List (List ℕ)
 first_uses uses = fold with_name [] uses
 
--- the variable that the operand at this place names, if it names one
-abbrev pub variable_in : Place → Written → List (List ℕ)
-variable_in Variable (name token) = token ∷ []
-variable_in Value (name token) = token ∷ []
-variable_in _ _ = []
+-- the variable that an operand names, if it names one
+abbrev pub variable_in : Written → List (List ℕ)
+variable_in (variable token) = token ∷ []
+variable_in (bound token) = token ∷ []
+variable_in _ = []
 
--- the field that the operand at this place names, if it names one
-abbrev pub field_in : Place → Written → List (List ℕ)
-field_in Field (name token) = token ∷ []
-field_in _ _ = []
+-- the field that an operand names, if it names one
+abbrev pub field_in : Written → List (List ℕ)
+field_in (field token) = token ∷ []
+field_in _ = []
 
--- what is named by operands at these places, from left to right
-abbrev pub named : (Place → Written → List (List ℕ)) → List Place → List Written → List (List ℕ)
-named names_in [] operands = []
-named names_in (place ∷ places) [] = []
-named names_in (place ∷ places) (written ∷ operands) = names_in place written ++ named names_in places operands
+-- what an operand names, where there is one
+abbrev pub names_at : (Written → List (List ℕ)) → Option Written → List (List ℕ)
+names_at names_in None = []
+names_at names_in (Some written) = names_in written
 
+-- the variables that a phrase names, from left to right
 abbrev pub variables_of : Phrase → List (List ℕ)
-variables_of phrase = named variable_in (places_of phrase.keyword) phrase.operands
+variables_of phrase = flat_map variable_in phrase.operands
 
+-- the fields that a phrase names, from left to right
 abbrev pub fields_of : Phrase → List (List ℕ)
-fields_of phrase = named field_in (places_of phrase.keyword) phrase.operands
+fields_of phrase = flat_map field_in phrase.operands

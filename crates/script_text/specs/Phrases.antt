@@ -6,42 +6,45 @@ use Rattle.script_text.specs.declared.table.Place.{Place}
 use Rattle.script_text.specs.declared.table.Place.TheVariants as place
 use Rattle.script_text.specs.declared.script.Why.{Why}
 use Rattle.script_text.specs.declared.script.Why.TheVariants as why
+use Rattle.script_text.specs.Limits.{line_bytes_most}
 use Rattle.script_text.specs.Lines.{tokens_of}
 use Rattle.script_text.specs.Tokens.{is_name, integer_of}
 use Rattle.script_text.specs.Table.{keywords, keyword_among, same_keyword, places_of}
 
--- an operand as it is written
+-- an operand as it is written: the name of a variable or of a field, a literal, or a value
 pub data Written : Type 0 where
+  variable : List ℕ → Written
+  field : List ℕ → Written
+  literal : ℕ → Written
   integer : ℤ → Written
   undefined : Written
-  name : List ℕ → Written
+  bound : List ℕ → Written
 
 -- a command with its operands
 pub record Phrase : Type 0 where
   pub keyword : Keyword
   pub operands : List Written
 
--- the name that the token is, or this reason
-abbrev pub name_or : Why → List ℕ → Result Written Why
-name_or reason token = if is_name token then Ok (name token) else Err reason
-
+-- the literal up to this one that an integer is
 abbrev pub literal_up_to : ℕ → Option ℤ → Result Written Why
 literal_up_to most None = Err why.Integer
-literal_up_to most (Some (pos n)) = if nat_le n most then Ok (integer (pos n)) else Err why.Integer
+literal_up_to most (Some (pos n)) = if nat_le n most then Ok (literal n) else Err why.Integer
 literal_up_to most (Some (negsuc n)) = Err why.Integer
 
-abbrev pub integer_or : Option ℤ → Result Written Why → Result Written Why
-integer_or None other = other
-integer_or (Some v) other = Ok (integer v)
+-- the integer, or else what a variable with the token as its name is bound to
+abbrev pub integer_or_bound : Option ℤ → List ℕ → Result Written Why
+integer_or_bound (Some v) token = Ok (integer v)
+integer_or_bound None token = if is_name token then Ok (bound token) else Err why.Value
 
 -- what the token says at this place, or why it may not stand there
 abbrev pub written_at : Place → List ℕ → Result Written Why
-written_at place.Variable token = name_or why.Name token
-written_at place.Field token = name_or why.Name token
+written_at place.Variable token = if is_name token then Ok (variable token) else Err why.Name
+written_at place.Field token = if is_name token then Ok (field token) else Err why.Name
 written_at place.Value token =
-    if bytes_eq token (codes "undefined") then Ok undefined else integer_or (integer_of token) (name_or why.Value token)
+    if bytes_eq token (codes "undefined") then Ok undefined else integer_or_bound (integer_of token) token
 written_at (place.Literal most) token = literal_up_to most (integer_of token)
 
+-- an operand and those after it, or the first reason against one
 abbrev pub joined : Result Written Why → Result (List Written) Why → Result (List Written) Why
 joined (Err reason) more = Err reason
 joined (Ok written) (Err reason) = Err reason
@@ -53,6 +56,7 @@ written_all [] tokens = Ok []
 written_all (place ∷ places) [] = Ok []
 written_all (place ∷ places) (token ∷ tokens) = joined (written_at place token) (written_all places tokens)
 
+-- the phrase with these operands, or the reason against one
 abbrev pub phrase_with : Keyword → Result (List Written) Why → Result (Option Phrase) Why
 phrase_with keyword (Err reason) = Err reason
 phrase_with keyword (Ok operands) = Ok (Some (record { keyword = keyword; operands = operands }))
@@ -63,6 +67,7 @@ with_operands keyword tokens =
     if length tokens == length (places_of keyword) then phrase_with keyword (written_all (places_of keyword) tokens)
     else Err why.Count
 
+-- the phrase of a command that was found, where it is built
 abbrev pub if_built : List Keyword → List (List ℕ) → Option Keyword → Result (Option Phrase) Why
 if_built unbuilt tokens None = Err why.Command
 if_built unbuilt tokens (Some keyword) =
@@ -75,4 +80,4 @@ phrase_of unbuilt (first ∷ tokens) = if_built unbuilt tokens (keyword_among ke
 
 -- the phrase of a line, or why the line is refused whatever stands before it
 abbrev pub phrase_of_line : List Keyword → List ℕ → Result (Option Phrase) Why
-phrase_of_line unbuilt line = if nat_lt 4096 (length line) then Err why.Long else phrase_of unbuilt (tokens_of line)
+phrase_of_line unbuilt line = if nat_lt line_bytes_most (length line) then Err why.Long else phrase_of unbuilt (tokens_of line)

@@ -1,39 +1,33 @@
 -- The phrases of the code, as the grammar sees them, and where reading stops.
-use Rattle.std.specs.Prelude.{◌≡◌, ℕ, map, Bool, ◌||◌, List, length, Option, Some, Result, Err, nat_lt}
-use Rattle.script_text.specs.declared.script.Why.{Why}
+use Rattle.std.specs.Prelude.{◌≡◌, ℕ, map, take, Bool, ◌||◌, List, length, Option, Some, Result, Err, nat_lt}
 use Rattle.script_text.specs.declared.script.BadScript.{BadScript}
 use Rattle.script_text.specs.declared.script.BadScript.TheVariants as bad_script
-use Rattle.script_text.specs.declared.phrases.LineStop.{LineStop}
-use Rattle.script_text.specs.declared.phrases.LineStop.TheVariants.{Refused, NoMemory}
 use Rattle.script_text.specs.declared.phrases.Written.{Written as Slice}
-use Rattle.script_text.specs.declared.phrases.Written.TheVariants.{Integer, Undefined, Name}
+use Rattle.script_text.specs.declared.phrases.Written.TheVariants as slice
 use Rattle.script_text.specs.declared.phrases.Phrase.{Phrase as Slices}
 use Rattle.script_text.specs.declared.speech.Spoken.{Spoken as SpokenSlices}
-use Rattle.script_text.specs.Phrases.{Phrase, Written, integer, undefined, name}
+use Rattle.script_text.specs.Limits.{variables_most, fields_most}
+use Rattle.script_text.specs.Table.{places_of}
+use Rattle.script_text.specs.Phrases.{Phrase, Written, variable, field, literal, integer, undefined, bound}
 use Rattle.script_text.specs.Scripts.{Spoken}
-use Rattle.script_text.specs.Grammar.{variables_most, fields_most}
 
 -- an operand, with the bytes of its name
 abbrev pub shown : Slice → Written
-shown (Integer v) = integer v
-shown Undefined = undefined
-shown (Name token) = name token.now
+shown (slice.Variable token) = variable token.now
+shown (slice.Field token) = field token.now
+shown (slice.Literal n) = literal n
+shown (slice.Integer v) = integer v
+shown slice.Undefined = undefined
+shown (slice.Bound token) = bound token.now
 
+-- a phrase, with as many operands as its command has
 abbrev pub phrase_shown : Slices → Phrase
-phrase_shown phrase = record { keyword = phrase.keyword; operands = map shown phrase.operands.items }
+phrase_shown phrase =
+    record { keyword = phrase.keyword; operands = map shown (take (length (places_of phrase.keyword)) phrase.operands) }
 
+-- a phrase and the number of its line
 abbrev pub spoken_shown : SpokenSlices → Spoken
 spoken_shown spoken = record { number = spoken.number; phrase = phrase_shown spoken.phrase }
-
--- the answer is the reason why reading stops, where that is not for memory
-abbrev pub IsStop : {A : Type 0} → Result A Why → LineStop → Type 0
-IsStop answer (Refused why) = answer ≡ Err why
-IsStop answer NoMemory = Unit {0}
-
--- why reading a source stops, where reading its line of this number does
-abbrev pub stop_at : ℕ → LineStop → BadScript
-stop_at line (Refused why) = bad_script.BadLine line why
-stop_at line NoMemory = bad_script.NoMemory
 
 -- the answer is the reason why reading a source stops, where that is not for memory
 abbrev pub IsBad : {A : Type 0} → Result A BadScript → BadScript → Type 0

@@ -1,8 +1,8 @@
 -- What holds of each script that was read.
-use Rattle.std.specs.Prelude.{◌≡◌, ℕ, suc, ◌-◌, ◌<◌, ◌≤◌, ◌^◌, List as Row, [], ◌∷◌, All, length, take, slice_get, false, option_map, Option, Some}
+use Rattle.std.specs.Prelude.{◌≡◌, ℕ, suc, ◌-◌, ◌<◌, ◌≤◌, List as Row, [], ◌∷◌, All, length, take, slice_get, false, option_map, Option, Some}
 use Rattle.std.specs.List.{list_any}
-use Rattle.ideal_graph.specs.declared.command.Command.TheVariants as command
-use Rattle.ideal_graph.specs.Commands.{IsWithin}
+use Rattle.heap_command.specs.declared.command.Command.TheVariants as command
+use Rattle.heap_command.specs.Commands.{IsWithin}
 use Rattle.script_text.specs.declared.table.Keyword.{Keyword}
 use Rattle.script_text.specs.declared.table.Keyword.TheVariants as keyword
 use Rattle.script_text.specs.declared.script.Line.{Line}
@@ -10,36 +10,34 @@ use Rattle.script_text.specs.declared.script.What.{What}
 use Rattle.script_text.specs.declared.script.What.TheVariants.{Run, Repeat, End}
 use Rattle.script_text.specs.Table.{same_keyword}
 use Rattle.script_text.specs.Scripts.{ScriptText}
-use Rattle.script_text.specs.Grammar.{variables_most, fields_most}
+use Rattle.script_text.specs.Limits.{turns_most, open_most, variables_most, fields_most}
+use Rattle.script_text.specs.Whole.{IsPlaced}
 
 -- a script of these lines, variables and fields
 abbrev pub script_text : Row Line → Row (Row ℕ) → Row (Row ℕ) → ScriptText
 script_text lines variables fields = record { lines = lines; variables = variables; fields = fields }
 
--- the line names variables and fields below these counts, a cap is at most 8, and a `repeat` makes at most 20,000,000 turns
+-- the line names variables and fields below these counts, a cap is at most 8, and a `repeat` makes no more than the most turns
 abbrev pub NamesWithin : ℕ → ℕ → What → Type 0
 NamesWithin variables fields (Run command) = IsWithin variables fields command
-NamesWithin variables fields (Repeat times end_at) = times ≤ 20000000
+NamesWithin variables fields (Repeat times end_at) = times ≤ turns_most
 NamesWithin variables fields (End repeat_at) = Unit {0}
 
--- the lines name only variables and fields that the script has, caps are at most 8, and turns at most 20,000,000
+-- the lines name only variables and fields that the script has, and keep to the limits of caps and turns
 abbrev pub IsNumbered : ScriptText → Type 0
 IsNumbered script = All (λ line. NamesWithin (length script.variables) (length script.fields) line.what) script.lines
-
--- the line names variables and fields below 2^30, a cap is at most 8, and a `repeat` makes at most 20,000,000 turns
-abbrev pub IsSmall : What → Type 0
-IsSmall what = NamesWithin (2 ^ 30) (2 ^ 30) what
 
 -- what the line at a place, counted from 0, does
 abbrev pub what_at : Row Line → ℕ → Option What
 what_at lines at = option_map (λ line. line.what) (slice_get lines at)
 
--- how many `repeat`s are open after a line, and after some lines
+-- how many `repeat`s are open after a line
 abbrev pub depth_after : ℕ → What → ℕ
 depth_after depth (Run command) = depth
 depth_after depth (Repeat times end_at) = suc depth
 depth_after depth (End repeat_at) = depth - 1
 
+-- how many are open after some lines
 abbrev pub depth_of : ℕ → Row Line → ℕ
 depth_of depth [] = depth
 depth_of depth (line ∷ lines) = depth_of (depth_after depth line.what) lines
@@ -53,13 +51,14 @@ pub record IsMatched (lines : Row Line) : Type 0 where
   -- a `repeat` that begins inside another one ends inside it
   pub inside : (at times end_at inner inner_times inner_end : ℕ) → what_at lines at ≡ Some (Repeat times end_at)
       → what_at lines inner ≡ Some (Repeat inner_times inner_end) → at < inner → inner < end_at → inner_end < end_at
-  pub nested : (at : ℕ) → depth_of 0 (take at lines) ≤ 4
+  pub nested : (at : ℕ) → depth_of 0 (take at lines) ≤ open_most
   pub closed : depth_of 0 lines ≡ 0
 
--- the lines name only what the script has, blocks are matched, and there are not too many names
+-- the lines name only what the script has, each `repeat` has its `end`, and there are not too many names
 pub record IsSound (script : ScriptText) : Type 0 where
   pub numbered : IsNumbered script
   pub matched : IsMatched script.lines
+  pub placed : IsPlaced 0 script.lines
   pub few_variables : length script.variables ≤ variables_most
   pub few_fields : length script.fields ≤ fields_most
 

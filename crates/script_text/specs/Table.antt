@@ -1,5 +1,6 @@
 -- The table of the commands: the word of each, and what its operands are.
 use Rattle.std.specs.Prelude.{ℕ, Bool, Option, Some, None, codes, bytes_eq, if◌then◌else◌, List as Row, [], ◌∷◌}
+use Rattle.script_text.specs.Limits.{cap_most, turns_most}
 use Rattle.script_text.specs.declared.table.Keyword.{Keyword}
 use Rattle.script_text.specs.declared.table.Keyword.TheVariants.{New, List, Weak, Let, Drop, Add, Set, Get, Del, Push, Put, At, Shift, Trunc, WPut, WGet, WDel, Print, Same, Alike, Shape, Repeat, End, Scavenge, Mark, Finish, Gc, Census}
 use Rattle.script_text.specs.declared.table.Place.{Place}
@@ -44,7 +45,7 @@ keywords =
 
 -- what the operands of a command are, in order
 abbrev pub places_of : Keyword → Row Place
-places_of New = Variable ∷ Literal 8 ∷ []
+places_of New = Variable ∷ Literal cap_most ∷ []
 places_of List = Variable ∷ []
 places_of Weak = Variable ∷ []
 places_of Let = Variable ∷ Value ∷ []
@@ -65,13 +66,8 @@ places_of Print = Value ∷ []
 places_of Same = Value ∷ Value ∷ []
 places_of Alike = Variable ∷ Variable ∷ []
 places_of Shape = Variable ∷ []
-places_of Repeat = Literal 20000000 ∷ []
-places_of End = []
-places_of Scavenge = []
-places_of Mark = []
-places_of Finish = []
-places_of Gc = []
-places_of Census = []
+places_of Repeat = Literal turns_most ∷ []
+places_of _ = []
 
 -- the command with this word, if it is one of these
 abbrev pub keyword_among : Row Keyword → Row ℕ → Option Keyword
@@ -86,5 +82,5 @@ same_keyword a b = bytes_eq (keyword_text a) (keyword_text b)
 -- the commands that are not built
 abbrev pub unbuilt_today : Row Keyword
 unbuilt_today =
-    List ∷ Weak ∷ Let ∷ Drop ∷ Add ∷ Del ∷ Push ∷ Put ∷ At ∷ Shift ∷ Trunc ∷ WPut ∷ WGet ∷ WDel
-    ∷ Same ∷ Alike ∷ Shape ∷ Repeat ∷ End ∷ Scavenge ∷ Mark ∷ Finish ∷ Gc ∷ Census ∷ []
+    List ∷ Weak ∷ Del ∷ Push ∷ Put ∷ At ∷ Shift ∷ Trunc ∷ WPut ∷ WGet ∷ WDel ∷ Alike ∷ Shape ∷ Scavenge ∷ Mark ∷ Finish
+    ∷ Gc ∷ Census ∷ []

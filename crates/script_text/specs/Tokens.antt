@@ -1,7 +1,9 @@
 -- What a token may be: a name or an integer.
 use Rattle.std.specs.Prelude.{ℕ, ◌+◌, ◌*◌, ◌-◌, ◌^◌, Bool, false, not, ◌&&◌, ◌||◌, List, [], ◌∷◌, length, Option, Some, None, ℤ, pos, neg_ℤ, ◌==◌, nat_le, if◌then◌else◌, option_and_then, codes, bytes_eq}
 use Rattle.std.specs.List.{list_all}
+use Rattle.script_text.specs.Limits.{name_bytes_most}
 
+-- a digit 0 to 9
 abbrev pub is_digit : ℕ → Bool
 is_digit b = nat_le 48 b && nat_le b 57
 
@@ -9,9 +11,11 @@ is_digit b = nat_le 48 b && nat_le b 57
 abbrev pub is_name_start : ℕ → Bool
 is_name_start b = (nat_le 65 b && nat_le b 90) || (nat_le 97 b && nat_le b 122) || (b == 95)
 
+-- a letter, `_` or a digit
 abbrev pub is_name_byte : ℕ → Bool
 is_name_byte b = is_name_start b || is_digit b
 
+-- the first byte is a letter or `_`
 abbrev pub starts_as_name : List ℕ → Bool
 starts_as_name [] = false
 starts_as_name (b ∷ bs) = is_name_start b
@@ -19,7 +23,8 @@ starts_as_name (b ∷ bs) = is_name_start b
 -- 1 to 32 letters, digits and `_`, of which the first is no digit; `undefined` is no name
 abbrev pub is_name : List ℕ → Bool
 is_name token =
-    starts_as_name token && list_all is_name_byte token && nat_le (length token) 32 && not (bytes_eq token (codes "undefined"))
+    starts_as_name token && list_all is_name_byte token && nat_le (length token) name_bytes_most && not
+    (bytes_eq token (codes "undefined"))
 
 -- the number that digits make after those of n; nothing where a byte is no digit
 abbrev pub digits_after : ℕ → List ℕ → Option ℕ

@@ -1,7 +1,7 @@
 -- The lines of a script in the order of execution.
 use Rattle.std.specs.Prelude.{ℕ, zero, suc, List, [], ◌∷◌, ◌++◌, Option, Some, None}
-use Rattle.ideal_graph.specs.declared.command.Command.{Command}
-use Rattle.ideal_graph.specs.Run.{Executed}
+use Rattle.heap_command.specs.declared.command.Command.{Command}
+use Rattle.heap_command.specs.Executed.{Executed}
 use Rattle.script_text.specs.declared.script.Line.{Line}
 use Rattle.script_text.specs.declared.script.What.{What}
 use Rattle.script_text.specs.declared.script.What.TheVariants.{Run, Repeat, End}
@@ -30,7 +30,8 @@ unrolled_block block body number =
 -- its turns; one of no turn is one line. This is of lines whose blocks are matched.
 abbrev pub unrolled_from : List Block → List Executed → List Line → List Executed
 unrolled_from blocks so_far [] = so_far
-unrolled_from blocks so_far (line ∷ lines) = unrolled_by blocks so_far line.number line.what (λ blocks' so_far'. unrolled_from blocks' so_far' lines)
+unrolled_from blocks so_far (line ∷ lines) =
+    unrolled_by blocks so_far line.number line.what (λ blocks' so_far'. unrolled_from blocks' so_far' lines)
   where
     unrolled_by : List Block → List Executed → ℕ → What → (List Block → List Executed → List Executed) → List Executed
     unrolled_by blocks so_far number (Run command) next = next blocks (so_far ++ executed number (Some command) ∷ [])

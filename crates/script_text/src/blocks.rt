@@ -11,7 +11,7 @@ use std::alloc::{AllocError, Global};
 
 /// For each phrase the place where the innermost `repeat` that is open after it ends; where none is
 /// open, the number of phrases.
-pub fn ends<'s>(alloc: Global, spoken: &[Spoken<'s>]) -> Result<Vec<u32>, AllocError>
+pub(crate) fn ends<'s>(alloc: Global, spoken: &[Spoken<'s>]) -> Result<Vec<u32>, AllocError>
     requires { length spoken.now < 2 ^ 32 }
     ensures { IfOk result (λ ends. ends.items ≡ ends_from 0 (map spoken_shown spoken.now)) }
 {
@@ -40,7 +40,7 @@ fn end_before(ends: &mut Stack, at: u32, keyword: Keyword) -> Result<(), AllocEr
 }
 
 /// Opens or closes a `repeat`, where the command at this place is one or its `end`.
-pub fn open_after(opened: &mut Stack, at: u32, keyword: Keyword) -> Result<(), AllocError>
+pub(crate) fn open_after(opened: &mut Stack, at: u32, keyword: Keyword) -> Result<(), AllocError>
     ensures { OnOk result (opened.new ≡ open_after at opened.old keyword) }
 {
     match keyword {

@@ -1,43 +1,96 @@
-//! What a line does: its command, with the operands in their order.
-ghost use Rattle.std.specs.Prelude.{◌≡◌, ◌<◌, ◌^◌};
-ghost use Rattle.script_text.specs.Scripts.{operand_at, number_at, what_of};
-ghost use Rattle.script_text.specs.Sound.{IsSmall};
+//! What a line does: its command, with the arguments that its operands are.
+ghost use Rattle.std.specs.Prelude.{◌≡◌};
+ghost use Rattle.script_text.specs.Scripts.{as_variable, as_field, as_literal, as_value, what_of};
 
 use crate::script::What;
 use crate::table::Keyword;
-use ideal_graph::{Command, Operand};
+use heap_command::{Command, Operand};
 
-/// What a command is with these operands. A `repeat` ends at the first place, and an `end` ends the
-/// `repeat` at the second.
-pub fn what_of(ends: u32, repeats: u32, keyword: Keyword, operands: &[Operand]) -> What
-    requires { IsSmall (what_of ends repeats keyword operands.now) }
-    ensures { result ≡ what_of ends repeats keyword operands.now }
+/// An operand whose names stand by their numbers.
+#[derive(Clone, Copy)]
+pub enum Argument {
+    /// A variable, by its number.
+    Variable(u32),
+    /// A field, by its number.
+    Field(u32),
+    /// An integer of the range of its place.
+    Literal(u32),
+    /// A value.
+    Value(Operand),
+}
+
+impl Argument {
+    /// The variable's number; 0 for another argument.
+    fn variable(self) -> u32
+        ensures { result ≡ as_variable self }
+    {
+        match self {
+            Argument::Variable(number) => number,
+            _ => 0,
+        }
+    }
+
+    /// The field's number; 0 for another argument.
+    fn field(self) -> u32
+        ensures { result ≡ as_field self }
+    {
+        match self {
+            Argument::Field(number) => number,
+            _ => 0,
+        }
+    }
+
+    /// The literal; 0 for another argument.
+    fn literal(self) -> u32
+        ensures { result ≡ as_literal self }
+    {
+        match self {
+            Argument::Literal(n) => n,
+            _ => 0,
+        }
+    }
+
+    /// The value; `undefined` for another argument.
+    fn value(self) -> Operand
+        ensures { result ≡ as_value self }
+    {
+        match self {
+            Argument::Value(value) => value,
+            _ => Operand::Undefined,
+        }
+    }
+}
+
+/// What a command is with these arguments, as many as it has; the others are not read. A `repeat`
+/// ends at the first place, and an `end` ends the `repeat` at the second.
+pub(crate) fn what_of(
+    end_at: u32,
+    repeat_at: u32,
+    keyword: Keyword,
+    first: Argument,
+    second: Argument,
+    third: Argument,
+) -> What
+    ensures { result ≡ what_of end_at repeat_at keyword first second third }
 {
-    let (a, b, c) = (
-        number_at(operands, 0),
-        number_at(operands, 1),
-        number_at(operands, 2),
+    let (a, u, times) = (first.variable(), first.value(), first.literal());
+    let (b, f, v, cap) = (
+        second.variable(),
+        second.field(),
+        second.value(),
+        second.literal(),
     );
-    let (u, v, w) = (
-        operand_at(operands, 0),
-        operand_at(operands, 1),
-        operand_at(operands, 2),
-    );
+    let (g, w) = (third.field(), third.value());
     What::Run(match keyword {
-        Keyword::Repeat => return What::Repeat {
-            times: a,
-            end_at: ends,
-        },
-        Keyword::End => return What::End { repeat_at: repeats },
-        Keyword::New => Command::New { x: a, cap: b },
+        Keyword::New => Command::New { x: a, cap },
         Keyword::List => Command::List { x: a },
         Keyword::Weak => Command::Weak { x: a },
         Keyword::Let => Command::LetValue { x: a, v },
         Keyword::Drop => Command::DropVar { x: a },
         Keyword::Add => Command::Add { x: a, v },
-        Keyword::Set => Command::Set { x: a, f: b, v: w },
-        Keyword::Get => Command::Get { y: a, x: b, f: c },
-        Keyword::Del => Command::Del { x: a, f: b },
+        Keyword::Set => Command::Set { x: a, f, v: w },
+        Keyword::Get => Command::Get { y: a, x: b, f: g },
+        Keyword::Del => Command::Del { x: a, f },
         Keyword::Push => Command::Push { x: a, v },
         Keyword::Put => Command::Put { x: a, i: v, v: w },
         Keyword::At => Command::At { y: a, x: b, i: w },
@@ -50,32 +103,12 @@ pub fn what_of(ends: u32, repeats: u32, keyword: Keyword, operands: &[Operand]) 
         Keyword::Same => Command::Same { a: u, b: v },
         Keyword::Alike => Command::Alike { x: a, y: b },
         Keyword::Shape => Command::Shape { x: a },
+        Keyword::Repeat => return What::Repeat { times, end_at },
+        Keyword::End => return What::End { repeat_at },
         Keyword::Scavenge => Command::Scavenge,
         Keyword::Mark => Command::Mark,
         Keyword::Finish => Command::Finish,
         Keyword::Gc => Command::Gc,
         Keyword::Census => Command::Census,
     })
-}
-
-/// The operand at this place, `undefined` past the last.
-fn operand_at(operands: &[Operand], at: usize) -> Operand
-    ensures { result ≡ operand_at operands.now at }
-{
-    match operands.get(at) {
-        Some(operand) => *operand,
-        None => Operand::Undefined,
-    }
-}
-
-/// The number that the operand at this place is: that of its name, or a literal. What is no number
-/// of 32 bits is 0.
-fn number_at(operands: &[Operand], at: usize) -> u32
-    ensures { number_at operands.now at < 2 ^ 32 → result ≡ number_at operands.now at }
-{
-    match operand_at(operands, at) {
-        Operand::Var(number) => number,
-        Operand::Int(n) => u32::try_from(n).unwrap_or(0),
-        Operand::Undefined => 0,
-    }
 }

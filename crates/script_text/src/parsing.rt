@@ -5,7 +5,7 @@ ghost use Rattle.script_text.specs.Table.{unbuilt_today};
 ghost use Rattle.script_text.specs.Sound.{IsBuilt};
 
 use crate::lines::lines;
-use crate::numbering::Numbering;
+use crate::numbering::with_numbers;
 use crate::script::{BadScript, Script};
 use crate::speech::phrases_of;
 use crate::table::{Keyword, UNBUILT_TODAY};
@@ -14,7 +14,8 @@ use std::alloc::Global;
 /// Reads a source as a script. A source of 4 GiB or more is refused as `NoMemory`.
 pub fn parse<'s>(alloc: Global, source: &'s [u8]) -> Result<Script<'s>, BadScript>
     ensures script { IfOk result (λ script. reading_with unbuilt_today source.now ≡ Ok script) }
-    ensures built { IfOk result (λ script. All (λ line. IsBuilt unbuilt_today line.what) script.lines) }
+    ensures built { IfOk result (λ script.
+        All (λ line. IsBuilt unbuilt_today line.what) script.lines) }
     ensures refused { IfErr result (λ stop.
         stop ≢ BadScript.NoMemory → reading_with unbuilt_today source.now ≡ Err stop) }
 {
@@ -36,11 +37,10 @@ pub(crate) fn parse_with_table<'s>(
     }
     let lines = lines(alloc, source)?;
     let spoken = phrases_of(alloc, unbuilt, &lines)?;
-    let numbering = Numbering::of(alloc, &spoken)?;
-    let lines = numbering.lines(alloc, &spoken)?;
+    let numbered = with_numbers(alloc, &spoken)?;
     Ok(Script::new(
-        lines,
-        numbering.variables.into_names(),
-        numbering.fields.into_names(),
+        numbered.lines,
+        numbered.names.variables.into_names(),
+        numbered.names.fields.into_names(),
     ))
 }

@@ -1,9 +1,11 @@
 //! A script as it was read.
 ghost use Rattle.std.specs.Prelude.{◌≡◌, ◌<◌, ◌≤◌, Some, length, map, slice_get};
+ghost use Rattle.script_text.specs.Limits.{variables_most, fields_most};
 ghost use Rattle.script_text.specs.Grammar.{why_text};
 ghost use Rattle.script_text.specs.Sound.{script_text, IsNumbered, IsMatched, IsSound};
+ghost use Rattle.script_text.specs.Whole.{IsPlaced};
 
-use ideal_graph::Command;
+use heap_command::Command;
 use std::alloc::{AllocError, AllocFailed};
 use std::marker::Model;
 
@@ -55,9 +57,10 @@ impl Why {
 /// Why a source is no script.
 #[derive(Clone, Copy, Debug, PartialEq, Eq)]
 pub enum BadScript {
-    /// The first line that is refused, counted from 1; where there is none, the innermost open `repeat`.
+    /// The first line that is refused, counted from 1. Where there is none, the innermost `repeat`
+    /// that is left open.
     BadLine { line: u32, why: Why },
-    /// The line, the first such, names more than 1,024 variables or 4,096 fields with the lines before it.
+    /// The first line that names more than 1,024 variables or 4,096 fields with the lines before it.
     TooManyNames { line: u32 },
     /// Memory was refused; so is a source of 4 GiB or more.
     NoMemory,
@@ -90,7 +93,8 @@ impl<T: Drop> From<AllocFailed<T>> for BadScript {
 pub enum What {
     /// It runs a command.
     Run(Command),
-    /// The lines up to its `end` are run so many times. The `end` is the line of this place, counted from 0.
+    /// The lines up to its `end` are run so many times. The `end` is the line of this place, counted
+    /// from 0.
     Repeat { times: u32, end_at: u32 },
     /// It ends the `repeat` of this place, counted from 0.
     End { repeat_at: u32 },
@@ -132,6 +136,7 @@ impl<'s> Script<'s> {
         ensures all { result.now ≡ self.now.lines }
         ensures numbered { IsNumbered self.now }
         ensures matched { IsMatched self.now.lines }
+        ensures placed { IsPlaced 0 result.now }
     {
         &self.lines
     }
@@ -139,7 +144,7 @@ impl<'s> Script<'s> {
     /// How many variables the script names.
     pub fn variables(&self) -> u32
         ensures count { result ≡ length self.now.variables }
-        ensures few { result ≤ 1024 }
+        ensures few { result ≤ variables_most }
     {
         self.variables.len() as u32
     }
@@ -147,7 +152,7 @@ impl<'s> Script<'s> {
     /// How many fields the script names.
     pub fn fields(&self) -> u32
         ensures count { result ≡ length self.now.fields }
-        ensures few { result ≤ 4096 }
+        ensures few { result ≤ fields_most }
     {
         self.fields.len() as u32
     }
@@ -173,7 +178,8 @@ impl<'s> Script<'s> {
         requires { IsSound (script_text lines.items
             (map (λ name. name.now) variables.items) (map (λ name. name.now) fields.items)) }
         ensures { result ≡ script_text lines.items
-            (map (λ name. name.now) variables.entry.items) (map (λ name. name.now) fields.entry.items) }
+            (map (λ name. name.now) variables.entry.items)
+            (map (λ name. name.now) fields.entry.items) }
     {
         Script {
             lines,

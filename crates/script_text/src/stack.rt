@@ -8,7 +8,7 @@ use std::marker::Model;
 
 /// Numbers of which the newest is on top.
 #[derive(Drop)]
-pub struct Stack {
+pub(crate) struct Stack {
     numbers: Vec<u32>,
 }
 
@@ -21,7 +21,7 @@ impl Model for Stack {
 }
 
 impl Stack {
-    pub fn new(alloc: Global) -> Self
+    pub(crate) fn new(alloc: Global) -> Self
         ensures { result ≡ [] }
     {
         Stack {
@@ -29,7 +29,7 @@ impl Stack {
         }
     }
 
-    pub fn push(&mut self, number: u32) -> Result<(), AllocError>
+    pub(crate) fn push(&mut self, number: u32) -> Result<(), AllocError>
         ensures { OnOk result (self.new ≡ number ∷ self.old) }
     {
         self.numbers.push(number)?;
@@ -37,7 +37,7 @@ impl Stack {
     }
 
     /// Takes the newest number, if there is one.
-    pub fn pop(&mut self) -> Option<u32>
+    pub(crate) fn pop(&mut self) -> Option<u32>
         ensures popped { result ≡ slice_get self.old 0 }
         ensures rest { self.new ≡ drop 1 self.old }
     {
@@ -45,14 +45,14 @@ impl Stack {
     }
 
     /// The newest number, if there is one.
-    pub fn top(&self) -> Option<u32>
+    pub(crate) fn top(&self) -> Option<u32>
         ensures { result ≡ slice_get self.now 0 }
     {
         self.numbers.last().copied()
     }
 
     /// How many numbers there are.
-    pub fn len(&self) -> usize
+    pub(crate) fn len(&self) -> usize
         ensures { result ≡ length self.now }
     {
         self.numbers.len()

@@ -3,6 +3,8 @@ ghost use Rattle.std.specs.Prelude.{◌≡◌, ◌≤◌, length};
 ghost use Rattle.std.specs.List.{list_any};
 ghost use Rattle.script_text.specs.Table.{keyword_text, keywords, keyword_among, same_keyword, places_of};
 
+use crate::limits::{CAP_MOST, TURNS_MOST};
+
 /// The first word of a line.
 #[derive(Clone, Copy, Debug, PartialEq, Eq)]
 pub enum Keyword {
@@ -49,13 +51,13 @@ pub enum Place {
     Literal { most: u32 },
 }
 
+/// The most operands of a command.
+pub(crate) const PLACES_MOST: usize = 3;
+
 /// The commands that are not built.
 pub(crate) const UNBUILT_TODAY: &[Keyword] = &[
     Keyword::List,
     Keyword::Weak,
-    Keyword::Let,
-    Keyword::Drop,
-    Keyword::Add,
     Keyword::Del,
     Keyword::Push,
     Keyword::Put,
@@ -65,11 +67,8 @@ pub(crate) const UNBUILT_TODAY: &[Keyword] = &[
     Keyword::WPut,
     Keyword::WGet,
     Keyword::WDel,
-    Keyword::Same,
     Keyword::Alike,
     Keyword::Shape,
-    Keyword::Repeat,
-    Keyword::End,
     Keyword::Scavenge,
     Keyword::Mark,
     Keyword::Finish,
@@ -93,7 +92,7 @@ pub(crate) fn keyword_of(token: &[u8]) -> Option<Keyword>
 pub(crate) fn is_among(keyword: Keyword, keywords: &[Keyword]) -> bool
     ensures { result ≡ list_any (same_keyword keyword) keywords.now }
 {
-    keywords.iter().any(|other| word(keyword) == word(*other))
+    keywords.iter().any(|other| keyword == *other)
 }
 
 /// What the operands of a command are, in order.
@@ -102,7 +101,7 @@ pub(crate) fn places(keyword: Keyword) -> &'static [Place]
     ensures few { length result.now ≤ 3 }
 {
     match keyword {
-        Keyword::New => &[Place::Variable, Place::Literal { most: 8 }],
+        Keyword::New => &[Place::Variable, Place::Literal { most: CAP_MOST }],
         Keyword::List | Keyword::Weak | Keyword::Drop | Keyword::Shape => &[Place::Variable],
         Keyword::Let
         | Keyword::Add
@@ -118,13 +117,8 @@ pub(crate) fn places(keyword: Keyword) -> &'static [Place]
         Keyword::Print => &[Place::Value],
         Keyword::Same => &[Place::Value, Place::Value],
         Keyword::Alike => &[Place::Variable, Place::Variable],
-        Keyword::Repeat => &[Place::Literal { most: 20_000_000 }],
-        Keyword::End
-        | Keyword::Scavenge
-        | Keyword::Mark
-        | Keyword::Finish
-        | Keyword::Gc
-        | Keyword::Census => &[],
+        Keyword::Repeat => &[Place::Literal { most: TURNS_MOST }],
+        _ => &[],
     }
 }
 

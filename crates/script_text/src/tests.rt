@@ -1,11 +1,14 @@
-//! What sources are read as.
+//! What sources are read as: each limit and each reason from both sides.
 
 use crate::parsing::parse_with_table;
 use crate::{BadScript, Script, What, Why, parse};
-use ideal_graph::{Command, Operand};
+use heap_command::{Command, Operand};
 use std::alloc::Global;
 use std::process::Abort;
 use std::test::Fail;
+
+/// How many lines of commands a source has, or its first bad line and the reason.
+type Read = Result<usize, (u32, Why)>;
 
 fn accept<'s>(rt: &impl Abort, alloc: Global, source: &'s [u8]) -> Script<'s> {
     parse_with_table(alloc, source, &[]).expect(rt, "the source is a script")
@@ -18,15 +21,27 @@ fn refuse(rt: &impl Abort, alloc: Global, source: &[u8], stop: BadScript) {
     }
 }
 
-fn bad(line: u32, why: Why) -> BadScript {
-    BadScript::BadLine { line, why }
+fn expect_read(rt: &impl Abort, alloc: Global, source: &[u8], read: Read) {
+    match read {
+        Ok(lines) => assert_eq!(rt; accept(rt, alloc, source).lines().len(), lines),
+        Err((line, why)) => refuse(rt, alloc, source, BadScript::BadLine { line, why }),
+    }
 }
 
-/// Lines `let v0 0`, `let v1 0` and so on, so many of them.
-fn lets(alloc: Global, count: usize) -> Result<Vec<u8>, Fail> {
+/// So many lines `let v0 0`, `let v1 0` and so on.
+fn let_lines(alloc: Global, count: usize) -> Result<Vec<u8>, Fail> {
     let mut source = Vec::new(alloc);
     for n in 0..count {
         source.extend_from_slice(format!(in alloc; "let v{n} 0\n")?.as_bytes())?;
+    }
+    Ok(source)
+}
+
+/// A line `new x 1`, and then so many lines `get y x f0`, `get y x f1` and so on.
+fn get_lines(alloc: Global, count: usize) -> Result<Vec<u8>, Fail> {
+    let mut source = b"new x 1\n".to_vec(alloc)?;
+    for n in 0..count {
+        source.extend_from_slice(format!(in alloc; "get y x f{n}\n")?.as_bytes())?;
     }
     Ok(source)
 }
@@ -61,35 +76,72 @@ fn a_source_is_read_as_its_commands(rt: HostRuntime) -> Result<(), Fail> {
 }
 
 #[test]
-fn a_bad_line_is_refused_with_its_reason(rt: HostRuntime) -> Result<(), Fail> {
-    let refusals: [(&[u8], u32, Why); 20] = [
-        (b"print 9223372036854775808", 1, Why::Value),
-        (b"print -0", 1, Why::Value),
-        (b"print 007", 1, Why::Value),
-        (b"new x 9", 1, Why::Integer),
-        (b"set x 1a 0", 1, Why::Name),
-        (b"make x", 1, Why::Command),
-        (b"make", 1, Why::Command),
+fn a_line_is_accepted_or_refused_with_its_reason(rt: HostRuntime) -> Result<(), Fail> {
+    let rows: [(&[u8], Read); 46] = [
+        (b"", Ok(0)),
+        (b"\n\n\n", Ok(0)),
+        (b"# any \x00\xff#bytes\nprint 1#\x80", Ok(1)),
+        (b"print 1\nprint 2", Ok(2)),
+        (b"print 1\nprint 2\n", Ok(2)),
+        (b"set set set set", Ok(1)),
+        (b"shift x 0", Ok(1)),
+        (b"make x", Err((1, Why::Command))),
+        (b"Print 1", Err((1, Why::Command))),
+        (b"print", Err((1, Why::Count))),
+        (b"print 1 1", Err((1, Why::Count))),
+        (b"set x f 1 2 3 4 5 6", Err((1, Why::Count))),
+        (b"end x", Err((1, Why::Count))),
+        (b"set 1 2", Err((1, Why::Count))),
+        (
+            b"print 1\nprint 2\nget y q f\nget y q",
+            Err((4, Why::Count)),
+        ),
+        (b"set x a1 0", Ok(1)),
+        (b"set x 1a 0", Err((1, Why::Name))),
+        (b"set 1 a 0", Err((1, Why::Name))),
+        (b"new undefined 1", Err((1, Why::Name))),
+        (b"new aaaaaaaaaaaaaaaaaaaaaaaaaaaaaaaa 1", Ok(1)),
+        (
+            b"new aaaaaaaaaaaaaaaaaaaaaaaaaaaaaaaaa 1",
+            Err((1, Why::Name)),
+        ),
+        (b"new x 8", Ok(1)),
+        (b"new x 9", Err((1, Why::Integer))),
+        (b"new x 0", Ok(1)),
+        (b"new x -1", Err((1, Why::Integer))),
+        (b"new x y", Err((1, Why::Integer))),
+        (b"repeat 20000000\nend", Ok(2)),
+        (b"repeat 20000001\nend", Err((1, Why::Integer))),
+        (b"print 9223372036854775807", Ok(1)),
+        (b"print 9223372036854775808", Err((1, Why::Value))),
+        (b"print -9223372036854775808", Ok(1)),
+        (b"print -9223372036854775809", Err((1, Why::Value))),
+        (b"print 0", Ok(1)),
+        (b"print -0", Err((1, Why::Value))),
+        (b"print 007", Err((1, Why::Value))),
+        (b"print aaaaaaaaaaaaaaaaaaaaaaaaaaaaaaaa", Ok(1)),
+        (
+            b"print aaaaaaaaaaaaaaaaaaaaaaaaaaaaaaaaa",
+            Err((1, Why::Value)),
+        ),
+        (
+            b"repeat 1\nrepeat 1\nrepeat 1\nrepeat 1\nend\nend\nend\nend",
+            Ok(8),
+        ),
         (
             b"repeat 1\nrepeat 1\nrepeat 1\nrepeat 1\nrepeat 1",
-            5,
-            Why::Nesting,
+            Err((5, Why::Nesting)),
         ),
-        (b"repeat 2", 1, Why::Open),
-        (b"end", 1, Why::End),
-        (b"end x", 1, Why::Count),
-        (b"print 1\nprint 2\nget y q f\nget y q", 4, Why::Count),
-        (b"\nrepeat 1\nprint 1\nrepeat 1\n\n", 4, Why::Open),
-        (b"repeat 1\nrepeat 1\nend\n", 1, Why::Open),
-        (b"repeat 20000001\nend", 1, Why::Integer),
-        (b"new undefined 1", 1, Why::Name),
-        (b"print aaaaaaaaaaaaaaaaaaaaaaaaaaaaaaaaa", 1, Why::Value),
-        (b"new aaaaaaaaaaaaaaaaaaaaaaaaaaaaaaaaa 1", 1, Why::Name),
-        (b"print", 1, Why::Count),
-        (b"repeat 1\nprint 1 1\nend\nend", 2, Why::Count),
+        (b"end", Err((1, Why::End))),
+        (b"repeat 0\nend\nend", Err((3, Why::End))),
+        (b"repeat 2", Err((1, Why::Open))),
+        (b"repeat 1\nrepeat 1\nend\n", Err((1, Why::Open))),
+        (b"\nrepeat 1\nprint 1\nrepeat 1\n\n", Err((4, Why::Open))),
+        (b"repeat 1\nprint 1 1\nend\nend", Err((2, Why::Count))),
+        (b"repeat 1\nmake\n", Err((2, Why::Command))),
     ];
-    for (source, line, why) in refusals {
-        refuse(&rt, rt.alloc(), source, bad(line, why));
+    for (source, read) in rows {
+        expect_read(&rt, rt.alloc(), source, read);
     }
     Ok(())
 }
@@ -97,24 +149,23 @@ fn a_bad_line_is_refused_with_its_reason(rt: HostRuntime) -> Result<(), Fail> {
 #[test]
 fn a_line_has_at_most_4096_bytes(rt: HostRuntime) -> Result<(), Fail> {
     let mut line = vec![in rt.alloc(); b'#'; 4096]?;
-    assert_eq!(rt; accept(&rt, rt.alloc(), &line).lines().len(), 0);
+    expect_read(&rt, rt.alloc(), &line, Ok(0));
     line.push(b'#')?;
-    refuse(&rt, rt.alloc(), &line, bad(1, Why::Long));
+    expect_read(&rt, rt.alloc(), &line, Err((1, Why::Long)));
     Ok(())
 }
 
 #[test]
-fn a_script_has_at_most_1024_variables(rt: HostRuntime) -> Result<(), Fail> {
-    assert_eq!(rt;
-        accept(&rt, rt.alloc(), &lets(rt.alloc(), 1024)?).variables(),
-        1024
-    );
-    refuse(
-        &rt,
-        rt.alloc(),
-        &lets(rt.alloc(), 1025)?,
-        BadScript::TooManyNames { line: 1025 },
-    );
+fn a_script_has_at_most_1024_variables_and_4096_fields(rt: HostRuntime) -> Result<(), Fail> {
+    let alloc = rt.alloc();
+    let few = let_lines(alloc, 1024)?;
+    assert_eq!(rt; accept(&rt, alloc, &few).variables(), 1024);
+    let many = let_lines(alloc, 1025)?;
+    refuse(&rt, alloc, &many, BadScript::TooManyNames { line: 1025 });
+    let few = get_lines(alloc, 4096)?;
+    assert_eq!(rt; accept(&rt, alloc, &few).fields(), 4096);
+    let many = get_lines(alloc, 4097)?;
+    refuse(&rt, alloc, &many, BadScript::TooManyNames { line: 4098 });
     Ok(())
 }
 
@@ -143,31 +194,6 @@ fn blanks_comments_and_empty_lines_are_skipped(rt: HostRuntime) -> Result<(), Fa
             v: Operand::Undefined
         })
     );
-    Ok(())
-}
-
-#[test]
-fn what_may_stand_in_a_script_is_accepted(rt: HostRuntime) -> Result<(), Fail> {
-    let sources: [(&[u8], usize); 12] = [
-        (b"", 0),
-        (b"\n\n\n", 0),
-        (b"# any \x00\xff#bytes\nprint 1#\x80", 1),
-        (b"print 9223372036854775807", 1),
-        (b"print -9223372036854775808", 1),
-        (b"print aaaaaaaaaaaaaaaaaaaaaaaaaaaaaaaa", 1),
-        (b"new aaaaaaaaaaaaaaaaaaaaaaaaaaaaaaaa 1", 1),
-        (b"set set set set", 1),
-        (b"print 1\nprint 2", 2),
-        (b"print 1\nprint 2\n", 2),
-        (b"repeat 0\nend", 2),
-        (
-            b"repeat 1\nrepeat 1\nrepeat 1\nrepeat 20000000\nend\nend\nend\nend",
-            8,
-        ),
-    ];
-    for (source, lines) in sources {
-        assert_eq!(rt; accept(&rt, rt.alloc(), source).lines().len(), lines);
-    }
     Ok(())
 }
 
@@ -205,13 +231,20 @@ fn a_repeat_and_its_end_name_one_another(rt: HostRuntime) -> Result<(), Fail> {
 }
 
 #[test]
-fn today_four_commands_are_built(rt: HostRuntime) -> Result<(), Fail> {
-    let source = b"# c\n\n\tnew x 8\t\nset  x f 1 \r\nget y x f\nprint y #";
-    let script = parse(rt.alloc(), source).expect(&rt, "the source is a script");
-    assert_eq!(rt; script.lines().len(), 4);
-    match parse(rt.alloc(), b"list x") {
+fn a_command_is_judged_by_the_table_before_its_operands(rt: HostRuntime) -> Result<(), Fail> {
+    let built =
+        b"# c\n\n\tnew x 8\t\nset  x f 1 \r\nget y x f\nlet z y\nrepeat 2\nadd z 1\nend\nsame z y\ndrop z\nprint y #";
+    let script = parse(rt.alloc(), built).expect(&rt, "the source is a script");
+    assert_eq!(rt; script.lines().len(), 10);
+    match parse(rt.alloc(), b"list x y") {
         Ok(_) => assert!(rt; false, "the source is refused"),
-        Err(stop) => assert_eq!(rt; stop, bad(1, Why::NotBuilt)),
+        Err(stop) => assert_eq!(rt;
+            stop,
+            BadScript::BadLine {
+                line: 1,
+                why: Why::NotBuilt
+            }
+        ),
     }
     Ok(())
 }

@@ -3,16 +3,20 @@ ghost use Rattle.std.specs.Prelude.{◌≡◌, ◌≤◌, ◌^◌, option_and_th
 ghost use Rattle.std.specs.List.{list_all};
 ghost use Rattle.script_text.specs.Tokens.{is_name, is_name_start, is_name_byte, is_digit, starts_as_name, at_most, positive_of, digits_after, integer_of};
 
-/// Whether a token is a name: 1 to 32 letters, digits and `_`, the first no digit, and not `undefined`.
-pub fn is_name(token: &[u8]) -> bool
+use crate::limits::NAME_BYTES_MOST;
+
+/// Whether a token is a name: 1 to 32 letters, digits and `_`, of which the first is no digit, and
+/// not `undefined`.
+pub(crate) fn is_name(token: &[u8]) -> bool
     ensures { result ≡ is_name token.now }
 {
     let reserved = token == b"undefined".as_slice();
-    starts_as_name(token) && has_name_bytes(token) && token.len() <= 32 && !reserved
+    starts_as_name(token) && has_name_bytes(token) && token.len() <= NAME_BYTES_MOST && !reserved
 }
 
-/// The integer of 64 bits that a token is: `0`, or digits of which the first is 1 to 9, or `-` and such digits.
-pub fn integer_of(token: &[u8]) -> Option<i64>
+/// The integer of 64 bits that a token is: `0`, or digits of which the first is 1 to 9, or `-` and
+/// such digits.
+pub(crate) fn integer_of(token: &[u8]) -> Option<i64>
     ensures { result ≡ integer_of token.now }
 {
     match token {

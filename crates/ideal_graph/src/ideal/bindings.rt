@@ -2,52 +2,51 @@
 ghost use Rattle.std.specs.Prelude.{◌≡◌, [], OnOk, OnErr};
 ghost use Rattle.std.specs.Ordering.{nat_cmp};
 ghost use Rattle.std.specs.FinMap.{insert, remove, from_entries};
-ghost use Rattle.ideal_graph.specs.declared.command.Command.{Command};
-ghost use Rattle.ideal_graph.specs.Graphs.{make};
-ghost use Rattle.ideal_graph.specs.Meaning.{done};
-ghost use Rattle.ideal_graph.specs.Steps.{Steps};
-ghost use Rattle.ideal_graph.specs.Lookups.{Answers};
+ghost use Rattle.heap_command.specs.declared.command.Command.{Command};
+ghost use Rattle.object_graph.specs.Graphs.{make};
+ghost use Rattle.object_graph.specs.Meaning.{done};
+ghost use Rattle.ideal_graph.specs.Steps.{ComesTo, Steps};
 
 use super::lookups::integer;
 use super::{Ideal, IdealStop, Said};
-use crate::command::{FaultWord, Operand};
-use crate::object::{Elements, Entries, Fields, Object};
-use crate::value::Value;
+use heap_command::{FaultWord, Operand};
+use object_graph::{Elements, Entries, Fields, Object, Value};
 use std::alloc::AllocError;
 use std::collections::BTreeMap;
 
 impl Ideal {
     /// Binds `x` to a new plain object.
-    pub(super) fn make_plain(&mut self, x: u32, cap: u32) -> Result<Said, IdealStop>
+    pub(crate) fn make_plain(&mut self, x: u32, cap: u32) -> Result<Said, IdealStop>
         ensures { Steps self.old self.new (Command.New x cap) result }
     {
-        let fields = Fields::new(self.alloc);
+        let fields = Fields::from_vec(Vec::new(self.alloc));
         self.make(x, Object::Plain { cap, fields })
     }
 
     /// Binds `x` to a new list.
-    pub(super) fn make_list(&mut self, x: u32) -> Result<Said, IdealStop>
+    pub(crate) fn make_list(&mut self, x: u32) -> Result<Said, IdealStop>
         ensures { Steps self.old self.new (Command.List x) result }
     {
-        let elements = Elements::new(self.alloc);
+        let elements = Elements::from_vec(Vec::new(self.alloc));
         self.make(x, Object::List { elements })
     }
 
     /// Binds `x` to a new weak map.
-    pub(super) fn make_weak(&mut self, x: u32) -> Result<Said, IdealStop>
+    pub(crate) fn make_weak(&mut self, x: u32) -> Result<Said, IdealStop>
         ensures { Steps self.old self.new (Command.Weak x) result }
     {
-        let entries = Entries::new(self.alloc);
+        let entries = Entries::from_vec(Vec::new(self.alloc));
         self.make(x, Object::Weak { entries })
     }
 
     /// Binds `x` to the object, as one more.
     fn make(&mut self, x: u32, object: Object) -> Result<Said, IdealStop>
-        ensures { Answers self.old self.new (done (make self.old.graph x object) []) result }
+        ensures { ComesTo self.old self.new (done (make self.old.graph x object) []) result }
     {
         let Ok(number) = u32::try_from(self.objects.len()) else {
             return Err(IdealStop::NoMemory);
         };
+        // Room first: the push after the binding cannot fail, and a binding is not taken back.
         self.objects.reserve(1)?;
         bind(&mut self.bindings, x, Value::Ref(number))?;
         self.objects.push_reserved(object);
@@ -55,7 +54,7 @@ impl Ideal {
     }
 
     /// Binds `x` to the value.
-    pub(super) fn let_value(&mut self, x: u32, v: Operand) -> Result<Said, IdealStop>
+    pub(crate) fn let_value(&mut self, x: u32, v: Operand) -> Result<Said, IdealStop>
         ensures { Steps self.old self.new (Command.LetValue x v) result }
     {
         let value = self.value(v)?;
@@ -64,7 +63,7 @@ impl Ideal {
     }
 
     /// Unbinds `x`.
-    pub(super) fn drop_var(&mut self, x: u32) -> Result<Said, IdealStop>
+    pub(crate) fn drop_var(&mut self, x: u32) -> Result<Said, IdealStop>
         ensures { Steps self.old self.new (Command.DropVar x) result }
     {
         self.bound(x)?;
@@ -73,7 +72,7 @@ impl Ideal {
     }
 
     /// Binds `x` to the sum of its integer and the value.
-    pub(super) fn add(&mut self, x: u32, v: Operand) -> Result<Said, IdealStop>
+    pub(crate) fn add(&mut self, x: u32, v: Operand) -> Result<Said, IdealStop>
         ensures { Steps self.old self.new (Command.Add x v) result }
     {
         let first = self.bound(x)?;
@@ -89,7 +88,7 @@ impl Ideal {
 }
 
 /// Binds the variable to the value.
-pub(super) fn bind(
+pub(crate) fn bind(
     bindings: &mut BTreeMap<u32, Value>,
     x: u32,
     value: Value,

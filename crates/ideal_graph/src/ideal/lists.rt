@@ -1,39 +1,40 @@
-//! The commands on lists.
-ghost use Rattle.std.specs.Prelude.{◌<◌, ◌≤◌, suc, IfOk, length, slice_get, option_and_then};
-ghost use Rattle.ideal_graph.specs.declared.command.Command.{Command};
-ghost use Rattle.ideal_graph.specs.Meaning.{below};
-ghost use Rattle.ideal_graph.specs.Steps.{Steps};
+//! The commands on lists. A list is changed in a copy, so that want of memory leaves it as it was.
+ghost use Rattle.std.specs.Prelude.{◌<◌, ◌≤◌, [], suc, IfOk, length, slice_get, option_and_then};
+ghost use Rattle.heap_command.specs.declared.command.Command.{Command};
+ghost use Rattle.object_graph.specs.declared.object.Object.{Object};
+ghost use Rattle.object_graph.specs.Graphs.{replace};
+ghost use Rattle.object_graph.specs.Meaning.{below, done};
+ghost use Rattle.ideal_graph.specs.Steps.{ComesTo, Steps};
 ghost use Rattle.ideal_graph.specs.Lookups.{Finds};
 
 use super::bindings::bind;
 use super::lookups::integer;
 use super::{Ideal, IdealStop, Said};
-use crate::command::{FaultWord, Operand};
-use crate::object::Object;
-use crate::value::Value;
+use heap_command::{FaultWord, Operand};
+use object_graph::{Elements, Object, Value};
 
 /// So many elements a list may have.
 const MOST_ELEMENTS: usize = 1000;
 
 impl Ideal {
     /// Puts the value last in the list `x`.
-    pub(super) fn push(&mut self, x: u32, v: Operand) -> Result<Said, IdealStop>
+    pub(crate) fn push(&mut self, x: u32, v: Operand) -> Result<Said, IdealStop>
         ensures { Steps self.old self.new (Command.Push x v) result }
     {
         let target = self.bound(x)?;
         let value = self.value(v)?;
         let list = self.list(target)?;
-        if list.elements.as_slice().len() >= MOST_ELEMENTS {
+        if list.elements.len() >= MOST_ELEMENTS {
             return Err(IdealStop::ScriptFault(FaultWord::ListFull));
         }
-        let elements = list.elements.pushed(self.alloc, value)?;
+        let mut elements = Vec::from_slice(self.alloc, list.elements)?;
+        elements.push(value)?;
         let number = list.number;
-        self.objects[number as usize] = Object::List { elements };
-        Ok(Said::nothing(self.alloc))
+        self.relist(number, elements)
     }
 
     /// Puts the value in place of element `i` of the list `x`.
-    pub(super) fn put(&mut self, x: u32, i: Operand, v: Operand) -> Result<Said, IdealStop>
+    pub(crate) fn put(&mut self, x: u32, i: Operand, v: Operand) -> Result<Said, IdealStop>
         ensures { Steps self.old self.new (Command.Put x i v) result }
     {
         let target = self.bound(x)?;
@@ -41,52 +42,61 @@ impl Ideal {
         let value = self.value(v)?;
         let list = self.list(target)?;
         let index = integer(index)?;
-        let place = place_in(list.elements.as_slice(), index)?;
-        let elements = list.elements.with(self.alloc, place, value)?;
+        let place = place_in(list.elements, index)?;
+        let mut elements = Vec::from_slice(self.alloc, list.elements)?;
+        elements[place] = value;
         let number = list.number;
-        self.objects[number as usize] = Object::List { elements };
-        Ok(Said::nothing(self.alloc))
+        self.relist(number, elements)
     }
 
     /// Binds `y` to element `i` of the list `x`.
-    pub(super) fn at(&mut self, y: u32, x: u32, i: Operand) -> Result<Said, IdealStop>
+    pub(crate) fn at(&mut self, y: u32, x: u32, i: Operand) -> Result<Said, IdealStop>
         ensures { Steps self.old self.new (Command.At y x i) result }
     {
         let target = self.bound(x)?;
         let index = self.value(i)?;
         let list = self.list(target)?;
         let index = integer(index)?;
-        let value = element_at(list.elements.as_slice(), index)?;
+        let value = element_at(list.elements, index)?;
         bind(&mut self.bindings, y, value)?;
         Ok(Said::nothing(self.alloc))
     }
 
     /// Takes the first `n` elements out of the list `x`.
-    pub(super) fn shift(&mut self, x: u32, n: Operand) -> Result<Said, IdealStop>
+    pub(crate) fn shift(&mut self, x: u32, n: Operand) -> Result<Said, IdealStop>
         ensures { Steps self.old self.new (Command.Shift x n) result }
     {
         let target = self.bound(x)?;
         let count = self.value(n)?;
         let list = self.list(target)?;
         let count = integer(count)?;
-        let gone = count_of(list.elements.as_slice(), count)?;
-        let elements = list.elements.without_first(self.alloc, gone)?;
+        let gone = count_of(list.elements, count)?;
+        let elements = Vec::from_slice(self.alloc, &list.elements[gone..])?;
         let number = list.number;
-        self.objects[number as usize] = Object::List { elements };
-        Ok(Said::nothing(self.alloc))
+        self.relist(number, elements)
     }
 
     /// Leaves the first `n` elements in the list `x`.
-    pub(super) fn trunc(&mut self, x: u32, n: Operand) -> Result<Said, IdealStop>
+    pub(crate) fn trunc(&mut self, x: u32, n: Operand) -> Result<Said, IdealStop>
         ensures { Steps self.old self.new (Command.Trunc x n) result }
     {
         let target = self.bound(x)?;
         let count = self.value(n)?;
         let list = self.list(target)?;
         let count = integer(count)?;
-        let kept = count_of(list.elements.as_slice(), count)?;
-        let elements = list.elements.first(self.alloc, kept)?;
+        let kept = count_of(list.elements, count)?;
+        let elements = Vec::from_slice(self.alloc, &list.elements[..kept])?;
         let number = list.number;
+        self.relist(number, elements)
+    }
+
+    /// Gives the list of this number these elements.
+    fn relist(&mut self, number: u32, elements: Vec<Value>) -> Result<Said, IdealStop>
+        requires { number < length self.old.graph.objects }
+        ensures { ComesTo self.old self.new
+            (done (replace self.old.graph number (Object.List elements.items)) []) result }
+    {
+        let elements = Elements::from_vec(elements);
         self.objects[number as usize] = Object::List { elements };
         Ok(Said::nothing(self.alloc))
     }

@@ -1,19 +1,18 @@
 //! The commands that write, and those that collect.
 ghost use Rattle.std.specs.Prelude.{◌≡◌, []};
-ghost use Rattle.ideal_graph.specs.declared.command.Command.{Command};
-ghost use Rattle.ideal_graph.specs.Meaning.{done, same_value};
-ghost use Rattle.ideal_graph.specs.Texts.{line, truth_text};
-ghost use Rattle.ideal_graph.specs.Steps.{Steps};
-ghost use Rattle.ideal_graph.specs.Lookups.{Answers};
+ghost use Rattle.heap_command.specs.declared.command.Command.{Command};
+ghost use Rattle.object_graph.specs.Meaning.{done, same_value};
+ghost use Rattle.object_graph.specs.Texts.{line, truth_text};
+ghost use Rattle.ideal_graph.specs.Steps.{ComesTo, Steps};
 
 use super::texts::census_text;
 use super::{Ideal, IdealStop, Said};
-use crate::command::Operand;
-use crate::value::Value;
+use heap_command::Operand;
+use object_graph::Value;
 
 impl Ideal {
     /// Writes the value, and a line feed.
-    pub(super) fn print(&mut self, v: Operand) -> Result<Said, IdealStop>
+    pub(crate) fn print(&mut self, v: Operand) -> Result<Said, IdealStop>
         ensures { Steps self.old self.new (Command.Print v) result }
     {
         let value = self.value(v)?;
@@ -23,7 +22,7 @@ impl Ideal {
     }
 
     /// Writes whether the two values are the same.
-    pub(super) fn same(&mut self, a: Operand, b: Operand) -> Result<Said, IdealStop>
+    pub(crate) fn same(&mut self, a: Operand, b: Operand) -> Result<Said, IdealStop>
         ensures { Steps self.old self.new (Command.Same a b) result }
     {
         let first = self.value(a)?;
@@ -32,8 +31,8 @@ impl Ideal {
     }
 
     /// Writes `true` or `false`, and a line feed.
-    pub(super) fn truth(&mut self, truth: bool) -> Result<Said, IdealStop>
-        ensures { Answers self.old self.new (done self.old.graph (line (truth_text truth))) result }
+    pub(crate) fn truth(&mut self, truth: bool) -> Result<Said, IdealStop>
+        ensures { ComesTo self.old self.new (done self.old.graph (line (truth_text truth))) result }
     {
         let line: &[u8] = if truth { b"true\n" } else { b"false\n" };
         let text = Vec::from_slice(self.alloc, line)?;
@@ -41,7 +40,7 @@ impl Ideal {
     }
 
     /// Writes how many objects can be reached, and how many entries of weak maps.
-    pub(super) fn count(&mut self) -> Result<Said, IdealStop>
+    pub(crate) fn count(&mut self) -> Result<Said, IdealStop>
         ensures { Steps self.old self.new Command.Census result }
     {
         let census = self.census()?;
@@ -50,8 +49,8 @@ impl Ideal {
     }
 
     /// Collects nothing, for every object stays.
-    pub(super) fn collect(&mut self) -> Result<Said, IdealStop>
-        ensures { Answers self.old self.new (done self.old.graph []) result }
+    pub(crate) fn collect(&mut self) -> Result<Said, IdealStop>
+        ensures { ComesTo self.old self.new (done self.old.graph []) result }
     {
         Ok(Said::nothing(self.alloc))
     }

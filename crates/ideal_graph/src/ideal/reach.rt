@@ -3,13 +3,13 @@ ghost use Rattle.std.specs.Prelude.{◌≡◌, ◌↔◌, length, IsTrue, IfOk, 
 ghost use Rattle.std.specs.Ordering.{nat_cmp};
 ghost use Rattle.std.specs.List.{list_any, sum_by, zip};
 ghost use Rattle.std.specs.FinMap.{from_entries, values};
-ghost use Rattle.ideal_graph.specs.Reach.{refers_to, is_linked, bound_marks, reach, entries_if, reached_objects, reached_entries};
-ghost use Rattle.ideal_graph.specs.Marks.{MarksAlso};
+ghost use Rattle.object_graph.specs.Reach.{refers_to, is_linked, bound_marks, reach};
+ghost use Rattle.object_graph.specs.Reach.{entries_if, reached_objects, reached_entries};
+ghost use Rattle.object_graph.specs.Marks.{MarksAlso};
 
 use super::{Ideal, IdealStop};
 use crate::marks::{count_marked, mark, mark_links, marked_entries};
-use crate::object::Object;
-use crate::value::Value;
+use object_graph::{Object, Value};
 use std::collections::BTreeMap;
 
 /// How many objects can be reached, and how many entries of weak maps whose map and key can.

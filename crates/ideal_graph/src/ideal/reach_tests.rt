@@ -1,11 +1,10 @@
 //! What can be reached after a few commands, by values from the language's description.
 
-use super::tests::{is_within, with_fields};
+use super::tests::with_fields;
 use super::{Census, IdealStop};
-use crate::command::Command::{self, DropVar, New, Print, Set, WGet, WPut, Weak};
-use crate::command::Operand::{Int, Var};
+use heap_command::Command::{self, DropVar, New, Print, Set, WGet, WPut, Weak};
+use heap_command::Operand::{Int, Var};
 use std::alloc::Global;
-use std::process::Abort;
 use std::test::Fail;
 
 const M: u32 = 0;
@@ -31,15 +30,10 @@ const Z: u32 = 8;
 const S: u32 = 0;
 
 /// What the last of the commands says, and what can be reached after it.
-fn outcome(
-    rt: &impl Abort,
-    alloc: Global,
-    commands: &[Command],
-) -> Result<(Vec<u8>, Census), IdealStop> {
+fn outcome(alloc: Global, commands: &[Command]) -> Result<(Vec<u8>, Census), IdealStop> {
     let mut ideal = with_fields(alloc, 1)?;
     let mut text = Vec::new(alloc);
     for command in commands {
-        assert!(rt; is_within(command, 1));
         text = ideal.step(command)?.text;
     }
     let census = ideal.reach()?;
@@ -47,34 +41,52 @@ fn outcome(
 }
 
 /// Whether so many objects and entries can be reached after these commands.
-fn is_reached(
-    rt: &impl Abort,
-    alloc: Global,
-    commands: &[Command],
-    objects: u64,
-    entries: u64,
-) -> bool {
-    match outcome(rt, alloc, commands) {
+fn is_reached(alloc: Global, commands: &[Command], objects: u64, entries: u64) -> bool {
+    match outcome(alloc, commands) {
         Ok((_, census)) => census == Census { objects, entries },
         Err(_) => false,
     }
 }
 
+/// Gives the key the value in the weak map.
+fn keep(m: u32, key: u32, value: u32) -> Command {
+    let (k, v) = (Var(key), Var(value));
+    WPut { m, k, v }
+}
+
+/// Binds `y` to the value of the key.
+fn look_up(y: u32, m: u32, key: u32) -> Command {
+    let k = Var(key);
+    WGet { y, m, k }
+}
+
+/// Gives the only field of `x` the object of `y`.
+fn link(x: u32, y: u32) -> Command {
+    let v = Var(y);
+    Set { x, f: S, v }
+}
+
+#[test]
+fn five_is_printed_and_nothing_is_reached(rt: HostRuntime) -> Result<(), Fail> {
+    let (text, census) = outcome(rt.alloc(), &[Print { v: Int(5) }])
+        .ok()
+        .ok_or("the script stops")?;
+    assert_eq!(rt; text.as_slice(), b"5\n".as_slice());
+    assert_eq!(rt;
+        census,
+        Census {
+            objects: 0,
+            entries: 0
+        }
+    );
+    Ok(())
+}
+
 #[test]
 fn what_no_variable_leads_to_is_not_reached(rt: HostRuntime) {
-    let no_object = [Print { v: Int(5) }];
-    assert!(rt; is_reached(&rt, rt.alloc(), &no_object, 0, 0));
-    let cycle = [
-        New { x: X, cap: 1 },
-        Set {
-            x: X,
-            f: S,
-            v: Var(X),
-        },
-        DropVar { x: X },
-    ];
-    assert!(rt; is_reached(&rt, rt.alloc(), &cycle[..2], 1, 0));
-    assert!(rt; is_reached(&rt, rt.alloc(), &cycle, 0, 0));
+    let cycle = [New { x: X, cap: 1 }, link(X, X), DropVar { x: X }];
+    assert!(rt; is_reached(rt.alloc(), &cycle[..2], 1, 0));
+    assert!(rt; is_reached(rt.alloc(), &cycle, 0, 0));
 }
 
 #[test]
@@ -83,16 +95,12 @@ fn an_entry_keeps_its_value_while_its_key_is_reached(rt: HostRuntime) {
         Weak { x: M },
         New { x: K, cap: 0 },
         New { x: V, cap: 1 },
-        WPut {
-            m: M,
-            k: Var(K),
-            v: Var(V),
-        },
+        keep(M, K, V),
         DropVar { x: V },
         DropVar { x: K },
     ];
-    assert!(rt; is_reached(&rt, rt.alloc(), &keyed[..5], 3, 1));
-    assert!(rt; is_reached(&rt, rt.alloc(), &keyed, 1, 0));
+    assert!(rt; is_reached(rt.alloc(), &keyed[..5], 3, 1));
+    assert!(rt; is_reached(rt.alloc(), &keyed, 1, 0));
 }
 
 #[test]
@@ -101,21 +109,13 @@ fn an_entry_does_not_keep_its_key_by_its_value(rt: HostRuntime) {
         Weak { x: M },
         New { x: K, cap: 0 },
         New { x: V, cap: 1 },
-        Set {
-            x: V,
-            f: S,
-            v: Var(K),
-        },
-        WPut {
-            m: M,
-            k: Var(K),
-            v: Var(V),
-        },
+        link(V, K),
+        keep(M, K, V),
         DropVar { x: V },
         DropVar { x: K },
     ];
-    assert!(rt; is_reached(&rt, rt.alloc(), &keyed[..6], 3, 1));
-    assert!(rt; is_reached(&rt, rt.alloc(), &keyed, 1, 0));
+    assert!(rt; is_reached(rt.alloc(), &keyed[..6], 3, 1));
+    assert!(rt; is_reached(rt.alloc(), &keyed, 1, 0));
 }
 
 #[test]
@@ -126,36 +126,20 @@ fn entries_keep_one_another_across_maps(rt: HostRuntime) -> Result<(), Fail> {
         New { x: K, cap: 0 },
         New { x: P, cap: 0 },
         New { x: Q, cap: 0 },
-        WPut {
-            m: B,
-            k: Var(P),
-            v: Var(Q),
-        },
-        WPut {
-            m: A,
-            k: Var(K),
-            v: Var(P),
-        },
+        keep(B, P, Q),
+        keep(A, K, P),
         DropVar { x: P },
         DropVar { x: Q },
-        WGet {
-            y: Y,
-            m: A,
-            k: Var(K),
-        },
-        WGet {
-            y: Z,
-            m: B,
-            k: Var(Y),
-        },
+        look_up(Y, A, K),
+        look_up(Z, B, Y),
         Print { v: Var(Z) },
         DropVar { x: Y },
         DropVar { x: Z },
         DropVar { x: K },
     ];
-    assert!(rt; is_reached(&rt, rt.alloc(), &chain[..9], 5, 2));
-    assert!(rt; is_reached(&rt, rt.alloc(), &chain, 2, 0));
-    let (text, _) = outcome(&rt, rt.alloc(), &chain[..12])
+    assert!(rt; is_reached(rt.alloc(), &chain[..9], 5, 2));
+    assert!(rt; is_reached(rt.alloc(), &chain, 2, 0));
+    let (text, _) = outcome(rt.alloc(), &chain[..12])
         .ok()
         .ok_or("the script stops")?;
     assert_eq!(rt; text.as_slice(), b"object 4\n".as_slice());

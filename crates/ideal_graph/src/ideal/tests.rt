@@ -1,20 +1,17 @@
 //! What scripts say, by values from the language's description.
-ghost use Rattle.std.specs.Prelude.{◌≡◌, ◌^◌, length, IsTrue, IfOk};
-ghost use Rattle.ideal_graph.specs.Commands.{IsWithin, NamesBelow};
 
 mod limits;
 
 use super::{Ideal, IdealStop};
-use crate::command::Command::{
+use heap_command::Command::{
     self, Add, Alike, At, Census, Del, DropVar, Finish, Gc, Get, LetValue, List, Mark, New, Print,
-    Push, Put, Same, Scavenge, Set, Shape, Shift, Trunc, WDel, WGet, WPut, Weak,
+    Push, Put, Same, Scavenge, Set, Shape, WDel, WGet, WPut, Weak,
 };
-use crate::command::FaultWord::{
+use heap_command::FaultWord::{
     self, BadKey, FieldsFull, NotInt, NotList, NotObject, NotWeak, Overflow, Range, Unbound,
 };
-use crate::command::Operand::{self, Int, Undefined, Var};
+use heap_command::Operand::{self, Int, Undefined, Var};
 use std::alloc::Global;
-use std::process::Abort;
 use std::test::Fail;
 
 const X: u32 = 0;
@@ -30,9 +27,7 @@ const B: u32 = 1;
 const C: u32 = 2;
 
 /// A graph with so many fields. Their names are the letters from `a` on, again and again.
-pub(super) fn with_fields(alloc: Global, fields: u32) -> Result<Ideal, IdealStop>
-    ensures { IfOk result (λ ideal. length ideal.names ≡ fields) }
-{
+pub(crate) fn with_fields(alloc: Global, fields: u32) -> Result<Ideal, IdealStop> {
     let mut names = Vec::new(alloc);
     for number in 0..fields {
         let letter = b'a' + (number % 26) as u8;
@@ -41,51 +36,11 @@ pub(super) fn with_fields(alloc: Global, fields: u32) -> Result<Ideal, IdealStop
     Ideal::new(alloc, names)
 }
 
-/// Whether the operand is no eleventh variable.
-fn is_known(operand: Operand) -> bool
-    ensures { IsTrue result → NamesBelow (2 ^ 32) operand }
-{
-    match operand {
-        Int(_) | Undefined => true,
-        Var(x) => x < 10,
-    }
-}
-
-/// Whether the command names none but these fields, no eleventh variable and no cap above 8.
-pub(super) fn is_within(command: &Command, fields: u32) -> bool
-    ensures { IsTrue result → IsWithin (2 ^ 32) fields command.now }
-{
-    match *command {
-        New { x, cap } => x < 10 && cap <= 8,
-        List { x } | Weak { x } | DropVar { x } | Shape { x } => x < 10,
-        LetValue { x, v } | Add { x, v } | Push { x, v } => x < 10 && is_known(v),
-        Set { x, f, v } => x < 10 && f < fields && is_known(v),
-        Get { y, x, f } => y < 10 && x < 10 && f < fields,
-        Del { x, f } => x < 10 && f < fields,
-        Put { x, i, v } => x < 10 && is_known(i) && is_known(v),
-        At { y, x, i } => y < 10 && x < 10 && is_known(i),
-        Shift { x, n } | Trunc { x, n } => x < 10 && is_known(n),
-        WPut { m, k, v } => m < 10 && is_known(k) && is_known(v),
-        WGet { y, m, k } => y < 10 && m < 10 && is_known(k),
-        WDel { m, k } => m < 10 && is_known(k),
-        Print { v } => is_known(v),
-        Same { a, b } => is_known(a) && is_known(b),
-        Alike { x, y } => x < 10 && y < 10,
-        Scavenge | Mark | Finish | Gc | Census => true,
-    }
-}
-
 /// What the commands say, all in one.
-fn said(
-    rt: &impl Abort,
-    alloc: Global,
-    fields: u32,
-    commands: &[Command],
-) -> Result<Vec<u8>, IdealStop> {
+fn said(alloc: Global, fields: u32, commands: &[Command]) -> Result<Vec<u8>, IdealStop> {
     let mut ideal = with_fields(alloc, fields)?;
     let mut text = Vec::new(alloc);
     for command in commands {
-        assert!(rt; is_within(command, fields));
         text.extend_from_slice(&ideal.step(command)?.text)?;
     }
     Ok(text)
@@ -131,7 +86,36 @@ fn values_are_written_by_their_kind(rt: HostRuntime) -> Result<(), Fail> {
         ),
     ];
     for (commands, text) in scripts {
-        let all = said(&rt, rt.alloc(), 3, commands);
+        let all = said(rt.alloc(), 3, commands);
+        let all = all.ok().ok_or("the script stops")?;
+        assert_eq!(rt; all.as_slice(), text.as_bytes(), "{text}");
+    }
+    Ok(())
+}
+
+#[test]
+fn changes_are_read_back_and_collections_say_nothing(rt: HostRuntime) -> Result<(), Fail> {
+    let (m, k, i, v) = (X, Var(Y), Int(0), Int(2));
+    let push = Push { x: X, v: Int(1) };
+    let put = Put { x: X, i, v };
+    let element = [List { x: X }, push, put, at(Z, X, i), print(Var(Z))];
+    let (del, get) = (WDel { m, k }, WGet { y: Z, m, k });
+    let entry = [
+        Weak { x: X },
+        new(Y, 0),
+        weak_put(m, k),
+        del,
+        get,
+        print(Var(Z)),
+    ];
+    let collections = [new(X, 0), Scavenge, Mark, Finish, Gc, Census];
+    let scripts: [(&[Command], &str); 3] = [
+        (&element, "2\n"),
+        (&entry, "undefined\n"),
+        (&collections, "objects 1 entries 0\n"),
+    ];
+    for (commands, text) in scripts {
+        let all = said(rt.alloc(), 3, commands);
         let all = all.ok().ok_or("the script stops")?;
         assert_eq!(rt; all.as_slice(), text.as_bytes(), "{text}");
     }
@@ -153,7 +137,7 @@ fn a_field_widens_and_never_narrows(rt: HostRuntime) -> Result<(), Fail> {
         get(Y, X, A),
         print(Var(Y)),
     ];
-    let text = said(&rt, rt.alloc(), 3, &commands);
+    let text = said(rt.alloc(), 3, &commands);
     let text = text.ok().ok_or("the script stops")?;
     let shapes =
         "cap 2 a:small\ncap 2 a:wide\ncap 2 a:tagged\ncap 2 a:tagged\n-9223372036854775808\n";
@@ -179,7 +163,7 @@ fn a_field_that_is_taken_out_leaves_its_place(rt: HostRuntime) -> Result<(), Fai
         set(X, B, Int(7)),
         Shape { x: X },
     ];
-    let text = said(&rt, rt.alloc(), 3, &commands);
+    let text = said(rt.alloc(), 3, &commands);
     let text = text.ok().ok_or("the script stops")?;
     let lines = "1\nundefined\nobject 0\ncap 3 a:small c:tagged\ncap 3 a:small c:tagged b:small\n";
     assert_eq!(rt; text.as_slice(), lines.as_bytes());
@@ -207,7 +191,7 @@ fn objects_are_alike_by_shape_and_the_same_by_number(rt: HostRuntime) -> Result<
             b: Int(3),
         },
     ];
-    let text = said(&rt, rt.alloc(), 3, &commands);
+    let text = said(rt.alloc(), 3, &commands);
     let text = text.ok().ok_or("the script stops")?;
     assert_eq!(rt;
         text.as_slice(),
@@ -234,7 +218,7 @@ fn faults_stop_scripts(rt: HostRuntime) {
         ),
     ];
     for (commands, word) in scripts {
-        let stop = said(&rt, rt.alloc(), 3, commands).err();
+        let stop = said(rt.alloc(), 3, commands).err();
         assert_eq!(rt; stop, Some(IdealStop::ScriptFault(word)));
     }
 }

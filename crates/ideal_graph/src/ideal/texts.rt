@@ -1,16 +1,15 @@
 //! The texts that commands write.
 ghost use Rattle.std.specs.Prelude.{◌≡◌, [], ◌++◌, slice_get, unwrap_or, decimal, IfOk};
-ghost use Rattle.ideal_graph.specs.Texts.{line, value_text, census_text, rep_text, field_text, shape_text};
+ghost use Rattle.object_graph.specs.Texts.{line, value_text, census_text, rep_text, field_text, shape_text};
 
 use super::{Ideal, Said};
-use crate::object::{Field, Object};
-use crate::value::{Rep, Value};
 use itoa::Buffer;
+use object_graph::{Field, Object, Rep, Value};
 use std::alloc::{AllocError, Global};
 
 impl Said {
     /// The text of a command that writes nothing.
-    pub(super) fn nothing(alloc: Global) -> Said
+    pub(crate) fn nothing(alloc: Global) -> Said
         ensures { result ≡ [] }
     {
         Said {
@@ -21,7 +20,7 @@ impl Said {
 
 impl Ideal {
     /// The value as it is written.
-    pub(super) fn text_of(&self, value: Value) -> Result<Vec<u8>, AllocError>
+    pub(crate) fn text_of(&self, value: Value) -> Result<Vec<u8>, AllocError>
         ensures { IfOk result (λ text. text.items ≡ value_text self.now.graph.objects value) }
     {
         match value {
@@ -46,7 +45,7 @@ impl Ideal {
     }
 
     /// The shape of a plain object with this cap and these fields, as it is written.
-    pub(super) fn shape_of(&self, cap: u32, fields: &[Field]) -> Result<Vec<u8>, AllocError>
+    pub(crate) fn shape_of(&self, cap: u32, fields: &[Field]) -> Result<Vec<u8>, AllocError>
         ensures { IfOk result (λ text. text.items ≡ shape_text self.now.names cap fields.now) }
     {
         let mut text = self.numbered(b"cap ", cap)?;
@@ -80,7 +79,7 @@ impl Ideal {
 }
 
 /// The line of a census.
-pub(super) fn census_text(alloc: Global, objects: u64, entries: u64) -> Result<Vec<u8>, AllocError>
+pub(crate) fn census_text(alloc: Global, objects: u64, entries: u64) -> Result<Vec<u8>, AllocError>
     ensures { IfOk result (λ text. text.items ≡ line (census_text objects entries)) }
 {
     let mut text = Vec::from_slice(alloc, b"objects ")?;

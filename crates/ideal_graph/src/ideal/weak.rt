@@ -1,22 +1,25 @@
 //! The commands on weak maps.
-ghost use Rattle.std.specs.Prelude.{◌≡◌, []};
-ghost use Rattle.ideal_graph.specs.declared.command.Command.{Command};
-ghost use Rattle.ideal_graph.specs.Steps.{Steps, ideal_limits};
-ghost use Rattle.ideal_graph.specs.Meaning.{no_entry_for};
+ghost use Rattle.std.specs.Prelude.{◌≡◌, ◌<◌, [], length};
+ghost use Rattle.heap_command.specs.declared.command.Command.{Command};
+ghost use Rattle.object_graph.specs.Limits.{ideal_limits};
+ghost use Rattle.ideal_graph.specs.Steps.{ComesTo, Steps};
+ghost use Rattle.object_graph.specs.declared.object.Object.{Object};
+ghost use Rattle.object_graph.specs.Graphs.{replace};
+ghost use Rattle.object_graph.specs.Meaning.{no_entry_for, done};
 
 use super::bindings::bind;
 use super::lookups::key;
 use super::{Ideal, IdealStop, Said};
-use crate::command::{FaultWord, Operand};
-use crate::object::{Entries, Object};
-use crate::value::Value;
+use crate::keyed::{value_under, with_value, without_key};
+use heap_command::{FaultWord, Operand};
+use object_graph::{Entries, Entry, Object, Value};
 
 /// So many entries a weak map may have.
 const MOST_ENTRIES: usize = 256;
 
 impl Ideal {
     /// Gives the key `k` of the weak map `m` the value.
-    pub(super) fn weak_put(&mut self, m: u32, k: Operand, v: Operand) -> Result<Said, IdealStop>
+    pub(crate) fn weak_put(&mut self, m: u32, k: Operand, v: Operand) -> Result<Said, IdealStop>
         ensures { Steps self.old self.new (Command.WPut m k v) result }
     {
         let target = self.bound(m)?;
@@ -27,44 +30,53 @@ impl Ideal {
         if is_full_for(weak.entries, key) {
             return Err(IdealStop::ScriptFault(FaultWord::WeakFull));
         }
-        let entries = weak.entries.with(self.alloc, key, value)?;
+        let entries = with_value(self.alloc, weak.entries, key, value)?;
         let number = weak.number;
-        self.objects[number as usize] = Object::Weak { entries };
-        Ok(Said::nothing(self.alloc))
+        self.reweave(number, entries)
     }
 
     /// Binds `y` to the value of the key `k` in the weak map `m`, or to `undefined`.
-    pub(super) fn weak_get(&mut self, y: u32, m: u32, k: Operand) -> Result<Said, IdealStop>
+    pub(crate) fn weak_get(&mut self, y: u32, m: u32, k: Operand) -> Result<Said, IdealStop>
         ensures { Steps self.old self.new (Command.WGet y m k) result }
     {
         let target = self.bound(m)?;
         let named = self.value(k)?;
         let weak = self.weak(target)?;
         let key = key(named)?;
-        let value = weak.entries.value(key).unwrap_or(Value::Undefined);
+        let value = value_under(weak.entries, key).unwrap_or(Value::Undefined);
         bind(&mut self.bindings, y, value)?;
         Ok(Said::nothing(self.alloc))
     }
 
     /// Takes the entry of the key `k` out of the weak map `m`.
-    pub(super) fn weak_del(&mut self, m: u32, k: Operand) -> Result<Said, IdealStop>
+    pub(crate) fn weak_del(&mut self, m: u32, k: Operand) -> Result<Said, IdealStop>
         ensures { Steps self.old self.new (Command.WDel m k) result }
     {
         let target = self.bound(m)?;
         let named = self.value(k)?;
         let weak = self.weak(target)?;
         let key = key(named)?;
-        let entries = weak.entries.without(self.alloc, key)?;
+        let entries = without_key(self.alloc, weak.entries, key)?;
         let number = weak.number;
+        self.reweave(number, entries)
+    }
+
+    /// Gives the weak map of this number these entries.
+    fn reweave(&mut self, number: u32, entries: Vec<Entry>) -> Result<Said, IdealStop>
+        requires { number < length self.old.graph.objects }
+        ensures { ComesTo self.old self.new
+            (done (replace self.old.graph number (Object.Weak entries.items)) []) result }
+    {
+        let entries = Entries::from_vec(entries);
         self.objects[number as usize] = Object::Weak { entries };
         Ok(Said::nothing(self.alloc))
     }
 }
 
 /// Whether the key is new to the weak map, which has as many entries as it may have.
-fn is_full_for(entries: &Entries, key: u32) -> bool
+fn is_full_for(entries: &[Entry], key: u32) -> bool
     ensures { result ≡ no_entry_for ideal_limits [] entries.now key }
 {
-    let is_new = entries.value(key).is_none();
-    is_new && entries.as_slice().len() >= MOST_ENTRIES
+    let is_new = value_under(entries, key).is_none();
+    is_new && entries.len() >= MOST_ENTRIES
 }

@@ -1,5 +1,5 @@
 use Rattle.std.proofs.Common.{◌≡◌, ◌≤◌, count_by, take}
-use Rattle.ideal_graph.specs.Reach.{is_marked}
+use Rattle.object_graph.specs.Reach.{is_marked}
 use Rattle.ideal_graph.proofs.marks.count_keyed.Given as goal
 
 abbrev pub invariant-loop-entry : goal.invariant-loop-entry

@@ -1,7 +1,7 @@
 use Rattle.std.proofs.Common.{take}
 use Rattle.std.specs.List.{list_any}
-use Rattle.ideal_graph.specs.Reach.{refers_to}
-use Rattle.ideal_graph.specs.Marks.{MarksAlso}
+use Rattle.object_graph.specs.Reach.{refers_to}
+use Rattle.object_graph.specs.Marks.{MarksAlso}
 use Rattle.ideal_graph.proofs.marks.mark_values.Given as goal
 
 abbrev pub invariant-loop-value : goal.invariant-loop-value

@@ -1,10 +1,10 @@
 //! Scripts that reach a limit, and one step past it.
 
 use super::{X, Y, Z, at, new, print, said, set};
-use crate::command::Command::{self, List, Push, Shift, Trunc, WGet, WPut, Weak};
-use crate::command::FaultWord::{ListFull, ShapesFull, WeakFull};
-use crate::command::Operand::{Int, Var};
 use crate::ideal::IdealStop;
+use heap_command::Command::{self, List, Push, Shift, Trunc, WGet, WPut, Weak};
+use heap_command::FaultWord::{ListFull, ShapesFull, WeakFull};
+use heap_command::Operand::{Int, Var};
 use std::alloc::{AllocError, Global};
 use std::test::Fail;
 
@@ -31,7 +31,7 @@ fn a_list_gives_up_its_front_and_its_back(rt: HostRuntime) -> Result<(), Fail> {
         at(Y, X, Int(0)),
         print(Var(Y)),
     ])?;
-    let text = said(&rt, rt.alloc(), 0, &commands);
+    let text = said(rt.alloc(), 0, &commands);
     let text = text.ok().ok_or("the script stops")?;
     assert_eq!(rt; text.as_slice(), "7\n8\n".as_bytes());
     Ok(())
@@ -41,7 +41,7 @@ fn a_list_gives_up_its_front_and_its_back(rt: HostRuntime) -> Result<(), Fail> {
 fn a_list_has_a_thousand_elements_at_most(rt: HostRuntime) -> Result<(), Fail> {
     let mut commands = full_list(rt.alloc())?;
     commands.push(Push { x: X, v: Int(7) })?;
-    let stop = said(&rt, rt.alloc(), 0, &commands).err();
+    let stop = said(rt.alloc(), 0, &commands).err();
     assert_eq!(rt; stop, Some(IdealStop::ScriptFault(ListFull)));
     Ok(())
 }
@@ -75,7 +75,7 @@ fn a_full_weak_map_still_gives_its_keys_values(rt: HostRuntime) -> Result<(), Fa
         k: Var(Y),
     })?;
     commands.push(print(Var(Z)))?;
-    let text = said(&rt, rt.alloc(), 0, &commands);
+    let text = said(rt.alloc(), 0, &commands);
     let text = text.ok().ok_or("the script stops")?;
     assert_eq!(rt; text.as_slice(), "2\n".as_bytes());
     Ok(())
@@ -86,7 +86,7 @@ fn a_weak_map_has_256_entries_at_most(rt: HostRuntime) -> Result<(), Fail> {
     let mut commands = full_weak(rt.alloc())?;
     commands.push(new(Y, 0))?;
     commands.push(weak_put(1))?;
-    let stop = said(&rt, rt.alloc(), 0, &commands).err();
+    let stop = said(rt.alloc(), 0, &commands).err();
     assert_eq!(rt; stop, Some(IdealStop::ScriptFault(WeakFull)));
     Ok(())
 }
@@ -108,9 +108,9 @@ fn many_paths(alloc: Global) -> Result<Vec<Command>, AllocError> {
 fn there_are_8192_paths_at_most(rt: HostRuntime) -> Result<(), Fail> {
     let commands = many_paths(rt.alloc())?;
     let first = commands.get(..16367).ok_or("too few commands")?;
-    assert!(rt; said(&rt, rt.alloc(), 4096, first).is_ok());
+    assert!(rt; said(rt.alloc(), 4096, first).is_ok());
     let first = commands.get(..16368).ok_or("too few commands")?;
-    let stop = said(&rt, rt.alloc(), 4096, first).err();
+    let stop = said(rt.alloc(), 4096, first).err();
     assert_eq!(rt; stop, Some(IdealStop::ScriptFault(ShapesFull)));
     Ok(())
 }

@@ -1,8 +1,8 @@
-use Rattle.std.proofs.Common.{◌≡◌, ◌<◌, ◌≤◌, [], length, refl, ap, ◌∙◌, arith}
+use Rattle.std.proofs.Common.{◌≡◌, ◌+◌, ◌<◌, ◌≤◌, [], length, refl, ap, ◌∙◌, arith}
 use Rattle.std.proofs.lemmas.List.{length_push}
-use Rattle.ideal_graph.specs.Graphs.{make}
-use Rattle.ideal_graph.specs.declared.value.Value.TheVariants.{Ref}
-use Rattle.ideal_graph.specs.declared.object.Object.TheVariants.{Plain}
+use Rattle.object_graph.specs.Graphs.{make}
+use Rattle.object_graph.specs.declared.value.Value.TheVariants.{Ref}
+use Rattle.object_graph.specs.declared.object.Object.TheVariants.{Plain}
 use Rattle.mutator.proofs.NewCells.{with_object, new_address, Shows-grow}
 use Rattle.mutator.proofs.Bindings.{Shows-bind}
 use Rattle.mutator.proofs.making.new_plain.Goals as goal
@@ -11,7 +11,10 @@ pub returns-then-need-heap : goal.returns-then-need-heap
 returns-then-need-heap c = record {
   carried = λ graph names shown count.
       let used : c.heap.inside.used ≡ c.args.heap.now.used = ap (λ heap. heap.used) c.heap.view_is in
-      (make graph c.args.x (Plain c.args.cap []), [], refl, c.cell_size-need.ensures, omega (arith, used, shown.room, c.if-need-heap.true), refl);
+      let lacks : 131072 < c.args.heap.now.used + c.cell_size-need.result =
+      omega (arith, used, shown.room, c.if-need-heap.true)
+      in
+      (make graph c.args.x (Plain c.args.cap []), [], refl, c.cell_size-need.ensures, lacks, refl);
 }
 
 pub returns : goal.returns
@@ -28,8 +31,9 @@ returns c = record {
       let shows = Shows-grow old mid graph c.args.object cap c.add_cell.ensures shown count c.requires.within.1 room in (
         make graph c.args.x (Plain cap []),
         refl,
-        Shows-bind mid c.bind_root.new.heap grown c.args.x c.reference.result (Ref (length graph.objects)) c.bind_root.ensures shows held,
-        c.bind_root.ensures.count ∙ ap length c.add_cell.ensures.roots,
+        Shows-bind mid c.write_root.new.heap grown c.args.x c.reference.result (Ref (length graph.objects))
+            c.write_root.ensures shows held,
+        c.write_root.ensures.count ∙ ap length c.add_cell.ensures.roots,
         omega (arith, used, shown.room, c.if-need-heap.false),
       );
 }

@@ -7,9 +7,11 @@ use Rattle.mutator.specs.Cells.{unused_words}
 use Rattle.mutator.proofs.making.write_cell.Goals as goal
 
 -- a list whose first element and whose rest were written
-put_mid-first : {X : Type 0} (xs ys : List X) (x : X) → 0 < length xs → put_mid 1 (length (set xs 0 x) - 1) (set xs 0 x) ys ≡ x ∷ ys
+put_mid-first : {X : Type 0} (xs ys : List X) (x : X) → 0 < length xs
+    → put_mid 1 (length (set xs 0 x) - 1) (set xs 0 x) ys ≡ x ∷ ys
 put_mid-first [] ys x lt = absurd (omega arith)
-put_mid-first (y ∷ xs) ys x lt = ap (λ zs. x ∷ (ys ++ zs)) (drop_all (suc (length xs) - 1) xs (omega arith)) ∙ ap (λ zs. x ∷ zs) (append-nil ys)
+put_mid-first (y ∷ xs) ys x lt =
+    ap (λ zs. x ∷ (ys ++ zs)) (drop_all (suc (length xs) - 1) xs (omega arith)) ∙ ap (λ zs. x ∷ zs) (append-nil ys)
 
 pub returns : goal.returns
 returns c =

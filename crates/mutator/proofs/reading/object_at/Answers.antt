@@ -9,33 +9,34 @@ index-requires c =
     let (graph, number, shown, lt, address) = c.requires in
     let (cap, fields, at) = plain_below h graph number shown lt in
     let same : c.heap.inside.words.items ≡ h.words = ap (λ heap. heap.words) c.heap.view_is in
-    omega (arith, cell_within h graph number cap fields shown at, shown.room, shown.whole, ap length same, c.heap.inside.words.ok.0)
+    let within = cell_within h graph number cap fields shown at in
+    omega (arith, within, shown.room, shown.whole, ap length same, c.heap.inside.words.ok.0)
 
 pub overflow_sub-result : goal.overflow_sub-result
 overflow_sub-result c =
-    let h = c.args.heap.now in
     let (graph, number, shown, lt, address) = c.requires in
-    let (cap, fields, at) = plain_below h graph number shown lt in
-    let same : c.heap.inside.words.items ≡ h.words = ap (λ heap. heap.words) c.heap.view_is in
-    let some = header_parsed h graph number cap fields _ c.args.address _ _ shown at address same c.index.ensures c.parse.ensures.parses in
+    let same : c.heap.inside.words.items ≡ c.args.heap.now.words = ap (λ heap. heap.words) c.heap.view_is in
+    let (cap, fields, at, some) =
+    header_parsed _ graph number _ _ _ _ shown lt address same c.index.ensures c.parse.ensures.parses
+    in
     let header : c.in-Some.header ≡ record { shape = 8 + cap; object = number } = cc in
     omega (arith, ap (λ header. header.shape) header)
 
 pub unreachable-requires : goal.unreachable-requires
 unreachable-requires c =
-    let h = c.args.heap.now in
     let (graph, number, shown, lt, address) = c.requires in
-    let (cap, fields, at) = plain_below h graph number shown lt in
-    let same : c.heap.inside.words.items ≡ h.words = ap (λ heap. heap.words) c.heap.view_is in
-    let some = header_parsed h graph number cap fields _ c.args.address _ _ shown at address same c.index.ensures c.parse.ensures.parses in
+    let same : c.heap.inside.words.items ≡ c.args.heap.now.words = ap (λ heap. heap.words) c.heap.view_is in
+    let (cap, fields, at, some) =
+    header_parsed _ graph number _ _ _ _ shown lt address same c.index.ensures c.parse.ensures.parses
+    in
     cc
 
 pub returns : goal.returns
 returns c graph number shown lt address =
-    let h = c.args.heap.now in
-    let (cap, fields, at) = plain_below h graph number shown lt in
-    let same : c.heap.inside.words.items ≡ h.words = ap (λ heap. heap.words) c.heap.view_is in
-    let some = header_parsed h graph number cap fields _ c.args.address _ _ shown at address same c.index.ensures c.parse.ensures.parses in
+    let same : c.heap.inside.words.items ≡ c.args.heap.now.words = ap (λ heap. heap.words) c.heap.view_is in
+    let (cap, fields, at, some) =
+    header_parsed _ graph number _ _ _ _ shown lt address same c.index.ensures c.parse.ensures.parses
+    in
     let header : c.in-Some.header ≡ record { shape = 8 + cap; object = number } = cc in
     let object : c.in-Some.header.object ≡ number = ap (λ header. header.object) header in
     let shape : c.in-Some.header.shape - 8 ≡ cap = omega (arith, ap (λ header. header.shape) header) in (

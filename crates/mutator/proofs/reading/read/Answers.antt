@@ -2,7 +2,7 @@ use Rattle.std.proofs.Common.{◌≡◌, ℤ, to_z, of_z, w32, w64, SFits, rules
 use Rattle.std.proofs.lemmas.Int.{ints}
 use Rattle.tagged_word.specs.declared.word.Class.TheVariants as word
 use Rattle.mutator.specs.declared.reading.Content.TheVariants as content
-use Rattle.mutator.specs.Pairs.{IsRead}
+use Rattle.mutator.specs.Reading.{IsRead}
 use Rattle.mutator.proofs.Classes.{class_of, first_class, refers, read_small}
 use Rattle.mutator.proofs.reading.read.Goals as goal
 

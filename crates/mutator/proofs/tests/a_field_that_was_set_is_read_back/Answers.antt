@@ -1,5 +1,5 @@
 use Rattle.std.proofs.Common.{[], refl, arith}
-use Rattle.ideal_graph.specs.Graphs.{start}
+use Rattle.object_graph.specs.Graphs.{start}
 use Rattle.mutator.proofs.tests.a_field_that_was_set_is_read_back.Goals as goal
 
 pub set-requires-clause-shown : goal.set-requires-clause-shown

@@ -1,5 +1,5 @@
 use Rattle.std.proofs.Common.{[], refl, arith}
-use Rattle.ideal_graph.specs.Graphs.{start}
+use Rattle.object_graph.specs.Graphs.{start}
 use Rattle.mutator.proofs.tests.an_object_with_as_many_fields_as_its_cap_takes_no_other.Goals as goal
 
 pub set-refused-requires-clause-shown : goal.set-refused-requires-clause-shown

@@ -1,5 +1,5 @@
 use Rattle.std.proofs.Common.{[], refl, arith}
-use Rattle.ideal_graph.specs.Graphs.{start}
+use Rattle.object_graph.specs.Graphs.{start}
 use Rattle.mutator.proofs.tests.the_first_object_is_printed_as_object_0.Goals as goal
 
 pub print-requires-clause-shown : goal.print-requires-clause-shown

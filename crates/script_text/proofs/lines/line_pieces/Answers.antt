@@ -6,4 +6,6 @@ use Rattle.script_text.proofs.lines.line_pieces.Goals as goal
 
 pub returns : goal.returns
 returns c =
-    map_from_collect _ c.collect.ensures.ran (YieldsList-from_slice_split _ (λ b. eqb b 10) c.args.source.now c.split.ensures.rest c.split.ensures.done c.split.ensures.closure (λ x b q h. search rules))
+    map_from_collect _ c.collect.ensures.ran (YieldsList-from_slice_split _
+    (λ b. eqb b 10) c.args.source.now c.split.ensures.rest c.split.ensures.done c.split.ensures.closure
+    (λ x b q h. search rules))

@@ -1,11 +1,10 @@
--- The phrases that were read are few, and their names have small numbers.
-use Rattle.std.proofs.Common.{[], arith, length, map, ap, sym, ◌∙◌, subst}
-use Rattle.std.specs.List.{All, flat_map}
-use Rattle.script_text.specs.Names.{first_uses, variables_of, fields_of}
-use Rattle.script_text.specs.Grammar.{lines_from}
+-- The phrases that were read are few, and their lines are a sound script.
+use Rattle.std.proofs.Common.{◌≡◌, ℕ, List, Bor, arith, length, map, ap, sym, ◌∙◌, subst, ◌≤◌}
+use Rattle.script_text.specs.Limits.{variables_most, fields_most}
+use Rattle.script_text.specs.Grammar.{script_of}
 use Rattle.script_text.specs.Shown.{spoken_shown}
-use Rattle.script_text.specs.Sound.{IsSmall}
-use Rattle.script_text.proofs.Reading.{AreNumbered, lines-few, spoken-few, lines_from-small, read-IsSound}
+use Rattle.script_text.specs.Sound.{script_text}
+use Rattle.script_text.proofs.Reading.{lines-few, spoken-few, script_of-IsSound}
 use Rattle.script_text.proofs.parsing.parse_with_table.Goals as goal
 
 pub phrases_of-requires : goal.phrases_of-requires
@@ -13,36 +12,24 @@ phrases_of-requires c =
     let few = lines-few c.args.source.now c.in_ok-lines.lines.items c.in_ok-lines.ensures in
     omega (arith, ap length c.deref.ensures.value)
 
-pub lines-requires-2-clause-few : goal.lines-requires-2-clause-few
-lines-requires-2-clause-few c =
+pub with_numbers-requires : goal.with_numbers-requires
+with_numbers-requires c =
     let few = lines-few c.args.source.now c.in_ok-lines.lines.items c.in_ok-lines.ensures in
     let count = spoken-few c.args.unbuilt.now c.deref.result.now c.in_ok-spoken.spoken.items c.in_ok-spoken.ensures.spoken in
-    omega (arith, ap length c.deref.ensures.value, ap length c.deref-3.ensures.value)
-
-pub lines-requires-2-clause-small : goal.lines-requires-2-clause-small
-lines-requires-2-clause-small c =
-    let variables = c.in_ok-numbering.numbering.variables in
-    let fields = c.in_ok-numbering.numbering.fields in
-    let spoken = c.in_ok-spoken.spoken.items in
-    let numbered : AreNumbered variables fields (map spoken_shown spoken) = record {
-      variables_are = c.in_ok-numbering.ensures.variables ∙ ap (λ all. first_uses (flat_map (λ s. variables_of s.phrase) (map spoken_shown all))) c.deref-2.ensures.value;
-      fields_are = c.in_ok-numbering.ensures.fields ∙ ap (λ all. first_uses (flat_map (λ s. fields_of s.phrase) (map spoken_shown all))) c.deref-2.ensures.value;
-      few_variables = c.in_ok-numbering.ensures.few_variables;
-      few_fields = c.in_ok-numbering.ensures.few_fields;
-    } in
-    subst (λ all. All (λ line. IsSmall line.what) (lines_from variables fields 0 [] (map spoken_shown all))) (sym c.deref-3.ensures.value)
-    (lines_from-small c.args.unbuilt.now (map (λ line. line.now) c.deref.result.now) variables fields (map spoken_shown spoken) c.in_ok-spoken.ensures.spoken numbered)
+    omega (arith, ap length c.deref.ensures.value, ap length c.deref-2.ensures.value)
 
 pub new-requires : goal.new-requires
 new-requires c =
-    let variables = c.in_ok-numbering.numbering.variables in
-    let fields = c.in_ok-numbering.numbering.fields in
-    let spoken = c.in_ok-spoken.spoken.items in
-    let numbered : AreNumbered variables fields (map spoken_shown spoken) = record {
-      variables_are = c.in_ok-numbering.ensures.variables ∙ ap (λ all. first_uses (flat_map (λ s. variables_of s.phrase) (map spoken_shown all))) c.deref-2.ensures.value;
-      fields_are = c.in_ok-numbering.ensures.fields ∙ ap (λ all. first_uses (flat_map (λ s. fields_of s.phrase) (map spoken_shown all))) c.deref-2.ensures.value;
-      few_variables = c.in_ok-numbering.ensures.few_variables;
-      few_fields = c.in_ok-numbering.ensures.few_fields;
-    } in
-    let written = c.in_ok-lines-2.ensures ∙ ap (λ all. lines_from variables fields 0 [] (map spoken_shown all)) c.deref-3.ensures.value in
-    read-IsSound c.args.unbuilt.now (map (λ line. line.now) c.deref.result.now) (map spoken_shown spoken) c.in_ok-lines-2.lines.items variables fields _ _ c.in_ok-spoken.ensures.spoken numbered written c.into_names.ensures c.into_names-2.ensures
+    let lines = c.in_ok-numbered.numbered.lines.items in
+    let variables = c.in_ok-numbered.numbered.names.variables in
+    let fields = c.in_ok-numbered.numbered.names.fields in
+    let vs = map (λ (name : Bor (List ℕ)). name.now) c.into_names.result.items in
+    let fs = map (λ (name : Bor (List ℕ)). name.now) c.into_names-2.result.items in
+    let same : script_of (map spoken_shown c.in_ok-spoken.spoken.items) ≡ script_text lines vs fs =
+    ap (λ all. script_of (map spoken_shown all)) (sym c.deref-2.ensures.value) ∙ c.in_ok-numbered.ensures.script
+    ∙ ap (λ names. script_text lines names fields) (sym c.into_names.ensures)
+    ∙ ap (λ names. script_text lines vs names) (sym c.into_names-2.ensures) in
+    script_of-IsSound c.args.unbuilt.now (map (λ line. line.now) c.deref.result.now)
+    (map spoken_shown c.in_ok-spoken.spoken.items) _ c.in_ok-spoken.ensures.spoken same
+    (subst (λ names. length names ≤ variables_most) (sym c.into_names.ensures) c.in_ok-numbered.ensures.few_variables)
+    (subst (λ names. length names ≤ fields_most) (sym c.into_names-2.ensures) c.in_ok-numbered.ensures.few_fields)

@@ -1,12 +1,34 @@
-use Rattle.std.proofs.Common.{sym, ap, ◌∙◌, map, Ok}
-use Rattle.std.proofs.lemmas.List.{append-nil}
-use Rattle.std.proofs.lemmas.Slice.Zip.{either_empty_from_Zip}
+use Rattle.std.proofs.Common.{ℕ, List, Bor, sym, length, map, take, Ok, ap, ◌∙◌, arith}
+use Rattle.std.proofs.lemmas.List.{length-set}
+use Rattle.std.proofs.lemmas.Result.{err_from_is_err_and}
+use Rattle.script_text.specs.Phrases.{written_all}
 use Rattle.script_text.specs.Shown.{shown}
-use Rattle.script_text.proofs.Operands.{after, written_all-ended}
+use Rattle.script_text.proofs.Operands.{Reads-more, Reads-refused, Reads-all}
 use Rattle.script_text.proofs.phrases.written_all.Goals as goal
 
-pub returns-clause-operands : goal.returns-clause-operands
-returns-clause-operands c =
-    let ended = either_empty_from_Zip c.loop-place.place-iterator c.next.new.self c.next.result c.in-None.is c.next.ensures.steps in
-    let done = map shown c.loop-place.operands.items in
-    sym c.loop-place.invariant ∙ ap (after done) (written_all-ended _ _ ended) ∙ ap Ok (append-nil done)
+pub returns-in_err-operands-clause-refused : goal.returns-in_err-operands-clause-refused
+returns-in_err-operands-clause-refused c =
+    let stop = err_from_is_err_and c.from_residual.result c.from_residual.ensures.1 in
+    let places = c.places-place-items.result.now in
+    let refused =
+    Reads-refused c.loop-i.operands places c.args.tokens.now c.loop-i.i _ _ _ (omega arith)
+    (omega arith) c.in_err-operands.ensures.refused c.loop-i.invariant.reads in
+    rw (stop.1, stop.2)
+    (ap (λ ps. written_all ps (map (λ token. token.now) c.args.tokens.now)) (sym c.places-place-items.ensures.all) ∙ refused)
+
+pub loop-i-preserved : goal.loop-i-preserved
+loop-i-preserved c = record {
+  room = omega (arith, length-set c.loop-i.operands c.loop-i.i c.in_ok-operands.field-0, c.loop-i.invariant.room);
+  reads =
+      Reads-more c.loop-i.operands c.places-place-items.result.now c.args.tokens.now c.loop-i.i _ _ c.in_ok-operands.field-0
+      (omega arith) (omega arith) (omega arith)
+      c.in_ok-operands.ensures.written c.loop-i.invariant.reads;
+}
+
+pub returns-clause-phrase : goal.returns-clause-phrase
+returns-clause-phrase c =
+    let places = c.places-place-items.result.now in
+    let tokens = map (λ (token : Bor (List ℕ)). token.now) c.args.tokens.now in
+    ap (λ ps. written_all ps tokens) (sym c.places-place-items.ensures.all)
+    ∙ Reads-all c.loop-i.operands places c.args.tokens.now c.loop-i.i (omega arith) c.loop-i.invariant.reads
+    ∙ ap (λ ps. Ok (map shown (take (length ps) c.loop-i.operands))) c.places-place-items.ensures.all

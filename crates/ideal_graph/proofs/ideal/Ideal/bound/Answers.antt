@@ -1,10 +1,11 @@
 use Rattle.std.proofs.Common.{◌∙◌, sym, ap}
 use Rattle.std.specs.Option.{ok_or}
-use Rattle.ideal_graph.specs.declared.command.FaultWord.TheVariants.{Unbound}
+use Rattle.heap_command.specs.declared.command.FaultWord.TheVariants.{Unbound}
 use Rattle.ideal_graph.proofs.Bindings.{Finds-ok_or, get-entries}
 use Rattle.ideal_graph.proofs.ideal.Ideal.bound.Goals as goal
 
 pub returns : goal.returns
 returns c =
     let found = c.copied.ensures ∙ c.get.ensures.value ∙ sym (get-entries c.self.inside.bindings c.args.x) in
-    rw (← c.self.view_is) (Finds-ok_or Unbound _ c.ok_or.result (c.ok_or.ensures.value ∙ ap (λ sought. ok_or sought Unbound) found))
+    let answer = c.ok_or.ensures.value ∙ ap (λ sought. ok_or sought Unbound) found in
+    rw (← c.self.view_is) (Finds-ok_or Unbound _ c.ok_or.result answer)

@@ -1,7 +1,7 @@
 use Rattle.std.proofs.Common.{◌≡◌, length, sym, ap, ◌∙◌}
 use Rattle.ideal_graph.specs.Steps.{NamedGraph}
-use Rattle.ideal_graph.specs.Reach.{reach}
-use Rattle.ideal_graph.proofs.Rounds.{length-rounds}
+use Rattle.object_graph.specs.Reach.{reach}
+use Rattle.object_graph.proofs.Rounds.{length-rounds}
 use Rattle.ideal_graph.proofs.ideal.Ideal.census.Goals as goal
 
 pub count_entries-requires : goal.count_entries-requires

@@ -1,5 +1,5 @@
 use Rattle.std.proofs.Common.{◌≡◌, take}
-use Rattle.ideal_graph.specs.Texts.{shape_text}
+use Rattle.object_graph.specs.Texts.{shape_text}
 use Rattle.ideal_graph.proofs.ideal.Ideal.shape_of.Given as goal
 
 abbrev pub invariant-loop-field : goal.invariant-loop-field

@@ -1,5 +1,5 @@
 use Rattle.std.proofs.Common.{◌≡◌, length}
-use Rattle.ideal_graph.specs.Reach.{rounds}
+use Rattle.object_graph.specs.Reach.{rounds}
 use Rattle.ideal_graph.proofs.ideal.Ideal.spread.Given as goal
 
 abbrev pub invariant-loop-turn : goal.invariant-loop-turn

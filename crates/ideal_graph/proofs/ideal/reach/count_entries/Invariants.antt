@@ -1,8 +1,6 @@
-use Rattle.std.proofs.Common.{◌≡◌, take}
-use Rattle.std.specs.List.{sum_by, zip}
-use Rattle.ideal_graph.specs.Reach.{entries_if}
+use Rattle.std.proofs.Common.{◌≡◌}
+use Rattle.ideal_graph.proofs.Holders.{entries_by}
 use Rattle.ideal_graph.proofs.ideal.reach.count_entries.Given as goal
 
 abbrev pub invariant-loop-holder : goal.invariant-loop-holder
-invariant-loop-holder l =
-    l.count ≡ sum_by (λ pair. entries_if l.marks pair.0 pair.1) (take l.holder (zip l.marks l.objects))
+invariant-loop-holder l = l.count ≡ entries_by l.marks l.objects l.holder

@@ -1,9 +1,9 @@
 use Rattle.std.proofs.Common.{◌≡◌, ◌++◌, List}
 use Rattle.std.specs.List.{list_any}
 use Rattle.std.specs.Map.{values_of}
-use Rattle.ideal_graph.specs.declared.value.Value.{Value}
-use Rattle.ideal_graph.specs.Reach.{refers_to}
-use Rattle.ideal_graph.specs.Marks.{MarksAlso}
+use Rattle.object_graph.specs.declared.value.Value.{Value}
+use Rattle.object_graph.specs.Reach.{refers_to}
+use Rattle.object_graph.specs.Marks.{MarksAlso}
 use Rattle.ideal_graph.proofs.ideal.reach.mark_bound.Given as goal
 
 abbrev pub invariant-loop-value : goal.invariant-loop-value

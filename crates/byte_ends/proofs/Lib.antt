@@ -1,0 +1,3 @@
+pub mod Consuming
+pub mod Appending
+pub mod Taken

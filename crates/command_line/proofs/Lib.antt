@@ -1,0 +1,13 @@
+mod Numerals
+mod ParserRules
+mod WordKinds
+mod Hopeless
+mod Turns
+mod PlainTurns
+mod SettingRows
+mod Meanings
+mod Agreement
+mod AwaitedAgreement
+mod ParsedRows
+mod ParserCalls
+mod RunWords

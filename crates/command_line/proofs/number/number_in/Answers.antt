@@ -1,0 +1,9 @@
+-- Digits past 32 bits are past the most.
+use Rattle.std.proofs.Common.{arith, rules}
+use Rattle.command_line.proofs.Numerals.{unread_digits}
+use Rattle.command_line.proofs.number.number_in.Goals as goal
+
+pub returns-in_default : goal.returns-in_default
+returns-in_default c =
+    unread_digits c.args.least c.args.most c.args.text.now c.parse.result c.in_default.field-0 (omega arith)
+    (search rules) c.parse.ensures.value.0 c.in_default.is

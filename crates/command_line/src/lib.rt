@@ -1,0 +1,20 @@
+//! The command line of `heaprun`: the words after the program's name, read as an invocation.
+//!
+//! Model: the words are a list of texts, each the list of its bytes. `given_of` of
+//! `specs/Given.antt` says which options and positional words they give, and `invocation_of` of
+//! `specs/Invocations.antt` what they ask for.
+//! Invariant: none. `unbuilt_today` lists the commands that are not built.
+#![tactic(auto)]
+
+mod invocation;
+mod number;
+mod options;
+mod reading;
+mod rows;
+
+pub use invocation::{Invocation, Sizes, WordsStop};
+pub use reading::read_words;
+pub use rows::{refused_number_rows, refused_word_rows, run_rows, unbuilt_rows};
+
+#[cfg(test)]
+mod tests;

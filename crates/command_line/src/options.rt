@@ -1,0 +1,100 @@
+//! The options of `run`.
+ghost use Rattle.std.specs.Prelude.{◌≡◌, false, Err, Some, None, IfOk, drop, map};
+ghost use Rattle.std.specs.Prelude.{option_and_then, string_bytes};
+ghost use Rattle.clap.specs.Words.{app_of, first_value, found_of, rows_of, rule_of};
+ghost use Rattle.command_line.specs.Given.{given_of};
+ghost use Rattle.command_line.specs.Sizes.{sizes_alone, sizes_by, sizes_from};
+ghost use Rattle.command_line.specs.Parser.{option_rule, parsed_rows, parser};
+
+use crate::invocation::{Sizes, WordsStop};
+use crate::number::Limits;
+use clap::{Arg, ArgAction, ArgMatches, Command};
+use std::alloc::{AllocError, Global};
+
+/// Pages of the old generation.
+const PAGES: Limits = Limits {
+    default: 64,
+    least: 1,
+    most: 512,
+};
+
+/// Words of the young generation.
+const YOUNG: Limits = Limits {
+    default: 8192,
+    least: 64,
+    most: 65536,
+};
+
+/// Threads that help to collect.
+const HELPERS: Limits = Limits {
+    default: 2,
+    least: 0,
+    most: 7,
+};
+
+/// The sizes that the words after the first give; `BadWords` where they give none.
+pub(crate) fn sizes_of(alloc: Global, words: &[String]) -> Result<Sizes, WordsStop>
+    ensures sizes { IfOk result (λ sizes. option_and_then sizes_alone
+        (given_of (drop 1 (map string_bytes words.now))) ≡ Some sizes) }
+    ensures refused { result ≡ Err WordsStop.BadWords → option_and_then sizes_alone
+        (given_of (drop 1 (map string_bytes words.now))) ≡ None }
+{
+    let matches = matches_of(alloc, words)?;
+    match sizes_in(&matches) {
+        Some(sizes) => Ok(sizes),
+        None => Err(WordsStop::BadWords),
+    }
+}
+
+/// The sizes that the matches give.
+fn sizes_in(matches: &ArgMatches<'_>) -> Option<Sizes>
+    ensures { result ≡ sizes_by (first_value (found_of matches.now)) }
+{
+    sizes_from(
+        PAGES.number_or_default(matches.get_str("pages")),
+        YOUNG.number_or_default(matches.get_str("young")),
+        HELPERS.number_or_default(matches.get_str("helpers")),
+    )
+}
+
+/// The sizes, where each number is there.
+fn sizes_from(pages: Option<u32>, young: Option<u32>, helpers: Option<u32>) -> Option<Sizes>
+    ensures { result ≡ sizes_from pages young helpers }
+{
+    Some(Sizes {
+        pages: pages?,
+        young: young?,
+        helpers: helpers?,
+    })
+}
+
+/// The texts that the words after the first give the options. The parser takes the first word for a
+/// program's name and passes over it.
+fn matches_of<'a>(alloc: Global, words: &'a [String]) -> Result<ArgMatches<'a>, WordsStop>
+    ensures rows { IfOk result (λ matches. parsed_rows (map string_bytes words.entry.now)
+        ≡ Some (rows_of (found_of matches))) }
+    ensures refused { result ≡ Err WordsStop.BadWords →
+        parsed_rows (map string_bytes words.entry.now) ≡ None }
+{
+    let parser = parser(alloc)?;
+    Ok(parser.try_get_matches_from(words)?)
+}
+
+/// The parser of the options. It has no help, as `--help` is refused too.
+fn parser<'a>(alloc: Global) -> Result<Command<'a>, AllocError>
+    ensures { IfOk result (λ command. app_of command ≡ parser) }
+{
+    Command::new(alloc, "heaprun")
+        .disable_help_flag(true)
+        .arg(option(alloc, "pages"))?
+        .arg(option(alloc, "young"))?
+        .arg(option(alloc, "helpers"))
+}
+
+/// An option with one value.
+fn option<'a>(alloc: Global, name: &'a str) -> Arg<'a>
+    ensures rule { rule_of result ≡ option_rule name.entry.now }
+    ensures local { result.global ≡ false }
+{
+    Arg::new(alloc, name).long(name).action(ArgAction::Set)
+}

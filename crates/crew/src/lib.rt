@@ -1,0 +1,56 @@
+//! The points that threads pass, so that a test may hold them there.
+//!
+//! Model: none. No clause says what a gate does.
+#![tactic(auto)]
+
+/// Where a thread stands when it passes a gate.
+#[derive(Clone, Copy, Debug, PartialEq, Eq)]
+pub enum Point {
+    /// A helper has loaded the slots of a cell.
+    HelperLoaded,
+    /// A helper has exchanged the colour of a cell.
+    HelperExchanged,
+    /// A worker has copied a cell.
+    WorkerLoaded,
+    /// A worker has exchanged the header of a cell.
+    WorkerExchanged,
+    /// A command was carried out while a cycle is open.
+    CommandDone,
+}
+
+/// What threads pass at named points. Tests hold threads here; the program never does.
+pub trait Gate: Sync {
+    /// Is called by a thread that stands at this point, and goes on when it returns.
+    fn pass(&self, point: Point);
+}
+
+/// A gate that holds nobody.
+#[derive(Clone, Copy, Debug)]
+pub struct OpenGate;
+
+impl Gate for OpenGate {
+    fn pass(&self, _point: Point) {}
+}
+
+#[cfg(test)]
+mod tests {
+    use super::*;
+
+    fn pass_all<G: Gate>(gate: &G, points: &[Point]) {
+        for point in points {
+            gate.pass(*point);
+        }
+    }
+
+    #[test]
+    fn an_open_gate_holds_nobody() {
+        let points = [
+            Point::HelperLoaded,
+            Point::HelperExchanged,
+            Point::WorkerLoaded,
+            Point::WorkerExchanged,
+            Point::CommandDone,
+        ];
+        pass_all(&OpenGate, &points);
+    }
+}

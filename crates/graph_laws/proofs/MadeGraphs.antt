@@ -1,0 +1,158 @@
+-- A graph of which a part is changed is a graph.
+use Rattle.std.proofs.Common.{◌≡◌, ℕ, ◌<◌, ◌≤◌, List, [], ◌∷◌, ◌++◌, length, set, Some, sym, ◌∙◌, subst, arith, length-append}
+use Rattle.std.proofs.Common.{length-set}
+use Rattle.std.specs.Prelude.{All, Contains, ◌==◌}
+use Rattle.std.specs.List.{IsDistinct}
+use Rattle.std.specs.Ordering.{nat_cmp}
+use Rattle.std.specs.FinMap.{remove, get-empty}
+use Rattle.std.proofs.lemmas.Option.{none-some}
+use Rattle.std.proofs.lemmas.List.Elements.{All-nil, All-push, All-set, All-weaker}
+use Rattle.std.proofs.lemmas.Simd.{map-map}
+use Rattle.object_graph.specs.declared.value.Value.{Value}
+use Rattle.object_graph.specs.declared.value.Value.TheVariants.{Ref}
+use Rattle.object_graph.specs.declared.object.Field.{Field}
+use Rattle.object_graph.specs.declared.object.Entry.{Entry}
+use Rattle.object_graph.specs.declared.object.Object.{Object}
+use Rattle.object_graph.specs.declared.object.Object.TheVariants.{Plain, List as ListOf, Weak}
+use Rattle.object_graph.specs.declared.path.Path.{Path}
+use Rattle.object_graph.specs.declared.path.PathField.{PathField}
+use Rattle.object_graph.specs.Paths.{path_of, with_path}
+use Rattle.object_graph.specs.Graphs.{Graph, PlainObject, ListObject, WeakObject, start, bind, make, plain_at, list_at, weak_at}
+use Rattle.object_graph.specs.Meaning.{Limits, relist, reweave, reshape}
+use Rattle.object_graph.specs.Invariants.{cap_most, IsValue, AreFields, AreEntries, IsObject, IsPath, ArePaths, HasItsPath}
+use Rattle.object_graph.specs.Invariants.{IsGraph}
+use Rattle.object_graph.proofs.Leads.{Leads, each}
+use Rattle.graph_laws.proofs.FoundObjects.{plain_at-is, list_at-is, weak_at-is}
+use Rattle.graph_laws.proofs.Held.{held_at, object_grows, insert_bound, remove_bound, bound_grows}
+use Rattle.graph_laws.proofs.FirstPaths.{empty_paths_are}
+use Rattle.graph_laws.proofs.AddedPaths.{adds}
+
+-- the start is a graph
+pub start_is_graph : IsGraph start
+start_is_graph = record {
+  bound = λ x value at. absurd (none-some value (sym (get-empty nat_cmp x) ∙ at));
+  made = All-nil (IsObject 0);
+  paths = empty_paths_are;
+  shaped = All-nil (HasItsPath start.paths);
+}
+
+-- a graph with a variable bound to one of its values is a graph
+pub binds : (graph : Graph) (x : ℕ) (value : Value) → IsGraph graph → IsValue (length graph.objects) value
+    → IsGraph (bind graph x value)
+binds graph x value is held = record {
+  bound = insert_bound (length graph.objects) graph.bindings x value held is.bound;
+  made = is.made;
+  paths = is.paths;
+  shaped = is.shaped;
+}
+
+-- a graph with a variable unbound is a graph
+pub unbinds : (graph : Graph) (x : ℕ) → IsGraph graph → IsGraph (record graph { bindings = remove graph.bindings x })
+unbinds graph x is = record {
+  bound = remove_bound (length graph.objects) graph.bindings x is.bound;
+  made = is.made;
+  paths = is.paths;
+  shaped = is.shaped;
+}
+
+-- objects are objects of as many or more
+objects_grow : (count more : ℕ) (objects : List Object) → count ≤ more → All (IsObject count) objects
+    → All (IsObject more) objects
+objects_grow count more objects grows all =
+    All-weaker (IsObject count) (IsObject more) (λ object. object_grows count more object grows) objects all
+
+-- a graph with one object more is a graph
+pub makes : (graph : Graph) (x : ℕ) (object : Object) → IsGraph graph → IsObject (length graph.objects) object
+    → HasItsPath graph.paths object → IsGraph (make graph x object)
+makes graph x object is held shaped =
+    let count = length graph.objects in
+    let more = length (graph.objects ++ object ∷ []) in
+    let below : count < more = omega (arith, length-append graph.objects (object ∷ [])) in
+    let grows : count ≤ more = omega arith in
+    let before = bound_grows count more graph.bindings grows is.bound in
+    let others = objects_grow count more graph.objects grows is.made in
+    record {
+      bound = insert_bound more graph.bindings x (Ref count) below before;
+      made = All-push (IsObject more) graph.objects object others (object_grows count more object grows held);
+      paths = is.paths;
+      shaped = All-push (HasItsPath graph.paths) graph.objects object is.shaped shaped;
+    }
+
+-- an object has its path among paths that keep those before
+path_kept : (old new : List Path) → ((path : Path) → Contains old path → Contains new path)
+    → (object : Object) → HasItsPath old object → HasItsPath new object
+path_kept old new keeps (Plain cap fields) has = keeps (path_of cap fields) has
+path_kept old new keeps (ListOf elements) has = tt
+path_kept old new keeps (Weak entries) has = tt
+
+-- a graph with an object in the place of another, and with paths that keep those before, is a graph
+puts : (graph : Graph) (number : ℕ) (object : Object) (paths : List Path)
+    → IsGraph graph → IsObject (length graph.objects) object → ArePaths paths
+    → ((path : Path) → Contains graph.paths path → Contains paths path) → HasItsPath paths object
+    → IsGraph (record graph { objects = set graph.objects number object; paths = paths })
+puts graph number object paths is held are keeps shaped =
+    let count = length graph.objects in
+    let objects = set graph.objects number object in
+    let more = length objects in
+    let grows : count ≤ more = omega (arith, length-set graph.objects number object) in
+    let others = All-set (IsObject count) graph.objects number object held is.made in
+    let kept = All-weaker (HasItsPath graph.paths) (HasItsPath paths) (path_kept graph.paths paths keeps) in
+    record {
+      bound = bound_grows count more graph.bindings grows is.bound;
+      made = objects_grow count more objects grows others;
+      paths = are;
+      shaped = All-set (HasItsPath paths) graph.objects number object shaped (kept graph.objects is.shaped);
+    }
+
+-- the path of fields of which no name stands twice may be a path
+fields_are_path : (count cap : ℕ) (fields : List Field) → cap ≤ cap_most → AreFields count fields
+    → IsPath (path_of cap fields)
+fields_are_path count cap fields capped are =
+    let field_of = λ (f : Field). (let made : PathField = record { name = f.name; rep = f.rep } in made) in
+    let names = map-map (λ (f : PathField). f.name) field_of fields in
+    record { cap = capped; distinct = subst (IsDistinct ◌==◌) (sym names) are.distinct }
+
+-- a graph in which a plain object gets other fields, with their path added, is a graph
+pub reshapes : (limits : Limits) (graph : Graph) (plain : PlainObject) (fields : List Field)
+    → IsGraph graph → plain.cap ≤ cap_most → AreFields (length graph.objects) fields
+    → Leads IsGraph (reshape limits graph plain fields)
+reshapes limits graph plain fields is capped held =
+    let path = path_of plain.cap fields in
+    let fits = fields_are_path (length graph.objects) plain.cap fields capped held in
+    each IsGraph _ (with_path limits.paths graph.paths path) _ (λ paths added.
+    let more = adds limits.paths graph.paths paths path added is.paths fits in
+    puts graph plain.number (Plain plain.cap fields) paths is (capped, held) more.are more.keeps more.has)
+
+-- a graph in which a list gets other elements is a graph
+pub relists : (graph : Graph) (list : ListObject) (elements : List Value)
+    → IsGraph graph → All (IsValue (length graph.objects)) elements → IsGraph (relist graph list elements)
+relists graph list elements is held =
+    puts graph list.number (ListOf elements) graph.paths is held is.paths (λ path there. there) tt
+
+-- a graph in which a weak map gets other entries is a graph
+pub reweaves : (graph : Graph) (weak : WeakObject) (entries : List Entry)
+    → IsGraph graph → AreEntries (length graph.objects) entries → IsGraph (reweave graph weak entries)
+reweaves graph weak entries is held =
+    puts graph weak.number (Weak entries) graph.paths is held is.paths (λ path there. there) tt
+
+-- a plain object of a graph has a cap of at most 8 and fields of the graph's objects
+pub fields_held : (graph : Graph) (target : Value) (plain : PlainObject)
+    → IsGraph graph → plain_at graph.objects target ≡ Some plain
+    → (plain.cap ≤ cap_most) × AreFields (length graph.objects) plain.fields
+fields_held graph target plain is at =
+    let there = (plain_at-is graph.objects target plain at).1 in
+    held_at (IsObject (length graph.objects)) graph.objects plain.number (Plain plain.cap plain.fields) is.made there
+
+-- a list of a graph has elements of the graph's objects
+pub elements_held : (graph : Graph) (target : Value) (list : ListObject)
+    → IsGraph graph → list_at graph.objects target ≡ Some list → All (IsValue (length graph.objects)) list.elements
+elements_held graph target list is at =
+    let there = (list_at-is graph.objects target list at).1 in
+    held_at (IsObject (length graph.objects)) graph.objects list.number (ListOf list.elements) is.made there
+
+-- a weak map of a graph has entries of the graph's objects
+pub entries_held : (graph : Graph) (target : Value) (weak : WeakObject)
+    → IsGraph graph → weak_at graph.objects target ≡ Some weak → AreEntries (length graph.objects) weak.entries
+entries_held graph target weak is at =
+    let there = (weak_at-is graph.objects target weak at).1 in
+    held_at (IsObject (length graph.objects)) graph.objects weak.number (Weak weak.entries) is.made there

@@ -1,0 +1,115 @@
+-- What a command that is carried out leaves as it was.
+use Rattle.std.proofs.Common.{◌≡◌, ℕ, List, [], ◌∷◌, ◌++◌, length, take, set, Some, refl, sym, ap, ◌∙◌, subst, arith}
+use Rattle.std.proofs.Common.{length-append, length-set, inl, inr}
+use Rattle.std.specs.Prelude.{slice_get}
+use Rattle.std.proofs.lemmas.Bool.{cases_eq}
+use Rattle.std.proofs.lemmas.List.{take_all}
+use Rattle.std.proofs.lemmas.Option.{same_Some, slice_get_within}
+use Rattle.heap_command.specs.declared.command.Command.{Command}
+use Rattle.heap_command.specs.declared.command.Command.TheVariants.{Scavenge, Mark, Finish, Gc}
+use Rattle.object_graph.specs.declared.value.Value.TheVariants.{Ref}
+use Rattle.object_graph.specs.declared.object.Object.{Object}
+use Rattle.object_graph.specs.declared.object.Object.TheVariants.{Plain, List as ListOf, Weak}
+use Rattle.object_graph.specs.declared.path.Path.{Path}
+use Rattle.object_graph.specs.Graphs.{Graph}
+use Rattle.object_graph.specs.Meaning.{Limits, done, does}
+use Rattle.object_graph.proofs.Lists.{slice_get-push, slice_get-set_same, slice_get-set_other}
+use Rattle.object_graph.proofs.Leads.{Leads}
+use Rattle.graph_laws.specs.Laws.{MayChange, SameKind, ObjectsKept, ObjectsStay, PathsStay, CollectionsChangeNothing}
+use Rattle.graph_laws.proofs.Changes.{Changes, binds, makes, puts, changed}
+
+-- a command that is carried out changes what its meaning changes
+carried_out : (limits : Limits) (names : List (List ℕ)) (graph : Graph) (command : Command) (after : Graph) (text : List ℕ)
+    → does limits names graph command ≡ done after text → Changes graph command after
+carried_out limits names graph command after text is =
+    subst (Leads (Changes graph command)) is (changed limits names graph command)
+
+-- a change leaves the paths the first ones
+paths_first : (graph : Graph) (command : Command) (after : Graph) → Changes graph command after
+    → take (length graph.paths) after.paths ≡ graph.paths
+paths_first graph command after (binds bindings) = take_all (length graph.paths) graph.paths (omega arith)
+paths_first graph command after (makes x object) = take_all (length graph.paths) graph.paths (omega arith)
+paths_first graph command after (puts number old new paths may there kind first) = first
+
+-- the paths stay the first ones
+pub paths_stay : PathsStay
+paths_stay limits names graph command after text is =
+    paths_first graph command after (carried_out limits names graph command after text is)
+
+-- an object is of its own kind
+same_kind-refl : (object : Object) → SameKind object object
+same_kind-refl (Plain cap fields) = refl
+same_kind-refl (ListOf elements) = tt
+same_kind-refl (Weak entries) = tt
+
+-- the objects are kept where none changes
+kept_all : (graph : Graph) (command : Command) (after : Graph) → after.objects ≡ graph.objects
+    → ObjectsKept graph command after
+kept_all graph command after same =
+    let kept = λ (number : ℕ) (object : Object) (there : slice_get graph.objects number ≡ Some object).
+    ap (λ objects. slice_get objects number) same ∙ there in
+    record {
+      none_lost = omega (arith, ap length same);
+      kinds = λ number object there. (object, kept number object there, same_kind-refl object);
+      others = λ number object there no. kept number object there;
+    }
+
+-- the objects are kept where one is added
+kept_push : (graph : Graph) (command : Command) (after : Graph) (added : Object)
+    → after.objects ≡ graph.objects ++ added ∷ [] → ObjectsKept graph command after
+kept_push graph command after added is =
+    let kept = λ (number : ℕ) (object : Object) (there : slice_get graph.objects number ≡ Some object).
+    ap (λ objects. slice_get objects number) is ∙ slice_get-push graph.objects added number object there in
+    record {
+      none_lost = omega (arith, ap length is, length-append graph.objects (added ∷ []));
+      kinds = λ number object there. (object, kept number object there, same_kind-refl object);
+      others = λ number object there no. kept number object there;
+    }
+
+-- each object keeps its kind where one of its kind is put in the place of another
+kind_put : (objects : List Object) (place : ℕ) (old new : Object) → slice_get objects place ≡ Some old → SameKind old new
+    → (number : ℕ) (object : Object) → slice_get objects number ≡ Some object
+    → (later : Object) × (slice_get (set objects place new) number ≡ Some later) × SameKind object later
+kind_put objects place old new at kind number object there =
+    elim (cases_eq place number) [
+      | inl same ↦
+          let was = same_Some old object (sym at ∙ ap (λ n. slice_get objects n) same ∙ there) in
+          let put = slice_get-set_same objects place new (slice_get_within objects place old at) in
+          (new, ap (λ n. slice_get (set objects place new) n) (sym same) ∙ put, subst (λ o. SameKind o new) was kind)
+      | inr apart ↦
+          let kept = slice_get-set_other objects place number new (λ same. apart (sym same)) in
+          (object, kept ∙ there, same_kind-refl object)
+    ]
+
+-- the objects are kept where one is put in the place of another
+kept_put : (graph : Graph) (command : Command) (place : ℕ) (old new : Object) (paths : List Path)
+    → MayChange graph command place → slice_get graph.objects place ≡ Some old → SameKind old new
+    → ObjectsKept graph command (record graph { objects = set graph.objects place new; paths = paths })
+kept_put graph command place old new paths may at kind = record {
+  none_lost = omega (arith, length-set graph.objects place new);
+  kinds = kind_put graph.objects place old new at kind;
+  others = λ number object there no.
+      let apart : number ≡ place → ⊥ = λ same. no (may ∙ ap (λ n. Some (Ref n)) (sym same)) in
+      slice_get-set_other graph.objects place number new apart ∙ there;
+}
+
+-- the objects are kept at each change
+objects_kept : (graph : Graph) (command : Command) (after : Graph) → Changes graph command after
+    → ObjectsKept graph command after
+objects_kept graph command after (binds bindings) = kept_all graph command (record graph { bindings = bindings }) refl
+objects_kept graph command after (makes x object) = kept_push graph command after object refl
+objects_kept graph command after (puts number old new paths may there kind first) =
+    kept_put graph command number old new paths may there kind
+
+-- the objects stay
+pub objects_stay : ObjectsStay
+objects_stay limits names graph command after text is =
+    objects_kept graph command after (carried_out limits names graph command after text is)
+
+-- a collection changes nothing
+pub collections_change_nothing : CollectionsChangeNothing
+collections_change_nothing limits names graph Scavenge is = refl
+collections_change_nothing limits names graph Mark is = refl
+collections_change_nothing limits names graph Finish is = refl
+collections_change_nothing limits names graph Gc is = refl
+collections_change_nothing limits names graph _ is = elim is [ ]

@@ -1,0 +1,4 @@
+pub mod Laws
+pub mod ReachLaws
+pub mod GraphLaws
+pub mod LimitLaws

@@ -1,0 +1,207 @@
+-- What follows of a run from what it comes to and what the sink took.
+use Rattle.std.proofs.Common.{arith, ◌≡◌, ◌≢◌, ℕ, List, [], ◌∷◌, Option, Some, None, IfSome, Err, refl, sym, subst, lit<, ◌⊎◌, inl, inr}
+use Rattle.std.specs.Prelude.{Contains, Bool, true, false, not, ◌&&◌, ◌||◌, if◌then◌else◌, option_and_then, bytes_eq}
+use Rattle.command_line.specs.declared.invocation.Sizes.{Sizes}
+use Rattle.command_line.specs.declared.invocation.Invocation.{Invocation}
+use Rattle.command_line.specs.declared.invocation.Invocation.TheVariants.{Run}
+use Rattle.command_line.specs.Given.{given_of}
+use Rattle.command_line.specs.Invocations.{Command, run, check, soak, gen, command_text, invocation_by, BeginsBuilt}
+use Rattle.script_text.specs.declared.script.BadScript.{BadScript}
+use Rattle.script_text.specs.declared.script.BadScript.TheVariants as bad
+use Rattle.script_text.specs.Grammar.{reading}
+use Rattle.byte_ends.specs.Faults.{Rose}
+use Rattle.byte_ends.specs.Source.{IsInput}
+use Rattle.byte_ends.specs.Sink.{Appends, AppendsSome}
+use Rattle.heap_script.specs.declared.finished.How.{How}
+use Rattle.heap_script.specs.declared.finished.How.TheVariants as how
+use Rattle.heap_run.specs.declared.ended.Kept.{Kept}
+use Rattle.heap_run.specs.declared.ended.Ended.{Ended}
+use Rattle.heap_run.specs.declared.last_line.LastLine.{LastLine}
+use Rattle.heap_run.specs.declared.last_line.LastLine.TheVariants as last
+use Rattle.heap_run.specs.Texts.{last_bytes, status_of}
+use Rattle.heap_run.specs.Answers.{Input, ReadsAll, Answer, unopened, refusal_of, last_line_of, Comes, Taken, Answers, Runs, IsOpened, KeepsGraph, AsksToRun}
+
+-- no last line has the status of a sink that failed
+pub status-apart : (line : LastLine) → status_of line ≢ 5
+status-apart last.Nothing e = cc
+status-apart (last.Fault line word) e = cc
+status-apart (last.BadScript line why) e = cc
+status-apart (last.TooManyNames line) e = cc
+status-apart (last.HeapFull line) e = cc
+status-apart last.ReadFault e = cc
+status-apart last.SourceTooLong e = cc
+status-apart last.NoMemory e = cc
+status-apart (last.LineLimit line) e = cc
+status-apart last.BadWords e = cc
+
+-- a kept heap shows the graph of the bytes that the source had left
+pub keeps-comes : (words : List (List ℕ)) (input : Input) (answer : Answer) → Comes words input answer
+    → IfSome answer.kept (λ kept. (bytes : List ℕ) × IsInput input.before bytes × KeepsGraph (reading bytes) kept)
+keeps-comes words input _ (Comes.bad_words refused unread steady) = tt
+keeps-comes words input _ (Comes.no_memory begins read) = tt
+keeps-comes words input _ (Comes.read_fault sizes asks rose) = tt
+keeps-comes words input _ (Comes.too_long sizes asks many) = tt
+keeps-comes words input _ (Comes.no_script sizes bytes stop line asks reads is refusal) = tt
+keeps-comes words input _ (Comes.ended sizes bytes script kept came asks reads is reached comes need) =
+    (bytes, reads.all, subst (λ r. KeepsGraph r kept) (sym is) reached)
+keeps-comes words input _ (Comes.cut_short sizes bytes script kept asks reads is reached line need fills) =
+    (bytes, reads.all, subst (λ r. KeepsGraph r kept) (sym is) reached)
+
+-- where a heap is kept, nothing of the source is left
+pub reads-comes : (words : List (List ℕ)) (input : Input) (answer : Answer) → Comes words input answer
+    → IfSome answer.kept (λ _. IfSome input.before (λ _. input.after ≡ Some []))
+reads-comes words input _ (Comes.bad_words refused unread steady) = tt
+reads-comes words input _ (Comes.no_memory begins read) = tt
+reads-comes words input _ (Comes.read_fault sizes asks rose) = tt
+reads-comes words input _ (Comes.too_long sizes asks many) = tt
+reads-comes words input _ (Comes.no_script sizes bytes stop line asks reads is refusal) = tt
+reads-comes words input _ (Comes.ended sizes bytes script kept came asks reads is reached comes need) = reads.none_left
+reads-comes words input _ (Comes.cut_short sizes bytes script kept asks reads is reached line need fills) = reads.none_left
+
+-- the status of the end of a script
+opened-ended : (came : How) (line : ℕ) → Contains (0 ∷ 1 ∷ 3 ∷ 5 ∷ 8 ∷ []) (status_of (last_line_of came line))
+opened-ended how.End line = (0, lit< tt, refl)
+opened-ended (how.Fault word) line = (1, lit< tt, refl)
+opened-ended (how.HeapFull need) line = (2, lit< tt, refl)
+opened-ended (how.SinkFault need) line = (0, lit< tt, refl)
+opened-ended how.LineLimit line = (4, lit< tt, refl)
+
+-- the status of a source that is no script
+opened-refused : (stop : BadScript) (line : LastLine) → refusal_of stop ≡ Some line
+    → Contains (2 ∷ 4 ∷ 5 ∷ 6 ∷ 7 ∷ 64 ∷ []) (status_of line)
+opened-refused (bad.BadLine at why) line e =
+    let is : last.BadScript at why ≡ line = cc in
+    subst (λ l. Contains (2 ∷ 4 ∷ 5 ∷ 6 ∷ 7 ∷ 64 ∷ []) (status_of l)) is (0, lit< tt, refl)
+opened-refused (bad.TooManyNames at) line e =
+    let is : last.TooManyNames at ≡ line = cc in
+    subst (λ l. Contains (2 ∷ 4 ∷ 5 ∷ 6 ∷ 7 ∷ 64 ∷ []) (status_of l)) is (0, lit< tt, refl)
+opened-refused bad.NoMemory line e = cc
+
+-- the status of an answer whose last line is written goes with the heap that is kept
+opened-line : (words : List (List ℕ)) (input : Input) (answer : Answer) → Comes words input answer → (line : LastLine)
+    → answer.last ≡ Some line → IsOpened (status_of line) answer.kept
+opened-line words input _ (Comes.bad_words refused unread steady) line e =
+    let is : last.BadWords ≡ line = cc in
+    subst (λ l. IsOpened (status_of l) None) is (5, lit< tt, refl)
+opened-line words input _ (Comes.no_memory begins read) line e =
+    let is : last.NoMemory ≡ line = cc in
+    subst (λ l. IsOpened (status_of l) None) is (4, lit< tt, refl)
+opened-line words input _ (Comes.read_fault sizes asks rose) line e =
+    let is : last.ReadFault ≡ line = cc in
+    subst (λ l. IsOpened (status_of l) None) is (1, lit< tt, refl)
+opened-line words input _ (Comes.too_long sizes asks many) line e =
+    let is : last.SourceTooLong ≡ line = cc in
+    subst (λ l. IsOpened (status_of l) None) is (3, lit< tt, refl)
+opened-line words input _ (Comes.no_script sizes bytes stop at asks reads is refusal) line e =
+    let same : at ≡ line = cc in
+    subst (λ l. IsOpened (status_of l) None) same (opened-refused stop at refusal)
+opened-line words input _ (Comes.ended sizes bytes script kept came asks reads is reached comes need) line e =
+    let same : last_line_of came kept.line ≡ line = cc in
+    subst (λ l. IsOpened (status_of l) (Some kept)) same (opened-ended came kept.line)
+opened-line words input _ (Comes.cut_short sizes bytes script kept asks reads is reached at need fills) line e = cc
+
+-- the status of a sink that failed goes with a heap and with none
+opened-failed : (kept : Option Kept) → IsOpened 5 kept
+opened-failed None = (2, lit< tt, refl)
+opened-failed (Some kept) = (3, lit< tt, refl)
+
+-- the status goes with the heap that is kept
+pub opened-answer : (words : List (List ℕ)) (input : Input) (old new : List ℕ → Type 0) (faults_old faults_new : ℕ)
+    (answer : Answer) (status : ℕ) → Comes words input answer → Taken old new faults_old faults_new answer status
+    → IsOpened status answer.kept
+opened-answer words input old new faults_old faults_new _ _ comes (Taken.all told line kept appends steady) =
+    opened-line words input _ comes line refl
+opened-answer words input old new faults_old faults_new _ _ comes (Taken.front answer some near rose) =
+    opened-failed answer.kept
+
+-- an answer before the opening, as it is concluded
+pub Taken-unopened : (old new : List ℕ → Type 0) (faults_old faults_new status : ℕ) (line : LastLine)
+    → (status ≢ 5 → (status ≡ status_of line) × Appends old new (last_bytes line) × (faults_new ≡ faults_old))
+    → (status ≡ 5 → AppendsSome old new (last_bytes line) × Rose faults_old faults_new)
+    → (status ≡ 5) ⊎ (status ≢ 5)
+    → Taken old new faults_old faults_new (unopened line) status
+Taken-unopened old new faults_old faults_new status line written failed (inl five) =
+    let (some, rose) = failed five in
+    rw five (Taken.front (unopened line) some (omega arith) rose)
+Taken-unopened old new faults_old faults_new status line written failed (inr other) =
+    let (is, appends, steady) = written other in
+    rw is (Taken.all [] line None appends steady)
+
+-- what answers, by its parts
+pub Answers-keeps : (words : List (List ℕ)) (input : Input) (old new : List ℕ → Type 0) (faults_old faults_new : ℕ)
+    (ended : Ended) → Answers words input old new faults_old faults_new ended
+    → IfSome ended.kept (λ kept. (bytes : List ℕ) × IsInput input.before bytes × KeepsGraph (reading bytes) kept)
+Answers-keeps words input old new faults_old faults_new ended a =
+    let P : Option Kept → Type 0 =
+    λ kept. IfSome kept (λ kept. (bytes : List ℕ) × IsInput input.before bytes × KeepsGraph (reading bytes) kept) in
+    subst P a.kept (keeps-comes words input a.answer a.comes)
+
+pub Answers-reads : (words : List (List ℕ)) (input : Input) (old new : List ℕ → Type 0) (faults_old faults_new : ℕ)
+    (ended : Ended) → Answers words input old new faults_old faults_new ended
+    → IfSome ended.kept (λ _. IfSome input.before (λ _. input.after ≡ Some []))
+Answers-reads words input old new faults_old faults_new ended a =
+    let P : Option Kept → Type 0 = λ kept. IfSome kept (λ _. IfSome input.before (λ _. input.after ≡ Some [])) in
+    subst P a.kept (reads-comes words input a.answer a.comes)
+
+pub Answers-opened : (words : List (List ℕ)) (input : Input) (old new : List ℕ → Type 0) (faults_old faults_new : ℕ)
+    (ended : Ended) → Answers words input old new faults_old faults_new ended → IsOpened ended.status ended.kept
+Answers-opened words input old new faults_old faults_new ended a =
+    subst (IsOpened ended.status) a.kept
+    (opened-answer words input old new faults_old faults_new a.answer ended.status a.comes a.taken)
+
+-- an answer before the opening
+pub Answers-unopened : (words : List (List ℕ)) (input : Input) (old new : List ℕ → Type 0) (faults_old faults_new : ℕ)
+    (ended : Ended) (line : LastLine) → ended.kept ≡ None → Comes words input (unopened line)
+    → Taken old new faults_old faults_new (unopened line) ended.status
+    → Answers words input old new faults_old faults_new ended
+Answers-unopened words input old new faults_old faults_new ended line none comes taken =
+    record { answer = unopened line; kept = sym none; comes = comes; taken = taken }
+
+-- the same of a source that was read
+pub Runs-unopened : (bytes : List ℕ) (old new : List ℕ → Type 0) (faults_old faults_new : ℕ) (ended : Ended)
+    (line : LastLine) → ended.kept ≡ None
+    → ((words : List (List ℕ)) (input : Input) (sizes : Sizes) → AsksToRun words sizes → ReadsAll input bytes
+    → Comes words input (unopened line))
+    → Taken old new faults_old faults_new (unopened line) ended.status
+    → Runs bytes old new faults_old faults_new ended
+Runs-unopened bytes old new faults_old faults_new ended line none comes taken =
+    record { answer = unopened line; kept = sym none; comes = comes; taken = taken }
+
+-- where a command is one of four by these tests, and none of the last three, it is the first
+built_by : (r k s g : Bool) (next : Command → Option Invocation) (invocation : Invocation)
+    → (if (k || (s || (g || false))) then None else option_and_then next
+    (if r then Some run else (if k then Some check else (if s then Some soak else (if g then Some gen else None)))))
+    ≡ Some invocation
+    → ((r || (k || (s || (g || false)))) && not (k || (s || (g || false)))) ≡ true
+built_by r true s g next invocation e = cc
+built_by r false true g next invocation e = cc
+built_by r false false true next invocation e = cc
+built_by true false false false next invocation e = refl
+built_by false false false false next invocation e = cc
+
+-- words that ask for a run begin with a command that is built
+pub begins : (words : List (List ℕ)) (sizes : Sizes) → AsksToRun words sizes → BeginsBuilt words
+begins [] sizes asks = absurd (cc)
+begins (first ∷ words) sizes asks =
+    let test : Command → Bool = λ command. bytes_eq (command_text command) first in
+    built_by (test run) (test check) (test soak) (test gen)
+    (λ command. option_and_then (invocation_by command) (given_of words)) (Run sizes) asks
+
+-- want of memory once the source was read
+pub Comes-memory : (bytes : List ℕ) (words : List (List ℕ)) (input : Input) (sizes : Sizes) → AsksToRun words sizes
+    → ReadsAll input bytes → Comes words input (unopened last.NoMemory)
+Comes-memory bytes words input sizes asks reads = Comes.no_memory (begins words sizes asks) (inr (bytes, reads))
+
+-- a source that is no script
+pub Comes-refused : (bytes : List ℕ) (stop : BadScript) (line : LastLine) → reading bytes ≡ Err stop
+    → refusal_of stop ≡ Some line → (words : List (List ℕ)) (input : Input) (sizes : Sizes) → AsksToRun words sizes
+    → ReadsAll input bytes → Comes words input (unopened line)
+Comes-refused bytes stop line is refusal words input sizes asks reads =
+    Comes.no_script sizes bytes stop line asks reads is refusal
+
+-- a run whose source was read, under the words that ask for it
+pub Answers-runs : (words : List (List ℕ)) (input : Input) (bytes : List ℕ) (sizes : Sizes)
+    (old new : List ℕ → Type 0) (faults_old faults_new : ℕ) (ended : Ended) → AsksToRun words sizes → ReadsAll input bytes
+    → Runs bytes old new faults_old faults_new ended → Answers words input old new faults_old faults_new ended
+Answers-runs words input bytes sizes old new faults_old faults_new ended asks reads r =
+    record { answer = r.answer; kept = r.kept; comes = r.comes words input sizes asks reads; taken = r.taken }

@@ -1,0 +1,78 @@
+-- How many objects a heap can show, and how many a command makes.
+use Rattle.std.proofs.Common.{◌≡◌, ℕ, ◌+◌, ◌≤◌, Bool, true, false, List, [], ◌++◌, length, if◌then◌else◌, refl, sym, subst, ◌∙◌, add-zero, arith}
+use Rattle.std.specs.Prelude.{slice_set}
+use Rattle.std.specs.Ordering.{nat_cmp}
+use Rattle.std.specs.FinMap.{FinMap}
+use Rattle.std.proofs.Math.ListN.{length-set}
+use Rattle.std.proofs.lemmas.List.{length_push, append-nil}
+use Rattle.heap_command.specs.declared.command.Command.{Command}
+use Rattle.heap_command.specs.declared.command.Command.TheVariants as command
+use Rattle.object_graph.specs.declared.value.Value.{Value}
+use Rattle.object_graph.specs.declared.object.Object.{Object}
+use Rattle.object_graph.specs.declared.object.Object.TheVariants.{Plain, List as ListOf, Weak}
+use Rattle.object_graph.specs.declared.path.Path.{Path}
+use Rattle.object_graph.specs.Graphs.{Graph}
+use Rattle.object_graph.specs.Meaning.{Limits, done, does}
+use Rattle.object_graph.proofs.Leads.{Leads, each, if_not, if_there}
+use Rattle.mutator.specs.Heap.{heap_words, FirstWords, Shows}
+use Rattle.mutator.proofs.Shown.{count_within}
+use Rattle.heap_script.specs.Progress.{objects_made}
+
+-- a heap shows at most as many objects as it has words
+pub few_objects : (heap : FirstWords) (graph : Graph) → Shows heap graph → length graph.objects ≤ heap_words
+few_objects heap graph shown = omega (arith, count_within heap graph shown, shown.room)
+
+-- writing nothing more leaves what was written, whether the call went through or not
+pub written_nothing : (b : Bool) (out : List ℕ) → out ≡ (if b then out ++ [] else out)
+written_nothing true out = sym (append-nil out)
+written_nothing false out = refl
+
+-- the graph has so many objects more than the other
+abbrev HasMore : ℕ → Graph → Graph → Type 0
+HasMore n graph after = length after.objects ≡ length graph.objects + n
+
+-- no object is made by binding variables
+binds : (graph : Graph) (bindings : FinMap nat_cmp Value) → HasMore 0 graph (record graph { bindings = bindings })
+binds graph bindings = sym (add-zero (length graph.objects))
+
+-- nor by putting an object in the place of another
+puts : (graph : Graph) (number : ℕ) (object : Object) (paths : List Path)
+    → HasMore 0 graph (record graph { objects = slice_set graph.objects number object; paths = paths })
+puts graph number object paths = length-set graph.objects number object ∙ sym (add-zero (length graph.objects))
+
+-- a command makes the objects that it is said to make
+leads-objects : (limits : Limits) (names : List (List ℕ)) (graph : Graph) (command : Command)
+    → Leads (HasMore (objects_made command) graph) (does limits names graph command)
+leads-objects limits names graph (command.New x cap) = length_push graph.objects (Plain cap [])
+leads-objects limits names graph (command.List x) = length_push graph.objects (ListOf [])
+leads-objects limits names graph (command.Weak x) = length_push graph.objects (Weak [])
+leads-objects limits names graph (command.LetValue x v) = search (each, binds)
+leads-objects limits names graph (command.DropVar x) = search (each, binds)
+leads-objects limits names graph (command.Add x v) = search (each, if_not, binds) depth 12
+leads-objects limits names graph (command.Set x f v) = search (each, if_not, puts) depth 12
+leads-objects limits names graph (command.Get y x f) = search (each, binds)
+leads-objects limits names graph (command.Del x f) = search (each, if_there, binds, puts) depth 12
+leads-objects limits names graph (command.Push x v) = search (each, if_not, puts) depth 12
+leads-objects limits names graph (command.Put x i v) = search (each, puts) depth 12
+leads-objects limits names graph (command.At y x i) = search (each, binds) depth 12
+leads-objects limits names graph (command.Shift x n) = search (each, puts) depth 12
+leads-objects limits names graph (command.Trunc x n) = search (each, puts) depth 12
+leads-objects limits names graph (command.WPut m k v) = search (each, if_not, puts) depth 12
+leads-objects limits names graph (command.WGet y m k) = search (each, binds) depth 12
+leads-objects limits names graph (command.WDel m k) = search (each, puts) depth 12
+leads-objects limits names graph (command.Print v) = search (each, binds)
+leads-objects limits names graph (command.Same a b) = search (each, binds)
+leads-objects limits names graph (command.Alike x y) = search (each, binds) depth 12
+leads-objects limits names graph (command.Shape x) = search (each, binds)
+leads-objects limits names graph command.Scavenge = binds graph graph.bindings
+leads-objects limits names graph command.Mark = binds graph graph.bindings
+leads-objects limits names graph command.Finish = binds graph graph.bindings
+leads-objects limits names graph command.Gc = binds graph graph.bindings
+leads-objects limits names graph command.Census = binds graph graph.bindings
+
+-- so many objects more are there behind it
+pub length-does : (limits : Limits) (names : List (List ℕ)) (graph after : Graph) (command : Command) (text : List ℕ)
+    → does limits names graph command ≡ done after text
+    → length after.objects ≡ length graph.objects + objects_made command
+length-does limits names graph after command text e =
+    subst (Leads (HasMore (objects_made command) graph)) e (leads-objects limits names graph command)

@@ -1,0 +1,6 @@
+mod Counts
+pub mod Handing
+mod Ways
+mod Running
+mod Ending
+mod Finishing

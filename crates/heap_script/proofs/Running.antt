@@ -1,0 +1,164 @@
+-- What holds of a run between two of its lines, and how a line carries it on.
+use Rattle.std.proofs.Common.{◌≡◌, ℕ, suc, zero, ◌+◌, ◌<◌, List, [], ◌∷◌, ◌++◌, length, take, drop, Option, Some, None, Ok, refl, sym, ap, subst, ◌∙◌, add-one, add-zero, append-nil, arith}
+use Rattle.std.specs.Prelude.{option_and_then}
+use Rattle.heap_command.specs.declared.command.Command.{Command}
+use Rattle.heap_command.specs.Executed.{Executed}
+use Rattle.object_graph.specs.Graphs.{start}
+use Rattle.object_graph.specs.Run.{Told, untold, told_with, tell, told, lines_most}
+use Rattle.object_graph.proofs.Runs.{told-push}
+use Rattle.script_text.specs.Scripts.{ScriptText}
+use Rattle.script_text.specs.Unrolled.{executed, executed_lines}
+use Rattle.script_text.specs.Whole.{IsPlaced}
+use Rattle.script_text.specs.Left.{IsLeft, Goes}
+use Rattle.script_text.proofs.Left.{begins}
+use Rattle.mutator.specs.Heap.{FirstWords, HasVariables, Shows, heap_limits}
+use Rattle.mutator.specs.Carries.{Carries}
+use Rattle.heap_script.specs.Runs.{left_after, Reached}
+use Rattle.heap_script.specs.Progress.{objects_made, made_by, CarriesLine, Handed}
+use Rattle.heap_script.proofs.Counts.{length-does}
+use Rattle.heap_script.proofs.Handing.{Handed-none, Handed-more, Handed-told}
+
+-- Between two lines: the lines that are left are those from this place on with these turns left, what was told was
+-- handed on or waits, and the objects are counted.
+pub record Running (script : ScriptText) (heap : FirstWords) (objects : ℕ) (waiting : List ℕ)
+    (old new : List ℕ → Type 0) (at : ℕ) (ts : List ℕ) (executed : ℕ) : Type 0 where
+  pub reached : Reached script heap executed
+  pub left : IsLeft script.lines at ts (left_after script executed)
+  pub handed : Handed old new waiting reached.so_far.bytes
+  pub made : objects ≡ length reached.so_far.graph.objects
+
+-- a list whose rest after the first n begins with an element
+pub record Next {A : Type 0} (xs : List A) (n : ℕ) (x : A) (rest : List A) : Type 0 where
+  pub within : n < length xs
+  pub taken : take (suc n) xs ≡ take n xs ++ x ∷ []
+  pub dropped : drop (suc n) xs ≡ rest
+
+-- the same one element further
+next_after : {A : Type 0} (first : A) (xs : List A) (n : ℕ) (x : A) (rest : List A) → Next xs n x rest
+    → Next (first ∷ xs) (suc n) x rest
+next_after first xs n x rest next = record {
+  within = omega (arith, next.within);
+  taken = ap (λ more. first ∷ more) next.taken;
+  dropped = next.dropped;
+}
+
+-- past the end no element is left
+nil_cons : {A : Type 0} (n : ℕ) (x : A) (rest : List A) → drop n [] ≡ x ∷ rest → ⊥
+nil_cons zero x rest e = cc
+nil_cons (suc n) x rest e = cc
+
+-- of a rest that begins with an element, the element is the next one
+pub next-drop : {A : Type 0} (xs : List A) (n : ℕ) (x : A) (rest : List A) → drop n xs ≡ x ∷ rest → Next xs n x rest
+next-drop [] n x rest e = absurd (nil_cons n x rest e)
+next-drop (first ∷ xs) zero x rest e =
+    let same : first ≡ x = cc in
+    let others : xs ≡ rest = cc in
+    record { within = omega arith; taken = ap (λ y. y ∷ []) same; dropped = others }
+next-drop (first ∷ xs) (suc n) x rest e = next_after first xs n x rest (next-drop xs n x rest e)
+
+-- a script begins
+pub Running-start : (script : ScriptText) (heap : FirstWords) (old : List ℕ → Type 0) → IsPlaced 0 script.lines
+    → Shows heap start → HasVariables heap (length script.variables) → Running script heap 0 [] old old 0 [] 0
+Running-start script heap old placed shown variables = record {
+  reached = record {
+    within = omega arith;
+    few = omega arith;
+    variables = variables;
+    so_far = untold;
+    said = refl;
+    shown = shown;
+  };
+  left = begins script.lines placed;
+  handed = Handed-none old;
+  made = refl;
+}
+
+-- what waits is handed on
+pub Running-handed : (script : ScriptText) (heap : FirstWords) (objects : ℕ) (waiting rest : List ℕ)
+    (old mid new : List ℕ → Type 0) (at : ℕ) (ts : List ℕ) (n : ℕ)
+    → Running script heap objects waiting old mid at ts n → Handed mid new rest waiting
+    → Running script heap objects rest old new at ts n
+Running-handed script heap objects waiting rest old mid new at ts n r h = record {
+  reached = r.reached;
+  left = r.left;
+  handed = Handed-more r.handed h;
+  made = r.made;
+}
+
+-- one line more is told: what the run tells after it
+said-next : (script : ScriptText) (n : ℕ) (so_far later : Told) (line : Executed) (rest : List Executed)
+    → Next (executed_lines script.lines) n line rest
+    → told heap_limits script.fields (take n (executed_lines script.lines)) ≡ Some so_far
+    → tell heap_limits script.fields so_far line.command ≡ Some later
+    → told heap_limits script.fields (take (n + 1) (executed_lines script.lines)) ≡ Some later
+said-next script n so_far later line rest next said tells =
+    let lines = executed_lines script.lines in
+    ap (λ m. told heap_limits script.fields (take m lines)) (add-one n)
+    ∙ ap (told heap_limits script.fields) next.taken
+    ∙ told-push heap_limits script.fields (take n lines) line
+    ∙ ap (option_and_then (λ so_far. tell heap_limits script.fields so_far line.command)) said
+    ∙ tells
+
+-- a `repeat` or an `end` was executed
+pub Running-passed : (script : ScriptText) (heap : FirstWords) (objects : ℕ) (waiting : List ℕ)
+    (old new : List ℕ → Type 0) (at at' : ℕ) (ts ts' : List ℕ) (n number : ℕ)
+    → Running script heap objects waiting old new at ts n → n < lines_most
+    → Goes script.lines at' ts' (left_after script n) (executed number None)
+    → Running script heap objects waiting old new at' ts' (n + 1)
+Running-passed script heap objects waiting old new at at' ts ts' n number r below goes =
+    let so_far = r.reached.so_far in
+    let next = next-drop (executed_lines script.lines) n (executed number None) goes.rest goes.is in
+    record {
+      reached = record {
+        within = omega (arith, next.within);
+        few = omega (arith, below);
+        variables = r.reached.variables;
+        so_far = so_far;
+        said = said-next script n so_far so_far (executed number None) goes.rest next r.reached.said refl;
+        shown = r.reached.shown;
+      };
+      left = subst (IsLeft script.lines at' ts') (sym (ap (λ m. drop m (executed_lines script.lines)) (add-one n) ∙ next.dropped)) goes.left;
+      handed = r.handed;
+      made = r.made;
+    }
+
+-- a command was carried out
+pub Running-carried : (script : ScriptText) (heap after : FirstWords) (objects : ℕ) (waiting : List ℕ)
+    (old new : List ℕ → Type 0) (at at' : ℕ) (ts ts' : List ℕ) (n number : ℕ) (command : Command) (text : List ℕ)
+    → (r : Running script heap objects waiting old new at ts n) → n < lines_most
+    → Goes script.lines at' ts' (left_after script n) (executed number (Some command))
+    → Carries script.fields heap after r.reached.so_far.graph command text (Ok tt)
+    → Running script after (objects + objects_made command) (waiting ++ text) old new at' ts' (n + 1)
+Running-carried script heap after objects waiting old new at at' ts ts' n number command text r below goes carries =
+    let (graph, does-is, shown, roots, room) = carries in
+    let so_far = r.reached.so_far in
+    let later : Told = record { graph = graph; bytes = so_far.bytes ++ text } in
+    let line = executed number (Some command) in
+    let next = next-drop (executed_lines script.lines) n line goes.rest goes.is in
+    record {
+      reached = record {
+        within = omega (arith, next.within);
+        few = omega (arith, below);
+        variables = roots ∙ r.reached.variables;
+        so_far = later;
+        said = said-next script n so_far later line goes.rest next r.reached.said (ap (told_with so_far) does-is);
+        shown = shown;
+      };
+      left = subst (IsLeft script.lines at' ts') (sym (ap (λ m. drop m (executed_lines script.lines)) (add-one n) ∙ next.dropped)) goes.left;
+      handed = Handed-told text r.handed;
+      made = ap (λ m. m + objects_made command) r.made
+          ∙ sym (length-does heap_limits script.fields so_far.graph graph command text does-is);
+    }
+
+-- a line was executed
+pub Running-line : (script : ScriptText) (heap after : FirstWords) (objects : ℕ) (waiting : List ℕ)
+    (old new : List ℕ → Type 0) (at at' : ℕ) (ts ts' : List ℕ) (n number : ℕ) (command : Option Command) (text : List ℕ)
+    → (r : Running script heap objects waiting old new at ts n) → n < lines_most
+    → Goes script.lines at' ts' (left_after script n) (executed number command)
+    → CarriesLine script.fields heap after r.reached.so_far.graph command text (Ok tt)
+    → Running script after (objects + made_by command) (waiting ++ text) old new at' ts' (n + 1)
+Running-line script heap after objects waiting old new at at' ts ts' n number None text r below goes (same, nothing, is) =
+    let passed = Running-passed script heap objects waiting old new at at' ts ts' n number r below goes in
+    rw (same, nothing, append-nil, add-zero) passed
+Running-line script heap after objects waiting old new at at' ts ts' n number (Some command) text r below goes carries =
+    Running-carried script heap after objects waiting old new at at' ts ts' n number command text r below goes carries

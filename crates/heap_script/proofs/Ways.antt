@@ -1,0 +1,46 @@
+-- The place and the turns that the interpreter goes on with are those of what is left to execute.
+use Rattle.std.proofs.Common.{◌≡◌, ℕ, zero, suc, ◌<◌, List, [], ◌∷◌, length, get_or, Some, sym, ap, ◌∙◌}
+use Rattle.std.specs.Prelude.{slice_get}
+use Rattle.std.proofs.lemmas.Option.{slice_get-get_or}
+use Rattle.heap_command.specs.declared.command.Command.TheVariants.{New}
+use Rattle.heap_command.specs.Executed.{Executed}
+use Rattle.script_text.specs.declared.script.Line.{Line}
+use Rattle.script_text.specs.declared.script.What.{What}
+use Rattle.script_text.specs.declared.script.What.TheVariants.{Run, Repeat, End}
+use Rattle.script_text.specs.Unrolled.{executed}
+use Rattle.script_text.specs.Left.{IsLeft, Goes}
+use Rattle.script_text.proofs.Left.{past_command, into_block, past_block, back, out, inside_block}
+use Rattle.heap_script.specs.Turns.{next_of}
+use Rattle.heap_script.specs.Progress.{command_in}
+
+-- a line, by its parts
+abbrev line_by : ℕ → What → Line
+line_by number what = record { number = number; what = what }
+
+-- where a run goes on after a line is a way on of what is left
+goes-by : (lines : List Line) (at : ℕ) (ts : List ℕ) (left : List Executed) (number : ℕ) (what : What)
+    → IsLeft lines at ts left → slice_get lines at ≡ Some (line_by number what)
+    → Goes lines (next_of at ts what).at (next_of at ts what).turns left (executed number (command_in what))
+goes-by lines at ts left number (Run command) is here = past_command lines at ts left number command is here
+goes-by lines at ts left number (Repeat zero end_at) is here = past_block lines at ts left number end_at is here
+goes-by lines at ts left number (Repeat (suc more) end_at) is here =
+    into_block lines at ts left number more end_at is here
+goes-by lines at [] left number (End repeat_at) is here = absurd (inside_block lines at left number repeat_at is here)
+goes-by lines at (zero ∷ ts) left number (End repeat_at) is here = out lines at ts left number repeat_at is here
+goes-by lines at (suc more ∷ ts) left number (End repeat_at) is here =
+    back lines at more ts left number repeat_at is here
+
+-- the same of a line as it stands in the script
+pub goes_on : (lines : List Line) (at : ℕ) (ts : List ℕ) (left : List Executed) (line : Line)
+    → IsLeft lines at ts left → slice_get lines at ≡ Some line
+    → Goes lines (next_of at ts line.what).at (next_of at ts line.what).turns left (executed line.number (command_in line.what))
+goes_on lines at ts left line is here = goes-by lines at ts left line.number line.what is here
+
+-- what stands past the end of the lines
+abbrev pub past_end : Line
+past_end = record { number = 0; what = Run (New 0 0) }
+
+-- a line that an index reads stands there
+pub here : (lines all : List Line) (at : ℕ) → lines ≡ all → at < length lines
+    → slice_get all at ≡ Some (get_or lines at past_end)
+here lines all at same within = ap (λ xs. slice_get xs at) (sym same) ∙ slice_get-get_or lines at past_end within

@@ -1,0 +1,124 @@
+use Rattle.std.proofs.Common.{◌≡◌, ◌∙◌, ◌<◌, refl, get_or, arith}
+use Rattle.std.proofs.lemmas.Option.{slice_get_past}
+use Rattle.std.specs.Prelude.{slice_get, None}
+use Rattle.object_graph.specs.Run.{lines_most}
+use Rattle.script_text.proofs.Left.{at_most_four}
+use Rattle.heap_script.proofs.Ways.{goes_on, past_end, here}
+use Rattle.heap_script.proofs.Handing.{CutsOff-handed, fills-handed}
+use Rattle.heap_script.proofs.Running.{Running-start, Running-handed, Running-line}
+use Rattle.heap_script.proofs.Ending.{ComesTo-end, ComesTo-limit, ComesTo-line, Pauses-stopped, same-line}
+use Rattle.heap_script.proofs.interpreter.run_lines.Goals as goal
+
+pub loop-at-init : goal.loop-at-init
+loop-at-init g c =
+    let taken = g.K.Sink.HasTaken c.args.sink.now in
+    let lines = c.lines-lines.ensures in
+    record {
+      running = rw (c.requires.empty, c.new-turns.ensures)
+          (Running-start c.args.script.now c.args.heap.now taken (rw lines.all at lines.placed) c.requires.shown c.requires.variables);
+      room = rw c.requires.empty (omega arith);
+      steady = refl;
+    }
+
+pub next-at-requires-clause-deep : goal.next-at-requires-clause-deep
+next-at-requires-clause-deep g c =
+    let r = c.loop-at.invariant.running in
+    let lines = c.lines-lines.result.now in
+    let line = get_or lines c.loop-at.at past_end in
+    let goes = goes_on c.args.script.now.lines c.loop-at.at c.loop-at.turns _ line r.left
+    (here lines c.args.script.now.lines c.loop-at.at c.lines-lines.ensures.all c.loop-at-test.true) in
+    at_most_four c.args.script.now.lines _ _ _ c.lines-lines.ensures.matched goes.left
+
+pub returns-then-executed-eq-LINES_MOST : goal.returns-then-executed-eq-LINES_MOST
+returns-then-executed-eq-LINES_MOST g c =
+    let r = c.loop-at.invariant.running in
+    let lines = c.lines-lines.result.now in
+    let line = get_or lines c.loop-at.at past_end in
+    let goes = goes_on c.args.script.now.lines c.loop-at.at c.loop-at.turns _ line r.left
+    (here lines c.args.script.now.lines c.loop-at.at c.lines-lines.ensures.all c.loop-at-test.true) in
+    record {
+      reached = r.reached;
+      halts = (
+        ComesTo-limit c.args.script.now c.loop-at.heap _ c.loop-at.executed line.number _ _ r.reached goes c.if-executed-eq-LINES_MOST.true,
+        r.handed,
+        c.loop-at.invariant.steady,
+      );
+    }
+
+pub returns : goal.returns
+returns g c =
+    let r = c.loop-at.invariant.running in
+    let lines = c.lines-lines.result.now in
+    let past : slice_get c.args.script.now.lines c.loop-at.at ≡ None =
+    rw (← c.lines-lines.ensures.all) (slice_get_past lines c.loop-at.at c.loop-at-test.false) in
+    record {
+      reached = r.reached;
+      halts = (
+        ComesTo-end c.args.script.now c.loop-at.heap c.loop-at.at c.loop-at.executed c.loop-at.turns r.reached r.left past,
+        r.handed,
+        c.loop-at.invariant.steady,
+      );
+    }
+
+pub returns-in-Err : goal.returns-in-Err
+returns-in-Err g c =
+    let script = c.args.script.now in
+    let r = c.loop-at.invariant.running in
+    let n = c.loop-at.executed in
+    let lines = c.lines-lines.result.now in
+    let line = get_or lines c.loop-at.at past_end in
+    let goes = goes_on script.lines c.loop-at.at c.loop-at.turns _ line r.left
+    (here lines script.lines c.loop-at.at c.lines-lines.ensures.all c.loop-at-test.true) in
+    let below : n < lines_most = omega (arith, r.reached.few) in
+    let (text, carries, out-is) =
+    c.in-Err.ensures.carried r.reached.so_far.graph script.fields r.reached.shown r.made in
+    let same = same-line script.fields c.loop-at.heap c.execute_line.new.heap r.reached.so_far.graph _ text c.in-Err.stop carries in
+    rw (same, out-is, c.stopped.ensures) (Pauses-stopped script c.loop-at.heap c.loop-at.out n line.number c.in-Err.stop _ _ _ _
+    r.reached
+    (ComesTo-line script c.loop-at.heap c.execute_line.new.heap _ n line.number _ _ text c.in-Err.stop r.reached below goes carries)
+    r.handed c.loop-at.invariant.steady)
+
+pub loop-at-preserved : goal.loop-at-preserved
+loop-at-preserved g c =
+    let script = c.args.script.now in
+    let r = c.loop-at.invariant.running in
+    let n = c.loop-at.executed in
+    let lines = c.lines-lines.result.now in
+    let line = get_or lines c.loop-at.at past_end in
+    let goes = goes_on script.lines c.loop-at.at c.loop-at.turns _ line r.left
+    (here lines script.lines c.loop-at.at c.lines-lines.ensures.all c.loop-at-test.true) in
+    let below : n < lines_most = omega (arith, r.reached.few) in
+    let (text, carries, out-is) =
+    c.in_default.ensures.carried r.reached.so_far.graph script.fields r.reached.shown r.made in
+    let ran = Running-line script c.loop-at.heap c.execute_line.new.heap c.loop-at.objects c.loop-at.out _ _
+    c.loop-at.at _ c.loop-at.turns _ n line.number _ text r below goes carries in
+    record {
+      running = rw (c.next-at.ensures.place, c.next-at.ensures.turns, c.in_default.ensures.counted)
+          (Running-handed script c.execute_line.new.heap _ _ c.make_room.new.out _ _ _ _ _ _
+          ran (rw out-is at c.in-Ok.ensures.handed));
+      room = c.in-Ok.ensures.room;
+      steady = c.in-Ok.ensures.steady ∙ c.loop-at.invariant.steady;
+    }
+
+pub returns-in_default-make_room : goal.returns-in_default-make_room
+returns-in_default-make_room g c =
+    let script = c.args.script.now in
+    let r = c.loop-at.invariant.running in
+    let n = c.loop-at.executed in
+    let lines = c.lines-lines.result.now in
+    let line = get_or lines c.loop-at.at past_end in
+    let goes = goes_on script.lines c.loop-at.at c.loop-at.turns _ line r.left
+    (here lines script.lines c.loop-at.at c.lines-lines.ensures.all c.loop-at-test.true) in
+    let below : n < lines_most = omega (arith, r.reached.few) in
+    let (text, carries, out-is) =
+    c.in_default.ensures.carried r.reached.so_far.graph script.fields r.reached.shown r.made in
+    let ran = Running-line script c.loop-at.heap c.execute_line.new.heap c.loop-at.objects c.loop-at.out _ _
+    c.loop-at.at _ c.loop-at.turns _ n line.number _ text r below goes carries in
+    record {
+      reached = ran.reached;
+      halts = (
+        (refl, refl, fills-handed ran.handed (rw out-is at c.in_default-make_room.ensures.due)),
+        CutsOff-handed ran.handed (rw out-is at c.in_default-make_room.ensures.stopped),
+        rw c.loop-at.invariant.steady at c.in_default-make_room.ensures.failed,
+      );
+    }

@@ -1,0 +1,15 @@
+use Rattle.std.proofs.Common.{◌≡◌, ◌+◌, ◌-◌, ◌≤◌, length}
+use Rattle.object_graph.specs.Run.{lines_most}
+use Rattle.mutator.specs.declared.output.TheConstants.{ROOM, OUTPUT_BYTES}
+use Rattle.heap_script.proofs.Running.{Running}
+use Rattle.heap_script.proofs.interpreter.run_lines.Given as goal
+
+abbrev pub invariant-loop-at : goal.invariant-loop-at
+invariant-loop-at g l = record {
+  running : Running l.script l.heap l.objects l.out (g.K.Sink.HasTaken l.initial.sink) (g.K.Sink.HasTaken l.sink) l.at l.turns l.executed;
+  room : length l.out + ROOM ≤ OUTPUT_BYTES;
+  steady : g.K.Sink.faults l.sink ≡ g.K.Sink.faults l.initial.sink;
+}
+
+abbrev pub decreases-loop-at : goal.decreases-loop-at
+decreases-loop-at g l = lines_most - l.executed

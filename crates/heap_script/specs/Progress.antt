@@ -1,0 +1,68 @@
+-- How far a run has come between two of its lines.
+use Rattle.std.specs.Prelude.{◌≡◌, ℕ, List, [], ◌++◌, Option, Some, None, Result, Ok}
+use Rattle.heap_command.specs.declared.command.Command.{Command}
+use Rattle.heap_command.specs.declared.command.Command.TheVariants as command
+use Rattle.object_graph.specs.Graphs.{Graph}
+use Rattle.object_graph.specs.Run.{Told}
+use Rattle.script_text.specs.declared.script.What.{What}
+use Rattle.script_text.specs.declared.script.What.TheVariants.{Run}
+use Rattle.script_text.specs.Scripts.{ScriptText}
+use Rattle.mutator.specs.declared.stop.Stop.{Stop}
+use Rattle.mutator.specs.declared.stop.Stop.TheVariants as stop
+use Rattle.mutator.specs.Heap.{FirstWords}
+use Rattle.mutator.specs.Carries.{Carries}
+use Rattle.byte_ends.specs.Faults.{Rose}
+use Rattle.byte_ends.specs.Sink.{Appends}
+use Rattle.heap_script.specs.declared.finished.How.{How}
+use Rattle.heap_script.specs.declared.finished.How.TheVariants.{Fault, HeapFull, SinkFault}
+use Rattle.heap_script.specs.declared.finished.Finished.{Finished}
+use Rattle.heap_script.specs.Runs.{Reached, ComesTo, FillsOutput, CutsOff}
+
+-- how many objects a command makes
+abbrev pub objects_made : Command → ℕ
+objects_made (command.New x cap) = 1
+objects_made (command.List x) = 1
+objects_made (command.Weak x) = 1
+objects_made _ = 0
+
+-- the command that a line runs, if it runs one
+abbrev pub command_in : What → Option Command
+command_in (Run command) = Some command
+command_in _ = None
+
+-- how many objects a line makes
+abbrev pub made_by : Option Command → ℕ
+made_by None = 0
+made_by (Some command) = objects_made command
+
+-- a line that runs a command does with the heap what the command does, and one that runs none does nothing
+abbrev pub CarriesLine : List (List ℕ) → FirstWords → FirstWords → Graph → Option Command → List ℕ → Result (Unit {0}) Stop → Type 0
+CarriesLine names old new graph None text result = (new ≡ old) × (text ≡ []) × (result ≡ Ok tt)
+CarriesLine names old new graph (Some command) text result = Carries names old new graph command text result
+
+-- how a run ends at a line whose command was not carried out
+abbrev pub how_of : Stop → How
+how_of (stop.Fault word) = Fault word
+how_of (stop.NoRoom need) = HeapFull need
+
+-- of these bytes the first were handed to the sink, and the others wait
+pub record Handed (old new : List ℕ → Type 0) (waiting all : List ℕ) : Type 0 where
+  pub handed : List ℕ
+  pub taken : Appends old new handed
+  pub bytes : handed ++ waiting ≡ all
+
+-- The run came to this, and what it told was handed on or waits. Or the sink failed between two lines, and a front of
+-- what was told was written.
+abbrev pub Halts : ScriptText → FirstWords → List ℕ → Finished → Told → (List ℕ → Type 0) → (List ℕ → Type 0) → ℕ → ℕ → How → Type 0
+Halts script heap waiting finished so_far old new faults_old faults_new (SinkFault need) =
+    ((finished.line ≡ 0) × (need ≡ 0) × FillsOutput so_far.bytes)
+    × CutsOff old new so_far.bytes × Rose faults_old faults_new
+Halts script heap waiting finished so_far old new faults_old faults_new came =
+    ComesTo script heap finished.executed so_far came finished.line
+    × Handed old new waiting so_far.bytes × (faults_new ≡ faults_old)
+
+-- the run before its last bytes are handed on: how far it came, and how it halted
+pub record Pauses (script : ScriptText) (heap : FirstWords) (waiting : List ℕ) (finished : Finished)
+    (old new : List ℕ → Type 0) (faults_old faults_new : ℕ) : Type 0 where
+  pub reached : Reached script heap finished.executed
+  pub halts : Halts script heap waiting finished reached.so_far old new faults_old faults_new finished.how

@@ -1,0 +1,134 @@
+//! A script on the heap, line by line in the order of execution.
+ghost use Rattle.std.specs.Prelude.{◌≡◌, ◌≢◌, ◌+◌, ◌≤◌, false, [], length, OnOk, OnErr};
+ghost use Rattle.object_graph.specs.Graphs.{start};
+ghost use Rattle.mutator.specs.Heap.{HasVariables, Shows, field_numbers};
+ghost use Rattle.byte_ends.specs.Faults.{Rose};
+ghost use Rattle.heap_script.specs.Runs.{AreBuilt, Finishes, CutsOff, FillsOutput, IsCut};
+ghost use Rattle.heap_script.specs.Progress.{Handed, Pauses, how_of};
+
+use crate::execute::execute_line;
+use crate::finished::{Finished, How};
+use crate::handing_on::hand_on;
+use crate::turns::Turns;
+use byte_ends::{Failed, Sink};
+use crew::Gate;
+use mutator::{FirstHeap, OUTPUT_BYTES, Output, ROOM, Stop};
+use script_text::Script;
+use std::thread::Threads;
+
+/// How many lines are executed at most.
+const LINES_MOST: u64 = 20_000_000;
+
+/// How many names of fields a script has at most.
+const FIELDS_MOST: u32 = 4096;
+
+/// Runs a script on a heap that was just opened, with an output that is empty, and writes to the sink
+/// what it tells. Threads and gates are not used so far, and the heap is not checked.
+pub fn run_script<K: Sink, G: Gate, R: Threads + Sync>(
+    _rt: &R,
+    heap: &mut FirstHeap,
+    script: &Script<'_>,
+    out: &mut Output,
+    sink: &mut K,
+    _check: bool,
+    _gate: &G,
+) -> Finished
+    requires shown { Shows heap.old start }
+    requires variables { HasVariables heap.old (length script.now.variables) }
+    requires built { AreBuilt script.now.lines }
+    requires empty { out.old ≡ [] }
+    requires unchecked { _check ≡ false }
+    ensures finishes { Finishes script.now heap.new result
+        (K.HasTaken sink.old) (K.HasTaken sink.new) (K.faults sink.old) (K.faults sink.new) }
+    ensures emptied { ¬ IsCut result.how → out.new ≡ [] }
+{
+    prove!(script.fields() <= FIELDS_MOST);
+    let finished = run_lines(heap, script, out, sink);
+    match finished.how {
+        How::SinkFault { .. } => finished,
+        how => match hand_on(sink, out) {
+            Ok(()) => finished,
+            Err(Failed) => Finished {
+                how: How::SinkFault { need: how.need() },
+                ..finished
+            },
+        },
+    }
+}
+
+/// Executes lines from the first on. What they write waits in the output or was handed to the sink.
+fn run_lines<K: Sink>(
+    heap: &mut FirstHeap,
+    script: &Script<'_>,
+    out: &mut Output,
+    sink: &mut K,
+) -> Finished
+    requires shown { Shows heap.old start }
+    requires variables { HasVariables heap.old (length script.now.variables) }
+    requires fields { length script.now.fields ≤ field_numbers }
+    requires built { AreBuilt script.now.lines }
+    requires empty { out.old ≡ [] }
+    ensures { Pauses script.now heap.new out.new result
+        (K.HasTaken sink.old) (K.HasTaken sink.new) (K.faults sink.old) (K.faults sink.new) }
+{
+    let lines = script.lines();
+    let mut turns = Turns::new();
+    let (mut at, mut objects, mut executed) = (0usize, 0u32, 0u64);
+    while at < lines.len() {
+        let line = &lines[at];
+        if executed == LINES_MOST {
+            return Finished {
+                how: How::LineLimit,
+                line: line.number,
+                executed,
+            };
+        }
+        if let Err(stop) = execute_line(heap, &mut objects, &line.what, out) {
+            return stopped(stop, line.number, executed);
+        }
+        at = turns.next(at, &line.what);
+        executed += 1;
+        let Ok(()) = make_room(sink, out) else {
+            return Finished {
+                how: How::SinkFault { need: 0 },
+                line: 0,
+                executed,
+            };
+        };
+    }
+    Finished {
+        how: How::End,
+        line: 0,
+        executed,
+    }
+}
+
+/// The end at a line whose command was not carried out.
+fn stopped(stop: Stop, line: u32, executed: u64) -> Finished
+    ensures { result ≡ record { how = how_of stop; line = line; executed = executed } }
+{
+    let how = match stop {
+        Stop::Fault(word) => How::Fault(word),
+        Stop::NoRoom { need } => How::HeapFull { need },
+    };
+    Finished {
+        how,
+        line,
+        executed,
+    }
+}
+
+/// Hands the waiting bytes on where they leave too little room for a command.
+fn make_room<K: Sink>(sink: &mut K, out: &mut Output) -> Result<(), Failed>
+    ensures room { OnOk result (length out.new + ROOM ≤ OUTPUT_BYTES) }
+    ensures handed { OnOk result (Handed (K.HasTaken sink.old) (K.HasTaken sink.new) out.new out.old) }
+    ensures due { OnErr result (FillsOutput out.old) }
+    ensures stopped { OnErr result (CutsOff (K.HasTaken sink.old) (K.HasTaken sink.new) out.old) }
+    ensures failed { OnErr result (Rose (K.faults sink.old) (K.faults sink.new)) }
+    ensures steady { OnOk result (K.faults sink.new ≡ K.faults sink.old) }
+{
+    if out.room() < ROOM {
+        hand_on(sink, out)?;
+    }
+    Ok(())
+}

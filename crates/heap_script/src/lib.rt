@@ -1,0 +1,20 @@
+//! The run of a script on a heap: its lines in the order of execution, the limit on them, and the
+//! bytes that they write.
+//!
+//! Model: a run has come so far as it has executed lines. `Reached` of `specs/Runs.antt` says that a
+//! heap shows the graph after them, and `EndsAs` in what way a run ends. `Finishes` is what
+//! `run_script` promises.
+//! Invariant: between two lines the place in the script and the turns left of its open blocks stand
+//! for the lines that are left to execute, and what was told was handed on or waits in the output.
+#![tactic(auto)]
+
+mod execute;
+mod finished;
+mod handing_on;
+mod interpreter;
+#[cfg(test)]
+mod tests;
+mod turns;
+
+pub use finished::{Finished, How};
+pub use interpreter::run_script;

@@ -1,0 +1,11 @@
+pub mod Values
+pub mod Objects
+pub mod Paths
+pub mod Graphs
+pub mod Texts
+pub mod Reach
+pub mod Meaning
+pub mod Limits
+pub mod Run
+pub mod Marks
+pub mod Invariants

@@ -1,0 +1,14 @@
+mod Again
+mod Feeds
+mod Integers
+mod Naming
+mod Passing
+mod Printing
+mod Reasons
+mod Refusals
+mod Spacing
+mod Spelling
+mod Standing
+mod Wholes
+mod Widths
+mod Words

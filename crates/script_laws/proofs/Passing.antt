@@ -1,0 +1,88 @@
+-- Lines that are all read have passed.
+use Rattle.std.proofs.Common.{◌≡◌, ◌⊎◌, inl, inr, ℕ, suc, List, [], ◌∷◌, Option, Some, None, Result, Ok, Err, refl, sym, ap, ◌∙◌}
+use Rattle.script_text.specs.declared.table.Keyword.{Keyword}
+use Rattle.script_text.specs.declared.script.Why.{Why}
+use Rattle.script_text.specs.declared.script.Why.TheVariants as why
+use Rattle.script_text.specs.declared.script.BadScript.{BadScript}
+use Rattle.script_text.specs.declared.script.BadScript.TheVariants.{BadLine, TooManyNames}
+use Rattle.script_text.specs.Lines.{lines_of}
+use Rattle.script_text.specs.Phrases.{Phrase, phrase_of_line}
+use Rattle.script_text.specs.Scripts.{Spoken}
+use Rattle.script_text.specs.Grammar.{nest, nested, followed, spoken_then, spoken_from, script_or_stop}
+use Rattle.script_laws.specs.Refusals.{Pass, none, empty, spoken, CountsNamesLast}
+
+-- all lines were read and have passed
+record ArePassed (unbuilt : List Keyword) (number : ℕ) (open' : List ℕ) (lines : List (List ℕ))
+    (read : Result (List Spoken) BadScript) : Type 0 where
+  all : List Spoken
+  is : read ≡ Ok all
+  passed : Pass unbuilt number open' lines []
+
+-- a line is refused, or a `repeat` is open
+record IsBadLine (read : Result (List Spoken) BadScript) : Type 0 where
+  line : ℕ
+  reason : Why
+  is : read ≡ Err (BadLine line reason)
+
+-- lines pass, or one is refused
+abbrev Passes : List Keyword → ℕ → List ℕ → List (List ℕ) → Result (List Spoken) BadScript → Type 0
+Passes unbuilt number open' lines read = ArePassed unbuilt number open' lines read ⊎ IsBadLine read
+
+-- a phrase that may stand where it does passes where the lines after it do
+nested-passes : (unbuilt : List Keyword) (number : ℕ) (open' first : List ℕ) (lines : List (List ℕ)) (phrase : Phrase)
+    (inner : Result (List ℕ) Why) → phrase_of_line unbuilt first ≡ Ok (Some phrase)
+    → nest number open' phrase.keyword ≡ inner
+    → ((deep : List ℕ) → Passes unbuilt (suc number) deep lines (spoken_from unbuilt (suc number) deep lines))
+    → Passes unbuilt number open' (first ∷ lines)
+    (nested (record { number = number; phrase = phrase }) inner (λ deep. spoken_from unbuilt (suc number) deep lines))
+nested-passes unbuilt number open' first lines phrase (Err reason) p n step =
+    inr (record { line = number; reason = reason; is = refl })
+nested-passes unbuilt number open' first lines phrase (Ok inner) p n step =
+    let here : Spoken = record { number = number; phrase = phrase } in
+    elim (step inner) [
+      | inl h ↦
+          inl (record {
+            all = here ∷ h.all;
+            is = ap (followed here) h.is;
+            passed = spoken number open' inner
+                [] first lines phrase p n h.passed;
+          })
+      | inr h ↦ inr (record { line = h.line; reason = h.reason; is = ap (followed here) h.is })
+    ]
+
+-- so does a line
+then-passes :
+    (unbuilt : List Keyword) (number : ℕ) (open' first : List ℕ) (lines : List (List ℕ)) (read : Result (Option Phrase) Why)
+    → phrase_of_line unbuilt first ≡ read
+    → ((deep : List ℕ) → Passes unbuilt (suc number) deep lines (spoken_from unbuilt (suc number) deep lines))
+    → Passes unbuilt number open' (first ∷ lines)
+    (spoken_then number open' read (λ deep. spoken_from unbuilt (suc number) deep lines))
+then-passes unbuilt number open' first lines (Err reason) p step = inr (record { line = number; reason = reason; is = refl })
+then-passes unbuilt number open' first lines (Ok None) p step =
+    elim (step open') [
+      | inl h ↦ inl (record { all = h.all; is = h.is; passed = empty number open' [] first lines p h.passed })
+      | inr h ↦ inr h
+    ]
+then-passes unbuilt number open' first lines (Ok (Some phrase)) p step =
+    nested-passes unbuilt number open' first lines phrase (nest number open' phrase.keyword) p refl step
+
+-- all lines pass, or one is refused
+passes : (unbuilt : List Keyword) (number : ℕ) (open' : List ℕ) (lines : List (List ℕ))
+    → Passes unbuilt number open' lines (spoken_from unbuilt number open' lines)
+passes unbuilt number [] [] = inl (record { all = []; is = refl; passed = none number [] })
+passes unbuilt number (innermost ∷ outer) [] = inr (record { line = innermost; reason = why.Open; is = refl })
+passes unbuilt number open' (first ∷ lines) =
+    then-passes unbuilt number open' first lines (phrase_of_line unbuilt first) refl
+    (λ deep. passes unbuilt (suc number) deep lines)
+
+-- a bad line is not too many names
+bad_line-names : (line number : ℕ) (reason : Why) → script_or_stop (Err (BadLine line reason)) ≡ Err (TooManyNames number) → ⊥
+bad_line-names line number reason e = cc
+
+-- too many names are found only where no line is refused
+pub counts_names_last : CountsNamesLast
+counts_names_last unbuilt source line e =
+    elim (passes unbuilt 1 [] (lines_of source)) [
+      | inl h ↦ h.passed
+      | inr h ↦ absurd (bad_line-names h.line line h.reason (sym (ap script_or_stop h.is) ∙ e))
+    ]

@@ -1,0 +1,132 @@
+-- No line is refused because a `repeat` is open.
+use Rattle.std.proofs.Common.{◌≡◌, ◌≢◌, ℕ, Bool, true, false, cond, eqb, nat_le, nat_lt, List, [], ◌∷◌, length, Option, Some, None, Result, Ok, Err, pos, negsuc, ℤ, ap, bytes_eq, codes}
+use Rattle.std.specs.List.{list_any}
+use Rattle.script_text.specs.declared.table.Keyword.{Keyword}
+use Rattle.script_text.specs.declared.table.Keyword.TheVariants as keyword
+use Rattle.script_text.specs.declared.table.Place.{Place}
+use Rattle.script_text.specs.declared.table.Place.TheVariants.{Variable, Field, Value, Literal}
+use Rattle.script_text.specs.declared.script.Why.{Why}
+use Rattle.script_text.specs.declared.script.Why.TheVariants as why
+use Rattle.script_text.specs.Limits.{line_bytes_most, open_most}
+use Rattle.script_text.specs.Lines.{tokens_of}
+use Rattle.script_text.specs.Table.{places_of, same_keyword, keyword_among, keywords}
+use Rattle.script_text.specs.Tokens.{is_name, integer_of}
+use Rattle.script_text.specs.Phrases.{Written, variable, field, literal, undefined, bound, integer_or_bound, literal_up_to, written_at, written_all, joined, phrase_with, with_operands, if_built, phrase_of}
+use Rattle.script_text.specs.Grammar.{nest}
+use Rattle.script_laws.specs.Refusals.{IsRefused, unread, misplaced}
+
+-- a test that fails for another reason is not for an open `repeat`
+test-open : (test : Bool) (made : Written) (reason : Why) → reason ≢ why.Open
+    → cond test (Ok made) (Err reason) ≡ Err why.Open → ⊥
+test-open true made reason h e = cc
+test-open false made reason h e =
+    let same : reason ≡ why.Open = cc in
+    h same
+
+-- a bad name is not an open `repeat`
+not_name : why.Name ≢ why.Open
+not_name = λ e. cc
+
+-- nor is a bad value
+not_value : why.Value ≢ why.Open
+not_value = λ e. cc
+
+-- nor is a bad integer
+not_integer : why.Integer ≢ why.Open
+not_integer = λ e. cc
+
+-- no literal is refused for an open `repeat`
+literal-open : (most : ℕ) (v : Option ℤ) → literal_up_to most v ≡ Err why.Open → ⊥
+literal-open most None e = cc
+literal-open most (Some (pos n)) e = test-open (nat_le n most) (literal n) why.Integer not_integer e
+literal-open most (Some (negsuc n)) e = cc
+
+-- nor is a value that is not `undefined`
+integer_or_bound-open : (v : Option ℤ) (token : List ℕ) → integer_or_bound v token ≡ Err why.Open → ⊥
+integer_or_bound-open None token e = test-open (is_name token) (bound token) why.Value not_value e
+integer_or_bound-open (Some v) token e = cc
+
+-- nor is any value
+value-open : (b : Bool) (token : List ℕ) → cond b (Ok undefined) (integer_or_bound (integer_of token) token) ≡ Err why.Open → ⊥
+value-open true token e = cc
+value-open false token e = integer_or_bound-open (integer_of token) token e
+
+-- nor is an operand that may not stand at its place
+written_at-open : (place : Place) (token : List ℕ) → written_at place token ≡ Err why.Open → ⊥
+written_at-open Variable token e = test-open (is_name token) (variable token) why.Name not_name e
+written_at-open Field token e = test-open (is_name token) (field token) why.Name not_name e
+written_at-open Value token e = value-open (bytes_eq token (codes "undefined")) token e
+written_at-open (Literal most) token e = literal-open most (integer_of token) e
+
+-- nor are several
+joined-open : (first : Result Written Why) (more : Result (List Written) Why) → (first ≡ Err why.Open → ⊥)
+    → (more ≡ Err why.Open → ⊥) → joined first more ≡ Err why.Open → ⊥
+joined-open (Err reason) more f m e =
+    let same : reason ≡ why.Open = cc in
+    f (ap Err same)
+joined-open (Ok written) (Err reason) f m e =
+    let same : reason ≡ why.Open = cc in
+    m (ap Err same)
+joined-open (Ok written) (Ok more) f m e = cc
+
+-- nor are the operands at their places
+written_all-open : (places : List Place) (tokens : List (List ℕ)) → written_all places tokens ≡ Err why.Open → ⊥
+written_all-open [] tokens e = cc
+written_all-open (place ∷ places) [] e = cc
+written_all-open (place ∷ places) (token ∷ tokens) e =
+    joined-open (written_at place token) (written_all places tokens) (λ h. written_at-open place token h)
+    (λ h. written_all-open places tokens h) e
+
+-- nor is a phrase with operands
+phrase_with-open : (k : Keyword) (operands : Result (List Written) Why) → (operands ≡ Err why.Open → ⊥)
+    → phrase_with k operands ≡ Err why.Open → ⊥
+phrase_with-open k (Ok operands) h e = cc
+phrase_with-open k (Err reason) h e =
+    let same : reason ≡ why.Open = cc in
+    h (ap Err same)
+
+-- nor is one whose tokens are counted
+even-open : (b : Bool) (k : Keyword) (tokens : List (List ℕ))
+    → cond b (phrase_with k (written_all (places_of k) tokens)) (Err why.Count) ≡ Err why.Open → ⊥
+even-open true k tokens e = phrase_with-open k (written_all (places_of k) tokens) (λ h. written_all-open (places_of k) tokens h) e
+even-open false k tokens e = cc
+
+-- nor is one whose command is judged
+built-open : (b : Bool) (k : Keyword) (tokens : List (List ℕ))
+    → cond b (Err why.NotBuilt) (with_operands k tokens) ≡ Err why.Open → ⊥
+built-open true k tokens e = cc
+built-open false k tokens e = even-open (eqb (length tokens) (length (places_of k))) k tokens e
+
+-- nor is one whose command is looked up
+if_built-open : (unbuilt : List Keyword) (tokens : List (List ℕ)) (k : Option Keyword)
+    → if_built unbuilt tokens k ≡ Err why.Open → ⊥
+if_built-open unbuilt tokens None e = cc
+if_built-open unbuilt tokens (Some k) e = built-open (list_any (same_keyword k) unbuilt) k tokens e
+
+-- nor are tokens
+phrase_of-open : (unbuilt : List Keyword) (tokens : List (List ℕ)) → phrase_of unbuilt tokens ≡ Err why.Open → ⊥
+phrase_of-open unbuilt [] e = cc
+phrase_of-open unbuilt (first ∷ tokens) e = if_built-open unbuilt tokens (keyword_among keywords first) e
+
+-- nor is a line
+long-open : (b : Bool) (unbuilt : List Keyword) (tokens : List (List ℕ))
+    → cond b (Err why.Long) (phrase_of unbuilt tokens) ≡ Err why.Open → ⊥
+long-open true unbuilt tokens e = cc
+long-open false unbuilt tokens e = phrase_of-open unbuilt tokens e
+
+-- no `repeat` is misplaced for an open one
+shallow-open : (b : Bool) (inner : List ℕ) → cond b (Ok inner) (Err why.Nesting) ≡ Err why.Open → ⊥
+shallow-open true inner e = cc
+shallow-open false inner e = cc
+
+-- nor is any command
+nest-open : (number : ℕ) (open' : List ℕ) (k : Keyword) → nest number open' k ≡ Err why.Open → ⊥
+nest-open number open' keyword.Repeat e = shallow-open (nat_lt (length open') open_most) (number ∷ open') e
+nest-open number [] keyword.End e = cc
+nest-open number (innermost ∷ outer) keyword.End e = cc
+nest-open number open' other e = cc
+
+-- no line is refused because a `repeat` is open
+pub refused-open : (unbuilt : List Keyword) (number : ℕ) (open' line : List ℕ) → IsRefused unbuilt number open' line why.Open → ⊥
+refused-open unbuilt number open' line (unread e) = long-open (nat_lt line_bytes_most (length line)) unbuilt (tokens_of line) e
+refused-open unbuilt number open' line (misplaced phrase p e) = nest-open number open' phrase.keyword e

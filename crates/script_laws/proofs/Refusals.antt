@@ -1,0 +1,157 @@
+-- Which line of a source is refused.
+use Rattle.std.proofs.Common.{◌≡◌, ◌⊎◌, inl, inr, ℕ, suc, List, [], ◌∷◌, Option, Some, None, Result, Ok, Err, refl, sym, ap, ◌∙◌, subst, arith}
+use Rattle.script_text.specs.declared.table.Keyword.{Keyword}
+use Rattle.script_text.specs.declared.script.Why.{Why}
+use Rattle.script_text.specs.declared.script.Why.TheVariants as why
+use Rattle.script_text.specs.declared.script.BadScript.{BadScript}
+use Rattle.script_text.specs.declared.script.BadScript.TheVariants.{BadLine}
+use Rattle.script_text.specs.Lines.{lines_of}
+use Rattle.script_text.specs.Phrases.{Phrase, phrase_of_line}
+use Rattle.script_text.specs.Scripts.{Spoken}
+use Rattle.script_text.specs.Grammar.{nest, nested, followed, spoken_then, spoken_from, past_limit, within_limit, script_or_stop, reading_with}
+use Rattle.script_laws.specs.Refusals.{Pass, none, empty, spoken, IsRefused, unread, misplaced, IsFirstRefused, RefusesFirst, RefusesOpen}
+use Rattle.script_laws.proofs.Reasons.{refused-open}
+
+-- at the end these lines have passed, and a `repeat` is open
+record IsLeftOpen (unbuilt : List Keyword) (number : ℕ) (open' : List ℕ) (lines : List (List ℕ)) (line : ℕ)
+    (reason : Why) : Type 0 where
+  outer : List ℕ
+  passed : Pass unbuilt number open' lines (line ∷ outer)
+  is_open : reason ≡ why.Open
+
+-- a line is the first that is refused, or a `repeat` is left open
+abbrev Stops : List Keyword → ℕ → List ℕ → List (List ℕ) → ℕ → Why → Type 0
+Stops unbuilt number open' lines line reason =
+    IsFirstRefused unbuilt number open' lines line reason ⊎ IsLeftOpen unbuilt number open' lines line reason
+
+-- a first line that is refused is the first that is
+here-stops :
+    (unbuilt : List Keyword) (number : ℕ) (open' first : List ℕ) (lines : List (List ℕ)) (line : ℕ) (reason other : Why)
+    → IsRefused unbuilt number open' first other → BadLine number other ≡ BadLine line reason
+    → Stops unbuilt number open' (first ∷ lines) line reason
+here-stops unbuilt number open' first lines line reason other h e =
+    let same_line : number ≡ line = cc in
+    let same_why : other ≡ reason = cc in
+    inl (record {
+      before = [];
+      refused = first;
+      after = lines;
+      inner = open';
+      cut = refl;
+      passed = none number open';
+      here = sym same_line ∙ omega arith;
+      reason =
+          subst (λ r. IsRefused unbuilt line open' first r) same_why
+          (subst (λ n. IsRefused unbuilt n open' first other) same_line h);
+    })
+
+-- a first line that passes leaves the first that is refused behind it
+later-stops :
+    (unbuilt : List Keyword) (number : ℕ) (open' inner first : List ℕ) (lines : List (List ℕ)) (line : ℕ) (reason : Why)
+    → ((some : List (List ℕ)) (after : List ℕ) → Pass unbuilt (suc number) inner some after
+    → Pass unbuilt number open' (first ∷ some) after)
+    → Stops unbuilt (suc number) inner lines line reason → Stops unbuilt number open' (first ∷ lines) line reason
+later-stops unbuilt number open' inner first lines line reason pass h =
+    elim h [
+      | inl r ↦ inl (record {
+        before = first ∷ r.before;
+        refused = r.refused;
+        after = r.after;
+        inner = r.inner;
+        cut = ap (λ rest. first ∷ rest) r.cut;
+        passed = pass r.before r.inner r.passed;
+        here = r.here ∙ omega arith;
+        reason = r.reason;
+      })
+      | inr r ↦ inr (record { outer = r.outer; passed = pass lines (line ∷ r.outer) r.passed; is_open = r.is_open })
+    ]
+
+-- a stop behind a phrase is the stop of what follows
+followed-stop : (s : Spoken) (more : Result (List Spoken) BadScript) (stop : BadScript) → followed s more ≡ Err stop
+    → more ≡ Err stop
+followed-stop s (Ok rest) stop e = cc
+followed-stop s (Err other) stop e = e
+
+-- a phrase is misplaced, or the stop is behind it
+nested-stops : (unbuilt : List Keyword) (number : ℕ) (open' first : List ℕ) (lines : List (List ℕ)) (line : ℕ)
+    (reason : Why) (phrase : Phrase) (inner : Result (List ℕ) Why) → phrase_of_line unbuilt first ≡ Ok (Some phrase)
+    → nest number open' phrase.keyword ≡ inner
+    → ((deep : List ℕ) → spoken_from unbuilt (suc number) deep lines ≡ Err (BadLine line reason)
+    → Stops unbuilt (suc number) deep lines line reason)
+    → nested (record { number = number; phrase = phrase }) inner
+    (λ deep. spoken_from unbuilt (suc number) deep lines) ≡ Err (BadLine line reason) → Stops unbuilt number open'
+    (first ∷ lines) line reason
+nested-stops unbuilt number open' first lines line reason phrase (Err other) p n step e =
+    let same : BadLine number other ≡ BadLine line reason = cc in
+    here-stops unbuilt number open' first lines line reason other (misplaced phrase p n) same
+nested-stops unbuilt number open' first lines line reason phrase (Ok inner) p n step e =
+    later-stops unbuilt number open' inner first lines line reason
+    (λ some after h. spoken number open' inner after first some phrase p n h)
+    (step inner (followed-stop (record { number = number; phrase = phrase })
+    (spoken_from unbuilt (suc number) inner lines) (BadLine line reason) e))
+
+-- a line is refused, or the stop is behind it
+then-stops : (unbuilt : List Keyword) (number : ℕ) (open' first : List ℕ) (lines : List (List ℕ)) (line : ℕ)
+    (reason : Why) (read : Result (Option Phrase) Why) → phrase_of_line unbuilt first ≡ read
+    → ((deep : List ℕ) → spoken_from unbuilt (suc number) deep lines ≡ Err (BadLine line reason)
+    → Stops unbuilt (suc number) deep lines line reason)
+    → spoken_then number open' read (λ deep. spoken_from unbuilt (suc number) deep lines) ≡ Err (BadLine line reason)
+    → Stops unbuilt number open' (first ∷ lines) line reason
+then-stops unbuilt number open' first lines line reason (Err other) p step e =
+    let same : BadLine number other ≡ BadLine line reason = cc in
+    here-stops unbuilt number open' first lines line reason other (unread p) same
+then-stops unbuilt number open' first lines line reason (Ok None) p step e =
+    later-stops unbuilt number open' open' first lines line reason
+    (λ some after h. empty number open' after first some p h) (step open' e)
+then-stops unbuilt number open' first lines line reason (Ok (Some phrase)) p step e =
+    nested-stops unbuilt number open' first lines line reason phrase (nest number open' phrase.keyword) p refl step e
+
+-- lines that are not read stop at the first that is refused, or at the innermost `repeat` that is open
+stops : (unbuilt : List Keyword) (number : ℕ) (open' : List ℕ) (lines : List (List ℕ)) (line : ℕ) (reason : Why)
+    → spoken_from unbuilt number open' lines ≡ Err (BadLine line reason)
+    → Stops unbuilt number open' lines line reason
+stops unbuilt number [] [] line reason e = cc
+stops unbuilt number (innermost ∷ outer) [] line reason e =
+    let same_line : innermost ≡ line = cc in
+    let same_why : why.Open ≡ reason = cc in
+    inr (record {
+      outer = outer;
+      passed = subst
+          (λ n. Pass unbuilt number (innermost ∷ outer) [] (n ∷ outer)) same_line
+          (none number (innermost ∷ outer));
+      is_open = sym same_why;
+    })
+stops unbuilt number open' (first ∷ lines) line reason e =
+    then-stops unbuilt number open' first lines line reason (phrase_of_line unbuilt first) refl
+    (λ deep h. stops unbuilt (suc number) deep lines line reason h) e
+
+-- too many names are no bad line
+limit-stop : (all : List Spoken) (past : Option ℕ) (line : ℕ) (reason : Why)
+    → within_limit all past ≡ Err (BadLine line reason) → ⊥
+limit-stop all None line reason e = cc
+limit-stop all (Some number) line reason e = cc
+
+-- a bad line of a source is one of its lines
+script-stop : (all : Result (List Spoken) BadScript) (line : ℕ) (reason : Why)
+    → script_or_stop all ≡ Err (BadLine line reason) → all ≡ Err (BadLine line reason)
+script-stop (Ok all) line reason e = absurd (limit-stop all (past_limit [] [] all) line reason e)
+script-stop (Err stop) line reason e =
+    let same : stop ≡ BadLine line reason = cc in
+    ap Err same
+
+-- so reading a source stops at the first line that is refused, or at an open `repeat`
+reading-stops : (unbuilt : List Keyword) (source : List ℕ) (line : ℕ) (reason : Why)
+    → reading_with unbuilt source ≡ Err (BadLine line reason) → Stops unbuilt 1 [] (lines_of source) line reason
+reading-stops unbuilt source line reason e =
+    stops unbuilt 1 [] (lines_of source) line reason (script-stop (spoken_from unbuilt 1 [] (lines_of source)) line reason e)
+
+-- the line of a refusal is the first that is refused
+pub refuses_first : RefusesFirst
+refuses_first unbuilt source line reason other e =
+    elim (reading-stops unbuilt source line reason e) [ inl r ↦ r | inr r ↦ absurd (other r.is_open) ]
+
+-- an open `repeat` is refused where no line is
+pub refuses_open : RefusesOpen
+refuses_open unbuilt source line e =
+    elim (reading-stops unbuilt source line why.Open e)
+    [ inl r ↦ absurd (refused-open unbuilt line r.inner r.refused r.reason) | inr r ↦ (r.outer, r.passed) ]

@@ -1,0 +1,207 @@
+-- The words of a phrase are the tokens that it was read from.
+use Rattle.std.proofs.Common.{◌≡◌, inl, inr, ℕ, ◌≤◌, Bool, true, false, cond, eqb, nat_le, nat_lt, List, [], ◌∷◌, length, map, ℤ, pos, negsuc, Option, Some, None, Result, Ok, Err, codes, refl, sym, ap, ◌∙◌, subst, arith}
+use Rattle.std.specs.List.{list_any}
+use Rattle.std.proofs.lemmas.Bool.Decides.{nat_tests}
+use Rattle.script_text.specs.declared.script.Why.{Why}
+use Rattle.script_text.specs.declared.script.Why.TheVariants as why
+use Rattle.script_text.specs.declared.table.Keyword.{Keyword}
+use Rattle.script_text.specs.declared.table.Place.{Place}
+use Rattle.script_text.specs.declared.table.Place.TheVariants.{Variable, Field, Value, Literal}
+use Rattle.script_text.specs.Limits.{line_bytes_most}
+use Rattle.script_text.specs.Tokens.{is_name, integer_of}
+use Rattle.script_text.specs.Lines.{tokens_of}
+use Rattle.script_text.specs.Table.{keyword_text, keywords, keyword_among, same_keyword, places_of}
+use Rattle.script_text.specs.Phrases.{Phrase, Written, variable, field, literal, integer, undefined, bound, literal_up_to, integer_or_bound, written_at, written_all, joined, phrase_with, with_operands, if_built, phrase_of, phrase_of_line}
+use Rattle.script_laws.specs.Canonical.{written_token, spaced, phrase_text, PhrasesAreReadAgain}
+use Rattle.script_text.proofs.Numbers.{bytes_tell}
+use Rattle.script_laws.proofs.Integers.{integers_are_written}
+use Rattle.script_laws.proofs.Spacing.{Avoids, is_feed, Avoids-spaced, AllAvoid-tokens_of, tokens_of-again}
+use Rattle.script_laws.proofs.Widths.{length-spaced}
+
+-- the words of a phrase: its command and its operands
+abbrev pub phrase_words : Phrase → List (List ℕ)
+phrase_words phrase = keyword_text phrase.keyword ∷ map written_token phrase.operands
+
+-- the word of the command that was found
+keyword_among-text : (ks : List Keyword) (token : List ℕ) (k : Keyword) → keyword_among ks token ≡ Some k → keyword_text k ≡ token
+keyword_among-text [] token k e = cc
+keyword_among-text (first ∷ ks) token k e =
+    elim (bytes_tell token (keyword_text first)) [
+      | inl h ↦
+          let found : Some first ≡ Some k = sym (ap (λ v. cond v (Some first) (keyword_among ks token)) h.0) ∙ e in
+          let same : first ≡ k = cc in
+          ap keyword_text (sym same) ∙ sym h.1
+      | inr h ↦ keyword_among-text ks token k (sym (ap (λ v. cond v (Some first) (keyword_among ks token)) h.0) ∙ e)
+    ]
+
+-- the token of a name of this kind is the name
+name-token : (kind : List ℕ → Written) (v : Bool) (reason : Why) (token : List ℕ) (written : Written)
+    → written_token (kind token) ≡ token
+    → cond v (Ok (kind token)) (Err reason) ≡ Ok written → written_token written ≡ token
+name-token kind true reason token written spelled e =
+    let same : kind token ≡ written = cc in
+    ap written_token (sym same) ∙ spelled
+name-token kind false reason token written spelled e = cc
+
+-- the token of an integer is what is written of it
+integer-token : (v : ℤ) (token : List ℕ) (written : Written) → integer_of token ≡ Some v → integer v ≡ written
+    → written_token written ≡ token
+integer-token v token written e same = ap written_token (sym same) ∙ sym ((integers_are_written token v e).0)
+
+-- so it is of a literal
+literal-test : (within : Bool) (n : ℕ) (token : List ℕ) (written : Written) → integer_of token ≡ Some (pos n)
+    → cond within (Ok (literal n)) (Err why.Integer) ≡ Ok written → written_token written ≡ token
+literal-test true n token written read e =
+    let same : literal n ≡ written = cc in
+    ap written_token (sym same) ∙ sym ((integers_are_written token (pos n) read).0)
+literal-test false n token written read e = cc
+
+-- the token of a literal is what it was read from
+literal-token : (most : ℕ) (v : Option ℤ) (token : List ℕ) (written : Written) → integer_of token ≡ v
+    → literal_up_to most v ≡ Ok written → written_token written ≡ token
+literal-token most None token written read e = cc
+literal-token most (Some (pos n)) token written read e = literal-test (nat_le n most) n token written read e
+literal-token most (Some (negsuc n)) token written read e = cc
+
+-- the token of a value that is not `undefined` is what it was read from
+value-token : (v : Option ℤ) (token : List ℕ) (written : Written) → integer_of token ≡ v
+    → integer_or_bound v token ≡ Ok written → written_token written ≡ token
+value-token None token written read e = name-token bound (is_name token) why.Value token written refl e
+value-token (Some v) token written read e =
+    let same : integer v ≡ written = cc in
+    integer-token v token written read same
+
+-- an operand that was read
+abbrev spelled : Written → Result Written Why
+spelled written = Ok written
+
+-- the token of an operand is the token that it was read from
+written_at-token : (place : Place) (token : List ℕ) (written : Written) → written_at place token ≡ Ok written
+    → written_token written ≡ token
+written_at-token Variable token written e = name-token variable (is_name token) why.Name token written refl e
+written_at-token Field token written e = name-token field (is_name token) why.Name token written refl e
+written_at-token Value token written e =
+    let other = integer_or_bound (integer_of token) token in
+    elim (bytes_tell token (codes "undefined")) [
+      | inl h ↦
+          let made : spelled undefined ≡ Ok written = sym (ap (λ v. cond v (Ok undefined) other) h.0) ∙ e in
+          let same : undefined ≡ written = cc in
+          ap written_token (sym same) ∙ sym h.1
+      | inr h ↦ value-token (integer_of token) token written refl (sym (ap (λ v. cond v (Ok undefined) other) h.0) ∙ e)
+    ]
+written_at-token (Literal most) token written e = literal-token most (integer_of token) token written refl e
+
+-- the tokens of operands are those of the first and of the rest
+joined-tokens : (token : List ℕ) (tokens : List (List ℕ)) (first : Result Written Why)
+    (more : Result (List Written) Why) (operands : List Written) →
+    ((written : Written) → first ≡ Ok written → written_token written ≡ token)
+    → ((rest : List Written) → more ≡ Ok rest → map written_token rest ≡ tokens) → joined first more ≡ Ok operands
+    → map written_token operands ≡ token ∷ tokens
+joined-tokens token tokens (Err reason) more operands one others e = cc
+joined-tokens token tokens (Ok written) (Err reason) operands one others e = cc
+joined-tokens token tokens (Ok written) (Ok rest) operands one others e =
+    let same : written ∷ rest ≡ operands = cc in
+    ap (map written_token) (sym same) ∙ ap (λ t. t ∷ map written_token rest) (one written refl)
+    ∙ ap (λ ts. token ∷ ts) (others rest refl)
+
+-- the tokens of operands are the tokens that they were read from
+written_all-tokens : (places : List Place) (tokens : List (List ℕ)) (operands : List Written)
+    → length tokens ≡ length places → written_all places tokens ≡ Ok operands → map written_token operands ≡ tokens
+written_all-tokens [] [] operands even e =
+    let same : [] ≡ operands = cc in
+    ap (map written_token) (sym same)
+written_all-tokens [] (token ∷ tokens) operands even e = absurd (omega arith)
+written_all-tokens (place ∷ places) [] operands even e = absurd (omega arith)
+written_all-tokens (place ∷ places) (token ∷ tokens) operands even e =
+    joined-tokens token tokens (written_at place token) (written_all places tokens) operands
+    (λ written h. written_at-token place token written h)
+    (λ rest h. written_all-tokens places tokens rest (omega arith) h) e
+
+-- the words of a phrase are its command's and its operands' tokens
+phrase_with-words : (k : Keyword) (tokens : List (List ℕ)) (read : Result (List Written) Why) (phrase : Phrase)
+    → ((operands : List Written) → read ≡ Ok operands → map written_token operands ≡ tokens)
+    → phrase_with k read ≡ Ok (Some phrase) → phrase_words phrase ≡ keyword_text k ∷ tokens
+phrase_with-words k tokens (Err reason) phrase h e = cc
+phrase_with-words k tokens (Ok operands) phrase h e =
+    let made : Phrase = record { keyword = k; operands = operands } in
+    let same : made ≡ phrase = cc in
+    ap phrase_words (sym same) ∙ ap (λ ts. keyword_text k ∷ ts) (h operands refl)
+
+-- so they are where the operands are counted first
+count-words : (even : Bool) (k : Keyword) (tokens : List (List ℕ)) (phrase : Phrase)
+    → (even ≡ true → length tokens ≡ length (places_of k))
+    → cond even (phrase_with k (written_all (places_of k) tokens)) (Err why.Count) ≡ Ok (Some phrase)
+    → phrase_words phrase ≡ keyword_text k ∷ tokens
+count-words true k tokens phrase h e =
+    phrase_with-words k tokens (written_all (places_of k) tokens) phrase
+    (λ operands read. written_all-tokens (places_of k) tokens operands (h refl) read) e
+count-words false k tokens phrase h e = cc
+
+-- and where the command is built
+built-words : (out : Bool) (k : Keyword) (tokens : List (List ℕ)) (phrase : Phrase)
+    → cond out (Err why.NotBuilt) (with_operands k tokens) ≡ Ok (Some phrase)
+    → phrase_words phrase ≡ keyword_text k ∷ tokens
+built-words true k tokens phrase e = cc
+built-words false k tokens phrase e =
+    count-words (eqb (length tokens) (length (places_of k))) k tokens phrase (λ h. grind (arith, nat_tests)) e
+
+-- and where the command is found by its word
+if_built-words :
+    (unbuilt : List Keyword) (first : List ℕ) (tokens : List (List ℕ)) (k : Option Keyword) (phrase : Phrase)
+    → keyword_among keywords first ≡ k → if_built unbuilt tokens k ≡ Ok (Some phrase)
+    → phrase_words phrase ≡ first ∷ tokens
+if_built-words unbuilt first tokens None phrase found e = cc
+if_built-words unbuilt first tokens (Some k) phrase found e =
+    built-words (list_any (same_keyword k) unbuilt) k tokens phrase e
+    ∙ ap (λ word. word ∷ tokens) (keyword_among-text keywords first k found)
+
+-- the words of a phrase are the tokens that it was read from
+phrase_of-words : (unbuilt : List Keyword) (tokens : List (List ℕ)) (phrase : Phrase)
+    → phrase_of unbuilt tokens ≡ Ok (Some phrase) → phrase_words phrase ≡ tokens
+phrase_of-words unbuilt [] phrase e = cc
+phrase_of-words unbuilt (first ∷ tokens) phrase e =
+    if_built-words unbuilt first tokens (keyword_among keywords first) phrase refl e
+
+-- a line with a phrase is not too long, and its tokens make the phrase
+record IsShort (unbuilt : List Keyword) (line : List ℕ) (phrase : Phrase) : Type 0 where
+  short : nat_lt line_bytes_most (length line) ≡ false
+  read : phrase_of unbuilt (tokens_of line) ≡ Ok (Some phrase)
+
+-- a line that is not refused as too long is short
+short-test : (unbuilt : List Keyword) (line : List ℕ) (phrase : Phrase) (long : Bool)
+    → nat_lt line_bytes_most (length line) ≡ long
+    → cond long (Err why.Long) (phrase_of unbuilt (tokens_of line)) ≡ Ok (Some phrase) → IsShort unbuilt line phrase
+short-test unbuilt line phrase true h e = cc
+short-test unbuilt line phrase false h e = record { short = h; read = e }
+
+-- what is no longer than a short line is short
+still_short : (some more : ℕ) → some ≤ more → nat_lt line_bytes_most more ≡ false → nat_lt line_bytes_most some ≡ false
+still_short some more le h = grind (arith, nat_tests)
+
+-- the line of a phrase is short
+line-IsShort : (unbuilt : List Keyword) (line : List ℕ) (phrase : Phrase)
+    → phrase_of_line unbuilt line ≡ Ok (Some phrase) → IsShort unbuilt line phrase
+line-IsShort unbuilt line phrase e = short-test unbuilt line phrase (nat_lt line_bytes_most (length line)) refl e
+
+-- the canonical form of a phrase is that of the line that it was read from
+phrase_text-line : (unbuilt : List Keyword) (line : List ℕ) (phrase : Phrase)
+    → phrase_of_line unbuilt line ≡ Ok (Some phrase) → phrase_text phrase ≡ spaced (tokens_of line)
+phrase_text-line unbuilt line phrase e =
+    ap spaced (phrase_of-words unbuilt (tokens_of line) phrase (line-IsShort unbuilt line phrase e).read)
+
+-- the canonical form of a phrase is read as the phrase
+pub phrases_are_read_again : PhrasesAreReadAgain
+phrases_are_read_again unbuilt line phrase e =
+    let parts = line-IsShort unbuilt line phrase e in
+    let form = spaced (tokens_of line) in
+    let short = still_short (length form) (length line) (length-spaced line) parts.short in
+    ap (phrase_of_line unbuilt) (phrase_text-line unbuilt line phrase e)
+    ∙ ap (λ long. cond long (Err why.Long) (phrase_of unbuilt (tokens_of form))) short
+    ∙ ap (phrase_of unbuilt) (tokens_of-again line) ∙ parts.read
+
+-- it is one line, where the phrase was read from one
+pub feed-phrase_text : (unbuilt : List Keyword) (line : List ℕ) (phrase : Phrase)
+    → phrase_of_line unbuilt line ≡ Ok (Some phrase) → Avoids is_feed line → Avoids is_feed (phrase_text phrase)
+feed-phrase_text unbuilt line phrase e h =
+    subst (Avoids is_feed) (sym (phrase_text-line unbuilt line phrase e))
+    (Avoids-spaced is_feed (tokens_of line) refl (AllAvoid-tokens_of is_feed line h))

@@ -1,0 +1,5 @@
+pub mod Naming
+pub mod Words
+pub mod Refusals
+pub mod Execution
+pub mod Canonical

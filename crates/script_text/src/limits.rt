@@ -1,0 +1,22 @@
+//! The limits of a script.
+
+/// The most bytes of a line.
+pub(crate) const LINE_BYTES_MOST: usize = 4096;
+
+/// The most bytes of a name.
+pub(crate) const NAME_BYTES_MOST: usize = 32;
+
+/// The most slots of its own that `new` gives an object.
+pub(crate) const CAP_MOST: u32 = 8;
+
+/// The most turns of a `repeat`.
+pub(crate) const TURNS_MOST: u32 = 20_000_000;
+
+/// The most `repeat`s that are open at once.
+pub(crate) const OPEN_MOST: usize = 4;
+
+/// The most names of variables.
+pub(crate) const VARIABLES_MOST: usize = 1024;
+
+/// The most names of fields.
+pub(crate) const FIELDS_MOST: usize = 4096;
