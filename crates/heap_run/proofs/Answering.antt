@@ -1,5 +1,6 @@
 -- What follows of a run from what it comes to and what the sink took.
-use Rattle.std.proofs.Common.{arith, ◌≡◌, ◌≢◌, ℕ, List, [], ◌∷◌, Option, Some, None, IfSome, Err, refl, sym, subst, lit<, ◌⊎◌, inl, inr}
+use Rattle.std.proofs.Common.{arith, ◌≡◌, ◌≢◌, ℕ, List, [], ◌∷◌, Option, Some}
+use Rattle.std.proofs.Common.{None, IfSome, Err, refl, sym, subst, lit<, ◌⊎◌, inl, inr}
 use Rattle.std.specs.Prelude.{Contains, Bool, true, false, not, ◌&&◌, ◌||◌, if◌then◌else◌, option_and_then, bytes_eq}
 use Rattle.command_line.specs.declared.invocation.Sizes.{Sizes}
 use Rattle.command_line.specs.declared.invocation.Invocation.{Invocation}
@@ -19,7 +20,8 @@ use Rattle.heap_run.specs.declared.ended.Ended.{Ended}
 use Rattle.heap_run.specs.declared.last_line.LastLine.{LastLine}
 use Rattle.heap_run.specs.declared.last_line.LastLine.TheVariants as last
 use Rattle.heap_run.specs.Texts.{last_bytes, status_of}
-use Rattle.heap_run.specs.Answers.{Input, ReadsAll, Answer, unopened, refusal_of, last_line_of, Comes, Taken, Answers, Runs, IsOpened, KeepsGraph, AsksToRun}
+use Rattle.heap_run.specs.Answers.{Input, ReadsAll, Answer, unopened, refusal_of, last_line_of}
+use Rattle.heap_run.specs.Answers.{Comes, Taken, Answers, Runs, IsOpened, KeepsGraph, AsksToRun}
 
 -- no last line has the status of a sink that failed
 pub status-apart : (line : LastLine) → status_of line ≢ 5

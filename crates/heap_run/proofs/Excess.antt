@@ -1,5 +1,6 @@
 -- A source that has more bytes than it may have.
-use Rattle.std.proofs.Common.{◌≡◌, ℕ, ◌+◌, ◌<◌, List, length, drop, Option, Some, None, IfSome, sym, ap, ◌∙◌, arith, length-append}
+use Rattle.std.proofs.Common.{◌≡◌, ℕ, ◌+◌, ◌<◌, List, length, drop, Option}
+use Rattle.std.proofs.Common.{Some, None, IfSome, sym, ap, ◌∙◌, arith, length-append}
 use Rattle.std.proofs.lemmas.List.{drop_at}
 use Rattle.byte_ends.proofs.Consuming.{Consumes}
 use Rattle.heap_run.specs.Answers.{source_most}

@@ -99,6 +99,11 @@ said-next script n so_far later line rest next said tells =
     ∙ ap (option_and_then (λ so_far. tell heap_limits script.fields so_far line.command)) said
     ∙ tells
 
+-- one line more is executed: what is left is the rest
+dropped-next : (script : ScriptText) (n : ℕ) {line : Executed} {rest : List Executed}
+    → Next (executed_lines script.lines) n line rest → left_after script (n + 1) ≡ rest
+dropped-next script n next = ap (λ m. drop m (executed_lines script.lines)) (add-one n) ∙ next.dropped
+
 -- a `repeat` or an `end` was executed
 pub Running-passed : (script : ScriptText) (heap : FirstWords) (objects : ℕ) (waiting : List ℕ)
     (old new : List ℕ → Type 0) (at at' : ℕ) (ts ts' : List ℕ) (n number : ℕ)
@@ -117,7 +122,7 @@ Running-passed script heap objects waiting old new at at' ts ts' n number r belo
         said = said-next script n so_far so_far (executed number None) goes.rest next r.reached.said refl;
         shown = r.reached.shown;
       };
-      left = subst (IsLeft script.lines at' ts') (sym (ap (λ m. drop m (executed_lines script.lines)) (add-one n) ∙ next.dropped)) goes.left;
+      left = subst (IsLeft script.lines at' ts') (sym (dropped-next script n next)) goes.left;
       handed = r.handed;
       made = r.made;
     }
@@ -144,7 +149,7 @@ Running-carried script heap after objects waiting old new at at' ts ts' n number
         said = said-next script n so_far later line goes.rest next r.reached.said (ap (told_with so_far) does-is);
         shown = shown;
       };
-      left = subst (IsLeft script.lines at' ts') (sym (ap (λ m. drop m (executed_lines script.lines)) (add-one n) ∙ next.dropped)) goes.left;
+      left = subst (IsLeft script.lines at' ts') (sym (dropped-next script n next)) goes.left;
       handed = Handed-told text r.handed;
       made = ap (λ m. m + objects_made command) r.made
           ∙ sym (length-does heap_limits script.fields so_far.graph graph command text does-is);

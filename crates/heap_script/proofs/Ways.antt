@@ -30,17 +30,19 @@ goes-by lines at (zero ∷ ts) left number (End repeat_at) is here = out lines a
 goes-by lines at (suc more ∷ ts) left number (End repeat_at) is here =
     back lines at more ts left number repeat_at is here
 
--- the same of a line as it stands in the script
-pub goes_on : (lines : List Line) (at : ℕ) (ts : List ℕ) (left : List Executed) (line : Line)
-    → IsLeft lines at ts left → slice_get lines at ≡ Some line
-    → Goes lines (next_of at ts line.what).at (next_of at ts line.what).turns left (executed line.number (command_in line.what))
-goes_on lines at ts left line is here = goes-by lines at ts left line.number line.what is here
-
 -- what stands past the end of the lines
 abbrev pub past_end : Line
 past_end = record { number = 0; what = Run (New 0 0) }
 
 -- a line that an index reads stands there
-pub here : (lines all : List Line) (at : ℕ) → lines ≡ all → at < length lines
+here : (lines all : List Line) (at : ℕ) → lines ≡ all → at < length lines
     → slice_get all at ≡ Some (get_or lines at past_end)
 here lines all at same within = ap (λ xs. slice_get xs at) (sym same) ∙ slice_get-get_or lines at past_end within
+
+-- where a run goes on after the line that an index reads
+pub goes_on : (lines all : List Line) (at : ℕ) (ts : List ℕ) (left : List Executed) → lines ≡ all → at < length lines
+    → IsLeft all at ts left → let line = get_or lines at past_end in
+    Goes all (next_of at ts line.what).at (next_of at ts line.what).turns left (executed line.number (command_in line.what))
+goes_on lines all at ts left same within is =
+    let line = get_or lines at past_end in
+    goes-by all at ts left line.number line.what is (here lines all at same within)

@@ -36,7 +36,8 @@ made_by None = 0
 made_by (Some command) = objects_made command
 
 -- a line that runs a command does with the heap what the command does, and one that runs none does nothing
-abbrev pub CarriesLine : List (List ℕ) → FirstWords → FirstWords → Graph → Option Command → List ℕ → Result (Unit {0}) Stop → Type 0
+abbrev pub CarriesLine : List (List ℕ) → FirstWords → FirstWords → Graph → Option Command → List ℕ
+    → Result (Unit {0}) Stop → Type 0
 CarriesLine names old new graph None text result = (new ≡ old) × (text ≡ []) × (result ≡ Ok tt)
 CarriesLine names old new graph (Some command) text result = Carries names old new graph command text result
 
@@ -53,7 +54,8 @@ pub record Handed (old new : List ℕ → Type 0) (waiting all : List ℕ) : Typ
 
 -- The run came to this, and what it told was handed on or waits. Or the sink failed between two lines, and a front of
 -- what was told was written.
-abbrev pub Halts : ScriptText → FirstWords → List ℕ → Finished → Told → (List ℕ → Type 0) → (List ℕ → Type 0) → ℕ → ℕ → How → Type 0
+abbrev pub Halts : ScriptText → FirstWords → List ℕ → Finished → Told → (List ℕ → Type 0) → (List ℕ → Type 0)
+    → ℕ → ℕ → How → Type 0
 Halts script heap waiting finished so_far old new faults_old faults_new (SinkFault need) =
     ((finished.line ≡ 0) × (need ≡ 0) × FillsOutput so_far.bytes)
     × CutsOff old new so_far.bytes × Rose faults_old faults_new

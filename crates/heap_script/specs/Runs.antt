@@ -92,7 +92,8 @@ FailedAt script heap executed so_far line need =
     ⊎ ((came : How) × ComesTo script heap executed so_far came line × (need ≡ need_at came))
 
 -- What was told was written, and the run came to this. Or the sink failed, and a front of what was told was written.
-abbrev pub Writes : ScriptText → FirstWords → Finished → Told → (List ℕ → Type 0) → (List ℕ → Type 0) → ℕ → ℕ → How → Type 0
+abbrev pub Writes : ScriptText → FirstWords → Finished → Told → (List ℕ → Type 0) → (List ℕ → Type 0)
+    → ℕ → ℕ → How → Type 0
 Writes script heap finished so_far old new faults_old faults_new (how.SinkFault need) =
     FailedAt script heap finished.executed so_far finished.line need
     × CutsOff old new so_far.bytes × Rose faults_old faults_new

@@ -40,9 +40,9 @@ impl<'s> Names<'s> {
     /// The number of a name. One that is not there is added.
     pub(crate) fn enter(&mut self, name: &'s [u8]) -> Result<u32, AllocError>
         requires { length self.old < 2 ^ 31 }
-        ensures ok { OnOk result (self.new ≡ with_name self.old name.now) }
+        ensures entered { OnOk result (self.new ≡ with_name self.old name.now) }
         ensures number { IfOk result (λ number. number ≡ number_of self.new name.now) }
-        ensures err { OnErr result (self.new ≡ self.old) }
+        ensures unchanged { OnErr result (self.new ≡ self.old) }
         ensures few { length self.new ≤ length self.old + 1 }
     {
         if let Some(number) = self.numbers.get(name) {

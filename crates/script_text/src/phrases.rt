@@ -93,7 +93,7 @@ struct Taken<'s> {
 
 /// The tokens, where there are so many.
 fn as_many<'s>(count: usize, mut tokens: Tokens<'s>) -> Option<Taken<'s>>
-    requires { count ≤ 3 }
+    requires { count ≤ PLACES_MOST }
     ensures taken { IfSome result (λ taken.
         map (λ token. token.now) (take count taken.tokens) ≡ tokens.entry) }
     ensures counted { result ≡ None → length tokens.entry ≢ count }

@@ -98,7 +98,7 @@ pub(crate) fn is_among(keyword: Keyword, keywords: &[Keyword]) -> bool
 /// What the operands of a command are, in order.
 pub(crate) fn places(keyword: Keyword) -> &'static [Place]
     ensures all { result.now ≡ places_of keyword }
-    ensures few { length result.now ≤ 3 }
+    ensures few { length result.now ≤ PLACES_MOST }
 {
     match keyword {
         Keyword::New => &[Place::Variable, Place::Literal { most: CAP_MOST }],

@@ -52,4 +52,5 @@ returns-in-Err-NoMemory-read_source g c =
     let stopped = rw c.in-Err-NoMemory-read_source.field-0-is at c.in-Err-NoMemory-read_source.ensures in
     let given = c.give_up-in-Err-NoMemory-read_source in
     Answers-unopened _ _ _ _ _ _ given.result last.NoMemory given.ensures.unopened
-    (Comes.no_memory (begins (map string_bytes c.args.words.now) c.in-Ok-Run.field-0-0 asks) (inl (stopped.no_memory refl))) given.ensures.taken
+    (Comes.no_memory (begins (map string_bytes c.args.words.now) c.in-Ok-Run.field-0-0 asks) (inl (stopped.no_memory refl)))
+    given.ensures.taken

@@ -7,24 +7,39 @@ returns-in-New-clause-carried c = λ graph names shown made.
     ([], rw c.in-New.is (c.make.ensures.carried graph names shown made), written_nothing (is_ok c.make.result) c.args.out.now)
 
 pub returns-in-LetValue-clause-carried : goal.returns-in-LetValue-clause-carried
-returns-in-LetValue-clause-carried c = λ graph names shown made.
-    ([], rw c.in-LetValue.is (c.let_value.ensures.carried graph names shown), written_nothing (is_ok c.let_value.result) c.args.out.now)
+returns-in-LetValue-clause-carried c = λ graph names shown made. (
+  [],
+  rw c.in-LetValue.is (c.let_value.ensures.carried graph names shown),
+  written_nothing (is_ok c.let_value.result) c.args.out.now,
+)
 
 pub returns-in-DropVar-clause-carried : goal.returns-in-DropVar-clause-carried
-returns-in-DropVar-clause-carried c = λ graph names shown made.
-    ([], rw c.in-DropVar.is (c.drop_var.ensures.carried graph names shown), written_nothing (is_ok c.drop_var.result) c.args.out.now)
+returns-in-DropVar-clause-carried c = λ graph names shown made. (
+  [],
+  rw c.in-DropVar.is (c.drop_var.ensures.carried graph names shown),
+  written_nothing (is_ok c.drop_var.result) c.args.out.now,
+)
 
 pub returns-in-Add-clause-carried : goal.returns-in-Add-clause-carried
-returns-in-Add-clause-carried c = λ graph names shown made.
-    ([], rw c.in-Add.is (c.add.ensures.carried graph names shown), written_nothing (is_ok c.add.result) c.args.out.now)
+returns-in-Add-clause-carried c = λ graph names shown made. (
+  [],
+  rw c.in-Add.is (c.add.ensures.carried graph names shown),
+  written_nothing (is_ok c.add.result) c.args.out.now,
+)
 
 pub returns-in-Set-clause-carried : goal.returns-in-Set-clause-carried
-returns-in-Set-clause-carried c = λ graph names shown made.
-    ([], rw c.in-Set.is (c.set.ensures.carried graph names shown), written_nothing (is_ok c.set.result) c.args.out.now)
+returns-in-Set-clause-carried c = λ graph names shown made. (
+  [],
+  rw c.in-Set.is (c.set.ensures.carried graph names shown),
+  written_nothing (is_ok c.set.result) c.args.out.now,
+)
 
 pub returns-in-Get-clause-carried : goal.returns-in-Get-clause-carried
-returns-in-Get-clause-carried c = λ graph names shown made.
-    ([], rw c.in-Get.is (c.get.ensures.carried graph names shown), written_nothing (is_ok c.get.result) c.args.out.now)
+returns-in-Get-clause-carried c = λ graph names shown made. (
+  [],
+  rw c.in-Get.is (c.get.ensures.carried graph names shown),
+  written_nothing (is_ok c.get.result) c.args.out.now,
+)
 
 pub returns-in-Print-clause-carried : goal.returns-in-Print-clause-carried
 returns-in-Print-clause-carried c = λ graph names shown made.

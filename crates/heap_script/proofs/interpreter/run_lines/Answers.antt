@@ -3,7 +3,7 @@ use Rattle.std.proofs.lemmas.Option.{slice_get_past}
 use Rattle.std.specs.Prelude.{slice_get, None}
 use Rattle.object_graph.specs.Run.{lines_most}
 use Rattle.script_text.proofs.Left.{at_most_four}
-use Rattle.heap_script.proofs.Ways.{goes_on, past_end, here}
+use Rattle.heap_script.proofs.Ways.{goes_on, past_end}
 use Rattle.heap_script.proofs.Handing.{CutsOff-handed, fills-handed}
 use Rattle.heap_script.proofs.Running.{Running-start, Running-handed, Running-line}
 use Rattle.heap_script.proofs.Ending.{ComesTo-end, ComesTo-limit, ComesTo-line, Pauses-stopped, same-line}
@@ -15,7 +15,8 @@ loop-at-init g c =
     let lines = c.lines-lines.ensures in
     record {
       running = rw (c.requires.empty, c.new-turns.ensures)
-          (Running-start c.args.script.now c.args.heap.now taken (rw lines.all at lines.placed) c.requires.shown c.requires.variables);
+          (Running-start c.args.script.now c.args.heap.now taken (rw lines.all at lines.placed) c.requires.shown
+          c.requires.variables);
       room = rw c.requires.empty (omega arith);
       steady = refl;
     }
@@ -25,21 +26,24 @@ next-at-requires-clause-deep g c =
     let r = c.loop-at.invariant.running in
     let lines = c.lines-lines.result.now in
     let line = get_or lines c.loop-at.at past_end in
-    let goes = goes_on c.args.script.now.lines c.loop-at.at c.loop-at.turns _ line r.left
-    (here lines c.args.script.now.lines c.loop-at.at c.lines-lines.ensures.all c.loop-at-test.true) in
-    at_most_four c.args.script.now.lines _ _ _ c.lines-lines.ensures.matched goes.left
+    let script = c.args.script.now in
+    let goes = goes_on lines script.lines c.loop-at.at c.loop-at.turns _ c.lines-lines.ensures.all c.loop-at-test.true
+    r.left in
+    at_most_four script.lines _ _ _ c.lines-lines.ensures.matched goes.left
 
 pub returns-then-executed-eq-LINES_MOST : goal.returns-then-executed-eq-LINES_MOST
 returns-then-executed-eq-LINES_MOST g c =
     let r = c.loop-at.invariant.running in
     let lines = c.lines-lines.result.now in
     let line = get_or lines c.loop-at.at past_end in
-    let goes = goes_on c.args.script.now.lines c.loop-at.at c.loop-at.turns _ line r.left
-    (here lines c.args.script.now.lines c.loop-at.at c.lines-lines.ensures.all c.loop-at-test.true) in
+    let script = c.args.script.now in
+    let goes = goes_on lines script.lines c.loop-at.at c.loop-at.turns _ c.lines-lines.ensures.all c.loop-at-test.true
+    r.left in
     record {
       reached = r.reached;
       halts = (
-        ComesTo-limit c.args.script.now c.loop-at.heap _ c.loop-at.executed line.number _ _ r.reached goes c.if-executed-eq-LINES_MOST.true,
+        ComesTo-limit script c.loop-at.heap _ c.loop-at.executed line.number _ _ r.reached goes
+            c.if-executed-eq-LINES_MOST.true,
         r.handed,
         c.loop-at.invariant.steady,
       );
@@ -67,14 +71,15 @@ returns-in-Err g c =
     let n = c.loop-at.executed in
     let lines = c.lines-lines.result.now in
     let line = get_or lines c.loop-at.at past_end in
-    let goes = goes_on script.lines c.loop-at.at c.loop-at.turns _ line r.left
-    (here lines script.lines c.loop-at.at c.lines-lines.ensures.all c.loop-at-test.true) in
+    let goes = goes_on lines script.lines c.loop-at.at c.loop-at.turns _ c.lines-lines.ensures.all c.loop-at-test.true
+    r.left in
     let below : n < lines_most = omega (arith, r.reached.few) in
     let (text, carries, out-is) =
     c.in-Err.ensures.carried r.reached.so_far.graph script.fields r.reached.shown r.made in
-    let same = same-line script.fields c.loop-at.heap c.execute_line.new.heap r.reached.so_far.graph _ text c.in-Err.stop carries in
-    rw (same, out-is, c.stopped.ensures) (Pauses-stopped script c.loop-at.heap c.loop-at.out n line.number c.in-Err.stop _ _ _ _
-    r.reached
+    let graph = r.reached.so_far.graph in
+    let same = same-line script.fields c.loop-at.heap c.execute_line.new.heap graph _ text c.in-Err.stop carries in
+    rw (same, out-is, c.stopped.ensures)
+    (Pauses-stopped script c.loop-at.heap c.loop-at.out n line.number c.in-Err.stop _ _ _ _ r.reached
     (ComesTo-line script c.loop-at.heap c.execute_line.new.heap _ n line.number _ _ text c.in-Err.stop r.reached below goes carries)
     r.handed c.loop-at.invariant.steady)
 
@@ -85,8 +90,8 @@ loop-at-preserved g c =
     let n = c.loop-at.executed in
     let lines = c.lines-lines.result.now in
     let line = get_or lines c.loop-at.at past_end in
-    let goes = goes_on script.lines c.loop-at.at c.loop-at.turns _ line r.left
-    (here lines script.lines c.loop-at.at c.lines-lines.ensures.all c.loop-at-test.true) in
+    let goes = goes_on lines script.lines c.loop-at.at c.loop-at.turns _ c.lines-lines.ensures.all c.loop-at-test.true
+    r.left in
     let below : n < lines_most = omega (arith, r.reached.few) in
     let (text, carries, out-is) =
     c.in_default.ensures.carried r.reached.so_far.graph script.fields r.reached.shown r.made in
@@ -107,8 +112,8 @@ returns-in_default-make_room g c =
     let n = c.loop-at.executed in
     let lines = c.lines-lines.result.now in
     let line = get_or lines c.loop-at.at past_end in
-    let goes = goes_on script.lines c.loop-at.at c.loop-at.turns _ line r.left
-    (here lines script.lines c.loop-at.at c.lines-lines.ensures.all c.loop-at-test.true) in
+    let goes = goes_on lines script.lines c.loop-at.at c.loop-at.turns _ c.lines-lines.ensures.all c.loop-at-test.true
+    r.left in
     let below : n < lines_most = omega (arith, r.reached.few) in
     let (text, carries, out-is) =
     c.in_default.ensures.carried r.reached.so_far.graph script.fields r.reached.shown r.made in

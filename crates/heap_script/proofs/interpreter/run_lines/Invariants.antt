@@ -6,7 +6,8 @@ use Rattle.heap_script.proofs.interpreter.run_lines.Given as goal
 
 abbrev pub invariant-loop-at : goal.invariant-loop-at
 invariant-loop-at g l = record {
-  running : Running l.script l.heap l.objects l.out (g.K.Sink.HasTaken l.initial.sink) (g.K.Sink.HasTaken l.sink) l.at l.turns l.executed;
+  running : Running l.script l.heap l.objects l.out (g.K.Sink.HasTaken l.initial.sink) (g.K.Sink.HasTaken l.sink)
+      l.at l.turns l.executed;
   room : length l.out + ROOM ≤ OUTPUT_BYTES;
   steady : g.K.Sink.faults l.sink ≡ g.K.Sink.faults l.initial.sink;
 }
