@@ -3,7 +3,7 @@ use Rattle.std.proofs.Common.{◌≡◌, ◌∙◌, Bool, true, false, List, [],
 use Rattle.clap.specs.Walk.{Held, Row, Text, idle, option, first_of}
 use Rattle.clap.specs.Kinds.{or_else}
 use Rattle.clap.specs.declared.error.kind.ErrorKind.TheVariants.{ArgumentConflict}
-use Rattle.command_line.specs.declared.invocation.Sizes.{Sizes}
+use Rattle.page_space.specs.declared.sizes.Sizes.{Sizes}
 use Rattle.command_line.specs.Given.{Given, Setting, valued, named, ends_options, plain, stray, kind_of, with_positional}
 use Rattle.command_line.specs.Given.{is_option_name}
 use Rattle.command_line.specs.Given.{is_set}

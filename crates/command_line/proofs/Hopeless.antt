@@ -2,7 +2,7 @@
 use Rattle.std.proofs.Common.{◌≡◌, ◌∙◌, ℕ, ◌&&◌, ◌||◌, Bool, true, false, not, List, [], ◌∷◌, ◌++◌, Option, None, Some}
 use Rattle.std.proofs.Common.{option_map, option_and_then, cond, find, bytes_eq, codes, refl, ap, ap₂, sym}
 use Rattle.std.proofs.Common.{append-nil, append_assoc}
-use Rattle.command_line.specs.declared.invocation.Sizes.{Sizes}
+use Rattle.page_space.specs.declared.sizes.Sizes.{Sizes}
 use Rattle.command_line.specs.Given.{Text, Setting, Given, Kind, valued, named, ends_options, plain, stray, kind_of}
 use Rattle.command_line.specs.Given.{given_after, given_by, with_setting, with_positional, is_option_name, is_set}
 use Rattle.command_line.specs.Numbers.{number_or_default}

@@ -10,7 +10,7 @@ use Rattle.clap.specs.Matches.{first_value, found_of}
 use Rattle.clap.specs.declared.error.Error.{Error}
 use Rattle.clap.specs.declared.parser.matches.ArgMatches.{ArgMatches}
 use Rattle.clap.proofs.WalkLemmas.{first_value-rows}
-use Rattle.command_line.specs.declared.invocation.Sizes.{Sizes}
+use Rattle.page_space.specs.declared.sizes.Sizes.{Sizes}
 use Rattle.command_line.specs.declared.invocation.WordsStop.TheVariants.{BadWords, NoMemory}
 use Rattle.command_line.specs.Given.{given_of}
 use Rattle.command_line.specs.Sizes.{sizes_alone, sizes_by}

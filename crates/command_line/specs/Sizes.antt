@@ -1,21 +1,22 @@
 -- The sizes that a command line gives.
 use Rattle.std.specs.Prelude.{ℕ, List, [], ◌∷◌, Option, Some, None, option_map, find, codes, bytes_eq}
-use Rattle.command_line.specs.declared.invocation.Sizes.{Sizes}
+use Rattle.page_space.specs.declared.sizes.Sizes.{Sizes}
 use Rattle.command_line.specs.declared.number.Limits.{Limits}
+use Rattle.page_space.specs.Sizes.{pages_most, young_least, young_most, helpers_most}
 use Rattle.command_line.specs.Given.{Text, Setting, Given}
 use Rattle.command_line.specs.Numbers.{number_or_default}
 
 -- pages of the old generation
 abbrev pub pages_limits : Limits
-pages_limits = record { default = 64; least = 1; most = 512 }
+pages_limits = record { default = 64; least = 1; most = pages_most }
 
 -- words of the young generation
 abbrev pub young_limits : Limits
-young_limits = record { default = 8192; least = 64; most = 65536 }
+young_limits = record { default = 8192; least = young_least; most = young_most }
 
 -- threads that help to collect
 abbrev pub helpers_limits : Limits
-helpers_limits = record { default = 2; least = 0; most = 7 }
+helpers_limits = record { default = 2; least = 0; most = helpers_most }
 
 -- the sizes, where each of the three numbers is there
 abbrev pub sizes_from : Option ℕ → Option ℕ → Option ℕ → Option Sizes

@@ -1,20 +1,11 @@
 //! What a command line asks for, and why it is refused.
 
 use clap::error::ErrorKind;
+use page_space::Sizes;
 use std::alloc::AllocError;
 
-/// The sizes of a heap and its number of helpers.
-#[derive(Clone, Copy, Debug, PartialEq, Eq)]
-pub struct Sizes {
-    /// Pages of the old generation: 1 to 512, 64 where the words give none.
-    pub pages: u32,
-    /// Words of the young generation: 64 to 65,536, 8,192 where the words give none.
-    pub young: u32,
-    /// Threads that help to collect: 0 to 7, 2 where the words give none.
-    pub helpers: u32,
-}
-
-/// What the program is asked to do.
+/// What the program is asked to do. Sizes that the words do not give are 64 pages, 8,192 words of
+/// the young generation, and 2 helpers.
 #[derive(Clone, Copy, Debug, PartialEq, Eq)]
 pub enum Invocation {
     /// Runs a script.

@@ -12,7 +12,8 @@ mod options;
 mod reading;
 mod rows;
 
-pub use invocation::{Invocation, Sizes, WordsStop};
+pub use invocation::{Invocation, WordsStop};
+pub use page_space::Sizes;
 pub use reading::read_words;
 pub use rows::{refused_number_rows, refused_word_rows, run_rows, unbuilt_rows};
 

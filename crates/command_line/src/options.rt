@@ -6,9 +6,10 @@ ghost use Rattle.command_line.specs.Given.{given_of};
 ghost use Rattle.command_line.specs.Sizes.{sizes_alone, sizes_by, sizes_from};
 ghost use Rattle.command_line.specs.Parser.{option_rule, parsed_rows, parser};
 
-use crate::invocation::{Sizes, WordsStop};
+use crate::invocation::WordsStop;
 use crate::number::Limits;
 use clap::{Arg, ArgAction, ArgMatches, Command};
+use page_space::Sizes;
 use std::alloc::{AllocError, Global};
 
 /// Pages of the old generation.

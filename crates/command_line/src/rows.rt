@@ -3,7 +3,8 @@ ghost use Rattle.std.specs.Prelude.{◌≡◌, [], None, Some, codes};
 ghost use Rattle.command_line.specs.Invocations.{built_invocation_of, invocation_of, unbuilt_today};
 ghost use Rattle.command_line.specs.Lines.{words_of};
 
-use crate::invocation::{Invocation, Sizes};
+use crate::invocation::Invocation;
+use page_space::Sizes;
 
 /// Lines that ask for a run.
 pub fn run_rows()

@@ -19,7 +19,7 @@ use Rattle.object_graph.specs.Graphs.{Graph, PlainObject, ListObject, WeakObject
 use Rattle.object_graph.specs.Meaning.{Limits, refill, relist, reweave, does}
 use Rattle.object_graph.proofs.Leads.{Leads, each, if_not, if_there}
 use Rattle.graph_laws.specs.Laws.{changes, MayChange, SameKind}
-use Rattle.graph_laws.proofs.AddedPaths.{with_path-is}
+use Rattle.object_graph.proofs.AddedPaths.{with_path-is}
 use Rattle.graph_laws.proofs.FoundObjects.{plain_at-is, list_at-is, weak_at-is}
 
 -- the command binds and unbinds variables, makes an object, or puts one in the place of another of its kind
@@ -49,23 +49,30 @@ may_change : (graph : Graph) (command : Command) (x : ℕ) (target : Value) (num
 may_change graph command x target number changed bound is =
     ap (λ y. option_and_then (λ z. get graph.bindings z) y) changed ∙ bound ∙ ap (λ t. Some t) is
 
+-- what a value refers to becomes another object of its kind, and paths are added
+rewrites : (graph : Graph) (command : Command) (x : ℕ) (target : Value) (number : ℕ) (old new : Object) (paths : List Path)
+    → changes command ≡ Some x → get graph.bindings x ≡ Some target
+    → (target ≡ Ref number) × (slice_get graph.objects number ≡ Some old)
+    → SameKind old new → take (length graph.paths) paths ≡ graph.paths
+    → Changes graph command (record graph { objects = set graph.objects number new; paths = paths })
+rewrites graph command x target number old new paths changed bound is same added =
+    puts number old new paths (may_change graph command x target number changed bound is.0) is.1 same added
+
 -- a list gets other elements
 relists : (graph : Graph) (command : Command) (x : ℕ) (target : Value) (list : ListObject) (elements : List Value)
     → changes command ≡ Some x → get graph.bindings x ≡ Some target → list_at graph.objects target ≡ Some list
     → Changes graph command (relist graph list elements)
 relists graph command x target list elements changed bound at =
-    let is = list_at-is graph.objects target list at in
-    let may = may_change graph command x target list.number changed bound is.0 in
-    puts list.number (ListOf list.elements) (ListOf elements) graph.paths may is.1 tt (same_paths graph.paths)
+    rewrites graph command x target list.number (ListOf list.elements) (ListOf elements) graph.paths changed bound
+    (list_at-is graph.objects target list at) tt (same_paths graph.paths)
 
 -- a weak map gets other entries
 reweaves : (graph : Graph) (command : Command) (x : ℕ) (target : Value) (weak : WeakObject) (entries : List Entry)
     → changes command ≡ Some x → get graph.bindings x ≡ Some target → weak_at graph.objects target ≡ Some weak
     → Changes graph command (reweave graph weak entries)
 reweaves graph command x target weak entries changed bound at =
-    let is = weak_at-is graph.objects target weak at in
-    let may = may_change graph command x target weak.number changed bound is.0 in
-    puts weak.number (Weak weak.entries) (Weak entries) graph.paths may is.1 tt (same_paths graph.paths)
+    rewrites graph command x target weak.number (Weak weak.entries) (Weak entries) graph.paths changed bound
+    (weak_at-is graph.objects target weak at) tt (same_paths graph.paths)
 
 -- a plain object gets other fields, and paths are added
 refills : (limits : Limits) (graph : Graph) (command : Command) (x : ℕ) (target : Value) (plain : PlainObject)
@@ -74,9 +81,8 @@ refills : (limits : Limits) (graph : Graph) (command : Command) (x : ℕ) (targe
     → with_path limits.paths graph.paths (path_of plain.cap fields) ≡ Some paths
     → Changes graph command (refill graph plain fields paths)
 refills limits graph command x target plain fields paths changed bound at added =
-    let is = plain_at-is graph.objects target plain at in
-    let may = may_change graph command x target plain.number changed bound is.0 in
-    puts plain.number (Plain plain.cap plain.fields) (Plain plain.cap fields) paths may is.1 refl
+    rewrites graph command x target plain.number (Plain plain.cap plain.fields) (Plain plain.cap fields) paths changed bound
+    (plain_at-is graph.objects target plain at) refl
     (more_paths limits.paths graph.paths paths (path_of plain.cap fields) added)
 
 -- the graph stays as it was

@@ -9,12 +9,12 @@ use Rattle.object_graph.specs.declared.object.Entry.{Entry}
 use Rattle.object_graph.specs.Objects.{with_field, without_field, with_entry, without_entry, revalued}
 
 -- the keys with one more, which comes last where it is new
-abbrev with_key : List ℕ → ℕ → List ℕ
+abbrev pub with_key : List ℕ → ℕ → List ℕ
 with_key [] new = new ∷ []
 with_key (key ∷ keys) new = cond (key == new) (key ∷ keys) (key ∷ with_key keys new)
 
 -- the keys without one
-abbrev without_key : List ℕ → ℕ → List ℕ
+abbrev pub without_key : List ℕ → ℕ → List ℕ
 without_key [] gone = []
 without_key (key ∷ keys) gone = cond (key == gone) keys (key ∷ without_key keys gone)
 
@@ -23,7 +23,8 @@ abbrev IsNew : ℕ → List ℕ → Type 0
 IsNew key keys = AllByRecursion (λ other. (key == other) ≡ false) keys
 
 -- a key that differs from all of them and from one more differs from all with that one
-with_key-new : (key : ℕ) (keys : List ℕ) (new : ℕ) → IsNew key keys → (key == new) ≡ false → IsNew key (with_key keys new)
+with_key-new : (key : ℕ) (keys : List ℕ) (new : ℕ) → IsNew key keys → (key == new) ≡ false
+    → IsNew key (with_key keys new)
 with_key-new key [] new all apart = (apart, tt)
 with_key-new key (first ∷ keys) new all apart =
     cond_both (first == new) (first ∷ keys) (first ∷ with_key keys new) (IsNew key) (λ same. all)
@@ -52,91 +53,67 @@ without_key-distinct (first ∷ keys) gone distinct =
     cond_both (first == gone) keys (first ∷ without_key keys gone) (IsDistinct ◌==◌) (λ same. distinct.1)
     (λ other. (without_key-new first keys gone distinct.0, without_key-distinct keys gone distinct.1))
 
--- of no keys none stands twice
-pub nil-distinct : IsDistinct {K = ℕ} ◌==◌ []
-unfolding IsDistinct
-nil-distinct = tt
+-- where these are the keys with one more, none of them stands twice
+pub with_key-kept : (keys : List ℕ) (new : ℕ) (later : List ℕ) → with_key keys new ≡ later
+    → IsDistinct ◌==◌ keys → IsDistinct ◌==◌ later
+with_key-kept keys new later is distinct = subst (IsDistinct ◌==◌) is (with_key-distinct keys new distinct)
+
+-- where these are the keys without one, none of them stands twice
+pub without_key-kept : (keys : List ℕ) (gone : ℕ) (later : List ℕ) → without_key keys gone ≡ later
+    → IsDistinct ◌==◌ keys → IsDistinct ◌==◌ later
+without_key-kept keys gone later is distinct = subst (IsDistinct ◌==◌) is (without_key-distinct keys gone distinct)
+
+-- a thing that is put in the place of one of its key keeps the keys
+put-keys : {X : Type 0} (key_of : X → ℕ) (new : ℕ) (test : Bool) (x put : X) (xs more : List X)
+    → (test ≡ true → key_of x ≡ key_of put) → with_key (map key_of xs) new ≡ map key_of more
+    → cond test (map key_of (x ∷ xs)) (key_of x ∷ with_key (map key_of xs) new)
+    ≡ map key_of (cond test (put ∷ xs) (x ∷ more))
+put-keys key_of new true x put xs more same rest = ap (λ key. key ∷ map key_of xs) (same refl)
+put-keys key_of new false x put xs more same rest = ap (λ keys. key_of x ∷ keys) rest
+
+-- a thing that is taken out takes its key along
+gone-keys : {X : Type 0} (key_of : X → ℕ) (gone : ℕ) (test : Bool) (x : X) (xs fewer : List X)
+    → without_key (map key_of xs) gone ≡ map key_of fewer
+    → cond test (map key_of xs) (key_of x ∷ without_key (map key_of xs) gone) ≡ map key_of (cond test xs (x ∷ fewer))
+gone-keys key_of gone true x xs fewer rest = refl
+gone-keys key_of gone false x xs fewer rest = ap (λ keys. key_of x ∷ keys) rest
 
 -- the names of fields
-abbrev names_of : List Field → List ℕ
+abbrev pub names_of : List Field → List ℕ
 names_of fields = map (λ field. field.name) fields
 
 -- the keys of entries
-abbrev keys_in : List Entry → List ℕ
+abbrev pub keys_in : List Entry → List ℕ
 keys_in entries = map (λ entry. entry.key) entries
 
 -- writing a field adds its name, where it is new
-names_of-with_field : (fields : List Field) (name : ℕ) (value : Value)
+pub names_of-with_field : (fields : List Field) (name : ℕ) (value : Value)
     → with_key (names_of fields) name ≡ names_of (with_field fields name value)
 names_of-with_field [] name value = refl
 names_of-with_field (field ∷ fields) name value =
-    elim (field.name == name) as (λ test.
-    cond test (names_of (field ∷ fields)) (field.name ∷ with_key (names_of fields) name)
-    ≡ names_of (cond test (revalued field value ∷ fields) (field ∷ with_field fields name value))) [
-      | true ↦ refl
-      | false ↦ ap (λ rest. field.name ∷ rest) (names_of-with_field fields name value)
-    ]
+    put-keys (λ f. f.name) name (field.name == name) field (revalued field value) fields (with_field fields name value)
+    (λ same. refl) (names_of-with_field fields name value)
 
 -- taking out a field takes out its name
-names_of-without_field : (fields : List Field) (name : ℕ)
+pub names_of-without_field : (fields : List Field) (name : ℕ)
     → without_key (names_of fields) name ≡ names_of (without_field fields name)
 names_of-without_field [] name = refl
 names_of-without_field (field ∷ fields) name =
-    elim (field.name == name) as (λ test.
-    cond test (names_of fields) (field.name ∷ without_key (names_of fields) name)
-    ≡ names_of (cond test fields (field ∷ without_field fields name))) [
-      | true ↦ refl
-      | false ↦ ap (λ rest. field.name ∷ rest) (names_of-without_field fields name)
-    ]
-
--- an entry that is put in the place of one of its key keeps the keys
-keys_in-put : (entry put : Entry) (entries more : List Entry) (test : Bool) → (test ≡ true → entry.key ≡ put.key)
-    → with_key (keys_in entries) put.key ≡ keys_in more
-    → cond test (keys_in (entry ∷ entries)) (entry.key ∷ with_key (keys_in entries) put.key)
-    ≡ keys_in (cond test (put ∷ entries) (entry ∷ more))
-keys_in-put entry put entries more true same rest = ap (λ key. key ∷ keys_in entries) (same refl)
-keys_in-put entry put entries more false same rest = ap (λ keys. entry.key ∷ keys) rest
+    gone-keys (λ f. f.name) name (field.name == name) field fields (without_field fields name)
+    (names_of-without_field fields name)
 
 -- writing an entry adds its key, where it is new
-keys_in-with_entry : (entries : List Entry) (key : ℕ) (value : Value)
+pub keys_in-with_entry : (entries : List Entry) (key : ℕ) (value : Value)
     → with_key (keys_in entries) key ≡ keys_in (with_entry entries key value)
 keys_in-with_entry [] key value = refl
 keys_in-with_entry (entry ∷ entries) key value =
-    keys_in-put entry (record { key = key; value = value }) entries (with_entry entries key value) (entry.key == key)
-    (eqb-true entry.key key) (keys_in-with_entry entries key value)
+    put-keys (λ e. e.key) key (entry.key == key) entry (record { key = key; value = value }) entries
+    (with_entry entries key value) (eqb-true entry.key key) (keys_in-with_entry entries key value)
 
 -- taking out an entry takes out its key
-keys_in-without_entry : (entries : List Entry) (key : ℕ)
+pub keys_in-without_entry : (entries : List Entry) (key : ℕ)
     → without_key (keys_in entries) key ≡ keys_in (without_entry entries key)
 keys_in-without_entry [] key = refl
 keys_in-without_entry (entry ∷ entries) key =
-    elim (entry.key == key) as (λ test.
-    cond test (keys_in entries) (entry.key ∷ without_key (keys_in entries) key)
-    ≡ keys_in (cond test entries (entry ∷ without_entry entries key))) [
-      | true ↦ refl
-      | false ↦ ap (λ rest. entry.key ∷ rest) (keys_in-without_entry entries key)
-    ]
-
--- no name stands twice after a field was written
-pub with_field-distinct : (fields : List Field) (name : ℕ) (value : Value) → IsDistinct ◌==◌ (names_of fields)
-    → IsDistinct ◌==◌ (names_of (with_field fields name value))
-with_field-distinct fields name value distinct =
-    subst (IsDistinct ◌==◌) (names_of-with_field fields name value) (with_key-distinct (names_of fields) name distinct)
-
--- no name stands twice after a field was taken out
-pub without_field-distinct : (fields : List Field) (name : ℕ) → IsDistinct ◌==◌ (names_of fields)
-    → IsDistinct ◌==◌ (names_of (without_field fields name))
-without_field-distinct fields name distinct =
-    subst (IsDistinct ◌==◌) (names_of-without_field fields name) (without_key-distinct (names_of fields) name distinct)
-
--- no key stands twice after an entry was written
-pub with_entry-distinct : (entries : List Entry) (key : ℕ) (value : Value) → IsDistinct ◌==◌ (keys_in entries)
-    → IsDistinct ◌==◌ (keys_in (with_entry entries key value))
-with_entry-distinct entries key value distinct =
-    subst (IsDistinct ◌==◌) (keys_in-with_entry entries key value) (with_key-distinct (keys_in entries) key distinct)
-
--- no key stands twice after an entry was taken out
-pub without_entry-distinct : (entries : List Entry) (key : ℕ) → IsDistinct ◌==◌ (keys_in entries)
-    → IsDistinct ◌==◌ (keys_in (without_entry entries key))
-without_entry-distinct entries key distinct =
-    subst (IsDistinct ◌==◌) (keys_in-without_entry entries key) (without_key-distinct (keys_in entries) key distinct)
+    gone-keys (λ e. e.key) key (entry.key == key) entry entries (without_entry entries key)
+    (keys_in-without_entry entries key)

@@ -1,4 +1,5 @@
 mod RunLaws
+mod NextLines
 mod RunBytes
 mod RunsEnd
 mod RunsEndOnce
@@ -8,14 +9,17 @@ mod Stays
 mod ReachedLinks
 mod Reaches
 mod Agreement
+pub mod FieldLimits
 mod DistinctKeys
-mod DistinctLists
-mod EqualPaths
-mod Prefixes
-mod AddedPaths
-mod FirstPaths
 mod Held
 mod HeldParts
-mod MadeGraphs
-mod GraphsStay
-mod RunGraphs
+mod HeldElements
+pub mod ShortPaths
+pub mod MadeGraphs
+pub mod GraphsStay
+pub mod RunGraphs
+pub mod Inside
+pub mod InsideChanges
+pub mod NothingNew
+pub mod MadeObjects
+pub mod LostObjects

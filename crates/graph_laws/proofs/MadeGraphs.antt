@@ -1,6 +1,6 @@
 -- A graph of which a part is changed is a graph.
-use Rattle.std.proofs.Common.{◌≡◌, ℕ, ◌<◌, ◌≤◌, List, [], ◌∷◌, ◌++◌, length, set, Some, sym, ◌∙◌, subst, arith, length-append}
-use Rattle.std.proofs.Common.{length-set}
+use Rattle.std.proofs.Common.{◌≡◌, ℕ, ◌<◌, ◌≤◌, List, [], ◌∷◌, ◌++◌, length, set, Some, sym}
+use Rattle.std.proofs.Common.{◌∙◌, subst, arith, length-append, length-set}
 use Rattle.std.specs.Prelude.{All, Contains, ◌==◌}
 use Rattle.std.specs.List.{IsDistinct}
 use Rattle.std.specs.Ordering.{nat_cmp}
@@ -19,13 +19,14 @@ use Rattle.object_graph.specs.declared.path.PathField.{PathField}
 use Rattle.object_graph.specs.Paths.{path_of, with_path}
 use Rattle.object_graph.specs.Graphs.{Graph, PlainObject, ListObject, WeakObject, start, bind, make, plain_at, list_at, weak_at}
 use Rattle.object_graph.specs.Meaning.{Limits, relist, reweave, reshape}
-use Rattle.object_graph.specs.Invariants.{cap_most, IsValue, AreFields, AreEntries, IsObject, IsPath, ArePaths, HasItsPath}
-use Rattle.object_graph.specs.Invariants.{IsGraph}
+use Rattle.object_graph.specs.Invariants.{cap_most, fields_most, IsValue, AreFields, AreElements, AreEntries, IsObject}
+use Rattle.object_graph.specs.Invariants.{IsPath, ArePaths, HasItsPath, IsGraph}
 use Rattle.object_graph.proofs.Leads.{Leads, each}
 use Rattle.graph_laws.proofs.FoundObjects.{plain_at-is, list_at-is, weak_at-is}
 use Rattle.graph_laws.proofs.Held.{held_at, object_grows, insert_bound, remove_bound, bound_grows}
-use Rattle.graph_laws.proofs.FirstPaths.{empty_paths_are}
-use Rattle.graph_laws.proofs.AddedPaths.{adds}
+use Rattle.object_graph.proofs.FirstPaths.{empty_paths_are}
+use Rattle.graph_laws.proofs.ShortPaths.{length-path_of}
+use Rattle.object_graph.proofs.AddedPaths.{adds}
 
 -- the start is a graph
 pub start_is_graph : IsGraph start
@@ -104,28 +105,32 @@ puts graph number object paths is held are keeps shaped =
       shaped = All-set (HasItsPath paths) graph.objects number object shaped (kept graph.objects is.shaped);
     }
 
--- the path of fields of which no name stands twice may be a path
-fields_are_path : (count cap : ℕ) (fields : List Field) → cap ≤ cap_most → AreFields count fields
-    → IsPath (path_of cap fields)
-fields_are_path count cap fields capped are =
+-- the path of few fields of which no name stands twice may be a path
+fields_are_path : (count cap : ℕ) (fields : List Field) → cap ≤ cap_most → length fields ≤ fields_most
+    → AreFields count fields → IsPath (path_of cap fields)
+fields_are_path count cap fields capped few are =
     let field_of = λ (f : Field). (let made : PathField = record { name = f.name; rep = f.rep } in made) in
     let names = map-map (λ (f : PathField). f.name) field_of fields in
-    record { cap = capped; distinct = subst (IsDistinct ◌==◌) (sym names) are.distinct }
+    record {
+      cap = capped;
+      short = omega (arith, few, length-path_of cap fields);
+      distinct = subst (IsDistinct ◌==◌) (sym names) are.distinct;
+    }
 
 -- a graph in which a plain object gets other fields, with their path added, is a graph
 pub reshapes : (limits : Limits) (graph : Graph) (plain : PlainObject) (fields : List Field)
-    → IsGraph graph → plain.cap ≤ cap_most → AreFields (length graph.objects) fields
+    → IsGraph graph → plain.cap ≤ cap_most → length fields ≤ fields_most → AreFields (length graph.objects) fields
     → Leads IsGraph (reshape limits graph plain fields)
-reshapes limits graph plain fields is capped held =
+reshapes limits graph plain fields is capped few held =
     let path = path_of plain.cap fields in
-    let fits = fields_are_path (length graph.objects) plain.cap fields capped held in
+    let fits = fields_are_path (length graph.objects) plain.cap fields capped few held in
     each IsGraph _ (with_path limits.paths graph.paths path) _ (λ paths added.
     let more = adds limits.paths graph.paths paths path added is.paths fits in
     puts graph plain.number (Plain plain.cap fields) paths is (capped, held) more.are more.keeps more.has)
 
 -- a graph in which a list gets other elements is a graph
 pub relists : (graph : Graph) (list : ListObject) (elements : List Value)
-    → IsGraph graph → All (IsValue (length graph.objects)) elements → IsGraph (relist graph list elements)
+    → IsGraph graph → AreElements (length graph.objects) elements → IsGraph (relist graph list elements)
 relists graph list elements is held =
     puts graph list.number (ListOf elements) graph.paths is held is.paths (λ path there. there) tt
 
@@ -136,16 +141,26 @@ reweaves graph weak entries is held =
     puts graph weak.number (Weak entries) graph.paths is held is.paths (λ path there. there) tt
 
 -- a plain object of a graph has a cap of at most 8 and fields of the graph's objects
-pub fields_held : (graph : Graph) (target : Value) (plain : PlainObject)
+plain_held : (graph : Graph) (target : Value) (plain : PlainObject)
     → IsGraph graph → plain_at graph.objects target ≡ Some plain
-    → (plain.cap ≤ cap_most) × AreFields (length graph.objects) plain.fields
-fields_held graph target plain is at =
+    → IsObject (length graph.objects) (Plain plain.cap plain.fields)
+plain_held graph target plain is at =
     let there = (plain_at-is graph.objects target plain at).1 in
     held_at (IsObject (length graph.objects)) graph.objects plain.number (Plain plain.cap plain.fields) is.made there
 
--- a list of a graph has elements of the graph's objects
+-- its cap
+pub cap_held : (graph : Graph) (target : Value) (plain : PlainObject)
+    → IsGraph graph → plain_at graph.objects target ≡ Some plain → plain.cap ≤ cap_most
+cap_held graph target plain is at = (plain_held graph target plain is at).0
+
+-- its fields
+pub fields_held : (graph : Graph) (target : Value) (plain : PlainObject)
+    → IsGraph graph → plain_at graph.objects target ≡ Some plain → AreFields (length graph.objects) plain.fields
+fields_held graph target plain is at = (plain_held graph target plain is at).1
+
+-- a list of a graph has elements of the graph's objects, and no more than a list may have
 pub elements_held : (graph : Graph) (target : Value) (list : ListObject)
-    → IsGraph graph → list_at graph.objects target ≡ Some list → All (IsValue (length graph.objects)) list.elements
+    → IsGraph graph → list_at graph.objects target ≡ Some list → AreElements (length graph.objects) list.elements
 elements_held graph target list is at =
     let there = (list_at-is graph.objects target list at).1 in
     held_at (IsObject (length graph.objects)) graph.objects list.number (ListOf list.elements) is.made there

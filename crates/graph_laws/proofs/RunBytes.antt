@@ -1,5 +1,6 @@
 -- The bytes of a run.
-use Rattle.std.proofs.Common.{◌≡◌, ℕ, List, [], ◌∷◌, ◌++◌, Option, Some, None, refl, sym, ap, ◌∙◌, append_assoc, append-nil}
+use Rattle.std.proofs.Common.{◌≡◌, ℕ, List, [], ◌∷◌, ◌++◌, Option, Some, None, sym, ap, ◌∙◌}
+use Rattle.std.proofs.Common.{append_assoc, append-nil}
 use Rattle.std.specs.Option.{option_and_then}
 use Rattle.std.proofs.lemmas.Option.{none-some, same_Some}
 use Rattle.heap_command.specs.declared.command.Command.{Command}
@@ -8,6 +9,7 @@ use Rattle.object_graph.specs.Meaning.{Limits, Outcome, done, fault, does}
 use Rattle.object_graph.specs.Run.{Told, tell, told_from, told_with}
 use Rattle.object_graph.proofs.Runs.{told-append}
 use Rattle.graph_laws.specs.Laws.{BytesStay}
+use Rattle.graph_laws.proofs.NextLines.{next_told}
 
 -- the later one has the bytes of the earlier one, and then these or others
 abbrev Grew : Told → Told → Type 0
@@ -34,23 +36,15 @@ grew_by : (limits : Limits) (names : List (List ℕ)) (before after : Told) (com
 grew_by limits names before after None is = grew_by_none before after is
 grew_by limits names before after (Some command) is = grew_with before after (does limits names before.graph command) is
 
--- a line that adds bytes and lines that do add bytes together
-grew_on : (limits : Limits) (names : List (List ℕ)) (lines : List Executed) (before after : Told) (next : Option Told)
-    → ((middle : Told) → next ≡ Some middle → Grew before middle)
-    → ((middle : Told) → told_from limits names middle lines ≡ Some after → Grew middle after)
-    → option_and_then (λ middle. told_from limits names middle lines) next ≡ Some after → Grew before after
-grew_on limits names lines before after None first rest is = absurd (none-some after is)
-grew_on limits names lines before after (Some middle) first rest is =
-    grew_twice before middle after (first middle refl) (rest middle is)
-
 -- lines only add bytes
 grew_from : (limits : Limits) (names : List (List ℕ)) (before after : Told) (lines : List Executed)
     → told_from limits names before lines ≡ Some after → Grew before after
 grew_from limits names before after [] is = grew_by_none before after is
 grew_from limits names before after (first ∷ lines) is =
-    grew_on limits names lines before after (tell limits names before first.command)
-    (λ middle. grew_by limits names before middle first.command)
-    (λ middle. grew_from limits names middle after lines) is
+    next_told limits names lines after (tell limits names before first.command)
+    (λ middle here later.
+    grew_twice before middle after (grew_by limits names before middle first.command here)
+    (grew_from limits names middle after lines later)) is
 
 -- what was written stays
 pub bytes_stay : BytesStay

@@ -1,6 +1,6 @@
 -- Each run ends.
-use Rattle.std.proofs.Common.{◌≡◌, ℕ, suc, ◌+◌, ◌≤◌, Bool, false, cond, List, [], ◌∷◌, length, take, drop, Option, Some, None}
-use Rattle.std.proofs.Common.{refl, sym, ap, ◌∙◌, arith, ◌⊎◌, inl, inr}
+use Rattle.std.proofs.Common.{◌≡◌, ℕ, suc, ◌+◌, ◌≤◌, Bool, false, cond, List, [], ◌∷◌, length, take, drop}
+use Rattle.std.proofs.Common.{Option, Some, None, refl, sym, ap, ◌∙◌, arith, ◌⊎◌, inl, inr}
 use Rattle.std.specs.Prelude.{nat_lt}
 use Rattle.std.specs.Option.{option_and_then}
 use Rattle.std.proofs.lemmas.Bool.{cases_eq, ne_eqb, eq-eqb}
@@ -23,7 +23,8 @@ record EndsOn (limits : Limits) (names : List (List ℕ)) (so_far : Told) (execu
 
 -- an outcome is a fault, which ends a run, or tells more
 fault_or_told : (so_far : Told) (number : ℕ) (outcome : Outcome)
-    → ((how : Ending) × (fault_in number outcome ≡ Some how)) ⊎ ((later : Told) × (told_with so_far outcome ≡ Some later))
+    → ((how : Ending) × (fault_in number outcome ≡ Some how))
+    ⊎ ((later : Told) × (told_with so_far outcome ≡ Some later))
 fault_or_told so_far number (done graph text) = inr (_, refl)
 fault_or_told so_far number (fault word) = inl (fault_at number word, refl)
 

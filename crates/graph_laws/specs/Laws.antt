@@ -1,5 +1,6 @@
 -- Laws of the meaning: what a command leaves as it was, and how a run grows line by line.
-use Rattle.std.specs.Prelude.{◌≡◌, ℕ, ◌≤◌, List, [], ◌∷◌, ◌++◌, length, take, Option, Some, None, slice_get, option_and_then}
+use Rattle.std.specs.Prelude.{◌≡◌, ℕ, ◌≤◌, List, [], ◌∷◌, ◌++◌, length, take, Option, Some, None}
+use Rattle.std.specs.Prelude.{slice_get, option_and_then}
 use Rattle.std.specs.FinMap.{get}
 use Rattle.heap_command.specs.declared.command.Command.{Command}
 use Rattle.heap_command.specs.declared.command.Command.TheVariants.{Set, Del, Push, Put, Shift, Trunc, WPut, WDel, Scavenge, Mark}

@@ -1,4 +1,5 @@
 pub mod Laws
 pub mod ReachLaws
+pub mod ReachAfter
 pub mod GraphLaws
 pub mod LimitLaws

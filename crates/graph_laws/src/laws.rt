@@ -1,9 +1,9 @@
 //! Laws of runs, of commands, and of the graphs that they make.
 ghost use Rattle.object_graph.specs.Graphs.{start};
 ghost use Rattle.object_graph.specs.Invariants.{IsGraph};
-ghost use Rattle.graph_laws.specs.Laws.{RunsAgree, RunsGoOn, BytesStay, FaultsStay, RunsEnd, RunsEndOnce, ObjectsStay, PathsStay};
-ghost use Rattle.graph_laws.specs.Laws.{CollectionsChangeNothing};
-ghost use Rattle.graph_laws.specs.GraphLaws.{GraphsStay, RunsMakeGraphs};
+ghost use Rattle.graph_laws.specs.Laws.{RunsAgree, RunsGoOn, BytesStay, FaultsStay, RunsEnd};
+ghost use Rattle.graph_laws.specs.Laws.{RunsEndOnce, ObjectsStay, PathsStay, CollectionsChangeNothing};
+ghost use Rattle.graph_laws.specs.GraphLaws.{GraphsStay, RunsMakeGraphs, FieldsAreFew};
 
 /// The run after one line more is the run after the lines before it, and then that line. Runs with
 /// the same first lines go on from the same point. What was written stays: more lines only add
@@ -27,12 +27,19 @@ pub fn laws_of_commands()
     ensures collections_change_nothing { CollectionsChangeNothing }
 {}
 
-/// In each graph that a script makes, references are to objects of the graph, no object has two
-/// fields of one name or two entries of one key, and no cap is above 8. Its field paths begin with
-/// the nine empty ones; none stands twice; with each path its prefixes are there; no path has two
-/// fields of one name or a cap above 8; and the path of each plain object is among them.
+/// In each graph that a script makes, integers have 64 bits, references are to objects of the
+/// graph, no object has two fields of one name or two entries of one key, no list has more than
+/// 1,000 elements, and no cap is above 8. Its field paths begin with the nine empty ones; none
+/// stands twice; with each path its prefixes are there; no path has two fields of one name, more
+/// than 64 fields or a cap above 8; and the path of each plain object is among them, so that no
+/// object has more than 64 fields.
+///
+/// That holds where the limits let no object have more than 64 fields, as those that
+/// `laws_of_limits` names, and where commands make no cap above 8 and store only literals of 64
+/// bits.
 pub fn laws_of_graphs()
     ensures start { IsGraph start }
     ensures stays { GraphsStay }
     ensures runs { RunsMakeGraphs }
+    ensures few_fields { FieldsAreFew }
 {}

@@ -13,4 +13,4 @@ mod reach_laws;
 
 pub use laws::{laws_of_commands, laws_of_graphs, laws_of_runs};
 pub use limit_laws::laws_of_limits;
-pub use reach_laws::laws_of_reach;
+pub use reach_laws::{laws_of_commands_and_reach, laws_of_reach};

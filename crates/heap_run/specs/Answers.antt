@@ -1,7 +1,7 @@
 -- What a run comes to, and what of it the sink took.
 use Rattle.std.specs.Prelude.{◌≡◌, ◌⊎◌, ℕ, ◌+◌, ◌<◌, ◌≤◌, List, [], ◌∷◌, ◌++◌}
 use Rattle.std.specs.Prelude.{length, drop, Option, Some, None, IfSome, MatchOption, Contains, Result, Ok, Err}
-use Rattle.command_line.specs.declared.invocation.Sizes.{Sizes}
+use Rattle.page_space.specs.declared.sizes.Sizes.{Sizes}
 use Rattle.command_line.specs.declared.invocation.Invocation.TheVariants.{Run}
 use Rattle.command_line.specs.Invocations.{built_invocation_of, unbuilt_today, BeginsBuilt}
 use Rattle.script_text.specs.declared.script.BadScript.{BadScript}

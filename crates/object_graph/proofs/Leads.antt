@@ -17,15 +17,21 @@ pub each : {A : Type 0} (Holds : Graph → Type 0) (word : FaultWord) (sought : 
 each Holds word None next leads = tt
 each Holds word (Some found) next leads = leads found refl
 
--- a test that does not fault leads where the next step does
+-- a test that does not fault leads where the next step does, which may count on its failing
+pub if_fails : (Holds : Graph → Type 0) (word : FaultWord) (test : Bool) (next : Outcome)
+    → (test ≡ false → Leads Holds next) → Leads Holds (unless word test next)
+if_fails Holds word true next leads = tt
+if_fails Holds word false next leads = leads refl
+
+-- and so it does where the next step leads whatever was tested
 pub if_not : (Holds : Graph → Type 0) (word : FaultWord) (test : Bool) (next : Outcome) → Leads Holds next
     → Leads Holds (unless word test next)
-if_not Holds word true next leads = tt
-if_not Holds word false next leads = leads
+if_not Holds word test next leads = if_fails Holds word test next (λ fails. leads)
 
 -- a field that is not there leaves the graph as it is
 pub if_there : (Holds : Graph → Type 0) (limits : Limits) (graph : Graph) (plain : PlainObject) (there : Option Value)
     (fields : List Field)
-    → Holds graph → Leads Holds (reshape limits graph plain fields) → Leads Holds (reshape_if limits graph plain there fields)
+    → Holds graph → Leads Holds (reshape limits graph plain fields)
+    → Leads Holds (reshape_if limits graph plain there fields)
 if_there Holds limits graph plain None fields same leads = same
 if_there Holds limits graph plain (Some value) fields same leads = leads

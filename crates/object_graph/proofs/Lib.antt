@@ -4,3 +4,8 @@ pub mod Runs
 pub mod Marking
 pub mod Rounds
 pub mod BoundValues
+pub mod DistinctLists
+pub mod EqualPaths
+pub mod Prefixes
+pub mod AddedPaths
+pub mod FirstPaths

@@ -1,5 +1,6 @@
 -- Elements of a list by their places, after one was added or put in the place of another.
-use Rattle.std.proofs.Common.{◌≡◌, ◌≢◌, ℕ, suc, zero, ◌<◌, List, [], ◌∷◌, ◌++◌, length, set, Some, refl, ap, arith}
+use Rattle.std.proofs.Common.{◌≡◌, ◌≢◌, ℕ, suc, zero, ◌<◌, List, [], ◌∷◌, ◌++◌, length, set, Some}
+use Rattle.std.proofs.Common.{refl, ap, arith}
 use Rattle.std.specs.Prelude.{slice_get}
 
 -- an element that is there is there after another was added
@@ -16,7 +17,8 @@ slice_get-set_same (first ∷ xs) zero x within = refl
 slice_get-set_same (first ∷ xs) (suc i) x within = slice_get-set_same xs i x (omega arith)
 
 -- and the elements of other places stay
-pub slice_get-set_other : {A : Type 0} (xs : List A) (i j : ℕ) (x : A) → j ≢ i → slice_get (set xs i x) j ≡ slice_get xs j
+pub slice_get-set_other : {A : Type 0} (xs : List A) (i j : ℕ) (x : A) → j ≢ i
+    → slice_get (set xs i x) j ≡ slice_get xs j
 slice_get-set_other [] i j x apart = refl
 slice_get-set_other (first ∷ xs) zero zero x apart = absurd (apart refl)
 slice_get-set_other (first ∷ xs) zero (suc j) x apart = refl

@@ -1,6 +1,7 @@
 -- Marks that grow by one object, by the objects of a list, or by a round.
-use Rattle.std.proofs.Common.{◌≡◌, ℕ, ◌+◌, ◌<◌, ◌≤◌, ◌==◌, Bool, true, false, ◌||◌, List, [], ◌∷◌, ◌++◌, length, get_or, take}
-use Rattle.std.proofs.Common.{set, map, replicate, refl, sym, ap, ◌∙◌, arith, length-set, inl, inr}
+use Rattle.std.proofs.Common.{◌≡◌, ℕ, ◌+◌, ◌<◌, ◌≤◌, ◌==◌, Bool, true, false, ◌||◌, List, []}
+use Rattle.std.proofs.Common.{◌∷◌, ◌++◌, length, get_or, take, set, map, replicate, refl, sym, ap, ◌∙◌, arith}
+use Rattle.std.proofs.Common.{length-set, inl, inr}
 use Rattle.std.specs.List.{list_any, range_with_len}
 use Rattle.std.specs.FinMap.{values}
 use Rattle.std.proofs.Math.Bool.{or-false, or_assoc}
@@ -64,7 +65,8 @@ MarksAlso-set marks place inside = record {
 
 -- marks that grow by these and then by those grow by both
 pub MarksAlso-both : (old between new : List Bool) (these those : ℕ → Bool)
-    → MarksAlso old between these → MarksAlso between new those → MarksAlso old new (λ number. these number || those number)
+    → MarksAlso old between these → MarksAlso between new those
+    → MarksAlso old new (λ number. these number || those number)
 MarksAlso-both old between new these those first second = record {
   same_length = second.same_length ∙ first.same_length;
   also = λ number within.
@@ -76,7 +78,8 @@ MarksAlso-both old between new these those first second = record {
 -- the next element of a list adds what the elements so far had left out
 pub MarksAlso-more : {X : Type 0} (test : ℕ → X → Bool) (xs : List X) (i : ℕ) (x : X) (old between new : List Bool)
     → i < length xs → x ≡ get_or xs i x → MarksAlso old between (λ number. list_any (test number) (take i xs))
-    → MarksAlso between new (λ number. test number x) → MarksAlso old new (λ number. list_any (test number) (take (i + 1) xs))
+    → MarksAlso between new (λ number. test number x)
+    → MarksAlso old new (λ number. list_any (test number) (take (i + 1) xs))
 MarksAlso-more test xs i x old between new within is first second =
     let before = λ (number : ℕ). list_any (test number) (take i xs) in
     let after = λ (number : ℕ). list_any (test number) (take (i + 1) xs) in
@@ -87,7 +90,8 @@ MarksAlso-more test xs i x old between new within is first second =
 
 -- the elements so far are all elements where there are no more
 pub MarksAlso-all : {X : Type 0} (test : ℕ → X → Bool) (xs : List X) (i : ℕ) (old new : List Bool) → length xs ≤ i
-    → MarksAlso old new (λ number. list_any (test number) (take i xs)) → MarksAlso old new (λ number. list_any (test number) xs)
+    → MarksAlso old new (λ number. list_any (test number) (take i xs))
+    → MarksAlso old new (λ number. list_any (test number) xs)
 MarksAlso-all test xs i old new past grown =
     let so_far = λ (number : ℕ). list_any (test number) (take i xs) in
     MarksAlso-agree old new so_far (λ number. list_any (test number) xs)

@@ -1,6 +1,6 @@
 -- Rounds of marks: each keeps the marks before it, and after as many rounds as objects none is added.
-use Rattle.std.proofs.Common.{◌≡◌, ℕ, zero, suc, ◌+◌, ◌-◌, ◌<◌, ◌≤◌, Bool, true, false, cond, ◌||◌, List, [], ◌∷◌, length, map}
-use Rattle.std.proofs.Common.{count_by, refl, sym, ap, ◌∙◌, arith, ◌⊎◌, inl, inr}
+use Rattle.std.proofs.Common.{◌≡◌, ℕ, zero, suc, ◌+◌, ◌-◌, ◌<◌, ◌≤◌, Bool, true, false, cond, ◌||◌}
+use Rattle.std.proofs.Common.{List, [], ◌∷◌, length, map, count_by, refl, sym, ap, ◌∙◌, arith, ◌⊎◌, inl, inr}
 use Rattle.std.specs.List.{range_with_len, list_any}
 use Rattle.std.specs.FinMap.{values}
 use Rattle.std.proofs.lemmas.Bool.{cases_lt, or_left}
@@ -12,7 +12,8 @@ use Rattle.object_graph.specs.Reach.{is_marked, refers_to, is_linked, bound_mark
 use Rattle.object_graph.proofs.Marking.{is_marked-get_or}
 
 -- a mark of a list that is made by a test of each number is that test's answer
-pub is_marked-made : (f : ℕ → Bool) (n number : ℕ) → number < n → is_marked (map f (range_with_len 0 n)) number ≡ f number
+pub is_marked-made : (f : ℕ → Bool) (n number : ℕ) → number < n
+    → is_marked (map f (range_with_len 0 n)) number ≡ f number
 is_marked-made f n number within =
     let made = get_or-map-range_with_len f 0 n number number false within (omega arith) in
     is_marked-get_or (map f (range_with_len 0 n)) number ∙ made
@@ -75,7 +76,8 @@ marked_count-cons : (mark : Bool) (marks : List Bool) → marked_count (mark ∷
 marked_count-cons mark marks = sum_by-cons (λ b. cond b 1 0) mark marks
 
 -- marks are the same, or more are there, also with one mark in front that is kept
-more_here : (o n : Bool) (os ns : List Bool) → (os ≡ ns) ⊎ (marked_count os < marked_count ns) → (o ≡ true → n ≡ true)
+more_here : (o n : Bool) (os ns : List Bool) → (os ≡ ns) ⊎ (marked_count os < marked_count ns)
+    → (o ≡ true → n ≡ true)
     → (o ∷ os ≡ n ∷ ns) ⊎ (marked_count (o ∷ os) < marked_count (n ∷ ns))
 more_here true true os ns (inl same) kept = inl (ap (λ rest. true ∷ rest) same)
 more_here true true os ns (inr more) kept = inr (omega (arith, marked_count-cons true os, marked_count-cons true ns))

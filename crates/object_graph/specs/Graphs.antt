@@ -1,5 +1,6 @@
 -- The graph of all objects ever made.
-use Rattle.std.specs.Prelude.{ℕ, List, [], ◌∷◌, ◌++◌, length, Option, Some, None, ℤ, slice_get, slice_set, option_and_then}
+use Rattle.std.specs.Prelude.{ℕ, List, [], ◌∷◌, ◌++◌, length, Option, Some, None, ℤ, slice_get, slice_set}
+use Rattle.std.specs.Prelude.{option_and_then}
 use Rattle.std.specs.Ordering.{nat_cmp}
 use Rattle.std.specs.FinMap.{FinMap, empty, get, insert}
 use Rattle.heap_command.specs.declared.command.Operand.{Operand}
@@ -54,30 +55,35 @@ object_in (Int v) = None
 object_in Undefined = None
 object_in (Ref number) = Some number
 
--- a plain object, a list, a weak map: each with its number
+-- a plain object with its number
 pub record PlainObject : Type 0 where
   pub number : ℕ
   pub cap : ℕ
   pub fields : List Field
 
+-- a list with its number
 pub record ListObject : Type 0 where
   pub number : ℕ
   pub elements : List Value
 
+-- a weak map with its number
 pub record WeakObject : Type 0 where
   pub number : ℕ
   pub entries : List Entry
 
+-- the object of this number, if it is a plain one
 abbrev pub as_plain : ℕ → Object → Option PlainObject
 as_plain number (kind.Plain cap fields) = Some (record { number = number; cap = cap; fields = fields })
 as_plain number (kind.List elements) = None
 as_plain number (kind.Weak entries) = None
 
+-- the object of this number, if it is a list
 abbrev pub as_list : ℕ → Object → Option ListObject
 as_list number (kind.Plain cap fields) = None
 as_list number (kind.List elements) = Some (record { number = number; elements = elements })
 as_list number (kind.Weak entries) = None
 
+-- the object of this number, if it is a weak map
 abbrev pub as_weak : ℕ → Object → Option WeakObject
 as_weak number (kind.Plain cap fields) = None
 as_weak number (kind.List elements) = None
@@ -89,11 +95,14 @@ found_at as_kind objects (Int v) = None
 found_at as_kind objects Undefined = None
 found_at as_kind objects (Ref number) = option_and_then (as_kind number) (slice_get objects number)
 
+-- the plain object that a value refers to, if it refers to one
 abbrev pub plain_at : List Object → Value → Option PlainObject
 plain_at objects value = found_at as_plain objects value
 
+-- the list that a value refers to, if it refers to one
 abbrev pub list_at : List Object → Value → Option ListObject
 list_at objects value = found_at as_list objects value
 
+-- the weak map that a value refers to, if it refers to one
 abbrev pub weak_at : List Object → Value → Option WeakObject
 weak_at objects value = found_at as_weak objects value

@@ -1,5 +1,7 @@
 -- What holds of every graph that a script makes.
 use Rattle.std.specs.Prelude.{◌≡◌, ℕ, ◌<◌, ◌≤◌, List, ◌++◌, map, length, All, Contains, Some, ◌==◌}
+use Rattle.std.specs.Prelude.{FitsSigned}
+use Rattle.std.specs.Int.{w64}
 use Rattle.std.specs.List.{IsDistinct}
 use Rattle.std.specs.Ordering.{nat_cmp}
 use Rattle.std.specs.FinMap.{FinMap, get}
@@ -12,45 +14,57 @@ use Rattle.object_graph.specs.declared.object.Entry.{Entry}
 use Rattle.object_graph.specs.declared.path.Path.{Path}
 use Rattle.object_graph.specs.Paths.{empty_paths, path_of, same_path, prefixes}
 use Rattle.object_graph.specs.Graphs.{Graph}
+use Rattle.object_graph.specs.Meaning.{list_most}
 
 -- the most slots of its own that an object may have
 abbrev pub cap_most : ℕ
 cap_most = 8
 
--- a value that refers to an object refers to one of so many
+-- the most fields of an object
+abbrev pub fields_most : ℕ
+fields_most = 64
+
+-- an integer has 64 bits, and a value that refers to an object refers to one of so many
 abbrev pub IsValue : ℕ → Value → Type 0
-IsValue count (Int v) = Unit {0}
+IsValue count (Int v) = FitsSigned w64 v
 IsValue count Undefined = Unit {0}
 IsValue count (Ref number) = number < count
 
--- the key of the entry is one of so many objects, and its value refers to none but these
+-- the key of the entry is one of so many objects, and its value is a value over these
 pub record IsEntry (count : ℕ) (entry : Entry) : Type 0 where
   pub key : entry.key < count
   pub value : IsValue count entry.value
 
--- the fields refer to none but so many objects, and no name stands twice
+-- the fields have values over so many objects, and no name stands twice
 pub record AreFields (count : ℕ) (fields : List Field) : Type 0 where
   pub values : All (λ field. IsValue count field.value) fields
   pub distinct : IsDistinct ◌==◌ (map (λ field. field.name) fields)
 
--- the entries refer to none but so many objects, and no key stands twice
+-- the entries have keys and values over so many objects, and no key stands twice
 pub record AreEntries (count : ℕ) (entries : List Entry) : Type 0 where
   pub keys_and_values : All (IsEntry count) entries
   pub distinct : IsDistinct ◌==◌ (map (λ entry. entry.key) entries)
 
--- the object refers to none but so many objects, no field name and no key stands twice in it, and its cap is at most 8
+-- the elements are values over so many objects, and no more than a list may have
+pub record AreElements (count : ℕ) (elements : List Value) : Type 0 where
+  pub values : All (IsValue count) elements
+  pub few : length elements ≤ list_most
+
+-- The object holds values over so many objects. Of a plain object the cap is at most 8 and no field name stands twice; a
+-- list has at most 1,000 elements; in a weak map no key stands twice.
 abbrev pub IsObject : ℕ → Object → Type 0
 IsObject count (kind.Plain cap fields) = (cap ≤ cap_most) × AreFields count fields
-IsObject count (kind.List elements) = All (IsValue count) elements
+IsObject count (kind.List elements) = AreElements count elements
 IsObject count (kind.Weak entries) = AreEntries count entries
 
--- no variable refers to any but so many objects
+-- each variable is bound to a value over so many objects
 abbrev pub AreBound : ℕ → FinMap nat_cmp Value → Type 0
 AreBound count bindings = (x : ℕ) (value : Value) → get bindings x ≡ Some value → IsValue count value
 
--- the cap of the path is at most 8, and no name stands twice in it
+-- the cap of the path is at most 8, it has at most 64 fields, and no name stands twice in it
 pub record IsPath (path : Path) : Type 0 where
   pub cap : path.cap ≤ cap_most
+  pub short : length path.fields ≤ fields_most
   pub distinct : IsDistinct ◌==◌ (map (λ field. field.name) path.fields)
 
 -- the paths begin with the nine empty ones
@@ -70,8 +84,8 @@ HasItsPath paths (kind.Plain cap fields) = Contains paths (path_of cap fields)
 HasItsPath paths (kind.List elements) = Unit {0}
 HasItsPath paths (kind.Weak entries) = Unit {0}
 
--- Variables and objects refer to objects of the graph alone, the paths are in order, and the path of each plain object
--- is among them.
+-- Variables and objects hold integers of 64 bits and references to objects of the graph alone, the paths are in order,
+-- and the path of each plain object is among them.
 pub record IsGraph (graph : Graph) : Type 0 where
   pub bound : AreBound (length graph.objects) graph.bindings
   pub made : All (IsObject (length graph.objects)) graph.objects

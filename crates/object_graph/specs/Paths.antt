@@ -1,5 +1,6 @@
 -- Field paths, and how many there may be.
-use Rattle.std.specs.Prelude.{ℕ, ◌+◌, Bool, true, false, not, ◌&&◌, List, [], ◌∷◌, ◌++◌, map, filter, length, take, Option, Some, None, ◌==◌, nat_le, if◌then◌else◌}
+use Rattle.std.specs.Prelude.{ℕ, ◌+◌, Bool, true, false, not, ◌&&◌, List, [], ◌∷◌, ◌++◌, map, filter, length}
+use Rattle.std.specs.Prelude.{take, Option, Some, None, ◌==◌, nat_le, if◌then◌else◌}
 use Rattle.std.specs.List.{list_any, range_with_len}
 use Rattle.object_graph.specs.declared.object.Field.{Field}
 use Rattle.object_graph.specs.declared.path.Path.{Path}
@@ -10,6 +11,7 @@ use Rattle.object_graph.specs.Values.{same_rep}
 abbrev pub path_of : ℕ → List Field → Path
 path_of cap fields = record { cap = cap; fields = map (λ f. record { name = f.name; rep = f.rep }) fields }
 
+-- two rows of fields have the same names and representations in order
 abbrev pub same_fields : List PathField → List PathField → Bool
 same_fields [] [] = true
 same_fields [] (b ∷ bs) = false

@@ -1,5 +1,6 @@
 -- Which objects can be reached from the variables, and the census.
-use Rattle.std.specs.Prelude.{ℕ, zero, suc, Bool, true, false, ◌&&◌, ◌||◌, List, map, length, zip, slice_get, unwrap_or, ◌==◌, count_by, sum_by}
+use Rattle.std.specs.Prelude.{ℕ, zero, suc, Bool, true, false, ◌&&◌, ◌||◌, List, map, length, zip, slice_get, unwrap_or}
+use Rattle.std.specs.Prelude.{◌==◌, count_by, sum_by}
 use Rattle.std.specs.List.{list_any, range_with_len}
 use Rattle.std.specs.FinMap.{values}
 use Rattle.object_graph.specs.declared.value.Value.{Value}
@@ -12,6 +13,7 @@ use Rattle.object_graph.specs.Graphs.{Graph}
 abbrev pub is_marked : List Bool → ℕ → Bool
 is_marked marks number = unwrap_or (slice_get marks number) false
 
+-- the value refers to the object of this number
 abbrev pub refers_to : ℕ → Value → Bool
 refers_to number (Int v) = false
 refers_to number Undefined = false
@@ -37,6 +39,7 @@ abbrev pub round : Graph → List Bool → List Bool
 round graph marks =
     map (λ number. is_marked marks number || is_linked graph.objects marks number) (range_with_len 0 (length graph.objects))
 
+-- what is marked after so many rounds
 abbrev pub rounds : Graph → ℕ → List Bool
 rounds graph zero = bound_marks graph
 rounds graph (suc n) = round graph (rounds graph n)
@@ -51,6 +54,7 @@ marked_entries marks (kind.Plain cap fields) = 0
 marked_entries marks (kind.List elements) = 0
 marked_entries marks (kind.Weak entries) = count_by (λ entry. is_marked marks entry.key) entries
 
+-- the same for an object that is itself marked or not; one that is not counts none
 abbrev pub entries_if : List Bool → Bool → Object → ℕ
 entries_if marks true object = marked_entries marks object
 entries_if marks false object = 0

@@ -1,5 +1,6 @@
 -- The run of a list of executed lines.
-use Rattle.std.specs.Prelude.{◌≡◌, ℕ, ◌≤◌, List, [], ◌∷◌, ◌++◌, length, take, drop, Option, Some, None, option_and_then, ◌==◌, nat_lt, if◌then◌else◌}
+use Rattle.std.specs.Prelude.{◌≡◌, ℕ, ◌≤◌, List, [], ◌∷◌, ◌++◌, length, take, drop, Option, Some, None}
+use Rattle.std.specs.Prelude.{option_and_then, ◌==◌, nat_lt, if◌then◌else◌}
 use Rattle.heap_command.specs.declared.command.FaultWord.{FaultWord}
 use Rattle.heap_command.specs.declared.command.Command.{Command}
 use Rattle.heap_command.specs.Executed.{Executed}
@@ -46,10 +47,12 @@ pub data Ending : Type 0 where
   fault_at : ℕ → FaultWord → Ending
   limit_at : ℕ → Ending
 
+-- the end that an outcome makes of a run at the line of this number: its fault, if it is one
 abbrev pub fault_in : ℕ → Outcome → Option Ending
 fault_in number (done graph text) = None
 fault_in number (fault word) = Some (fault_at number word)
 
+-- the end at the line of this number: the fault of its command, if it runs one and that has a fault
 abbrev pub fault_of : Limits → List (List ℕ) → Graph → ℕ → Option Command → Option Ending
 fault_of limits names graph number None = None
 fault_of limits names graph number (Some command) = fault_in number (does limits names graph command)

@@ -22,5 +22,6 @@ rank Tagged = 2
 abbrev pub join : Rep → Rep → Rep
 join a b = if nat_le (rank a) (rank b) then b else a
 
+-- two representations are one
 abbrev pub same_rep : Rep → Rep → Bool
 same_rep a b = rank a == rank b

@@ -14,7 +14,7 @@ pub enum Value {
 }
 
 /// The representation of a field: which values its place can hold. Each holds what those before it do.
-#[derive(Clone, Copy, Debug, PartialEq, Eq)]
+#[derive(Clone, Copy, Debug, PartialEq, Eq, Hash)]
 pub enum Rep {
     /// Integers from -1073741824 to 1073741823.
     Small,

@@ -1,5 +1,7 @@
 -- One phrase after another becomes a line, and its names get numbers.
-use Rattle.std.proofs.Common.{◌≡◌, ℕ, ◌+◌, ◌<◌, ◌≤◌, Bool, true, false, cond, ◌||◌, nat_lt, List, [], ◌∷◌, ◌++◌, length, map, fold, drop, get_or, slice_get, Some, unwrap_or, refl, sym, ap, ◌∙◌, subst, arith}
+use Rattle.std.proofs.Common.{◌≡◌, ℕ, ◌+◌, ◌<◌, ◌≤◌, Bool, true, false, cond, ◌||◌, nat_lt, List, []}
+use Rattle.std.proofs.Common.{◌∷◌, ◌++◌, length, map, fold, drop, get_or, slice_get, Some, unwrap_or, refl, sym, ap}
+use Rattle.std.proofs.Common.{◌∙◌, subst, arith}
 use Rattle.std.specs.List.{flat_map}
 use Rattle.std.proofs.lemmas.Bool.Decides.{nat_tests}
 use Rattle.std.proofs.lemmas.List.Sums.{fold-append}
@@ -72,7 +74,8 @@ at_most most n e = grind (arith, nat_tests)
 
 -- the names of the rest come to those that have numbers with this phrase
 names-next :
-    (names_of : Phrase → List (List ℕ)) (spoken : List SpokenSlices) (i : ℕ) (x : SpokenSlices) (names names' : List (List ℕ))
+    (names_of : Phrase → List (List ℕ)) (spoken : List SpokenSlices) (i : ℕ) (x : SpokenSlices)
+    (names names' : List (List ℕ))
     → drop i spoken ≡ x ∷ drop (i + 1) spoken
     → names' ≡ fold with_name names (names_of (phrase_shown x.phrase))
     → fold with_name names' (flat_map (λ s. names_of s.phrase) (map spoken_shown (drop (i + 1) spoken)))
@@ -128,8 +131,9 @@ AreLines-more spoken i x variables fields variables' fields' open' inner lines p
       few_variables = at_most variables_most (length variables') both.0;
       few_fields = at_most fields_most (length fields') both.1;
       within =
+          let later = past_limit variables' fields' (map spoken_shown (drop (i + 1) spoken)) in
           sym (past_limit-next spoken i x variables fields variables' fields' next
-          ∙ ap (λ past. cond past (Some x.number) (past_limit variables' fields' (map spoken_shown (drop (i + 1) spoken)))) few)
+          ∙ ap (λ past. cond past (Some x.number) later) few)
           ∙ h.within;
       all = lines-more lines pushed _ _ _ _ (pushed_is ∙ ap (λ w. lines ++ line x.number w ∷ []) same) read h.all;
     }

@@ -1,5 +1,6 @@
 -- The lines of a source, as the pieces that std's `slice_split` gives.
-use Rattle.std.proofs.Common.{◌≡◌, ℕ, suc, ◌-◌, ◌<◌, Bool, true, false, cond, eqb, List, [], ◌∷◌, length, map, take, get_or, refl, sym, ap, ◌∙◌, arith, Bor}
+use Rattle.std.proofs.Common.{◌≡◌, ℕ, suc, ◌-◌, ◌<◌, Bool, true, false, cond, eqb, List, [], ◌∷◌, length}
+use Rattle.std.proofs.Common.{map, take, get_or, refl, sym, ap, ◌∙◌, arith, Bor}
 use Rattle.std.specs.List as std
 use Rattle.std.specs.List.{slice_split}
 use Rattle.std.proofs.lemmas.List.{length-map, take-map}
@@ -50,7 +51,8 @@ onto_first-lines b [] h = refl
 onto_first-lines b (piece ∷ pieces) h = without_empty_end-onto_first b piece pieces
 
 -- the lines of a source are its pieces between line feeds, the last only where it is not empty
-without_empty_end-slice_split : (source : List ℕ) → without_empty_end (slice_split (λ b. eqb b 10) source) ≡ lines_of source
+without_empty_end-slice_split : (source : List ℕ)
+    → without_empty_end (slice_split (λ b. eqb b 10) source) ≡ lines_of source
 without_empty_end-slice_split [] = refl
 without_empty_end-slice_split (b ∷ bs) =
     let pieces = slice_split (λ c. eqb c 10) bs in
@@ -71,7 +73,8 @@ take-without_empty_end ([] ∷ []) h = refl
 take-without_empty_end ((b ∷ bs) ∷ []) h = absurd (false≢true h)
 take-without_empty_end (piece ∷ next ∷ pieces) h =
     let here : length (piece ∷ next ∷ pieces) - 1 ≡ suc (length (next ∷ pieces) - 1) = omega arith in
-    ap (λ n. take n (piece ∷ next ∷ pieces)) here ∙ ap (λ rest. piece ∷ rest) (take-without_empty_end (next ∷ pieces) h)
+    ap (λ n. take n (piece ∷ next ∷ pieces)) here
+    ∙ ap (λ rest. piece ∷ rest) (take-without_empty_end (next ∷ pieces) h)
 
 -- a last piece that is not empty stays
 all-without_empty_end : (pieces : List (List ℕ)) → ends_empty pieces ≡ false → pieces ≡ without_empty_end pieces
@@ -92,7 +95,8 @@ last-ends_empty [] d h = absurd (omega arith)
 last-ends_empty (piece ∷ []) d h = length-is_empty piece.now
 last-ends_empty (piece ∷ next ∷ pieces) d h =
     let here : length (piece ∷ next ∷ pieces) - 1 ≡ suc (length (next ∷ pieces) - 1) = omega arith in
-    ap (λ n. eqb (length (get_or (piece ∷ next ∷ pieces) n d).now) 0) here ∙ last-ends_empty (next ∷ pieces) d (omega arith)
+    ap (λ n. eqb (length (get_or (piece ∷ next ∷ pieces) n d).now) 0) here
+    ∙ last-ends_empty (next ∷ pieces) d (omega arith)
 
 -- without an empty last piece, the pieces between line feeds are the lines
 pub lines_of-shorter : (source : List ℕ) (n : ℕ) (pieces : List (Bor (List ℕ))) → n ≡ length pieces
@@ -108,4 +112,5 @@ lines_of-shorter source n pieces len e h =
 -- where the last piece is not empty, the pieces between line feeds are the lines
 pub lines_of-all : (source : List ℕ) (pieces : List (List ℕ)) → pieces ≡ slice_split (λ b. eqb b 10) source
     → ends_empty pieces ≡ false → pieces ≡ lines_of source
-lines_of-all source pieces e h = all-without_empty_end pieces h ∙ ap without_empty_end e ∙ without_empty_end-slice_split source
+lines_of-all source pieces e h =
+    all-without_empty_end pieces h ∙ ap without_empty_end e ∙ without_empty_end-slice_split source

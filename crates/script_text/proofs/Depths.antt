@@ -1,5 +1,6 @@
 -- How many blocks are open at a place of some lines, and the lines from there on.
-use Rattle.std.proofs.Common.{◌≡◌, ℕ, zero, suc, ◌+◌, ◌-◌, List, [], ◌∷◌, ◌++◌, length, take, drop, slice_get, Some, None, refl, sym, ap, ◌∙◌, arith}
+use Rattle.std.proofs.Common.{◌≡◌, ℕ, zero, suc, ◌+◌, ◌-◌, List, [], ◌∷◌, ◌++◌, length, take, drop}
+use Rattle.std.proofs.Common.{slice_get, Some, None, refl, sym, ap, ◌∙◌, arith}
 use Rattle.std.proofs.lemmas.List.{drop-drop}
 use Rattle.std.proofs.Math.Seq.{take-add, take-append_seam, drop-append_seam}
 use Rattle.script_text.specs.declared.script.Line.{Line}
@@ -23,7 +24,8 @@ drop-end (first ∷ lines) (suc at) e = drop-end lines at e
 -- behind some lines stands what follows them
 pub drop-past : (lines : List Line) (at : ℕ) (body more : List Line) → drop at lines ≡ body ++ more
     → drop (at + length body) lines ≡ more
-drop-past lines at body more e = sym (drop-drop (length body) at lines) ∙ ap (drop (length body)) e ∙ drop-append_seam body more
+drop-past lines at body more e =
+    sym (drop-drop (length body) at lines) ∙ ap (drop (length body)) e ∙ drop-append_seam body more
 
 -- lines behind others begin with as many open blocks as those leave open
 depth_of-append : (depth : ℕ) (xs ys : List Line) → depth_of depth (xs ++ ys) ≡ depth_of (depth_of depth xs) ys
@@ -53,4 +55,5 @@ pub depth-next : (lines : List Line) (at : ℕ) (line : Line) → slice_get line
     → depth_of 0 (take (suc at) lines) ≡ depth_after (depth_of 0 (take at lines)) line.what
 depth-next lines at line e =
     let next : suc at ≡ at + length (line ∷ []) = omega arith in
-    ap (λ n. depth_of 0 (take n lines)) next ∙ depth-past lines at (line ∷ []) (drop (suc at) lines) (drop-get lines at line e)
+    ap (λ n. depth_of 0 (take n lines)) next
+    ∙ depth-past lines at (line ∷ []) (drop (suc at) lines) (drop-get lines at line e)

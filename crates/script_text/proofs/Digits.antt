@@ -1,5 +1,6 @@
 -- Digits that make more than the most there may be.
-use Rattle.std.proofs.Common.{◌≡◌, ℕ, suc, ◌+◌, ◌-◌, ◌*◌, ◌<◌, true, false, cond, List, [], ◌∷◌, length, drop, get_or, None, option_and_then, refl, sym, ap, ◌∙◌, drop-cons, arith}
+use Rattle.std.proofs.Common.{◌≡◌, ℕ, suc, ◌+◌, ◌-◌, ◌*◌, ◌<◌, true, false, cond, List, [], ◌∷◌}
+use Rattle.std.proofs.Common.{length, drop, get_or, None, option_and_then, refl, sym, ap, ◌∙◌, drop-cons, arith}
 use Rattle.std.proofs.lemmas.Bool.Decides.{nat_tests}
 use Rattle.script_text.specs.Tokens.{is_digit, digits_after, at_most}
 
@@ -8,7 +9,8 @@ at_most-over : (most n : ℕ) → most < n → at_most most n ≡ None
 at_most-over most n h = grind (arith, nat_tests)
 
 -- digits never make less than what stands before them
-pub digits_after-over : (most n : ℕ) (bs : List ℕ) → most < n → option_and_then (at_most most) (digits_after n bs) ≡ None
+pub digits_after-over : (most n : ℕ) (bs : List ℕ) → most < n
+    → option_and_then (at_most most) (digits_after n bs) ≡ None
 digits_after-over most n [] h = at_most-over most n h
 digits_after-over most n (b ∷ bs) h =
     elim (is_digit b) as (λ v. option_and_then (at_most most) (cond v (digits_after (10 * n + (b - 48)) bs) None) ≡ None)

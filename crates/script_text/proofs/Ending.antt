@@ -1,5 +1,6 @@
 -- Where the `repeat`s that are open end, from the last phrase to the first.
-use Rattle.std.proofs.Common.{◌≡◌, ℕ, zero, suc, ◌+◌, ◌-◌, ◌<◌, false, cond, eqb, List, [], ◌∷◌, length, map, drop, set, get_or, length-drop, slice_get, unwrap_or, refl, sym, ap, ◌∙◌, arith}
+use Rattle.std.proofs.Common.{◌≡◌, ℕ, zero, suc, ◌+◌, ◌-◌, ◌<◌, false, cond, eqb, List, [], ◌∷◌, length}
+use Rattle.std.proofs.Common.{map, drop, set, get_or, length-drop, slice_get, unwrap_or, refl, sym, ap, ◌∙◌, arith}
 use Rattle.std.proofs.lemmas.Bool.Decides.{nat_tests}
 use Rattle.std.proofs.lemmas.List.{length-map, drop-set}
 use Rattle.script_text.specs.declared.table.Keyword.{Keyword}

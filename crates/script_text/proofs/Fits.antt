@@ -1,5 +1,6 @@
 -- The phrase of a line that was read: its command is built, with operands that fit it.
-use Rattle.std.proofs.Common.{◌≡◌, ℕ, ◌≤◌, Bool, true, false, cond, eqb, nat_le, nat_lt, List, [], ◌∷◌, length, ℤ, pos, negsuc, Option, Some, None, Result, Ok, Err, refl, subst, arith, bytes_eq, codes}
+use Rattle.std.proofs.Common.{◌≡◌, ℕ, ◌≤◌, Bool, true, false, cond, eqb, nat_le, nat_lt, List, [], ◌∷◌}
+use Rattle.std.proofs.Common.{length, ℤ, pos, negsuc, Option, Some, None, Result, Ok, Err, refl, subst, arith, bytes_eq, codes}
 use Rattle.std.specs.List.{list_any}
 use Rattle.std.proofs.lemmas.Bool.Decides.{nat_tests}
 use Rattle.script_text.specs.declared.script.Why.{Why}
@@ -11,7 +12,9 @@ use Rattle.script_text.specs.Limits.{line_bytes_most}
 use Rattle.script_text.specs.Tokens.{is_name, integer_of}
 use Rattle.script_text.specs.Lines.{tokens_of}
 use Rattle.script_text.specs.Table.{places_of, same_keyword, keyword_among, keywords}
-use Rattle.script_text.specs.Phrases.{Phrase, Written, variable, field, literal, integer, undefined, bound, written_at, written_all, joined, literal_up_to, integer_or_bound, phrase_of, phrase_of_line, phrase_with, with_operands, if_built}
+use Rattle.script_text.specs.Phrases.{Phrase, Written, variable, field, literal, integer, undefined, bound, written_at}
+use Rattle.script_text.specs.Phrases.{written_all, joined, literal_up_to, integer_or_bound, phrase_of, phrase_of_line}
+use Rattle.script_text.specs.Phrases.{phrase_with, with_operands, if_built}
 
 -- the operand may stand at this place
 abbrev pub Fits : Place → Written → Type 0
@@ -42,7 +45,8 @@ given true made reason written e = (refl, cc)
 given false made reason written e = cc
 
 -- a literal that is given is in its range
-literal_fits : (most : ℕ) (v : Option ℤ) (written : Written) → literal_up_to most v ≡ Ok written → Fits (Literal most) written
+literal_fits : (most : ℕ) (v : Option ℤ) (written : Written) → literal_up_to most v ≡ Ok written
+    → Fits (Literal most) written
 literal_fits most None written e = cc
 literal_fits most (Some (pos n)) written e =
     let here = given (nat_le n most) (literal n) why.Integer written e in
@@ -53,7 +57,8 @@ literal_fits most (Some (pos n)) written e =
 literal_fits most (Some (negsuc n)) written e = cc
 
 -- an integer or a name that is given may stand at a value's place
-value_fits : (v : Option ℤ) (token : List ℕ) (written : Written) → integer_or_bound v token ≡ Ok written → Fits Value written
+value_fits : (v : Option ℤ) (token : List ℕ) (written : Written) → integer_or_bound v token ≡ Ok written
+    → Fits Value written
 value_fits (Some v) token written e =
     let same : integer v ≡ written = cc in
     subst (Fits Value) same tt
@@ -68,7 +73,8 @@ undefined_fits true v token written e =
 undefined_fits false v token written e = value_fits v token written e
 
 -- what a token says at a place may stand there
-written_at-Fits : (place : Place) (token : List ℕ) (written : Written) → written_at place token ≡ Ok written → Fits place written
+written_at-Fits : (place : Place) (token : List ℕ) (written : Written) → written_at place token ≡ Ok written
+    → Fits place written
 written_at-Fits Variable token written e = subst (Fits Variable) (given (is_name token) (variable token) why.Name written e).1 tt
 written_at-Fits Field token written e = subst (Fits Field) (given (is_name token) (field token) why.Name written e).1 tt
 written_at-Fits Value token written e = undefined_fits (bytes_eq token (codes "undefined")) (integer_of token) token written e

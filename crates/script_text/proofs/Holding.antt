@@ -1,5 +1,6 @@
 -- What is left from a place on: the lines of the innermost open block, or those outside blocks, and what they begin with.
-use Rattle.std.proofs.Common.{◌≡◌, ℕ, suc, ◌+◌, List, [], ◌∷◌, ◌++◌, length, take, drop, None, refl, sym, ap, ◌∙◌, subst}
+use Rattle.std.proofs.Common.{◌≡◌, ℕ, suc, ◌+◌, List, [], ◌∷◌, ◌++◌, length, take, drop, None, refl, sym}
+use Rattle.std.proofs.Common.{ap, ◌∙◌, subst}
 use Rattle.std.proofs.lemmas.List.{append-nil}
 use Rattle.heap_command.specs.declared.command.Command.{Command}
 use Rattle.heap_command.specs.Executed.{Executed}
@@ -31,7 +32,8 @@ pub record Holds (lines : List Line) (at : ℕ) (ts : List ℕ) (left : List Exe
       → from + length some ≡ at + length rest → IsLeft lines from ts (executed_lines some ++ tail)
 
 -- each of the two ways in which something is left
-pub holds : (lines : List Line) (at : ℕ) (ts : List ℕ) (left : List Executed) → IsLeft lines at ts left → Holds lines at ts left
+pub holds : (lines : List Line) (at : ℕ) (ts : List ℕ) (left : List Executed) → IsLeft lines at ts left
+    → Holds lines at ts left
 holds lines _ _ _ (IsLeft.outside at rest cut deep placed) = record {
   rest = rest;
   more = [];
@@ -75,7 +77,8 @@ first_of (first ∷ rest) more line lines stops goes e =
     (rest, ap (λ l. l ∷ rest) same, others)
 
 -- equal lines begin with a line that does the same
-pub same_what : (first other : Line) (rest others : List Line) → first ∷ rest ≡ other ∷ others → first.what ≡ other.what
+pub same_what : (first other : Line) (rest others : List Line) → first ∷ rest ≡ other ∷ others
+    → first.what ≡ other.what
 same_what first other rest others e =
     let same : first ≡ other = cc in
     ap (λ (l : Line). l.what) same

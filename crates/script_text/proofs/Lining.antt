@@ -1,5 +1,6 @@
 -- The lines of phrases, one phrase after another.
-use Rattle.std.proofs.Common.{◌≡◌, ℕ, suc, ◌+◌, ◌<◌, List, [], ◌∷◌, ◌++◌, length, map, drop, get_or, slice_get, unwrap_or, add-one, append_assoc, drop-cons, refl, sym, ap, ◌∙◌, arith}
+use Rattle.std.proofs.Common.{◌≡◌, ℕ, suc, ◌+◌, ◌<◌, List, [], ◌∷◌, ◌++◌, length, map, drop, get_or}
+use Rattle.std.proofs.Common.{slice_get, unwrap_or, add-one, append_assoc, drop-cons, refl, sym, ap, ◌∙◌, arith}
 use Rattle.script_text.specs.declared.script.Line.{Line}
 use Rattle.script_text.specs.declared.script.What.{What}
 use Rattle.script_text.specs.declared.speech.Spoken.{Spoken as SpokenSlices}
@@ -19,7 +20,8 @@ unwrap_or-innermost [] = refl
 unwrap_or-innermost (innermost ∷ outer) = refl
 
 -- the items from one on
-pub drop-index : {X : Type 0} (xs : List X) (i : ℕ) (d : X) → i < length xs → drop i xs ≡ get_or xs i d ∷ drop (i + 1) xs
+pub drop-index : {X : Type 0} (xs : List X) (i : ℕ) (d : X) → i < length xs
+    → drop i xs ≡ get_or xs i d ∷ drop (i + 1) xs
 drop-index xs i d lt = rw add-one (drop-cons xs i d lt)
 
 -- the line of a phrase, and those of the phrases after it
@@ -40,7 +42,8 @@ lines_from-cons variables fields xs i x open' inner ends repeats split ends_is r
     ∙ ap
     (λ e. line_of e (innermost_of open') ∷ lines_from variables fields (i + 1) (open_after i open' x.phrase.keyword) more)
     (sym ends_is)
-    ∙ ap (λ r. line_of ends r ∷ lines_from variables fields (i + 1) (open_after i open' x.phrase.keyword) more) (sym repeats_is)
+    ∙ ap (λ r. line_of ends r ∷ lines_from variables fields (i + 1) (open_after i open' x.phrase.keyword) more)
+    (sym repeats_is)
     ∙ ap (λ deep. line_of ends repeats ∷ lines_from variables fields (i + 1) deep more) (sym inner_is)
 
 -- the line of a phrase that was read, with what was found of the blocks

@@ -1,12 +1,14 @@
 -- The `repeat`s and `end`s of lines at their places name one another.
-use Rattle.std.proofs.Common.{◌≡◌, ℕ, zero, suc, ◌+◌, ◌<◌, ◌≤◌, List, [], ◌∷◌, ◌++◌, length, take, Some, sym, ap, ◌∙◌, subst, arith}
+use Rattle.std.proofs.Common.{◌≡◌, ℕ, zero, suc, ◌+◌, ◌<◌, ◌≤◌, List, [], ◌∷◌, ◌++◌, length, take}
+use Rattle.std.proofs.Common.{Some, sym, ap, ◌∙◌, subst, arith}
 use Rattle.script_text.specs.declared.script.Line.{Line}
 use Rattle.script_text.specs.declared.script.What.TheVariants.{Repeat, End}
 use Rattle.script_text.specs.Limits.{open_most}
 use Rattle.script_text.specs.Sound.{what_at, depth_of, IsMatched}
 use Rattle.script_text.specs.Whole.{run_line, repeat_line, end_line, IsPlaced}
 use Rattle.script_text.proofs.Depths.{depth_of-placed}
-use Rattle.script_text.proofs.Positions.{what_at-behind, what_at-within, IsNamed, IsNamed-behind, Stands, at_first, in_body, at_end, behind, stands, IsNamed-body, IsNamed-rest}
+use Rattle.script_text.proofs.Positions.{what_at-behind, what_at-within, IsNamed, IsNamed-behind, Stands, at_first, in_body}
+use Rattle.script_text.proofs.Positions.{at_end, behind, stands, IsNamed-body, IsNamed-rest}
 
 -- a line is below another
 abbrev Below : ℕ → ℕ → Type 0
@@ -18,7 +20,8 @@ Above k further = further < k
 
 -- what is said of each `repeat` of lines from a place on: it names its `end`, below it
 abbrev AreEnded : ℕ → List Line → Type 0
-AreEnded at lines = (k times end_at : ℕ) → what_at lines k ≡ Some (Repeat times end_at) → IsNamed Below End at k end_at lines
+AreEnded at lines =
+    (k times end_at : ℕ) → what_at lines k ≡ Some (Repeat times end_at) → IsNamed Below End at k end_at lines
 
 -- so it is of a block and the lines behind it
 ended-block : (at number turns end last : ℕ) (body rest : List Line) → end ≡ suc (at + length body)
@@ -42,7 +45,8 @@ ended-block at number turns end last body rest place inner later _ times end_at 
     (end_line last at) body rest at k end_at (inner k times end_at e)
 ended-block at number turns end last body rest place inner later _ times end_at (at_end e) = cc
 ended-block at number turns end last body rest place inner later _ times end_at (behind k e) =
-    IsNamed-rest Below End (λ n k further lt. omega arith) (repeat_line number turns end) (end_line last at) body rest at k end_at
+    IsNamed-rest Below End (λ n k further lt. omega arith) (repeat_line number turns end)
+    (end_line last at) body rest at k end_at
     (subst (λ n. IsNamed Below End (suc n) k end_at rest) place (later k times end_at e))
 
 -- each `repeat` of lines at their places names its `end`
@@ -133,7 +137,8 @@ AreInside at lines =
     → k < inner → at + inner < end_at → inner_end < end_at
 
 -- so it is of a block and the lines behind it
-inside-block : (at number turns end last : ℕ) (body rest : List Line) → end ≡ suc (at + length body) → IsPlaced (suc at) body
+inside-block : (at number turns end last : ℕ) (body rest : List Line) → end ≡ suc (at + length body)
+    → IsPlaced (suc at) body
     → AreInside (suc at) body → AreInside (suc end) rest → (k times end_at inner inner_times inner_end : ℕ)
     → Stands (repeat_line number turns end) (end_line last at) body rest (Repeat times end_at) k
     → Stands (repeat_line number turns end) (end_line last at) body rest (Repeat inner_times inner_end) inner

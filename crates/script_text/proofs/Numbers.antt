@@ -1,5 +1,7 @@
 -- Names and their numbers.
-use Rattle.std.proofs.Common.{◌≡◌, ◌≢◌, ◌⊎◌, inl, inr, ℕ, zero, suc, ◌<◌, Bool, true, false, cond, List, [], ◌∷◌, ◌++◌, length, Option, Some, None, is_some, option_map, unwrap_or, slice_get, slice_index_or, Decides, bytes_eq, fold, refl, sym, ap, ◌∙◌, subst, arith}
+use Rattle.std.proofs.Common.{◌≡◌, ◌≢◌, ◌⊎◌, inl, inr, ℕ, zero, suc, ◌<◌, Bool, true, false, cond, List}
+use Rattle.std.proofs.Common.{[], ◌∷◌, ◌++◌, length, Option, Some, None, is_some, option_map, unwrap_or, slice_get}
+use Rattle.std.proofs.Common.{slice_index_or, Decides, bytes_eq, fold, refl, sym, ap, ◌∙◌, subst, arith}
 use Rattle.std.specs.List.{Contains}
 use Rattle.std.proofs.lemmas.Bool.{false≢true}
 use Rattle.std.proofs.lemmas.List.Elements.{Contains-append_left, Contains-push}
@@ -77,15 +79,18 @@ is_some-suc None = refl
 is_some-suc (Some at) = refl
 
 -- the first name is in the list
-pub Contains-head : (first : List ℕ) (names : List (List ℕ)) (name : List ℕ) → first ≡ name → Contains (first ∷ names) name
+pub Contains-head : (first : List ℕ) (names : List (List ℕ)) (name : List ℕ) → first ≡ name
+    → Contains (first ∷ names) name
 Contains-head first names name e = (0, omega arith, e)
 
 -- so are the others
-pub Contains-tail : (first : List ℕ) (names : List (List ℕ)) (name : List ℕ) → Contains names name → Contains (first ∷ names) name
+pub Contains-tail : (first : List ℕ) (names : List (List ℕ)) (name : List ℕ) → Contains names name
+    → Contains (first ∷ names) name
 Contains-tail first names name h = (suc h.0, omega (arith, h.1), h.2)
 
 -- a name that has a place is in the list
-Contains-from_place : (names : List (List ℕ)) (name : List ℕ) → is_some (place_of names name) ≡ true → Contains names name
+Contains-from_place : (names : List (List ℕ)) (name : List ℕ) → is_some (place_of names name) ≡ true
+    → Contains names name
 Contains-from_place [] name h = absurd (false≢true h)
 Contains-from_place (first ∷ names) name h =
     elim (bytes_tell first name) [
@@ -115,7 +120,10 @@ none_placed (Some at) h = absurd (false≢true (sym h))
 pub known_or_new : (names : List (List ℕ)) (new : List ℕ) → IsKnown names new ⊎ IsNew names new
 known_or_new names new =
     elim (true_or_false (is_some (place_of names new))) [
-      | inl e ↦ inl (record { present = Contains-from_place names new e; same = ap (λ b. cond b names (names ++ new ∷ [])) e })
+      | inl e ↦ inl (record {
+        present = Contains-from_place names new e;
+        same = ap (λ b. cond b names (names ++ new ∷ [])) e;
+      })
       | inr e ↦
           inr (record {
             absent = λ h. false≢true (sym e ∙ ap is_some (found names new h).place);
@@ -126,7 +134,8 @@ known_or_new names new =
     ]
 
 -- a name stays in the list
-pub Contains-with_name : (names : List (List ℕ)) (new name : List ℕ) → Contains names name → Contains (with_name names new) name
+pub Contains-with_name : (names : List (List ℕ)) (new name : List ℕ) → Contains names name
+    → Contains (with_name names new) name
 Contains-with_name names new name h =
     elim (known_or_new names new) [
       | inl e ↦ rw e.same h

@@ -1,5 +1,6 @@
 -- The operands of a phrase, one token after another.
-use Rattle.std.proofs.Common.{◌≡◌, ℕ, suc, ◌+◌, ◌<◌, List, [], ◌∷◌, ◌++◌, length, map, take, drop, set, get_or, drop-cons, Result, Ok, Err, Bor, refl, sym, ap, ◌∙◌, append_assoc, arith}
+use Rattle.std.proofs.Common.{◌≡◌, ℕ, suc, ◌+◌, ◌<◌, List, [], ◌∷◌, ◌++◌, length, map, take, drop, set}
+use Rattle.std.proofs.Common.{get_or, drop-cons, Result, Ok, Err, Bor, refl, sym, ap, ◌∙◌, append_assoc, arith}
 use Rattle.std.proofs.Math.Seq.{drop-length}
 use Rattle.std.proofs.lemmas.List.{append-nil, map-append, take_more_set}
 use Rattle.script_text.specs.declared.script.Why.{Why}
@@ -23,9 +24,11 @@ after-joined done written (Ok more) = ap Ok (sym (append_assoc done (written ∷
 pub after-more :
     (done : List Written) (place : Place) (token : List ℕ) (written : Written) (places : List Place) (tokens : List (List ℕ))
     → written_at place token ≡ Ok written
-    → after done (written_all (place ∷ places) (token ∷ tokens)) ≡ after (done ++ written ∷ []) (written_all places tokens)
+    → after done (written_all (place ∷ places) (token ∷ tokens))
+    ≡ after (done ++ written ∷ []) (written_all places tokens)
 after-more done place token written places tokens e =
-    ap (λ first. after done (joined first (written_all places tokens))) e ∙ after-joined done written (written_all places tokens)
+    ap (λ first. after done (joined first (written_all places tokens))) e
+    ∙ after-joined done written (written_all places tokens)
 
 -- an operand may not stand at its place
 pub after-refused :
@@ -46,7 +49,8 @@ Reads operands places tokens i =
 
 -- the places and the tokens from one on
 read-cons :
-    (done : List Written) (places : List Place) (tokens : List (Bor (List ℕ))) (i : ℕ) (place : Place) (token : Bor (List ℕ))
+    (done : List Written) (places : List Place) (tokens : List (Bor (List ℕ))) (i : ℕ) (place : Place)
+    (token : Bor (List ℕ))
     → i < length places → i < length tokens
     → after done (written_all (drop i places) (bytes_of (drop i tokens)))
     ≡ after done
@@ -90,5 +94,6 @@ pub Reads-all : (operands : List Slice) (places : List Place) (tokens : List (Bo
     → Reads operands places tokens i → written_all places (bytes_of tokens) ≡ Ok (map shown (take (length places) operands))
 Reads-all operands places tokens i e h =
     let rest = bytes_of (drop i tokens) in
-    sym h ∙ ap (λ ps. after (map shown (take i operands)) (written_all ps rest)) (ap (λ n. drop n places) e ∙ drop-length places)
+    sym h
+    ∙ ap (λ ps. after (map shown (take i operands)) (written_all ps rest)) (ap (λ n. drop n places) e ∙ drop-length places)
     ∙ ap Ok (append-nil (map shown (take i operands))) ∙ ap (λ n. Ok (map shown (take n operands))) e

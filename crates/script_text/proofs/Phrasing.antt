@@ -1,5 +1,6 @@
 -- The phrase of a line whose first token is a command.
-use Rattle.std.proofs.Common.{◌≡◌, ℕ, ◌≤◌, Bool, false, cond, nat_lt, List, [], ◌∷◌, drop, slice_get, length, Some, Err, sym, ap, ◌∙◌, arith}
+use Rattle.std.proofs.Common.{◌≡◌, ℕ, ◌≤◌, Bool, false, cond, nat_lt, List, [], ◌∷◌, drop, slice_get, length}
+use Rattle.std.proofs.Common.{Some, Err, sym, ap, ◌∙◌, arith}
 use Rattle.std.specs.List.{list_any}
 use Rattle.std.proofs.lemmas.Bool.Decides.{nat_tests}
 use Rattle.script_text.specs.declared.table.Keyword.{Keyword}
@@ -10,7 +11,8 @@ use Rattle.script_text.specs.Table.{keywords, keyword_among, same_keyword}
 use Rattle.script_text.specs.Phrases.{phrase_of, phrase_of_line, if_built, with_operands}
 
 -- a list begins with the first of its items
-first-rest : (tokens : List (List ℕ)) (first : List ℕ) → Some first ≡ slice_get tokens 0 → tokens ≡ first ∷ drop 1 tokens
+first-rest : (tokens : List (List ℕ)) (first : List ℕ) → Some first ≡ slice_get tokens 0
+    → tokens ≡ first ∷ drop 1 tokens
 first-rest [] first e = cc
 first-rest (token ∷ tokens) first e =
     let same : first ≡ token = cc in

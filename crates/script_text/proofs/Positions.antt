@@ -1,5 +1,6 @@
 -- Where a line of a block stands, and which lines name another.
-use Rattle.std.proofs.Common.{◌≡◌, ◌⊎◌, inl, inr, ℕ, zero, suc, ◌+◌, ◌<◌, List, [], ◌∷◌, ◌++◌, length, Some, refl, ap, ◌∙◌, subst, append_assoc, length-append, arith}
+use Rattle.std.proofs.Common.{◌≡◌, ◌⊎◌, inl, inr, ℕ, zero, suc, ◌+◌, ◌<◌, List, [], ◌∷◌, ◌++◌}
+use Rattle.std.proofs.Common.{length, Some, refl, ap, ◌∙◌, subst, append_assoc, length-append, arith}
 use Rattle.script_text.specs.declared.script.Line.{Line}
 use Rattle.script_text.specs.declared.script.What.{What}
 use Rattle.script_text.specs.Sound.{what_at}
@@ -68,7 +69,8 @@ pub data Stands (first end : Line) (body rest : List Line) (what : What) : ℕ �
 -- a line of lines with an `end` among them stands before the `end`, at it, or behind it
 cut_at : (body rest : List Line) (end : Line) (k : ℕ) (what : What) → what_at (body ++ (end ∷ rest)) k ≡ Some what
     → (what_at body k ≡ Some what) ⊎
-    (((k ≡ length body) × (end.what ≡ what)) ⊎ ((j : ℕ) × (k ≡ suc (length body + j)) × (what_at rest j ≡ Some what)))
+    (((k ≡ length body) × (end.what ≡ what))
+    ⊎ ((j : ℕ) × (k ≡ suc (length body + j)) × (what_at rest j ≡ Some what)))
 cut_at [] rest end zero what e = inr (inl (refl, cc))
 cut_at [] rest end (suc k) what e = inr (inr (k, omega arith, e))
 cut_at (x ∷ body) rest end zero what e = inl e
@@ -118,7 +120,8 @@ IsNamed-body Order does shift first end body rest at k named h =
 -- so is what is named behind a block
 pub IsNamed-rest : (Order : ℕ → ℕ → Type 0) (does : ℕ → What)
     → ((n k further : ℕ) → Order k further → Order (n + k) (n + further))
-    → (first end : Line) (body rest : List Line) (at k named : ℕ) → IsNamed Order does (suc (suc (at + length body))) k named rest
+    → (first end : Line) (body rest : List Line) (at k named : ℕ)
+    → IsNamed Order does (suc (suc (at + length body))) k named rest
     → IsNamed Order does at (2 + length body + k) named (first ∷ (body ++ (end ∷ rest)))
 IsNamed-rest Order does shift first end body rest at k named h =
     let front : List Line = first ∷ (body ++ (end ∷ [])) in

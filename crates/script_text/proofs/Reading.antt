@@ -1,5 +1,6 @@
 -- What `parse` has read is a script that is sound.
-use Rattle.std.proofs.Common.{◌≡◌, ℕ, suc, ◌≤◌, true, false, cond, eqb, List, [], ◌∷◌, length, map, Option, Some, None, Result, Ok, Err, IfOk, Bor, refl, sym, ap, ◌∙◌, subst, arith}
+use Rattle.std.proofs.Common.{◌≡◌, ℕ, suc, ◌≤◌, true, false, cond, eqb, List, [], ◌∷◌, length, map, Option}
+use Rattle.std.proofs.Common.{Some, None, Result, Ok, Err, IfOk, Bor, refl, sym, ap, ◌∙◌, subst, arith}
 use Rattle.std.specs.List.{All, flat_map}
 use Rattle.std.proofs.lemmas.List.{length-map}
 use Rattle.script_text.specs.declared.script.Line.{Line}
@@ -56,7 +57,8 @@ spoken-few unbuilt lines spoken e =
 -- the script of phrases that were read is sound where it has not too many names
 pub script_of-IsSound : (unbuilt : List Keyword) (lines : List (List ℕ)) (spoken : List Spoken) (script : ScriptText)
     → spoken_from unbuilt 1 [] lines ≡ Ok spoken
-    → script_of spoken ≡ script → length script.variables ≤ variables_most → length script.fields ≤ fields_most → IsSound script
+    → script_of spoken ≡ script → length script.variables ≤ variables_most → length script.fields ≤ fields_most
+    → IsSound script
 script_of-IsSound unbuilt lines spoken script e same few_variables few_fields =
     let are = spoken_from-AreSpoken unbuilt 1 [] lines spoken e in
     let all = script_of spoken in

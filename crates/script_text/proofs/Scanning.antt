@@ -1,5 +1,7 @@
 -- The tokens of a line, from one to the next.
-use Rattle.std.proofs.Common.{◌≡◌, ◌≢◌, ℕ, suc, ◌+◌, Bool, true, false, cond, not, ◌||◌, eqb, nat_lt, ◌≤◌, List, [], ◌∷◌, length, Some, None, unwrap_or, take, drop, refl, sym, ap, ◌∙◌, subst, arith}
+use Rattle.std.proofs.Common.{◌≡◌, ◌≢◌, ℕ, suc, ◌+◌, Bool, true, false, cond, not, ◌||◌, eqb, nat_lt}
+use Rattle.std.proofs.Common.{◌≤◌, List, [], ◌∷◌, length, Some, None, unwrap_or, take, drop, refl, sym, ap, ◌∙◌}
+use Rattle.std.proofs.Common.{subst, arith}
 use Rattle.std.specs.List.{filter, position, position_or_len}
 use Rattle.std.proofs.lemmas.List.Sums.{prefix_len-le-length}
 use Rattle.std.proofs.lemmas.Bool.Decides.{nat_tests}
@@ -13,7 +15,8 @@ unwrap_or-position p bs =
     let le = prefix_len-le-length (λ b. not (p b)) bs in
     place (nat_lt n (length bs)) n (length bs) le (λ h. grind (arith, nat_tests))
   where
-    place : (within : Bool) (n len : ℕ) → n ≤ len → (within ≡ false → len ≤ n) → unwrap_or (cond within (Some n) None) len ≡ n
+    place : (within : Bool) (n len : ℕ) → n ≤ len → (within ≡ false → len ≤ n)
+        → unwrap_or (cond within (Some n) None) len ≡ n
     place true n len le h = refl
     place false n len le h = omega (arith, h refl)
 
@@ -61,7 +64,8 @@ record IsCut (line : List ℕ) : Type 0 where
   rest : filter is_some_bytes later ≡ tokens_of (drop (token_len line) line)
 
 -- a byte before a line: a blank or a `#` ends the first piece, and another byte belongs to it
-IsCut-cons : (b : ℕ) (bs : List ℕ) (blank hash : Bool) → is_blank b ≡ blank → is_hash b ≡ hash → IsCut bs → IsCut (b ∷ bs)
+IsCut-cons : (b : ℕ) (bs : List ℕ) (blank hash : Bool) → is_blank b ≡ blank → is_hash b ≡ hash → IsCut bs
+    → IsCut (b ∷ bs)
 IsCut-cons b bs true hash e f h =
     let ends : token_len (b ∷ bs) ≡ 0 = ap (λ v. cond (not (v || is_hash b)) (1 + token_len bs) 0) e in
     record {
@@ -77,12 +81,14 @@ IsCut-cons b bs false true e f h =
     ap (λ v. cond (not (v || is_hash b)) (1 + token_len bs) 0) e ∙ ap (λ v. cond (not v) (1 + token_len bs) 0) f in
     record {
       later = [];
-      cut = ap pieces_of (text_of-cons b bs ∙ ap (λ v. cond v [] (b ∷ text_of bs)) f) ∙ ap (λ n. take n (b ∷ bs) ∷ []) (sym ends);
+      cut = ap pieces_of (text_of-cons b bs ∙ ap (λ v. cond v [] (b ∷ text_of bs)) f)
+          ∙ ap (λ n. take n (b ∷ bs) ∷ []) (sym ends);
       rest = sym (tokens_of-hash b bs f) ∙ ap (λ n. tokens_of (drop n (b ∷ bs))) (sym ends);
     }
 IsCut-cons b bs false false e f h =
     let goes : token_len (b ∷ bs) ≡ suc (token_len bs) =
-    ap (λ v. cond (not (v || is_hash b)) (1 + token_len bs) 0) e ∙ ap (λ v. cond (not v) (1 + token_len bs) 0) f ∙ omega arith in
+    ap (λ v. cond (not (v || is_hash b)) (1 + token_len bs) 0) e ∙ ap (λ v. cond (not v) (1 + token_len bs) 0) f
+    ∙ omega arith in
     record {
       later = h.later;
       cut =
@@ -141,15 +147,18 @@ HasNext-cons b bs true e f =
     record { none = λ h. tokens_of-hash b bs f; some = λ h. absurd (h ends) }
 HasNext-cons b bs false e f =
     let goes : token_len (b ∷ bs) ≡ suc (token_len bs) =
-    ap (λ v. cond (not (v || is_hash b)) (1 + token_len bs) 0) e ∙ ap (λ v. cond (not v) (1 + token_len bs) 0) f ∙ omega arith in
+    ap (λ v. cond (not (v || is_hash b)) (1 + token_len bs) 0) e ∙ ap (λ v. cond (not v) (1 + token_len bs) 0) f
+    ∙ omega arith in
     let here = tokens-cut (b ∷ bs) in
     let cut = λ (n : ℕ). take n (b ∷ bs) in
     let kept : filter is_some_bytes (cut (token_len (b ∷ bs)) ∷ here.later)
     ≡ cut (token_len (b ∷ bs)) ∷ filter is_some_bytes here.later =
-    ap (λ n. filter is_some_bytes (cut n ∷ here.later)) goes ∙ ap (λ n. cut n ∷ filter is_some_bytes here.later) (sym goes) in
+    ap (λ n. filter is_some_bytes (cut n ∷ here.later)) goes
+    ∙ ap (λ n. cut n ∷ filter is_some_bytes here.later) (sym goes) in
     record {
       none = λ h. absurd (omega arith);
-      some = λ h. ap (filter is_some_bytes) here.cut ∙ kept ∙ ap (λ rest. take (token_len (b ∷ bs)) (b ∷ bs) ∷ rest) here.rest;
+      some = λ h. ap (filter is_some_bytes) here.cut ∙ kept
+          ∙ ap (λ rest. take (token_len (b ∷ bs)) (b ∷ bs) ∷ rest) here.rest;
     }
 
 -- so it is for each line that begins with no blank

@@ -1,5 +1,6 @@
 -- The phrases of lines that were read: each is built and fits, and the blocks are nested.
-use Rattle.std.proofs.Common.{◌≡◌, ℕ, suc, ◌-◌, ◌<◌, ◌≤◌, Bool, true, false, cond, nat_lt, List, [], ◌∷◌, length, Option, Some, None, Result, Ok, Err, refl, sym, ap, ◌∙◌, subst, arith}
+use Rattle.std.proofs.Common.{◌≡◌, ℕ, suc, ◌-◌, ◌<◌, ◌≤◌, Bool, true, false, cond, nat_lt, List, []}
+use Rattle.std.proofs.Common.{◌∷◌, length, Option, Some, None, Result, Ok, Err, refl, sym, ap, ◌∙◌, subst, arith}
 use Rattle.std.proofs.lemmas.Bool.Decides.{nat_tests}
 use Rattle.script_text.specs.declared.script.Why.{Why}
 use Rattle.script_text.specs.declared.script.Why.TheVariants as why
@@ -113,7 +114,8 @@ spoken_from-AreSpoken unbuilt number open' (line ∷ lines) all e =
 
 -- a phrase before others is one more
 followed-few : (n : ℕ) (spoken : Spoken) (more : Result (List Spoken) BadScript) (all : List Spoken)
-    → ((rest : List Spoken) → more ≡ Ok rest → length rest ≤ n) → followed spoken more ≡ Ok all → length all ≤ suc n
+    → ((rest : List Spoken) → more ≡ Ok rest → length rest ≤ n) → followed spoken more ≡ Ok all
+    → length all ≤ suc n
 followed-few n spoken more all h e =
     let parts = followed-parts spoken more all e in
     omega (arith, h parts.rest parts.more_is, ap length parts.same)

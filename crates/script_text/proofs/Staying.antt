@@ -1,5 +1,6 @@
 -- A name that has a number keeps it when more names get numbers.
-use Rattle.std.proofs.Common.{◌≡◌, inl, inr, ℕ, ◌≤◌, cond, List, [], ◌∷◌, ◌++◌, length, map, fold, Option, Some, None, unwrap_or, option_map, slice_get, refl, sym, ap, ◌∙◌, subst, arith}
+use Rattle.std.proofs.Common.{◌≡◌, inl, inr, ℕ, ◌≤◌, cond, List, [], ◌∷◌, ◌++◌, length, map, fold, Option}
+use Rattle.std.proofs.Common.{Some, None, unwrap_or, option_map, slice_get, refl, sym, ap, ◌∙◌, subst, arith}
 use Rattle.std.specs.List.{Contains, flat_map}
 use Rattle.std.proofs.lemmas.List.Sums.{fold-append}
 use Rattle.std.proofs.lemmas.Option.{slice_get-map}
@@ -91,7 +92,8 @@ few_places keyword.New = omega arith
 few_places other = omega arith
 
 -- the names of at most three operands get numbers one after another
-fold-three : (names_in : Written → List (List ℕ)) (names : List (List ℕ)) (operands : List Written) → length operands ≤ 3
+fold-three : (names_in : Written → List (List ℕ)) (names : List (List ℕ)) (operands : List Written)
+    → length operands ≤ 3
     → fold with_name names (flat_map names_in operands)
     ≡ fold with_name (fold with_name (fold with_name names (names_at names_in (slice_get operands 0)))
     (names_at names_in (slice_get operands 1))) (names_at names_in (slice_get operands 2))
@@ -154,7 +156,8 @@ three_enter operands vs fs vs1 fs1 vs2 fs2 vs3 fs3 a b c few one two three =
     three.variables_are ∙ ap (λ names. fold with_name names (v 2)) two.variables_are
     ∙ sym (fold-append with_name vs1 (v 1) (v 2)) in
     let fs_on : fs3 ≡ fold with_name fs1 (f 1 ++ f 2) =
-    three.fields_are ∙ ap (λ names. fold with_name names (f 2)) two.fields_are ∙ sym (fold-append with_name fs1 (f 1) (f 2)) in
+    three.fields_are ∙ ap (λ names. fold with_name names (f 2)) two.fields_are
+    ∙ sym (fold-append with_name fs1 (f 1) (f 2)) in
     record {
       variables_are =
           vs_on ∙ ap (λ names. fold with_name names (v 1 ++ v 2)) one.variables_are

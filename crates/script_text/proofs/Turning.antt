@@ -1,5 +1,6 @@
 -- The block whose `repeat` or `end` is the next line.
-use Rattle.std.proofs.Common.{◌≡◌, ℕ, suc, ◌+◌, List, [], ◌∷◌, ◌++◌, length, take, drop, slice_get, Some, None, refl, sym, ap, ◌∙◌, subst, append_assoc, length-append, arith}
+use Rattle.std.proofs.Common.{◌≡◌, ℕ, suc, ◌+◌, List, [], ◌∷◌, ◌++◌, length, take, drop, slice_get, Some}
+use Rattle.std.proofs.Common.{None, refl, sym, ap, ◌∙◌, subst, append_assoc, length-append, arith}
 use Rattle.heap_command.specs.Executed.{Executed}
 use Rattle.script_text.specs.declared.script.Line.{Line}
 use Rattle.script_text.specs.declared.script.What.TheVariants.{End}
@@ -105,7 +106,9 @@ block_begins lines at ts left number times end_at h e =
     (placed-repeat at here.rest number times end_at split.0 here.placed split.1)
 
 -- The block that the `end` here ends: nothing else of it is left in this turn.
-pub record Ends (lines : List Line) (at turns_left : ℕ) (ts : List ℕ) (left : List Executed) (number repeat_at : ℕ) : Type 0 where
+pub record Ends
+    (lines : List Line) (at turns_left : ℕ) (ts : List ℕ) (left : List Executed) (number repeat_at : ℕ)
+    : Type 0 where
   pub body : List Line
   pub after : List Line
   pub later : List Executed

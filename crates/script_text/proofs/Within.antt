@@ -1,5 +1,6 @@
 -- The lines of phrases name only variables and fields that have a number.
-use Rattle.std.proofs.Common.{◌≡◌, ℕ, zero, suc, ◌<◌, ◌≤◌, List, [], ◌∷◌, ◌++◌, length, map, slice_get, Some, false, refl, sym, subst, arith}
+use Rattle.std.proofs.Common.{◌≡◌, ℕ, zero, suc, ◌<◌, ◌≤◌, List, [], ◌∷◌, ◌++◌, length, map}
+use Rattle.std.proofs.Common.{slice_get, Some, false, refl, sym, subst, arith}
 use Rattle.std.specs.List.{All, Contains, flat_map, list_any}
 use Rattle.std.proofs.lemmas.List.Elements.{All-cons, Contains-append_left, Contains-append_right}
 use Rattle.heap_command.specs.Commands.{NamesBelow}
@@ -14,7 +15,8 @@ use Rattle.script_text.specs.Limits.{cap_most, turns_most}
 use Rattle.script_text.specs.Table.{places_of, same_keyword}
 use Rattle.script_text.specs.Phrases.{Written, variable, field, literal, integer, undefined, bound}
 use Rattle.script_text.specs.Names.{number_of, variable_in, field_in, variables_of, fields_of, first_uses}
-use Rattle.script_text.specs.Scripts.{Spoken, argument_of, argument_at, as_variable, as_field, as_literal, as_value, what_of, end_after}
+use Rattle.script_text.specs.Scripts.{Spoken, argument_of, argument_at, as_variable, as_field, as_literal, as_value, what_of}
+use Rattle.script_text.specs.Scripts.{end_after}
 use Rattle.script_text.specs.Grammar.{lines_from, open_after, innermost_of, script_of}
 use Rattle.script_text.specs.Sound.{NamesWithin, IsNumbered, keyword_of, IsBuilt}
 use Rattle.script_text.proofs.Fits.{Fits, AllFit}
@@ -61,7 +63,8 @@ abbrev arguments_of : List (List ℕ) → List (List ℕ) → List Written → L
 arguments_of variables fields operands = map (argument_of variables fields) operands
 
 -- the argument at a place is what the place wants
-Suits-argument_at : (variables fields : List (List ℕ)) (places : List Place) (operands : List Written) → AllFit places operands
+Suits-argument_at : (variables fields : List (List ℕ)) (places : List Place) (operands : List Written)
+    → AllFit places operands
     → AreIn variables (flat_map variable_in operands) → AreIn fields (flat_map field_in operands)
     → (at : ℕ) (place : Place) → slice_get places at ≡ Some place
     → Suits variables fields place (argument_at (arguments_of variables fields operands) at)

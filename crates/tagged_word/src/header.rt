@@ -1,6 +1,7 @@
 //! The first word of a cell: its shape and its object's number.
 ghost use Rattle.std.specs.Prelude.{◌≡◌, ◌≢◌, ◌<◌, ◌↔◌, IfSome, IsNone};
 ghost use Rattle.tagged_word.specs.Headers.{IsHeader, header_bits};
+ghost use Rattle.tagged_word.specs.Readings.{header_in};
 
 use crate::word::Word;
 
@@ -11,7 +12,8 @@ pub struct Header {
     pub object: u32,
 }
 
-const SHAPES: u32 = 65536;
+// The first number that 16 bits are too few for. There are fewer shapes: `shape::COUNT`.
+const SHAPE_LIMIT: u32 = 65536;
 
 impl Header {
     /// The word that a cell with this header begins with.
@@ -24,6 +26,7 @@ impl Header {
 
     /// The header that a word has the bits of; none for bits of no header.
     pub fn parse(word: Word) -> Option<Header>
+        ensures value { result ≡ header_in word.0 }
         ensures parses { (header : Header) → IsHeader header → word.0 ≡ header_bits header →
             result ≡ Some header }
         ensures one { IfSome result (λ header. IsHeader header × (word.0 ≡ header_bits header)) }
@@ -35,7 +38,7 @@ impl Header {
             shape: low / 4,
             object: (word.0 / 4_294_967_296) as u32,
         };
-        if low % 4 == 2 && header.shape < SHAPES {
+        if low % 4 == 2 && header.shape < SHAPE_LIMIT {
             Some(header)
         } else {
             None

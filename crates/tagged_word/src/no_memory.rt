@@ -2,8 +2,8 @@
 
 use std::alloc::{AllocError, AllocFailed};
 
-/// Memory was refused. It says nothing more, and nothing was changed. It is made from a refusal of the
-/// allocator alone, so that no code answers it without one in plain sight.
+/// Memory was refused. It says nothing more, and nothing was changed. It is made from a refusal of
+/// the allocator alone, so that no code answers it without one in plain sight.
 #[derive(Clone, Copy, Debug, PartialEq, Eq)]
 pub struct NoMemory {
     refused: (),

@@ -1,6 +1,8 @@
 //! A word of a slot, and the classes of its bits.
-ghost use Rattle.std.specs.Prelude.{◌/◌, ◌<◌, SomeIff, ◌≡◌, ◌≢◌, ◌↔◌, IsNone, IfSome, IsTrue, ℤ, ◌%◌, false};
+ghost use Rattle.std.specs.Prelude.{◌≡◌, ◌≢◌, ◌<◌, ◌/◌, ◌%◌, ◌↔◌, ℤ, false, IsTrue};
+ghost use Rattle.std.specs.Prelude.{IsNone, IfSome, SomeIff};
 ghost use Rattle.tagged_word.specs.Words.{small, IsClass, bits_of};
+ghost use Rattle.tagged_word.specs.Readings.{reference_in};
 
 /// 64 bits of the heap.
 #[derive(Clone, Copy, Debug, PartialEq, Eq)]
@@ -53,6 +55,17 @@ impl Word {
         ensures { result.0 ≡ bits_of (Class.Odd code) }
     {
         Word(code as u64 * 4 + 3)
+    }
+
+    /// The address of the cell that the word refers to; none for a word that is no reference.
+    pub fn address(self) -> Option<u32>
+        ensures { result ≡ reference_in self.0 }
+    {
+        if self.0 % 4 == 1 {
+            payload(self.0)
+        } else {
+            None
+        }
     }
 
     /// What the word stands for; none for bits of no class.
@@ -122,6 +135,15 @@ mod tests {
         assert_eq!(rt; Word::odd(odd::HOLE), Word(0x7));
         assert_eq!(rt; Word::odd(odd::UNBOUND), Word(0xb));
         assert_eq!(rt; Word::odd(odd::WIDE), Word(0xf));
+    }
+
+    #[test]
+    fn a_reference_alone_has_an_address(rt: HostRuntime) {
+        assert_eq!(rt; Word(0x15).address(), Some(5));
+        assert_eq!(rt; Word(0x3_ffff_fffd).address(), Some(u32::MAX));
+        assert_eq!(rt; Word(0x4_0000_0001).address(), None, "bit 34");
+        assert_eq!(rt; Word(0).address(), None);
+        assert_eq!(rt; Word(0xf).address(), None);
     }
 
     #[test]

@@ -11,7 +11,8 @@ text c = take (length c.self.inside.rest.now - c.blanks.result) (drop c.blanks.r
 
 text-past_blanks : (c : goal.Joined-end-eq0) → text c ≡ drop (blanks c.self.inside.rest.now) c.self.inside.rest.now
 unfolding text
-text-past_blanks c = take_rest c.self.inside.rest.now c.blanks.result ∙ ap (λ n. drop n c.self.inside.rest.now) c.blanks.ensures.counted
+text-past_blanks c =
+    take_rest c.self.inside.rest.now c.blanks.result ∙ ap (λ n. drop n c.self.inside.rest.now) c.blanks.ensures.counted
 
 pub returns-clause-taken : goal.returns-clause-taken
 unfolding text

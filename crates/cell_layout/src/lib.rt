@@ -1,0 +1,24 @@
+//! Cell layout: the cell at an address, read off any words, and the walk from cell to cell.
+//!
+//! Model: none of its own. `IsCell` of `specs/Cells.antt` says which cell words read as at an
+//! address, and `IsRow` that cells stand one behind another.
+//! Invariant: none. Every call is total on any words.
+#![tactic(auto)]
+
+mod cell;
+#[cfg(test)]
+mod heaps;
+mod laws;
+#[cfg(test)]
+mod phased;
+mod reading;
+#[cfg(test)]
+mod slot_tests;
+mod slots;
+#[cfg(test)]
+mod tests;
+
+pub use cell::{Cell, NotACell};
+pub use laws::{laws_of_cells, laws_of_rows};
+pub use reading::{cell_at, next_cell};
+pub use slots::{next_scavenge_slot, next_tagged};

@@ -1,0 +1,13 @@
+pub mod Lists
+pub mod Stretches
+pub mod Starts
+pub mod Standing
+pub mod Covering
+pub mod Placed
+pub mod Addresses
+pub mod Segments
+pub mod Limits
+pub mod Computed
+pub mod CellAddresses
+pub mod LawsHold
+pub mod CellEnds

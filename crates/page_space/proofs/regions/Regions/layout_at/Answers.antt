@@ -1,0 +1,20 @@
+use Rattle.std.proofs.Common.{arith}
+use Rattle.page_space.specs.declared.region.Region.TheVariants.{Layout}
+use Rattle.page_space.proofs.Addresses.{starts_at}
+use Rattle.page_space.proofs.Computed.{computed_for}
+use Rattle.page_space.proofs.regions.Regions.layout_at.Goals as goal
+
+pub overflow_add-result : goal.overflow_add-result
+overflow_add-result c =
+    let is = computed_for c.self.inside c.args.self.now c.self.view_is c.self.invariant in
+    omega arith
+
+pub returns-clause-starts : goal.returns-clause-starts
+returns-clause-starts c =
+    let is = computed_for c.self.inside c.args.self.now c.self.view_is c.self.invariant in
+    starts_at c.args.self.now (Layout c.args.shape) _ c.requires (omega arith)
+
+pub returns-clause-inside : goal.returns-clause-inside
+returns-clause-inside c =
+    let is = computed_for c.self.inside c.args.self.now c.self.view_is c.self.invariant in
+    omega arith

@@ -1,0 +1,4 @@
+pub mod Sizes
+pub mod Extents
+pub mod Regions
+pub mod RegionLaws

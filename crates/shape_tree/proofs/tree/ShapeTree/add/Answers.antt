@@ -1,0 +1,118 @@
+-- The tree after a path was added.
+use Rattle.std.proofs.Common.{◌≡◌, ℕ, ◌+◌, length, take, drop, ◌++◌, length-append, arith, refl, sym, ap}
+use Rattle.std.proofs.Common.{◌∙◌, subst, cond, Some, [], ◌∷◌}
+use Rattle.std.specs.HashMap.{get}
+use Rattle.tagged_word.specs.Shapes.{first_path_shape}
+use Rattle.shape_tree.specs.declared.node.Node.{Node}
+use Rattle.shape_tree.specs.declared.tree.ShapeTree.TheInside.{Inside}
+use Rattle.shape_tree.specs.Shapes.{IsPathShape, shape_path}
+use Rattle.shape_tree.specs.Growth.{extended}
+use Rattle.shape_tree.specs.Nodes.{same_transition, path_at}
+use Rattle.shape_tree.specs.Trees.{HasRoom, paths_of}
+use Rattle.shape_tree.proofs.HeldNodes.{IsNodeOf-shown, IsNode-at, length-path_at, length-paths_in}
+use Rattle.shape_tree.proofs.GrownNodes.{IsGrown, length-row}
+use Rattle.shape_tree.proofs.GrownTrees.{Became, more_shown}
+use Rattle.shape_tree.proofs.FoundSteps.{transition_by}
+use Rattle.shape_tree.proofs.SoughtSteps.{nothing_shown}
+use Rattle.shape_tree.specs.declared.transition.Transition.{Transition}
+use Rattle.shape_tree.proofs.PathLayouts.{layout_of-grown, raw-lt}
+use Rattle.shape_tree.proofs.tree.ShapeTree.add.Goals as goal
+
+pub layout_with-layout-requires-clause-few : goal.layout_with-layout-requires-clause-few
+layout_with-layout-requires-clause-few c =
+    let node = c.index-node.result.now in
+    let path = shape_path c.args.self.now c.args.parent in
+    let is =
+    IsNodeOf-shown c.self.inside c.args.self.now c.args.parent node c.self.invariant c.self.view_is c.requires.path
+    c.index-node.ensures in
+    raw-lt path node.layout node.count is.layout is.count
+
+-- the tree as it is then
+abbrev new_tree : goal.After-put_step → Inside
+new_tree c = record { rows = c.push_row.new.rows; nodes = c.push_reserved.new.self; steps = c.put_step.new.steps }
+
+-- its new node
+abbrev new_node : goal.After-put_step → Node
+new_node c =
+    record {
+      cap = c.index-node.result.now.cap;
+      start = c.len-start.result;
+      count = c.index-node.result.now.count + 1;
+      parent = c.args.parent;
+      layout = c.layout_with-layout.result;
+    }
+
+-- the new node is that of the path with the field more
+node_is : (c : goal.After-put_step)
+    → IsGrown c.self.inside.rows.items c.index-node.result.now c.args.parent c.args.field (new_node c)
+node_is c =
+    let rows = c.self.inside.rows.items in
+    let node = c.index-node.result.now in
+    let starts = subst (λ paths. IsPathShape paths c.args.parent) (sym c.self.view_is) c.requires.path in
+    let is = IsNode-at rows c.self.inside.nodes.items c.args.parent node starts c.self.invariant.each c.index-node.ensures in
+    let made = c.layout_with-layout.ensures in
+    record {
+      cap = refl;
+      start = c.len-start.ensures ∙ c.self.inside.rows.ok.0;
+      count = refl;
+      above = refl;
+      layout = layout_of-grown (path_at rows node) c.args.field node.layout c.layout_with-layout.result node.count is.layout
+          (sym (length-path_at rows node is.within)) made.full made.more;
+    }
+
+-- there is room left
+has_room : (c : goal.After-put_step) → HasRoom (new_tree c)
+has_room c =
+    let tree = c.self.inside in
+    let node = c.index-node.result.now in
+    let before = c.self.invariant.room in
+    let is = IsNodeOf-shown tree c.args.self.now c.args.parent node c.self.invariant c.self.view_is c.requires.path
+    c.index-node.ensures in
+    let starts = subst (λ paths. IsPathShape paths c.args.parent) (sym c.self.view_is) c.requires.path in
+    let within = (IsNode-at tree.rows.items tree.nodes.items c.args.parent node starts c.self.invariant.each
+    c.index-node.ensures).within in
+    let row = take node.count (drop node.start tree.rows.items) ++ c.args.field ∷ [] in
+    let short = length-append (shape_path c.args.self.now c.args.parent).fields (c.args.field ∷ []) in
+    let rows : length c.push_row.new.rows.items ≡ length tree.rows.items + (node.count + 1) =
+    ap length c.push_row.ensures.pushed ∙ length-append tree.rows.items row
+    ∙ ap (λ n. length tree.rows.items + n) (length-row tree.rows.items node c.args.field within) in
+    let nodes : length c.push_reserved.new.self.items ≡ length tree.nodes.items + 1 =
+    ap length c.push_reserved.ensures.items ∙ length-append tree.nodes.items (new_node c ∷ []) in
+    let steps = c.put_step.ensures.added
+    (nothing_shown tree c.args.self.now c.args.parent c.args.field c.self.invariant c.self.view_is c.requires.missing) in
+    record {
+      rows = omega (arith, before.rows, c.push_row.ensures.room);
+      nodes = omega (arith, before.nodes, c.push_reserved.ensures.capacity);
+      steps = omega (arith, before.steps, steps, c.put_step.ensures.room);
+      short = omega (arith, before.short, rows, nodes, is.count, c.requires.is.short, short);
+      few = omega (arith, before.few, steps, nodes);
+    }
+
+-- the tree shows the paths with the new one
+became : (c : goal.After-put_step)
+    → Became c.args.self.now (extended (shape_path c.args.self.now c.args.parent) (c.args.field ∷ [])) (new_tree c)
+became c =
+    let tree = c.self.inside in
+    let next : 8 + c.len.result ≡ first_path_shape + length (paths_of tree) =
+    omega (arith, c.len.ensures, tree.nodes.ok.0, length-paths_in tree.rows.items tree.nodes.items) in
+    more_shown tree (new_tree c) c.args.self.now c.args.parent c.args.field c.index-node.result.now (new_node c)
+    c.self.invariant c.self.view_is
+    (record {
+      at = c.index-node.ensures;
+      node_is = node_is c;
+      rows = c.push_row.ensures.pushed;
+      nodes = c.push_reserved.ensures.items;
+      steps = subst (λ (next : ℕ).
+          (other : Transition)
+          → get same_transition c.put_step.new.steps other
+          ≡ cond (same_transition (transition_by c.args.parent c.args.field) other) (Some next)
+          (get same_transition tree.steps other)) next c.put_step.ensures.put;
+      room = has_room c;
+    })
+    c.requires.path c.requires.missing c.requires.is c.requires.room
+
+pub invariant_of-self : goal.invariant_of-self
+invariant_of-self c = (became c).is
+
+pub returns-clause-added : goal.returns-clause-added
+returns-clause-added c = (became c).shows

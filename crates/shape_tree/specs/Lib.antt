@@ -1,0 +1,7 @@
+pub mod Shapes
+pub mod ShapeLayouts
+pub mod Growth
+pub mod Nodes
+pub mod Trees
+pub mod Walks
+pub mod Laws

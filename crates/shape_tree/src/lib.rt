@@ -1,0 +1,25 @@
+//! The tree of shapes: the hidden classes of plain objects, a shape for each field path.
+//!
+//! Model: the list of paths in the order in which they were made; shape `s` is path `s - 8`.
+//! Invariant: the list is that of a graph (`AreShapes` of `specs/Shapes.antt`): the nine empty
+//! paths first, none twice, with each its prefixes. What the table holds of each path and of each
+//! step is `IsTree` of `specs/Trees.antt`.
+#![tactic(auto)]
+
+mod changing;
+mod full;
+mod growing;
+mod laws;
+mod node;
+mod reading;
+mod route;
+mod transition;
+mod tree;
+mod walking;
+
+pub use full::ShapesFull;
+pub use object_graph::{PathField, Rep};
+pub use tree::ShapeTree;
+
+#[cfg(test)]
+mod tests;

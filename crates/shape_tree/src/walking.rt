@@ -1,0 +1,71 @@
+//! The ways through a tree of shapes: up to a prefix, and down along fields.
+ghost use Rattle.std.specs.Prelude.{◌≤◌, [], ◌∷◌, length, MatchOption};
+ghost use Rattle.object_graph.specs.Paths.{prefix_of};
+ghost use Rattle.shape_tree.specs.Shapes.{IsPathShape, IsShapeOf, shape_path};
+ghost use Rattle.shape_tree.specs.Growth.{extended, IsMissing};
+
+use crate::transition::Transition;
+use crate::tree::ShapeTree;
+use object_graph::PathField;
+
+/// How far fields lead from a shape before the next path is missing.
+#[derive(Drop)]
+pub(crate) struct Walk<'t> {
+    /// The shape of the longest path that is there.
+    pub(crate) shape: u32,
+    /// The fields that are left.
+    pub(crate) rest: &'t [PathField],
+}
+
+impl ShapeTree {
+    ghost use Rattle.shape_tree.specs.Walks.{WalksTo};
+
+    /// The shape of the path with this field more, if it is there.
+    pub(crate) fn next(&self, shape: u32, field: PathField) -> Option<u32>
+        requires { IsPathShape self.now shape }
+        ensures { let path = extended (shape_path self.now shape) (field ∷ []) in
+            MatchOption result (IsMissing self.now path) (IsShapeOf self.now path) }
+    {
+        let step = Transition {
+            parent: shape,
+            name: field.name,
+            rep: field.rep,
+        };
+        self.steps.get(&step).copied()
+    }
+
+    /// The shape of the first `count` fields of the path of a shape.
+    pub(crate) fn ancestor(&self, shape: u32, count: u32) -> u32
+        requires path { IsPathShape self.now shape }
+        requires within { count ≤ length (shape_path self.now shape).fields }
+        ensures { IsShapeOf self.now (prefix_of (shape_path self.now shape) count) result }
+    {
+        let mut above = shape;
+        let mut left = self.fields(shape);
+        while left > count {
+            above = self.node(above).parent;
+            left -= 1;
+        }
+        above
+    }
+
+    /// Goes from a shape along these fields as far as the paths are there. No path with a missing
+    /// prefix is there, so the walk ends at the first that is missing.
+    pub(crate) fn walk<'t>(&self, from: u32, tail: &'t [PathField]) -> Walk<'t>
+        requires { IsPathShape self.now from }
+        ensures { WalksTo self.now (extended (shape_path self.now from) tail.now) result }
+    {
+        // Opens the tree: the proof needs what holds of each.
+        let _ = &self.nodes;
+        let mut shape = from;
+        let mut rest = tail;
+        while let [field, later @ ..] = rest {
+            let Some(next) = self.next(shape, *field) else {
+                return Walk { shape, rest };
+            };
+            shape = next;
+            rest = later;
+        }
+        Walk { shape, rest }
+    }
+}

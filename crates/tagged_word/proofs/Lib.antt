@@ -1,0 +1,9 @@
+pub mod Masks
+pub mod Members
+pub mod Headers
+pub mod Layouts
+pub mod Offsets
+pub mod Cells
+pub mod Ascents
+pub mod Readings
+pub mod CellReadings

@@ -1,0 +1,287 @@
+//! Cells: how many words one of a layout has, and which of them are slots.
+ghost use Rattle.std.specs.Prelude.{◌≡◌, ◌≤◌, ◌+◌, ◌*◌, ◌<◌, ◌↔◌, ◌∷◌, IsTrue};
+ghost use Rattle.std.specs.List.{Contains, range_with_len};
+ghost use Rattle.tagged_word.specs.Layouts.{is_raw};
+ghost use Rattle.tagged_word.specs.Cells.{is_object_kind, is_free_kind, marks_by_length};
+ghost use Rattle.tagged_word.specs.Cells.{has_length, words_of, words_least, cell_size};
+ghost use Rattle.tagged_word.specs.Cells.{cell_words_most, store_slot, store_head};
+ghost use Rattle.tagged_word.specs.Cells.{in_object_offsets, tagged_offsets, scavenge_offsets};
+
+use crate::layout::{Kind, LayoutWord};
+
+// The most words of a cell, which are those of a page.
+const WORDS_MOST: u64 = 2048;
+
+// The words of a plain cell before its in-object slots.
+const PLAIN_HEAD: u32 = 2;
+
+// The words of a store or table before its slots.
+const STORE_HEAD: u32 = 2;
+
+// The slot for a store or table of the cells that have one beside them.
+const STORE_SLOT: u32 = 1;
+
+impl Kind {
+    /// Whether a cell of this kind is an object.
+    pub fn is_object(self) -> bool
+        ensures { result ≡ is_object_kind self }
+    {
+        match self {
+            Kind::Plain | Kind::List | Kind::Weak => true,
+            _ => false,
+        }
+    }
+
+    /// Whether the words of a cell of this kind are free.
+    pub fn is_free(self) -> bool
+        ensures { result ≡ is_free_kind self }
+    {
+        match self {
+            Kind::Filler | Kind::Gap => true,
+            _ => false,
+        }
+    }
+
+    /// Whether marking reads the length of a cell of this kind.
+    pub fn marks_by_length(self) -> bool
+        ensures { result ≡ marks_by_length self }
+    {
+        match self {
+            Kind::Store => true,
+            _ => false,
+        }
+    }
+
+    /// Whether the second word of a cell of this kind is its length.
+    pub fn has_length(self) -> bool
+        ensures { result ≡ has_length self }
+    {
+        match self {
+            Kind::Store | Kind::Table | Kind::Gap => true,
+            _ => false,
+        }
+    }
+
+    // How many words a cell of this kind has. A length of more words than a cell may have will do
+    // for any greater one.
+    fn words(self, cap: u32, length: u64) -> u64
+        requires { length ≤ cell_words_most + 1 }
+        ensures { result ≡ words_of self cap length }
+    {
+        match self {
+            Kind::Plain => PLAIN_HEAD as u64 + cap as u64,
+            Kind::List => 3,
+            Kind::Weak => 3,
+            Kind::Store => STORE_HEAD as u64 + length,
+            Kind::Table => STORE_HEAD as u64 + 2 * length,
+            Kind::Boxed => 2,
+            Kind::Filler => 1,
+            Kind::Gap => length,
+        }
+    }
+
+    // The fewest words of a cell of this kind.
+    fn words_least(self) -> u64
+        ensures { result ≡ words_least self }
+    {
+        match self {
+            Kind::Gap => 2,
+            _ => 1,
+        }
+    }
+}
+
+impl LayoutWord {
+    /// The size of a cell in words, by its length; none where a cell of it would pass a page, and
+    /// for a gap of fewer than 2 words. A kind that has no length leaves it aside.
+    pub fn size(self, length: u64) -> Option<u32>
+        ensures { result ≡ cell_size self length }
+    {
+        let words = self.kind.words(self.cap, length.min(WORDS_MOST + 1));
+        if words >= self.kind.words_least() && words <= WORDS_MOST {
+            Some(words as u32)
+        } else {
+            None
+        }
+    }
+
+    /// Whether marking visits the slot at an offset.
+    pub fn is_tagged(self, length: u64, offset: u32) -> bool
+        ensures { IsTrue result ↔ Contains (tagged_offsets self length) offset }
+    {
+        match self.kind {
+            Kind::Plain => self.is_plain_tagged(offset),
+            Kind::List => offset == STORE_SLOT,
+            Kind::Weak => offset == STORE_SLOT,
+            Kind::Store => is_slot_of(length, offset),
+            // A value that a pair holds lives only while its key does: marking asks for each pair.
+            Kind::Table => false,
+            _ => false,
+        }
+    }
+
+    /// Whether a scavenge visits the slot at an offset.
+    pub fn is_scavenge_slot(self, length: u64, offset: u32) -> bool
+        ensures { IsTrue result ↔ Contains (scavenge_offsets self length) offset }
+    {
+        match self.kind {
+            Kind::Table => is_of_pairs(length, offset),
+            _ => self.is_tagged(length, offset),
+        }
+    }
+
+    // Whether marking visits the slot at an offset of a plain cell.
+    fn is_plain_tagged(self, offset: u32) -> bool
+        ensures { IsTrue result ↔ Contains (store_slot ∷ in_object_offsets self) offset }
+    {
+        if offset == STORE_SLOT {
+            return true;
+        }
+        self.is_in_object_tagged(offset)
+    }
+
+    // Whether an in-object slot that is used and not raw stands at an offset.
+    fn is_in_object_tagged(self, offset: u32) -> bool
+        ensures { IsTrue result ↔ Contains (in_object_offsets self) offset }
+    {
+        if offset < PLAIN_HEAD {
+            return false;
+        }
+        let slot = offset - PLAIN_HEAD;
+        if slot >= self.used {
+            return false;
+        }
+        !self.is_raw(slot)
+    }
+
+    // Whether an in-object slot is raw.
+    #[tactic(auto, using(crate::proofs::Masks::no_bit_above))]
+    fn is_raw(self, slot: u32) -> bool
+        ensures { result ≡ is_raw self slot }
+    {
+        slot < 32 && (self.raw >> slot) % 2 == 1
+    }
+}
+
+// Whether one of so many slots of a store stands at an offset.
+fn is_slot_of(slots: u64, offset: u32) -> bool
+    ensures { IsTrue result ↔ Contains (range_with_len store_head slots) offset }
+{
+    if offset < STORE_HEAD {
+        return false;
+    }
+    ((offset - STORE_HEAD) as u64) < slots
+}
+
+// Whether a half of one of so many pairs of a table stands at an offset.
+fn is_of_pairs(pairs: u64, offset: u32) -> bool
+    ensures { IsTrue result ↔ Contains (range_with_len store_head (2 * pairs)) offset }
+{
+    if offset < STORE_HEAD {
+        return false;
+    }
+    ((offset - STORE_HEAD) as u64) / 2 < pairs
+}
+
+#[cfg(test)]
+mod tests {
+    use super::*;
+
+    #[test]
+    fn a_kind_says_what_its_cells_are(rt: HostRuntime) {
+        // Kind, an object, free, has a length, marked by it.
+        let columns = [
+            (Kind::Plain, true, false, false, false),
+            (Kind::List, true, false, false, false),
+            (Kind::Weak, true, false, false, false),
+            (Kind::Store, false, false, true, true),
+            (Kind::Table, false, false, true, false),
+            (Kind::Boxed, false, false, false, false),
+            (Kind::Filler, false, true, false, false),
+            (Kind::Gap, false, true, true, false),
+        ];
+        for (kind, object, free, length, marked) in columns {
+            assert_eq!(rt; kind.is_object(), object, "{kind:?}");
+            assert_eq!(rt; kind.is_free(), free, "{kind:?}");
+            assert_eq!(rt; kind.has_length(), length, "{kind:?}");
+            assert_eq!(rt; kind.marks_by_length(), marked, "{kind:?}");
+        }
+    }
+
+    fn bare_size(kind: Kind, length: u64) -> Option<u32> {
+        LayoutWord::bare(kind).size(length)
+    }
+
+    #[test]
+    fn a_cell_has_the_words_of_its_kind(rt: HostRuntime) {
+        let plain = LayoutWord {
+            kind: Kind::Plain,
+            cap: 8,
+            used: 0,
+            raw: 0,
+        };
+        assert_eq!(rt; plain.size(0), Some(10));
+        assert_eq!(rt; bare_size(Kind::List, 0), Some(3));
+        assert_eq!(rt; bare_size(Kind::Weak, 0), Some(3));
+        assert_eq!(rt; bare_size(Kind::Store, 2046), Some(2048));
+        assert_eq!(rt; bare_size(Kind::Table, 1023), Some(2048));
+        assert_eq!(rt; bare_size(Kind::Boxed, 0), Some(2));
+        assert_eq!(rt; bare_size(Kind::Filler, 0), Some(1));
+        assert_eq!(rt; bare_size(Kind::Gap, 2), Some(2));
+        assert_eq!(rt; bare_size(Kind::Gap, 2048), Some(2048));
+    }
+
+    #[test]
+    fn no_cell_passes_a_page_and_no_gap_is_of_one_word(rt: HostRuntime) {
+        assert_eq!(rt; bare_size(Kind::Store, 2047), None);
+        assert_eq!(rt; bare_size(Kind::Table, 1024), None);
+        assert_eq!(rt; bare_size(Kind::Gap, 2049), None);
+        assert_eq!(rt; bare_size(Kind::Gap, 0), None);
+        assert_eq!(rt; bare_size(Kind::Gap, 1), None);
+        assert_eq!(rt; bare_size(Kind::Store, u64::MAX), None);
+        assert_eq!(rt; bare_size(Kind::Table, u64::MAX), None);
+        assert_eq!(rt; bare_size(Kind::Gap, u64::MAX), None);
+    }
+
+    #[test]
+    fn marking_visits_the_slots_that_are_used_and_not_raw(rt: HostRuntime) {
+        let plain = LayoutWord {
+            kind: Kind::Plain,
+            cap: 2,
+            used: 2,
+            raw: 0b10,
+        };
+        let tells = [false, true, true, false, false];
+        for (offset, tagged) in tells.iter().enumerate() {
+            assert_eq!(rt;
+                plain.is_tagged(0, offset as u32),
+                *tagged,
+                "offset {offset}"
+            );
+        }
+        let store = LayoutWord::bare(Kind::Store);
+        let tells = [false, false, true, true, true, false];
+        for (offset, tagged) in tells.iter().enumerate() {
+            assert_eq!(rt;
+                store.is_tagged(3, offset as u32),
+                *tagged,
+                "offset {offset}"
+            );
+        }
+    }
+
+    #[test]
+    fn a_scavenge_alone_visits_the_pairs_of_a_table(rt: HostRuntime) {
+        let table = LayoutWord::bare(Kind::Table);
+        let tells = [false, false, true, true, true, true, false];
+        for (offset, visited) in tells.iter().enumerate() {
+            assert_eq!(rt;
+                table.is_scavenge_slot(2, offset as u32),
+                *visited,
+                "offset {offset}"
+            );
+            assert_eq!(rt; table.is_tagged(2, offset as u32), false, "offset {offset}");
+        }
+        assert_eq!(rt; table.is_scavenge_slot(u64::MAX, u32::MAX), true);
+    }
+}
