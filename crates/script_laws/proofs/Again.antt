@@ -1,5 +1,7 @@
 -- Phrases that were read, one line each in canonical form, are read again, with the numbers of their new lines.
-use Rattle.std.proofs.Common.{◌≡◌, ℕ, suc, ◌-◌, Bool, true, false, cond, nat_lt, ◌||◌, List, [], ◌∷◌, ◌++◌, length, map, fold, Option, Some, None, Result, Ok, Err, refl, sym, ap, ◌∙◌, subst, arith}
+use Rattle.std.proofs.Common.{◌≡◌, ℕ, suc, ◌-◌, Bool, true, false, cond, nat_lt, ◌||◌, List, []}
+use Rattle.std.proofs.Common.{◌∷◌, ◌++◌, length, map, fold, Option, Some, None, Result, Ok, Err, refl, sym}
+use Rattle.std.proofs.Common.{ap, ◌∙◌, subst, arith}
 use Rattle.std.specs.List.{flat_map}
 use Rattle.std.proofs.lemmas.Bool.Decides.{nat_tests}
 use Rattle.script_text.specs.declared.script.Why.{Why}
@@ -12,7 +14,8 @@ use Rattle.script_text.specs.Limits.{open_most, variables_most, fields_most}
 use Rattle.script_text.specs.Phrases.{Phrase, phrase_of_line}
 use Rattle.script_text.specs.Names.{with_name, variables_of, fields_of, first_uses}
 use Rattle.script_text.specs.Scripts.{ScriptText, Spoken, what_in, end_after}
-use Rattle.script_text.specs.Grammar.{nest, nested, followed, spoken_then, spoken_from, past_limit, lines_from, open_after, innermost_of, script_of}
+use Rattle.script_text.specs.Grammar.{nest, nested, followed, spoken_then, spoken_from, past_limit, lines_from}
+use Rattle.script_text.specs.Grammar.{open_after, innermost_of, script_of}
 use Rattle.script_laws.specs.Canonical.{phrase_text}
 use Rattle.script_text.proofs.Speaking.{AreSpoken, MayStand, deeper}
 use Rattle.script_laws.proofs.Spacing.{Avoids, AllAvoid, is_feed}

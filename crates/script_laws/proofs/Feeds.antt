@@ -1,5 +1,6 @@
 -- Lines that each end with a line feed are the lines of their text.
-use Rattle.std.proofs.Common.{◌≡◌, ℕ, Bool, true, false, cond, List, [], ◌∷◌, ◌++◌, refl, ap, ◌∙◌, append_assoc}
+use Rattle.std.proofs.Common.{◌≡◌, ℕ, Bool, true, false, cond, List, [], ◌∷◌, ◌++◌, refl, ap}
+use Rattle.std.proofs.Common.{◌∙◌, append_assoc}
 use Rattle.script_text.specs.Lines.{onto_first, lines_of}
 use Rattle.script_laws.specs.Canonical.{ended}
 use Rattle.script_laws.proofs.Spacing.{Avoids, AllAvoid, AllAvoid-onto_first, is_feed}

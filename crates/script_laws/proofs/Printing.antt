@@ -1,5 +1,6 @@
 -- A script in canonical form has the lines of its phrases, and these are read again.
-use Rattle.std.proofs.Common.{◌≡◌, ℕ, suc, List, [], ◌∷◌, map, slice_get, unwrap_or, Option, Some, None, Result, Ok, Err, refl, ap, ◌∙◌, subst, arith}
+use Rattle.std.proofs.Common.{◌≡◌, ℕ, suc, List, [], ◌∷◌, map, slice_get, unwrap_or, Option, Some, None}
+use Rattle.std.proofs.Common.{Result, Ok, Err, refl, ap, ◌∙◌, subst, arith}
 use Rattle.std.specs.List.{flat_map}
 use Rattle.script_text.specs.declared.script.BadScript.{BadScript}
 use Rattle.script_text.specs.declared.table.Keyword.{Keyword}
@@ -9,8 +10,10 @@ use Rattle.script_text.specs.Table.{keyword_text, places_of}
 use Rattle.script_text.specs.Phrases.{Phrase, Written, variable, field, bound}
 use Rattle.script_text.specs.Names.{number_of, variable_in, field_in, variables_of, fields_of, first_uses}
 use Rattle.script_text.specs.Scripts.{ScriptText, Spoken, argument_of, argument_at, what_in, end_after}
-use Rattle.script_text.specs.Grammar.{spoken_from, past_limit, lines_from, open_after, innermost_of, script_of, within_limit, script_or_stop, reading_with}
-use Rattle.script_laws.specs.Canonical.{spaced, ended, written_token, phrase_text, token_of, arguments_in, what_text, printed, ReadsAs, PrintedIsReadAgain}
+use Rattle.script_text.specs.Grammar.{spoken_from, past_limit, lines_from, open_after, innermost_of, script_of}
+use Rattle.script_text.specs.Grammar.{within_limit, script_or_stop, reading_with}
+use Rattle.script_laws.specs.Canonical.{spaced, ended, written_token, phrase_text, token_of, arguments_in, what_text}
+use Rattle.script_laws.specs.Canonical.{printed, ReadsAs, PrintedIsReadAgain}
 use Rattle.script_text.proofs.Fits.{AllFit}
 use Rattle.script_text.proofs.Speaking.{AreSpoken, deeper, spoken_from-AreSpoken}
 use Rattle.script_text.proofs.Numbers.{Contains-first_uses}
@@ -18,7 +21,8 @@ use Rattle.script_laws.proofs.Naming.{slice_get-number_of}
 use Rattle.script_text.proofs.Within.{AreIn, AreIn-left, AreIn-right, keyword_of-what_of}
 use Rattle.script_laws.proofs.Standing.{AllStand-arguments, arguments_in-what}
 use Rattle.script_laws.proofs.Feeds.{lines_of-ended, feed-lines_of}
-use Rattle.script_laws.proofs.Again.{AreReadAgain, phrase_lines, renumbered, spoken_from-AreReadAgain, feed-phrase_lines, spoken_from-again, past_limit-renumbered, script_of-renumbered}
+use Rattle.script_laws.proofs.Again.{AreReadAgain, phrase_lines, renumbered, spoken_from-AreReadAgain}
+use Rattle.script_laws.proofs.Again.{feed-phrase_lines, spoken_from-again, past_limit-renumbered, script_of-renumbered}
 
 -- a name comes back by its number
 name_back : (names : List (List ℕ)) (token : List ℕ) → AreIn names (token ∷ [])

@@ -1,5 +1,7 @@
 -- No line is refused because a `repeat` is open.
-use Rattle.std.proofs.Common.{◌≡◌, ◌≢◌, ℕ, Bool, true, false, cond, eqb, nat_le, nat_lt, List, [], ◌∷◌, length, Option, Some, None, Result, Ok, Err, pos, negsuc, ℤ, ap, bytes_eq, codes}
+use Rattle.std.proofs.Common.{◌≡◌, ◌≢◌, ℕ, Bool, true, false, cond, eqb, nat_le, nat_lt, List, []}
+use Rattle.std.proofs.Common.{◌∷◌, length, Option, Some, None, Result, Ok, Err, pos, negsuc, ℤ, ap, bytes_eq}
+use Rattle.std.proofs.Common.{codes}
 use Rattle.std.specs.List.{list_any}
 use Rattle.script_text.specs.declared.table.Keyword.{Keyword}
 use Rattle.script_text.specs.declared.table.Keyword.TheVariants as keyword
@@ -11,7 +13,9 @@ use Rattle.script_text.specs.Limits.{line_bytes_most, open_most}
 use Rattle.script_text.specs.Lines.{tokens_of}
 use Rattle.script_text.specs.Table.{places_of, same_keyword, keyword_among, keywords}
 use Rattle.script_text.specs.Tokens.{is_name, integer_of}
-use Rattle.script_text.specs.Phrases.{Written, variable, field, literal, undefined, bound, integer_or_bound, literal_up_to, written_at, written_all, joined, phrase_with, with_operands, if_built, phrase_of}
+use Rattle.script_text.specs.Phrases.{Written, variable, field, literal, undefined, bound, integer_or_bound}
+use Rattle.script_text.specs.Phrases.{literal_up_to, written_at, written_all, joined, phrase_with, with_operands}
+use Rattle.script_text.specs.Phrases.{if_built, phrase_of}
 use Rattle.script_text.specs.Grammar.{nest}
 use Rattle.script_laws.specs.Refusals.{IsRefused, unread, misplaced}
 

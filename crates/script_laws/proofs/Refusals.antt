@@ -1,5 +1,6 @@
 -- Which line of a source is refused.
-use Rattle.std.proofs.Common.{◌≡◌, ◌⊎◌, inl, inr, ℕ, suc, List, [], ◌∷◌, Option, Some, None, Result, Ok, Err, refl, sym, ap, ◌∙◌, subst, arith}
+use Rattle.std.proofs.Common.{◌≡◌, ◌⊎◌, inl, inr, ℕ, suc, List, [], ◌∷◌, Option, Some, None, Result}
+use Rattle.std.proofs.Common.{Ok, Err, refl, sym, ap, ◌∙◌, subst, arith}
 use Rattle.script_text.specs.declared.table.Keyword.{Keyword}
 use Rattle.script_text.specs.declared.script.Why.{Why}
 use Rattle.script_text.specs.declared.script.Why.TheVariants as why
@@ -8,8 +9,10 @@ use Rattle.script_text.specs.declared.script.BadScript.TheVariants.{BadLine}
 use Rattle.script_text.specs.Lines.{lines_of}
 use Rattle.script_text.specs.Phrases.{Phrase, phrase_of_line}
 use Rattle.script_text.specs.Scripts.{Spoken}
-use Rattle.script_text.specs.Grammar.{nest, nested, followed, spoken_then, spoken_from, past_limit, within_limit, script_or_stop, reading_with}
-use Rattle.script_laws.specs.Refusals.{Pass, none, empty, spoken, IsRefused, unread, misplaced, IsFirstRefused, RefusesFirst, RefusesOpen}
+use Rattle.script_text.specs.Grammar.{nest, nested, followed, spoken_then, spoken_from, past_limit, within_limit}
+use Rattle.script_text.specs.Grammar.{script_or_stop, reading_with}
+use Rattle.script_laws.specs.Refusals.{Pass, none, empty, spoken, IsRefused, unread, misplaced, IsFirstRefused}
+use Rattle.script_laws.specs.Refusals.{RefusesFirst, RefusesOpen}
 use Rattle.script_laws.proofs.Reasons.{refused-open}
 
 -- at the end these lines have passed, and a `repeat` is open

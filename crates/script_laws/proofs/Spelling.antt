@@ -1,5 +1,7 @@
 -- The words of a phrase are the tokens that it was read from.
-use Rattle.std.proofs.Common.{◌≡◌, inl, inr, ℕ, ◌≤◌, Bool, true, false, cond, eqb, nat_le, nat_lt, List, [], ◌∷◌, length, map, ℤ, pos, negsuc, Option, Some, None, Result, Ok, Err, codes, refl, sym, ap, ◌∙◌, subst, arith}
+use Rattle.std.proofs.Common.{◌≡◌, inl, inr, ℕ, ◌≤◌, Bool, true, false, cond, eqb, nat_le, nat_lt, List}
+use Rattle.std.proofs.Common.{[], ◌∷◌, length, map, ℤ, pos, negsuc, Option, Some, None, Result, Ok, Err, codes}
+use Rattle.std.proofs.Common.{refl, sym, ap, ◌∙◌, subst, arith}
 use Rattle.std.specs.List.{list_any}
 use Rattle.std.proofs.lemmas.Bool.Decides.{nat_tests}
 use Rattle.script_text.specs.declared.script.Why.{Why}
@@ -11,7 +13,9 @@ use Rattle.script_text.specs.Limits.{line_bytes_most}
 use Rattle.script_text.specs.Tokens.{is_name, integer_of}
 use Rattle.script_text.specs.Lines.{tokens_of}
 use Rattle.script_text.specs.Table.{keyword_text, keywords, keyword_among, same_keyword, places_of}
-use Rattle.script_text.specs.Phrases.{Phrase, Written, variable, field, literal, integer, undefined, bound, literal_up_to, integer_or_bound, written_at, written_all, joined, phrase_with, with_operands, if_built, phrase_of, phrase_of_line}
+use Rattle.script_text.specs.Phrases.{Phrase, Written, variable, field, literal, integer, undefined, bound}
+use Rattle.script_text.specs.Phrases.{literal_up_to, integer_or_bound, written_at, written_all, joined, phrase_with}
+use Rattle.script_text.specs.Phrases.{with_operands, if_built, phrase_of, phrase_of_line}
 use Rattle.script_laws.specs.Canonical.{written_token, spaced, phrase_text, PhrasesAreReadAgain}
 use Rattle.script_text.proofs.Numbers.{bytes_tell}
 use Rattle.script_laws.proofs.Integers.{integers_are_written}

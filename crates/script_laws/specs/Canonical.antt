@@ -1,5 +1,6 @@
 -- A script in canonical form: each command on a line of its own, its words one space apart.
-use Rattle.std.specs.Prelude.{◌≡◌, ℕ, List, [], ◌∷◌, ◌++◌, map, flat_map, Some, Ok, pos, unwrap_or, slice_get, codes}
+use Rattle.std.specs.Prelude.{◌≡◌, ℕ, List, [], ◌∷◌, ◌++◌, map, flat_map, Some, Ok, pos, unwrap_or}
+use Rattle.std.specs.Prelude.{slice_get, codes}
 use Rattle.std.specs.Fmt.{signed_decimal}
 use Rattle.heap_command.specs.declared.command.Operand.TheVariants.{Int, Undefined, Var}
 use Rattle.heap_command.specs.declared.command.Command.TheVariants as command

@@ -1,0 +1,2 @@
+pub mod RootWords
+pub mod RootsHeld

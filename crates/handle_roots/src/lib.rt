@@ -1,0 +1,16 @@
+//! Handle roots: the variables of a script, two words each, as references from outside the heap.
+//!
+//! Model: none of its own. `Holds` of `specs/Roots.antt` says what the root words of a variable
+//! stand for.
+//! Invariant: none. Both calls work on any words that a crate above has.
+#![tactic(auto)]
+
+mod held;
+mod laws;
+mod roots;
+#[cfg(test)]
+mod tests;
+
+pub use held::Held;
+pub use laws::laws_of_roots;
+pub use roots::{held_by, hold};

@@ -1,0 +1,114 @@
+//! What the variables hold, read off their root words and written to them.
+ghost use Rattle.std.specs.Prelude.{◌≡◌, ◌+◌, ◌<◌, ◌≤◌, length};
+ghost use Rattle.page_space.specs.Extents.{layouts_start};
+ghost use Rattle.handle_roots.specs.declared.held.Held.{Held};
+ghost use Rattle.handle_roots.specs.Roots.{root_at, FitsHeld, first_of, second_of, first_word};
+ghost use Rattle.handle_roots.specs.Roots.{second_word, Holds, IsRoot, with_root};
+ghost use Rattle.tagged_word.specs.Words.{small};
+ghost use Rattle.handle_roots.specs.Telling.{told, told_by};
+
+use crate::held::Held;
+use page_space::Regions;
+use tagged_word::{Class, Word, is_small, odd};
+use word_store::{Reads, Words};
+
+/// What a variable holds. Only an integer that is not small makes it load the second root word.
+pub fn held_by<W: Reads>(words: &mut W, regions: &Regions, variable: u32) -> Held
+    requires known { variable < regions.now.variables }
+    requires steady { W.IsSteady words.old }
+    requires root { IsRoot regions.now (W.words words.old) variable }
+    ensures holds { Holds regions.now (W.words words.old) variable result }
+    ensures kept { W.words words.new ≡ W.words words.old }
+    ensures rest { W.Rest words.old words.new }
+{
+    match held_by_first(words.load(regions.root_at(variable))) {
+        Some(held) => held,
+        None => Held::Int(words.load(second_at(regions, variable)).cast_signed()),
+    }
+}
+
+/// Makes a variable hold a value: both of its root words are put.
+pub fn hold<W: Words>(words: &mut W, regions: &Regions, variable: u32, value: Held)
+    requires known { variable < regions.now.variables }
+    requires steady { W.IsSteady words.old }
+    requires within { layouts_start regions.now ≤ length (W.words words.old) }
+    ensures put { W.words words.new ≡ with_root regions.now (W.words words.old) variable value }
+    ensures holds { Holds regions.now (W.words words.new) variable value }
+    ensures rest { W.Rest words.old words.new }
+{
+    words.put(regions.root_at(variable), first(value));
+    words.put(second_at(regions, variable), second(value));
+}
+
+// The address of the second root word of a variable.
+fn second_at(regions: &Regions, variable: u32) -> u32
+    requires { variable < regions.now.variables }
+    ensures at { result ≡ root_at regions.now variable + 1 }
+    ensures within { result < layouts_start regions.now }
+{
+    // No address of a heap is past 32 bits.
+    let _words_count = regions.count();
+    regions.root_at(variable) + 1
+}
+
+// What a first root word tells by itself; none where the integer is in the second.
+fn held_by_first(word: u64) -> Option<Held>
+    ensures { (held : Held) → FitsHeld held → word ≡ first_word held → result ≡ told held }
+{
+    match Word(word).class() {
+        Some(class) => held_by_class(class),
+        None => None,
+    }
+}
+
+// What the class of a first root word tells.
+fn held_by_class(class: Class) -> Option<Held>
+    ensures { result ≡ told_by class }
+{
+    match class {
+        Class::Small(v) => Some(Held::Int(v as i64)),
+        Class::Ref(at) => Some(Held::Ref(at)),
+        Class::Odd(odd::UNDEFINED) => Some(Held::Undefined),
+        Class::Odd(odd::UNBOUND) => Some(Held::Unbound),
+        Class::Odd(_) => None,
+    }
+}
+
+// The first root word of a value.
+fn first(value: Held) -> u64
+    ensures { result ≡ first_word value }
+{
+    match value {
+        Held::Unbound => Word::odd(odd::UNBOUND).0,
+        Held::Undefined => Word::odd(odd::UNDEFINED).0,
+        Held::Int(v) => first_of_integer(v),
+        Held::Ref(at) => Word::reference(at).0,
+    }
+}
+
+// The first root word of an integer.
+fn first_of_integer(v: i64) -> u64
+    ensures { result ≡ first_of (small v) v }
+{
+    match Word::small(v) {
+        Some(word) => word.0,
+        None => Word::odd(odd::WIDE).0,
+    }
+}
+
+// The second root word of a value.
+fn second(value: Held) -> u64
+    ensures { result ≡ second_word value }
+{
+    match value {
+        Held::Int(v) => second_of_integer(v),
+        _ => 0,
+    }
+}
+
+// The second root word of an integer.
+fn second_of_integer(v: i64) -> u64
+    ensures { result ≡ second_of (small v) v }
+{
+    if is_small(v) { 0 } else { v.cast_unsigned() }
+}

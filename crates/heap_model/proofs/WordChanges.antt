@@ -1,0 +1,64 @@
+-- Where only patches and newly used words change, cells stand in rows again, and all but those of the patches are as before.
+use Rattle.std.proofs.Common.{◌≢◌, ℕ, ◌+◌, inl, inr, List, ◌++◌, Contains}
+use Rattle.std.proofs.Common.{sym, subst}
+use Rattle.std.proofs.lemmas.List.Elements.{Contains-append_cases}
+use Rattle.page_space.specs.Extents.{eden_start}
+use Rattle.cell_layout.specs.declared.cell.Cell.{Cell}
+use Rattle.heap_model.specs.Heaps.{Heap, HasCell, words_of_cell}
+use Rattle.heap_model.specs.Changes.{Patch, IsNewlyUsed, CellsChange}
+use Rattle.heap_model.specs.Laws.{ChangesKeepCells, gone_with, come_with}
+use Rattle.heap_model.proofs.CellsApart.{first_of_cell}
+use Rattle.heap_model.proofs.RowCovers.{from_one}
+use Rattle.heap_model.proofs.Patches.{Patching, patch_is, before_has, not_new, spot}
+use Rattle.heap_model.proofs.NewRows.{has_rows, made_stands}
+use Rattle.heap_model.proofs.NewCells.{came_cell, first_of_row, made_is_new}
+use Rattle.heap_model.proofs.KeptCells.{made_cell, kept_cell, not_gone_is_free, cell_back}
+
+-- what went stood in the old heap
+went_stood : {old new : Heap} {patches : List Patch} {made : List Cell} (cell : Cell) → Patching old new patches made
+    → Contains (gone_with patches) cell → HasCell old cell (words_of_cell old cell)
+went_stood {patches = patches} cell patching gone =
+    let one = from_one (λ (patch : Patch). patch.before) patches cell gone in
+    before_has (patch_is patching one.among) one.has
+
+-- what came or was made stands in the new one
+comes_stands : {old new : Heap} {patches : List Patch} {made : List Cell} (cell : Cell) → Patching old new patches made
+    → Contains (come_with patches ++ made) cell → HasCell new cell (words_of_cell new cell)
+comes_stands {patches = patches} {made} cell patching there =
+    elim (Contains-append_cases (come_with patches) made cell there) [
+      | inl came ↦
+          let one = from_one (λ (patch : Patch). patch.after) patches cell came in
+          came_cell patching one.among one.has
+      | inr is_made ↦ made_cell patching is_made
+    ]
+
+-- no cell began where one was made
+new_place : {old new : Heap} {patches : List Patch} {made : List Cell} (cell other : Cell) (words : List ℕ)
+    → Patching old new patches made → Contains made cell → HasCell old other words → other.at ≢ cell.at
+new_place {old} {new} {made = made} cell other words patching there has same =
+    let from : ℕ = eden_start old.space + old.used in
+    let to : ℕ = eden_start old.space + new.used in
+    let of_cell = first_of_row old.space new.words from to made cell (made_stands patching) there in
+    not_new patching has (first_of_cell has)
+    (subst (IsNewlyUsed old new) (sym same) (made_is_new patching there of_cell))
+
+-- the cells change by those of the patches
+cells_change : {old new : Heap} {patches : List Patch} {made : List Cell} → Patching old new patches made
+    → CellsChange old new (gone_with patches) (come_with patches) made
+cells_change {patches = patches} patching = record {
+  same_space = patching.change.same_space;
+  more = patching.change.more;
+  paths = patching.change.paths;
+  went = λ cell there. went_stood cell patching there;
+  comes = λ cell there. comes_stands cell patching there;
+  kept = λ cell words has stays. kept_cell patching has (not_gone_is_free patching has stays (spot patches cell.at));
+  back = λ cell words has. cell_back patching has;
+  new_places = λ cell other words there has. new_place cell other words patching there has;
+  roots_stay = patching.change.roots_stay;
+}
+
+-- changes of patches and of newly used words keep cells
+pub changes_keep_cells : ChangesKeepCells
+changes_keep_cells old new patches made whole change =
+    let patching : Patching old new patches made = record { sized = whole.sized; rows = whole.rows; change = change } in
+    (has_rows patching, cells_change patching)

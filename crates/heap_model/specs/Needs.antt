@@ -1,0 +1,142 @@
+-- How many words a command allocates on a heap, in one run: its cell, or a store and then a box.
+use Rattle.std.specs.Prelude.{ℕ, suc, ◌+◌, ◌-◌, ◌*◌, max, Bool, true, false, not, ◌&&◌, ◌==◌, List, []}
+use Rattle.std.specs.Prelude.{◌∷◌, length, Option, Some, None, option_map, slice_get, unwrap_or, nat_lt}
+use Rattle.std.specs.Prelude.{if◌then◌else◌}
+use Rattle.tagged_word.specs.declared.word.Class.TheVariants.{Odd}
+use Rattle.tagged_word.specs.Words.{small, bits_of}
+use Rattle.tagged_word.specs.Odds.{wide_code}
+use Rattle.tagged_word.specs.Shapes.{box_shape}
+use Rattle.tagged_word.specs.Cells.{plain_head, store_head, store_slot, length_offset}
+use Rattle.tagged_word.specs.Readings.{reference_in, header_at}
+use Rattle.heap_command.specs.declared.command.Command.{Command}
+use Rattle.heap_command.specs.declared.command.Command.TheVariants as command
+use Rattle.heap_command.specs.declared.command.Operand.{Operand}
+use Rattle.heap_command.specs.declared.command.Operand.TheVariants as operand
+use Rattle.object_graph.specs.declared.path.Path.{Path}
+use Rattle.object_graph.specs.declared.path.PathField.{PathField}
+use Rattle.object_graph.specs.declared.value.Rep.{Rep}
+use Rattle.object_graph.specs.declared.value.Rep.TheVariants.{Small, Wide, Tagged}
+use Rattle.shape_tree.specs.Shapes.{shape_path}
+use Rattle.handle_roots.specs.Roots.{root_at}
+use Rattle.heap_model.specs.Heaps.{Heap}
+
+-- the words of a box: its header, and a raw integer
+abbrev pub box_words : ℕ
+box_words = 2
+
+-- the capacity of the first property store of an object
+abbrev pub first_capacity : ℕ
+first_capacity = 4
+
+-- the capacity of the store that takes the place of one that is full: twice as many slots
+abbrev pub grown : ℕ → ℕ
+grown capacity = max first_capacity (2 * capacity)
+
+-- the word at an address; 0 where there is none
+abbrev pub word_at : Heap → ℕ → ℕ
+word_at heap at = unwrap_or (slice_get heap.words at) 0
+
+-- the shape at an address; 0 where there is no header
+abbrev pub shape_at : Heap → ℕ → ℕ
+shape_at heap at = unwrap_or (option_map (λ header. header.shape) (header_at heap.words at)) 0
+
+-- the path of the object at an address
+abbrev pub path_at : Heap → ℕ → Path
+path_at heap at = shape_path heap.paths (shape_at heap at)
+
+-- how many slots the property store to which the word refers has; none where it refers to nothing
+abbrev pub capacity_by : Heap → Option ℕ → ℕ
+capacity_by heap None = 0
+capacity_by heap (Some store) = word_at heap (store + length_offset)
+
+abbrev pub capacity_at : Heap → ℕ → ℕ
+capacity_at heap at = capacity_by heap (reference_in (word_at heap (at + store_slot)))
+
+-- the word of a slot of the property store to which the word refers
+abbrev pub beside_by : Heap → Option ℕ → ℕ → ℕ
+beside_by heap None slot = 0
+beside_by heap (Some store) slot = word_at heap (store + store_head + slot)
+
+-- the word of field `field` of the object at an address: an in-object slot below its cap, and else in the property store
+abbrev pub field_word : Heap → ℕ → ℕ → ℕ → ℕ
+field_word heap at cap field =
+    if nat_lt field cap then word_at heap (at + plain_head + field)
+    else beside_by heap (reference_in (word_at heap (at + store_slot))) (field - cap)
+
+-- whether the word refers to a box
+abbrev pub is_box_at : Heap → Option ℕ → Bool
+is_box_at heap None = false
+is_box_at heap (Some at) = shape_at heap at == box_shape
+
+abbrev pub is_box_word : Heap → ℕ → Bool
+is_box_word heap word = is_box_at heap (reference_in word)
+
+-- whether an operand stands for an integer that is not small
+abbrev pub is_wide_operand : Heap → Operand → Bool
+is_wide_operand heap (operand.Int v) = not (small v)
+is_wide_operand heap operand.Undefined = false
+is_wide_operand heap (operand.Var x) = word_at heap (root_at heap.space x) == bits_of (Odd wide_code)
+
+-- a box, where the value needs one
+abbrev pub box_need : Bool → ℕ
+box_need true = box_words
+box_need false = 0
+
+-- which of the fields has the name
+abbrev pub index_of : List PathField → ℕ → Option ℕ
+index_of [] name = None
+index_of (field ∷ fields) name = if field.name == name then Some 0 else option_map suc (index_of fields name)
+
+-- whether a field of this representation is tagged
+abbrev pub is_tagged_rep : Rep → Bool
+is_tagged_rep Small = false
+is_tagged_rep Wide = false
+is_tagged_rep Tagged = true
+
+-- a new store, where that of so many slots has no room for one field more beside those in it
+abbrev pub store_need : ℕ → ℕ → ℕ
+store_need capacity used = if nat_lt used capacity then 0 else store_head + grown capacity
+
+-- A field that is new: none in the object itself, and in the property store a store where that is full or absent, and a
+-- box where the value is wide.
+abbrev pub new_field_need : Heap → ℕ → Path → Bool → ℕ
+new_field_need heap at path wide =
+    if nat_lt (length path.fields) path.cap then 0
+    else store_need (capacity_at heap at) (length path.fields - path.cap) + box_need wide
+
+-- whether an in-object slot of this representation is raw once it holds a wide integer
+abbrev pub is_raw_after : Path → ℕ → Option PathField → Bool
+is_raw_after path field None = false
+is_raw_after path field (Some known) = nat_lt field path.cap && not (is_tagged_rep known.rep)
+
+-- A field that is there: a box where the value is wide, the slot is not raw afterwards, and it holds no box.
+abbrev pub field_need : Heap → ℕ → Path → ℕ → Bool → ℕ
+field_need heap at path field wide =
+    box_need
+    (wide && not (is_raw_after path field (slice_get path.fields field))
+    && not (is_box_word heap (field_word heap at path.cap field)))
+
+abbrev pub set_need_by : Heap → ℕ → Path → Option ℕ → Bool → ℕ
+set_need_by heap at path None wide = new_field_need heap at path wide
+set_need_by heap at path (Some field) wide = field_need heap at path field wide
+
+-- `set` of a field of the object at an address
+abbrev pub set_need_at : Heap → ℕ → ℕ → Bool → ℕ
+set_need_at heap at name wide =
+    set_need_by heap at (path_at heap at) (index_of (path_at heap at).fields name) wide
+
+-- `set` of a field of what a root refers to
+abbrev pub set_need : Heap → Option ℕ → ℕ → Bool → ℕ
+set_need heap None name wide = 0
+set_need heap (Some at) name wide = set_need_at heap at name wide
+
+-- How many words a command allocates on a heap.
+abbrev pub need_of : Heap → Command → ℕ
+need_of heap (command.New x cap) = plain_head + cap
+need_of heap (command.Set x name v) =
+    set_need heap (reference_in (word_at heap (root_at heap.space x))) name (is_wide_operand heap v)
+need_of heap _ = 0
+
+-- The heap has not so many words more: survivors, used words and these are over the words of the young generation.
+abbrev pub lacks_room : Heap → ℕ → Bool
+lacks_room heap need = nat_lt heap.space.sizes.young (heap.survivors + heap.used + need)

@@ -1,0 +1,35 @@
+//! Laws of whole heaps: what a change leaves whole, and what it leaves shown.
+ghost use Rattle.heap_model.specs.Laws.{OwnChangesKeepWhole, OwnChangesShow, MadeCellsAreOwn};
+ghost use Rattle.heap_model.specs.Laws.{BindingsShow, NewBindingsShow, NewObjectsShow};
+ghost use Rattle.heap_model.specs.Laws.{NewObjectsAreNoKeys};
+ghost use Rattle.heap_model.specs.Laws.{ChangesKeepCells, RewritesArePatches, RewritesKeepCells, SlotWritesKeepCells};
+
+/// A heap whose objects change inside their own cells is whole again, and shows the graph in which
+/// these objects are what their cells show. A cell that was made and refers to nothing is such a
+/// change.
+pub fn laws_of_changes()
+    ensures whole { OwnChangesKeepWhole }
+    ensures show { OwnChangesShow }
+    ensures made { MadeCellsAreOwn }
+{}
+
+/// A heap in which the root words of a variable become those of a value shows the graph in which
+/// the variable is bound to that: where nothing more can be reached than before, or one object that
+/// is the key of nothing. So it is of an object that is made and bound in one command, and what was
+/// just made is no key of what was there.
+pub fn laws_of_bindings()
+    ensures show { BindingsShow }
+    ensures show_new { NewBindingsShow }
+    ensures made { NewObjectsShow }
+    ensures no_keys { NewObjectsAreNoKeys }
+{}
+
+/// Where only patches and newly used words of a heap change, cells stand in rows again, and all but
+/// those of the patches are as before. Cells that are rewritten in place are such patches, and so
+/// are cells of which only slots are written.
+pub fn laws_of_words()
+    ensures cells { ChangesKeepCells }
+    ensures rewrites { RewritesArePatches }
+    ensures rewritten { RewritesKeepCells }
+    ensures slots { SlotWritesKeepCells }
+{}

@@ -1,0 +1,15 @@
+//! The heap as a model: which heaps are whole, which graph a heap shows, and what a change leaves
+//! of both.
+//!
+//! Model: none of its own. `Heap` of `specs/Heaps.antt` is a heap between two commands, as its
+//! words and what of them is used; `HasCell` says which cells stand in it.
+//! Invariant: none of its own. `Whole` of `specs/Wholeness.antt` is that of a heap between two
+//! commands, and `Shows` of `specs/Showing.antt` says which graph it shows. Each function here does
+//! nothing, and each of its clauses is a law of these.
+//! Below: `cell_layout`, `shape_tree`, `handle_roots`, `object_graph`. Above: all that changes a
+//! heap.
+#![tactic(auto)]
+
+mod laws;
+
+pub use laws::{laws_of_bindings, laws_of_changes, laws_of_words};

@@ -1,0 +1,3 @@
+mod MarksStart
+pub mod HeapWords
+mod SeatKeeps

@@ -1,0 +1,158 @@
+//! The seat of the thread that runs commands.
+ghost use Rattle.std.specs.Prelude.{◌≡◌, ◌≢◌, ◌<◌, length, slice_get, slice_set, IfOk, Some};
+ghost use Rattle.page_space.specs.Extents.{words_count, marks_start};
+ghost use Rattle.heap_table.specs.declared.phase.Phase.TheVariants.{Quiet, Scavenge};
+ghost use Rattle.heap_table.specs.Seats.{fresh, heap_words, StaysBeside};
+ghost use Rattle.heap_table.specs.Staying.{stays_beside_itself, stays_beside_again};
+ghost use Rattle.heap_table.specs.Staying.{stays_steady_beside};
+
+use crate::paused::Paused;
+use crate::phase::Phase;
+use page_space::{Region, Regions};
+use std::alloc::Global;
+use std::marker::Model;
+use tagged_word::NoMemory;
+use word_store::Reads;
+
+/// The table of a heap's words.
+pub struct HeapTable;
+
+impl HeapTable {
+    /// Opens a table with a word of 0 for each address of the regions, and takes the main seat. It
+    /// takes all the memory that they need, and fails for want of memory alone.
+    pub fn open(alloc: Global, regions: Regions) -> Result<MainSeat, NoMemory>
+        ensures opened { IfOk result (λ seat. seat ≡ fresh regions) }
+    {
+        let table = vec![in alloc; 0u64; regions.count() as usize]?;
+        Ok(MainSeat {
+            regions,
+            phase: Phase::Quiet,
+            heap_count: regions.start(Region::Mark(0)),
+            table,
+        })
+    }
+}
+
+/// The seat of the thread that runs commands: it has the table of words.
+#[derive(Drop)]
+pub struct MainSeat {
+    regions: Regions,
+    phase: Phase,
+    // How many words stand before the marks. It is computed once, since each step asks for it.
+    heap_count: u32,
+    table: Vec<u64>,
+}
+
+impl Model for MainSeat {
+    ghost use Rattle.heap_table.specs.Seats.{Seat};
+
+    ghost Value = { Seat };
+
+    ghost use Rattle.heap_table.specs.Seated.{seat_of, IsSeated};
+
+    ghost view = { seat_of };
+
+    ghost invariant = { IsSeated };
+}
+
+impl MainSeat {
+    /// The phase of the heap.
+    pub fn phase(&self) -> Phase
+        ensures { result ≡ self.now.phase }
+    {
+        self.phase
+    }
+
+    /// Where the regions of the heap stand.
+    pub fn regions(&self) -> Regions
+        ensures regions { result ≡ self.now.space }
+        ensures counted { length self.now.table ≡ words_count self.now.space }
+        ensures heap_counted { length (heap_words self.now) ≡ marks_start self.now.space }
+    {
+        self.regions
+    }
+
+    /// The word at an address before the marks.
+    #[inline]
+    pub fn word(&self, a: u32) -> u64
+        requires within { a < marks_start self.now.space }
+        requires steady { self.now.phase ≢ Scavenge }
+        ensures of_table { slice_get self.now.table a ≡ Some result }
+        ensures of_heap { slice_get (heap_words self.now) a ≡ Some result }
+    {
+        // The table has more words than stand before the marks.
+        let _table_count = self.table_count();
+        self.any_word(a)
+    }
+
+    /// Puts a word at an address before the marks. No other word changes.
+    #[inline]
+    pub fn put(&mut self, a: u32, word: u64)
+        requires quiet { self.old.phase ≡ Quiet }
+        requires within { a < marks_start self.old.space }
+        ensures put { self.new ≡ record self.old { table = slice_set self.old.table a word } }
+        ensures heap { heap_words self.new ≡ slice_set (heap_words self.old) a word }
+        ensures rest { StaysBeside self.old self.new }
+    {
+        let _table_count = self.table_count();
+        self.put_any(a, word);
+    }
+
+    /// All words of the table, to read and write while no other thread runs.
+    pub fn paused(&mut self) -> Paused<'_>
+        requires { self.old.phase ≡ Quiet }
+        ensures lender { result.seat.ghost_name ≡ self.entry.ghost_name }
+        ensures seat { result.seat.now ≡ self.old }
+    {
+        Paused { seat: self }
+    }
+
+    /// How many words the table has.
+    #[inline]
+    pub(crate) fn table_count(&self) -> u32
+        ensures length { result ≡ length self.now.table }
+        ensures counted { result ≡ words_count self.now.space }
+    {
+        self.regions.count()
+    }
+
+    /// Any word of the table.
+    #[inline]
+    pub(crate) fn any_word(&self, a: u32) -> u64
+        requires { a < length self.now.table }
+        ensures { slice_get self.now.table a ≡ Some result }
+    {
+        self.table[a as usize]
+    }
+
+    /// Puts any word of the table.
+    #[inline]
+    pub(crate) fn put_any(&mut self, a: u32, word: u64)
+        requires { a < length self.old.table }
+        ensures { self.new ≡ record self.old { table = slice_set self.old.table a word } }
+    {
+        self.table[a as usize] = word;
+    }
+}
+
+impl Reads for MainSeat {
+    ghost words = { heap_words };
+
+    ghost IsSteady = { λ seat. seat.phase ≢ Scavenge };
+
+    ghost Rest = { StaysBeside };
+
+    ghost rest_itself = { stays_beside_itself };
+
+    ghost rest_again = { stays_beside_again };
+
+    ghost stays_steady = { stays_steady_beside };
+
+    fn count(&self) -> u32 {
+        self.heap_count
+    }
+
+    fn load(&mut self, a: u32) -> u64 {
+        self.word(a)
+    }
+}

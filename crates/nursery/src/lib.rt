@@ -1,0 +1,114 @@
+//! The nursery: how far eden is used, and how many words have survived.
+//!
+//! Model: a `Young` of `specs/Young.antt`: the space, the words of eden that are used, the words
+//! of the survivors, and the half that these are in. It reads and writes no word of the heap.
+//! Invariant: survivors and used words together are no more than the words of the young
+//! generation, so that a scavenge finds room for all of them in one half; and the half is 0 or 1.
+#![tactic(auto)]
+
+ghost use Rattle.std.specs.Prelude.{◌≡◌, ◌+◌, ◌≤◌, ◌↔◌, IsTrue, IsNone, OnSome, IfSome, IfNone};
+ghost use Rattle.page_space.specs.Extents.{eden_start};
+ghost use Rattle.nursery.specs.Young.{IsYoung, HasRoom, new_young, bumped, turned};
+
+#[cfg(test)]
+mod tests;
+
+use page_space::{Region, Regions};
+use std::marker::Model;
+
+/// How far eden is used, and how many words have survived in which half.
+#[derive(Debug, Drop)]
+pub struct Nursery {
+    regions: Regions,
+    // The first address of eden. It is computed once, since each birth asks for it.
+    eden: u32,
+    used: u32,
+    survivors: u32,
+    half: u32,
+}
+
+impl Model for Nursery {
+    ghost use Rattle.nursery.specs.Young.{Young};
+
+    ghost Value = { Young };
+
+    ghost use Rattle.nursery.specs.Kept.{young_of, IsKept};
+
+    ghost view = { young_of };
+
+    ghost invariant = { IsKept };
+}
+
+impl Nursery {
+    /// The nursery of an empty heap.
+    pub fn new(regions: &Regions) -> Nursery
+        ensures { result ≡ new_young regions.now }
+    {
+        // The sizes are within their limits.
+        let _words_count = regions.count();
+        Nursery {
+            regions: *regions,
+            eden: regions.start(Region::Eden),
+            used: 0,
+            survivors: 0,
+            half: 0,
+        }
+    }
+
+    /// How many words of eden are used.
+    pub fn used(&self) -> u32
+        ensures used { result ≡ self.now.used }
+        ensures within { IsYoung self.now }
+    {
+        self.used
+    }
+
+    /// How many words the survivors of the last scavenge have.
+    pub fn survivors(&self) -> u32
+        ensures { result ≡ self.now.survivors }
+    {
+        self.survivors
+    }
+
+    /// The half that the survivors are in: 0 or 1.
+    pub fn half(&self) -> u32
+        ensures { result ≡ self.now.half }
+    {
+        self.half
+    }
+
+    /// Whether eden has room for so many words more.
+    pub fn has_room(&self, n: u32) -> bool
+        ensures { IsTrue result ↔ HasRoom self.now n }
+    {
+        n <= self.regions.sizes().young - self.survivors - self.used
+    }
+
+    /// The address of so many words of eden that were not used, and now are: none where eden has
+    /// no room for them. Words of the heap are not looked at.
+    pub fn bump(&mut self, n: u32) -> Option<u32>
+        requires { 1 ≤ n }
+        ensures at { IfSome result (λ at. at ≡ eden_start self.old.space + self.old.used) }
+        ensures bumped { OnSome result (self.new ≡ bumped self.old n) }
+        ensures room { OnSome result (HasRoom self.old n) }
+        ensures refused { IsNone result ↔ (¬ HasRoom self.old n) }
+        ensures unchanged { IfNone result (self.new ≡ self.old) }
+    {
+        if !self.has_room(n) {
+            return None;
+        }
+        let at = self.eden + self.used;
+        self.used += n;
+        Some(at)
+    }
+
+    /// After a scavenge: eden is empty, and the survivors have so many words in the other half.
+    pub fn turn(&mut self, survivors: u32)
+        requires { survivors ≤ self.old.space.sizes.young }
+        ensures { self.new ≡ turned self.old survivors }
+    {
+        self.used = 0;
+        self.survivors = survivors;
+        self.half = 1 - self.half;
+    }
+}

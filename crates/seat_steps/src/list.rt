@@ -1,0 +1,73 @@
+//! Lists of addresses, which cells join and leave.
+ghost use Rattle.std.specs.Prelude.{◌≡◌, IsTrue, IsOk, IfOk, OnOk, OnErr};
+ghost use Rattle.seat_steps.specs.Lists.{is_in, joined, left};
+ghost use Rattle.seat_steps.specs.Lists.{JoinedIsIn, JoiningLeavesOthers, JoiningIsAtTheEnd};
+ghost use Rattle.seat_steps.specs.Lists.{JoiningAgainChangesNothing, JoiningMakesNoRepeats};
+ghost use Rattle.seat_steps.specs.Lists.{LeftIsOut, OthersStay, LeavingGoesByParts};
+ghost use Rattle.seat_steps.specs.Lists.{LeavingOfNoneChangesNothing, LeavingMakesNoRepeats};
+
+use crate::items::Items;
+use tagged_word::NoMemory;
+
+/// Puts an address at the end of a list, where it does not stand in it yet, and says whether it
+/// stood there. Without memory the list stays as it was; where it stands there, none is wanted.
+pub fn join(list: &mut Items<u32>, address: u32) -> Result<bool, NoMemory>
+    ensures joined { OnOk result (list.new ≡ joined list.old address) }
+    ensures stood { IfOk result (λ stood. stood ≡ is_in list.old address) }
+    ensures there { IsTrue (is_in list.old address) → IsOk result }
+    ensures err { OnErr result (list.new ≡ list.old) }
+{
+    if list.as_slice().contains(&address) {
+        return Ok(true);
+    }
+    list.push(address)?;
+    Ok(false)
+}
+
+/// Takes an address out of a list, wherever it stands there.
+pub fn leave(list: &mut Items<u32>, address: u32)
+    ensures { list.new ≡ left list.old address }
+{
+    list.list.retain(|other| *other != address);
+}
+
+/// What joining and leaving come to.
+pub fn laws_of_lists()
+    ensures joined_is_in { JoinedIsIn }
+    ensures joining_leaves_others { JoiningLeavesOthers }
+    ensures joining_is_at_the_end { JoiningIsAtTheEnd }
+    ensures joining_again { JoiningAgainChangesNothing }
+    ensures joining_makes_no_repeats { JoiningMakesNoRepeats }
+    ensures left_is_out { LeftIsOut }
+    ensures others_stay { OthersStay }
+    ensures leaving_goes_by_parts { LeavingGoesByParts }
+    ensures leaving_of_none { LeavingOfNoneChangesNothing }
+    ensures leaving_makes_no_repeats { LeavingMakesNoRepeats }
+{}
+
+#[cfg(test)]
+mod tests {
+    use super::*;
+    use std::test::Fail;
+
+    #[test]
+    fn an_address_joins_once(rt: HostRuntime) -> Result<(), Fail> {
+        let mut list = Items::new(rt.alloc());
+        let joins = [(5u32, false), (3, false), (5, true), (8, false), (3, true)];
+        for (address, stood) in joins {
+            assert_eq!(rt; join(&mut list, address)?, stood, "{address}");
+        }
+        assert_eq!(rt; list.as_slice(), [5, 3, 8].as_slice());
+        Ok(())
+    }
+
+    #[test]
+    fn an_address_leaves_wherever_it_stands(rt: HostRuntime) -> Result<(), Fail> {
+        let mut list = Items::from_vec([5u32, 3, 5, 8].to_vec(rt.alloc())?);
+        leave(&mut list, 4);
+        assert_eq!(rt; list.as_slice(), [5, 3, 5, 8].as_slice());
+        leave(&mut list, 5);
+        assert_eq!(rt; list.as_slice(), [3, 8].as_slice());
+        Ok(())
+    }
+}

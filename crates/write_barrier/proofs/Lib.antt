@@ -1,0 +1,8 @@
+pub mod Places
+mod FirstCells
+mod FirstHeaps
+mod Changes
+mod PutLayouts
+mod Starting
+mod Ranges
+mod ClassValues

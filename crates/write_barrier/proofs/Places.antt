@@ -1,0 +1,71 @@
+-- Where runs, layout words and root words stand among the words before the marks.
+use Rattle.std.proofs.Common.{◌≡◌, ◌∙◌, ℕ, ◌+◌, ◌<◌, ◌≤◌, length, refl, sym, subst, arith, length-set}
+use Rattle.page_space.specs.Extents.{Space, eden_start, layouts_start, marks_start, words_count}
+use Rattle.page_space.proofs.Starts.{roots_start_is, layouts_start_is, marks_start_is, board_start_is, words_count_is}
+use Rattle.nursery.specs.Young.{Young, HasRoom}
+use Rattle.shape_tree.specs.Shapes.{AreShapes}
+use Rattle.shape_tree.specs.ShapeLayouts.{IsInUse}
+use Rattle.object_graph.specs.declared.path.Path.{Path}
+use Rattle.std.specs.Prelude.{List, slice_set}
+use Rattle.handle_roots.specs.declared.held.Held.{Held}
+use Rattle.handle_roots.specs.Roots.{Holds, root_at, with_root, first_word}
+use Rattle.handle_roots.proofs.RootWords.{root_before_layouts}
+use Rattle.heap_table.specs.Seats.{Seat, heap_words}
+use Rattle.heap_table.proofs.HeapWords.{slice_get-heap_words}
+use Rattle.write_barrier.specs.Mains.{IsNextRun}
+
+-- words that eden has room for end in eden, so before the marks
+pub next_run : (young : Young) (n at : ℕ) → at ≡ eden_start young.space + young.used → HasRoom young n
+    → IsNextRun young.space young.used n (record { at = at; words = n })
+next_run young n at is room = record {
+  at = is;
+  words = refl;
+  in_eden = omega arith;
+  before_marks = omega (arith, roots_start_is young.space, layouts_start_is young.space, marks_start_is young.space);
+}
+
+-- the layout word of a shape in use stands before the marks
+pub layout_before_marks : (space : Space) (paths : List Path) (shape : ℕ) → AreShapes paths → IsInUse paths shape
+    → layouts_start space + shape < marks_start space
+layout_before_marks space paths shape are in_use = omega (arith, marks_start_is space, are.few, in_use.below)
+
+-- the layout words begin among the words of the table
+pub layouts_within : (space : Space) → layouts_start space ≤ words_count space
+layouts_within space = omega (arith, marks_start_is space, board_start_is space, words_count_is space)
+
+-- so do the marks
+pub marks_within : (space : Space) → marks_start space ≤ words_count space
+marks_within space = omega (arith, board_start_is space, words_count_is space)
+
+-- what a variable holds among all words of the table, it holds among those before the marks
+pub holds_before_marks : (seat : Seat) (variable : ℕ) (held : Held) → length seat.table ≡ words_count seat.space
+    → variable < seat.space.variables → Holds seat.space seat.table variable held
+    → Holds seat.space (heap_words seat) variable held
+holds_before_marks seat variable held counted known holds =
+    let below = root_before_layouts seat.space variable known in
+    let first : root_at seat.space variable < marks_start seat.space = omega (arith, below, marks_start_is seat.space) in
+    let second : root_at seat.space variable + 1 < marks_start seat.space =
+    omega (arith, below, marks_start_is seat.space) in
+    record {
+      fits = holds.fits;
+      first = slice_get-heap_words seat (root_at seat.space variable) counted first ∙ holds.first;
+      second = slice_get-heap_words seat (root_at seat.space variable + 1) counted second ∙ holds.second;
+    }
+
+-- the table with other root words has as many words
+length-with_root : (space : Space) (words : List ℕ) (variable : ℕ) (held : Held)
+    → length (with_root space words variable held) ≡ length words
+length-with_root space words variable held =
+    length-set (slice_set words (root_at space variable) (first_word held)) (root_at space variable + 1) _
+    ∙ length-set words (root_at space variable) (first_word held)
+
+-- what a variable was made to hold in the table, it holds among the words before the marks
+pub held_before_marks : (old new : Seat) (variable : ℕ) (held : Held)
+    → new ≡ record old { table = with_root old.space old.table variable held }
+    → length old.table ≡ words_count old.space → variable < old.space.variables
+    → Holds old.space new.table variable held → Holds old.space (heap_words new) variable held
+held_before_marks old new variable held is counted known holds =
+    let seat : Seat = record old { table = with_root old.space old.table variable held } in
+    subst (λ (s : Seat). Holds old.space (heap_words s) variable held) (sym is)
+    (holds_before_marks seat variable held (length-with_root old.space old.table variable held ∙ counted) known
+    (subst (λ (s : Seat). Holds old.space s.table variable held) is holds))

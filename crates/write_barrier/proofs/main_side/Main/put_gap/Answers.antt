@@ -1,0 +1,33 @@
+-- The two words of a page's gap.
+use Rattle.std.proofs.Common.{◌+◌, ◌*◌, ap, arith}
+use Rattle.tagged_word.specs.Headers.{header_bits}
+use Rattle.page_space.specs.Sizes.{page_words}
+use Rattle.heap_table.specs.Seats.{heap_words}
+use Rattle.write_barrier.specs.Mains.{Mutator, gap_header}
+use Rattle.write_barrier.proofs.Changes.{page_before_marks, gap_put, put_changes, changes_then}
+use Rattle.write_barrier.proofs.main_side.Main.put_gap.Goals as goal
+
+pub set_header-requires-clause-within : goal.set_header-requires-clause-within
+set_header-requires-clause-within c =
+    omega (arith, page_before_marks c.args.self.now.seat.space c.args.page c.requires.there)
+
+pub write-requires-clause-within : goal.write-requires-clause-within
+write-requires-clause-within c =
+    rw (ap (λ (main : Mutator). main.seat.space) c.set_header.ensures.written)
+    (omega (arith, page_before_marks c.args.self.now.seat.space c.args.page c.requires.there))
+
+pub returns-clause-gap : goal.returns-clause-gap
+returns-clause-gap c =
+    let below = page_before_marks c.args.self.now.seat.space c.args.page c.requires.there in
+    gap_put (heap_words c.args.self.now.seat) (heap_words c.set_header.new.self.seat) (heap_words c.write.new.self.seat)
+    c.args.page (c.args.page * 2048) (omega arith) (omega (arith, below, c.regions-regions.ensures.heap_counted))
+    c.set_header.ensures.heap c.write.ensures.heap
+
+pub returns-clause-changes : goal.returns-clause-changes
+returns-clause-changes c =
+    let at = page_words * c.args.page in
+    changes_then c.args.self.now c.set_header.new.self c.write.new.self at (at + page_words) at (at + page_words)
+    (put_changes c.args.self.now c.set_header.new.self (c.args.page * 2048) (header_bits gap_header) at (at + page_words)
+    c.set_header.ensures.written c.set_header.ensures.heap (omega arith) (omega arith))
+    (put_changes c.set_header.new.self c.write.new.self (c.args.page * 2048 + 1) page_words at (at + page_words)
+    c.write.ensures.written c.write.ensures.heap (omega arith) (omega arith)) (omega arith) (omega arith)

@@ -1,0 +1,7 @@
+-- What the mutator keeps in its fields.
+use Rattle.write_barrier.specs.declared.main_side.Main.TheInside.{Inside}
+use Rattle.write_barrier.specs.Mains.{Mutator}
+
+-- the seat, the field paths, and the young generation
+abbrev pub mutator_of : Inside → Mutator
+mutator_of main = record { seat = main.seat; paths = main.shapes; young = main.nursery }

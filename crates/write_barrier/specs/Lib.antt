@@ -1,0 +1,6 @@
+pub mod Mains
+pub mod Kept
+pub mod Lending
+pub mod Reading
+pub mod Opening
+pub mod Values

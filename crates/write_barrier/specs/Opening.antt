@@ -1,0 +1,65 @@
+-- How a heap is opened: what has changed on the way, and what stands in the words at the end.
+use Rattle.std.specs.Prelude.{◌≡◌, ℕ, ◌+◌, ◌<◌, ◌≤◌, ◌⊎◌, List, length, Some, slice_get}
+use Rattle.tagged_word.specs.Shapes.{shapes_most}
+use Rattle.page_space.specs.Sizes.{AreWithin}
+use Rattle.page_space.specs.Extents.{Space, segments_start, roots_start, layouts_start, marks_start}
+use Rattle.nursery.specs.Young.{new_young}
+use Rattle.object_graph.specs.Paths.{empty_paths}
+use Rattle.shape_tree.specs.ShapeLayouts.{layout_word}
+use Rattle.handle_roots.specs.declared.held.Held.TheVariants.{Unbound}
+use Rattle.handle_roots.specs.Roots.{root_at, first_word}
+use Rattle.heap_table.specs.declared.phase.Phase.TheVariants.{Quiet}
+use Rattle.heap_table.specs.Seats.{fresh, heap_words}
+use Rattle.write_barrier.specs.Mains.{Mutator, IsOneGap}
+
+-- of all that the mutator has, only words from an address to another have changed
+pub record ChangesWithin (old new : Mutator) (from to : ℕ) : Type 0 where
+  pub space : new.seat.space ≡ old.seat.space
+  pub phase : new.seat.phase ≡ old.seat.phase
+  pub paths : new.paths ≡ old.paths
+  pub young : new.young ≡ old.young
+  pub count : length (heap_words new.seat) ≡ length (heap_words old.seat)
+  pub beside : (a : ℕ) → (a < from) ⊎ (to ≤ a) → slice_get (heap_words new.seat) a ≡ slice_get (heap_words old.seat) a
+
+-- the words from an address to another are 0
+abbrev pub AreZero : List ℕ → ℕ → ℕ → Type 0
+AreZero words from to = (a : ℕ) → from ≤ a → a < to → slice_get words a ≡ Some 0
+
+-- the layout words are those of the shapes, and else 0
+abbrev pub HasLayouts : Mutator → Type 0
+HasLayouts main = (shape : ℕ) → shape < shapes_most
+    → slice_get (heap_words main.seat) (layouts_start main.seat.space + shape) ≡ Some (layout_word main.paths shape)
+
+-- the layout words of the shapes below one are those of the shapes, and those from it on are 0
+pub record LayoutsBelow (main : Mutator) (count : ℕ) : Type 0 where
+  pub known : (shape : ℕ) → shape < count → shape < shapes_most
+      → slice_get (heap_words main.seat) (layouts_start main.seat.space + shape) ≡ Some (layout_word main.paths shape)
+  pub rest : (shape : ℕ) → count ≤ shape → shape < shapes_most
+      → slice_get (heap_words main.seat) (layouts_start main.seat.space + shape) ≡ Some 0
+
+-- each variable is bound to nothing, by its first root word
+abbrev pub AreUnbound : Mutator → Type 0
+AreUnbound main = (variable : ℕ) → variable < main.seat.space.variables
+    → slice_get (heap_words main.seat) (root_at main.seat.space variable) ≡ Some (first_word Unbound)
+
+-- each page is one gap
+abbrev pub AreGaps : Mutator → Type 0
+AreGaps main = (page : ℕ) → page < main.seat.space.sizes.pages → IsOneGap (heap_words main.seat) page
+
+-- nothing is written, nothing is used, and there are the nine empty paths
+abbrev pub blank : Space → Mutator
+blank space = record { seat = fresh space; paths = empty_paths; young = new_young space }
+
+-- Nothing is used, each page is one gap, segments hold 0, each variable is bound to nothing, and the layout words are there.
+pub record IsStarted (main : Mutator) : Type 0 where
+  pub quiet : main.seat.phase ≡ Quiet
+  pub paths : main.paths ≡ empty_paths
+  pub young : main.young ≡ new_young main.seat.space
+  pub within : AreWithin main.seat.space.sizes main.seat.space.variables
+  pub count : length (heap_words main.seat) ≡ marks_start main.seat.space
+  pub gaps : AreGaps main
+  pub segments : AreZero (heap_words main.seat) (segments_start main.seat.space) (roots_start main.seat.space)
+  pub unbound : AreUnbound main
+  pub seconds : (variable : ℕ) → variable < main.seat.space.variables
+      → slice_get (heap_words main.seat) (root_at main.seat.space variable + 1) ≡ Some 0
+  pub layouts : HasLayouts main

@@ -1,0 +1,21 @@
+//! The mutator's side of a heap: stores with their barrier, and room for new cells.
+//!
+//! Model: a `Mutator` of `specs/Mains.antt`: the seat with its words, the field paths, and the
+//! young generation. `heap_of` is the heap that stands in the words.
+//! Invariant: none over its parts, which it lends. `MainShows` of `specs/Mains.antt` is what holds
+//! between two commands; each call here says what it changes, in the middle of a change too.
+#![tactic(auto)]
+
+mod blocks;
+mod main_side;
+mod opening;
+mod room;
+mod roots;
+mod stores;
+#[cfg(test)]
+mod tests;
+mod values;
+
+pub use main_side::Main;
+pub use room::NoRoom;
+pub use values::slot_word;

@@ -1,0 +1,127 @@
+//! What the thread that runs commands has, and what it reads. Stores are in `stores.rt`, room for
+//! new cells in `room.rt`, variables in `roots.rt`.
+ghost use Rattle.std.specs.Prelude.{◌≡◌, ◌<◌, length, slice_get, Some, refl};
+ghost use Rattle.std.specs.Borrow.{sem};
+ghost use Rattle.std.proofs.Common.{◌∙◌, subst, sym};
+ghost use Rattle.page_space.specs.Sizes.{AreWithin};
+ghost use Rattle.page_space.specs.Extents.{words_count, marks_start};
+ghost use Rattle.nursery.specs.Young.{IsYoung};
+ghost use Rattle.heap_table.specs.declared.phase.Phase.TheVariants.{Quiet};
+ghost use Rattle.heap_table.specs.Seats.{heap_words};
+ghost use Rattle.write_barrier.specs.Lending.{LendsSeat, LendsShapes, LendsNursery};
+ghost use Rattle.write_barrier.specs.Reading.{stays_quiet};
+
+use heap_table::MainSeat;
+use nursery::Nursery;
+use page_space::Regions;
+use shape_tree::ShapeTree;
+use std::marker::Model;
+use word_store::Reads;
+
+/// The mutator: the seat of the thread that runs commands, the shapes, and the young generation.
+#[derive(Drop)]
+pub struct Main {
+    pub(crate) seat: MainSeat,
+    pub(crate) shapes: ShapeTree,
+    pub(crate) nursery: Nursery,
+}
+
+impl Model for Main {
+    ghost use Rattle.write_barrier.specs.Mains.{Mutator};
+
+    ghost Value = { Mutator };
+
+    ghost use Rattle.write_barrier.specs.Kept.{mutator_of};
+
+    ghost view = { mutator_of };
+}
+
+impl Main {
+    /// Where the regions of the heap stand.
+    pub fn regions(&self) -> Regions
+        ensures regions { result ≡ self.now.seat.space }
+        ensures counted { length self.now.seat.table ≡ words_count self.now.seat.space }
+        ensures heap_counted { length (heap_words self.now.seat) ≡ marks_start self.now.seat.space }
+        ensures within { AreWithin self.now.seat.space.sizes self.now.seat.space.variables }
+    {
+        let regions = self.seat.regions();
+        // The sizes are within their limits.
+        let _words_count = regions.count();
+        regions
+    }
+
+    /// The word at an address before the marks.
+    #[inline]
+    pub fn word(&self, a: u32) -> u64
+        requires within { a < marks_start self.now.seat.space }
+        requires quiet { self.now.seat.phase ≡ Quiet }
+        ensures of_table { slice_get self.now.seat.table a ≡ Some result }
+        ensures of_heap { slice_get (heap_words self.now.seat) a ≡ Some result }
+    {
+        self.seat.word(a)
+    }
+
+    /// How many words of eden are used.
+    pub fn used(&self) -> u32
+        ensures used { result ≡ self.now.young.used }
+        ensures is_young { IsYoung self.now.young }
+    {
+        self.nursery.used()
+    }
+
+    /// The shapes.
+    pub fn shapes(&self) -> &ShapeTree
+        ensures { result.now ≡ self.now.paths }
+    {
+        &self.shapes
+    }
+
+    /// The shapes, to add field paths. No other part changes.
+    pub fn shapes_mut(&mut self) -> &mut ShapeTree
+        ensures* lends { sem 𝓛 (LendsShapes self.entry result) }
+        ensures paths { result.now ≡ self.old.paths }
+    {
+        &mut self.shapes
+    }
+
+    /// The seat. No other part changes.
+    pub fn seat_mut(&mut self) -> &mut MainSeat
+        ensures* lends { sem 𝓛 (LendsSeat self.entry result) }
+        ensures seat { result.now ≡ self.old.seat }
+    {
+        &mut self.seat
+    }
+
+    /// The nursery. No other part changes.
+    pub fn nursery_mut(&mut self) -> &mut Nursery
+        ensures* lends { sem 𝓛 (LendsNursery self.entry result) }
+        ensures young { result.now ≡ self.old.young }
+    {
+        &mut self.nursery
+    }
+}
+
+impl Reads for Main {
+    ghost words = { λ main. heap_words main.seat };
+
+    ghost IsSteady = { λ main. main.seat.phase ≡ Quiet };
+
+    // A read changes nothing.
+    ghost Rest = { λ old new. new ≡ old };
+
+    ghost rest_itself = { λ _. refl };
+
+    ghost rest_again = { λ _ _ _ first then. then ∙ first };
+
+    ghost stays_steady = { stays_quiet };
+
+    fn count(&self) -> u32 {
+        self.seat.count()
+    }
+
+    fn load(&mut self, a: u32) -> u64 {
+        // There are as many of these words as addresses before the marks.
+        let _regions = self.regions();
+        self.word(a)
+    }
+}

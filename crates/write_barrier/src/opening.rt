@@ -1,0 +1,121 @@
+//! How a heap is opened: into words of 0 goes what is not 0.
+ghost use Rattle.std.specs.Prelude.{◌≡◌, ℕ, ◌+◌, ◌*◌, ◌<◌, slice_get, IfOk};
+ghost use Rattle.page_space.specs.Sizes.{page_words};
+ghost use Rattle.page_space.specs.Extents.{eden_start, roots_start, layouts_start, marks_start};
+ghost use Rattle.tagged_word.specs.Shapes.{shapes_most};
+ghost use Rattle.object_graph.specs.Graphs.{start};
+ghost use Rattle.handle_roots.specs.Roots.{root_at};
+ghost use Rattle.heap_table.specs.declared.phase.Phase.TheVariants.{Quiet};
+ghost use Rattle.heap_table.specs.Seats.{fresh, heap_words};
+ghost use Rattle.write_barrier.specs.Mains.{IsOneGap, MainShows, IsOpened};
+ghost use Rattle.write_barrier.specs.Opening.{ChangesWithin, AreZero, AreGaps, AreUnbound};
+ghost use Rattle.write_barrier.specs.Opening.{HasLayouts, IsStarted, blank};
+
+use crate::main_side::Main;
+use heap_table::MainSeat;
+use nursery::Nursery;
+use page_space::Regions;
+use shape_tree::ShapeTree;
+use std::alloc::Global;
+use tagged_word::{Header, NoMemory, Word, odd, shape};
+
+/// The words of a page.
+const PAGE_WORDS: u32 = 2_048;
+
+impl Main {
+    /// Opens a heap over words of 0: no object, each page one gap, each variable bound to nothing.
+    ///
+    /// # Errors
+    /// Memory was refused, for the shapes.
+    pub fn open(alloc: Global, seat: MainSeat, regions: Regions) -> Result<Main, NoMemory>
+        requires { seat ≡ fresh regions }
+        ensures opened { IfOk result (λ main. MainShows main start × IsOpened main) }
+    {
+        let shapes = ShapeTree::new(alloc)?;
+        let nursery = Nursery::new(&regions);
+        let mut main = Main {
+            seat,
+            shapes,
+            nursery,
+        };
+        main.start(&regions);
+        Ok(main)
+    }
+
+    // Puts all that is not 0 in a heap that was just opened.
+    fn start(&mut self, regions: &Regions)
+        requires { self.old ≡ blank regions.now }
+        ensures { IsStarted self.new }
+    {
+        // There are as many words as addresses.
+        let _regions = self.regions();
+        self.put_gaps();
+        self.put_unbound();
+        self.put_layouts();
+        let _regions_at_last = self.regions();
+    }
+
+    // Makes a page one gap.
+    fn put_gap(&mut self, page: u32)
+        requires quiet { self.old.seat.phase ≡ Quiet }
+        requires there { page < self.old.seat.space.sizes.pages }
+        ensures gap { IsOneGap (heap_words self.new.seat) page }
+        ensures changes { let at = page_words * page in
+            ChangesWithin self.old self.new at (at + page_words) }
+    {
+        // There are as many words as addresses before the marks, and pages are among them.
+        let _regions = self.regions();
+        let at = page * PAGE_WORDS;
+        let header = Header {
+            shape: shape::GAP,
+            object: 0,
+        };
+        self.set_header(at, header);
+        self.write(at + 1, PAGE_WORDS as u64);
+    }
+
+    // Makes each page one gap.
+    fn put_gaps(&mut self)
+        requires quiet { self.old.seat.phase ≡ Quiet }
+        ensures gaps { AreGaps self.new }
+        ensures changes { ChangesWithin self.old self.new 0 (eden_start self.old.seat.space) }
+    {
+        let pages = self.regions().sizes().pages;
+        for page in 0..pages {
+            self.put_gap(page);
+        }
+    }
+
+    // Binds each variable to nothing. The second words stay.
+    fn put_unbound(&mut self)
+        requires quiet { self.old.seat.phase ≡ Quiet }
+        ensures firsts { AreUnbound self.new }
+        ensures seconds { (variable : ℕ) → variable < self.old.seat.space.variables
+            → let second = root_at self.old.seat.space variable + 1 in
+            slice_get (heap_words self.new.seat) second ≡ slice_get (heap_words self.old.seat) second }
+        ensures changes { let space = self.old.seat.space in
+            ChangesWithin self.old self.new (roots_start space) (layouts_start space) }
+    {
+        let regions = self.regions();
+        for variable in 0..regions.variables() {
+            self.write(regions.root_at(variable), Word::odd(odd::UNBOUND).0);
+        }
+    }
+
+    // Puts the layout words of the shapes in use.
+    fn put_layouts(&mut self)
+        requires quiet { self.old.seat.phase ≡ Quiet }
+        requires zero { let space = self.old.seat.space in
+            AreZero (heap_words self.old.seat) (layouts_start space) (marks_start space) }
+        ensures layouts { HasLayouts self.new }
+        ensures changes { let space = self.old.seat.space in
+            ChangesWithin self.old self.new (layouts_start space) (marks_start space) }
+    {
+        // There are as many words as addresses before the marks.
+        let _regions = self.regions();
+        let paths = self.shapes().paths();
+        for shape in 1..shape::PATHS + paths {
+            self.set_layout(shape);
+        }
+    }
+}

@@ -1,0 +1,53 @@
+//! What the variables hold.
+ghost use Rattle.std.specs.Prelude.{◌≡◌, ◌<◌};
+ghost use Rattle.heap_table.specs.declared.phase.Phase.TheVariants.{Quiet};
+ghost use Rattle.heap_table.specs.Seats.{heap_words};
+ghost use Rattle.handle_roots.specs.Roots.{Holds, IsRoot, with_root};
+ghost use Rattle.write_barrier.specs.Mains.{with_variable};
+
+use crate::main_side::Main;
+use handle_roots::{Held, held_by};
+use heap_table::MainSeat;
+
+// Both root words of a variable become those of a value.
+fn hold_in(seat: &mut MainSeat, variable: u32, value: Held)
+    requires quiet { seat.old.phase ≡ Quiet }
+    requires known { variable < seat.old.space.variables }
+    ensures held { let words = with_root seat.old.space seat.old.table variable value in
+        seat.new ≡ record seat.old { table = words } }
+    ensures holds { Holds seat.old.space seat.new.table variable value }
+{
+    let regions = seat.regions();
+    let mut paused = seat.paused();
+    handle_roots::hold(&mut paused, &regions, variable, value);
+}
+
+impl Main {
+    /// What a variable holds.
+    pub fn held(&mut self, variable: u32) -> Held
+        requires quiet { self.old.seat.phase ≡ Quiet }
+        requires known { variable < self.old.seat.space.variables }
+        requires root { IsRoot self.old.seat.space (heap_words self.old.seat) variable }
+        ensures holds { let words = heap_words self.old.seat in
+            Holds self.old.seat.space words variable result }
+        ensures same { self.new ≡ self.old }
+    {
+        let regions = self.regions();
+        held_by(self, &regions, variable)
+    }
+
+    /// Makes a variable hold a value. Only its two root words change.
+    pub fn hold(&mut self, variable: u32, value: Held)
+        requires quiet { self.old.seat.phase ≡ Quiet }
+        requires known { variable < self.old.seat.space.variables }
+        ensures held { self.new ≡ with_variable self.old variable value }
+        ensures heap { let words = heap_words self.old.seat in
+            heap_words self.new.seat ≡ with_root self.old.seat.space words variable value }
+        ensures holds { let words = heap_words self.new.seat in
+            Holds self.old.seat.space words variable value }
+    {
+        // The table has a word for each address.
+        let _regions = self.seat.regions();
+        hold_in(&mut self.seat, variable, value);
+    }
+}

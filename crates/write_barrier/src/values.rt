@@ -1,0 +1,109 @@
+//! The words of slots, and the values that they stand for.
+ghost use Rattle.std.specs.Prelude.{◌≡◌, ℕ, ℤ, ◌+◌, ◌<◌, ◌^◌, Some, option_map, IsTrue};
+ghost use Rattle.tagged_word.specs.declared.word.Class.{Class};
+ghost use Rattle.tagged_word.specs.Words.{small, IsClass, bits_of};
+ghost use Rattle.tagged_word.specs.Readings.{reference_in};
+ghost use Rattle.page_space.specs.Extents.{marks_start};
+ghost use Rattle.heap_table.specs.declared.phase.Phase.TheVariants.{Quiet};
+ghost use Rattle.heap_model.specs.Needs.{is_box_at, is_box_word};
+ghost use Rattle.write_barrier.specs.Mains.{heap_of};
+ghost use Rattle.write_barrier.specs.Values as values;
+
+use crate::main_side::Main;
+use handle_roots::Held;
+use tagged_word::{Class, Header, Word, odd, shape};
+
+/// The word of a value that needs no box; none for an integer that is not small, and for nothing.
+pub fn slot_word(value: Held) -> Option<Word>
+    ensures { option_map (λ word. word.0) result ≡ values.slot_word value }
+{
+    match value {
+        Held::Unbound => None,
+        Held::Undefined => Some(Word::odd(odd::UNDEFINED)),
+        Held::Int(v) => Word::small(v),
+        Held::Ref(at) => Some(Word::reference(at)),
+    }
+}
+
+impl Main {
+    /// Whether a word refers to a box.
+    pub fn is_box(&self, word: Word) -> bool
+        requires quiet { self.now.seat.phase ≡ Quiet }
+        requires within { (at : ℕ) → reference_in word.0 ≡ Some at
+            → at < marks_start self.now.seat.space }
+        ensures { result ≡ is_box_word (heap_of self.now) word.0 }
+    {
+        match word.address() {
+            Some(at) => self.has_box(at),
+            None => false,
+        }
+    }
+
+    /// What the word of a slot stands for: the integer in a box where it refers to one, and where
+    /// it is a hole, `undefined`.
+    pub fn value_of_word(&self, word: Word) -> Held
+        requires quiet { self.now.seat.phase ≡ Quiet }
+        requires within { (at : ℕ) → reference_in word.0 ≡ Some at
+            → at + 1 < marks_start self.now.seat.space }
+        ensures { (class : Class) → IsClass class → word.0 ≡ bits_of class
+            → result ≡ values.held_of_class (heap_of self.now) class }
+    {
+        match word.address() {
+            Some(at) => self.value_at(at),
+            None => value_in(word),
+        }
+    }
+
+    // Whether the header of a box stands at an address.
+    fn has_box(&self, at: u32) -> bool
+        requires quiet { self.now.seat.phase ≡ Quiet }
+        requires within { at < marks_start self.now.seat.space }
+        ensures { result ≡ is_box_at (heap_of self.now) (Some at) }
+    {
+        match Header::parse(Word(self.word(at))) {
+            Some(header) => header.shape == shape::BOX,
+            None => false,
+        }
+    }
+
+    // What a reference to an address stands for.
+    fn value_at(&self, at: u32) -> Held
+        requires quiet { self.now.seat.phase ≡ Quiet }
+        requires within { at + 1 < marks_start self.now.seat.space }
+        ensures { let heap = heap_of self.now in
+            result ≡ values.held_at heap at (is_box_at heap (Some at)) }
+    {
+        // No address of a heap is past 32 bits.
+        let _regions = self.regions();
+        if self.has_box(at) {
+            Held::Int(self.word(at + 1).cast_signed())
+        } else {
+            Held::Ref(at)
+        }
+    }
+}
+
+// What a word that is no reference stands for.
+fn value_in(word: Word) -> Held
+    ensures small { (v : ℤ) → IsTrue (small v) → word.0 ≡ bits_of (Class.Small v)
+        → result ≡ Held.Int v }
+    ensures odd { (code : ℕ) → code < 2 ^ 32 → word.0 ≡ bits_of (Class.Odd code)
+        → result ≡ Held.Undefined }
+{
+    match word.class() {
+        Some(class) => value_of_class(class),
+        None => Held::Undefined,
+    }
+}
+
+// What a class that is no reference stands for.
+fn value_of_class(class: Class) -> Held
+    ensures small { (v : ℤ) → class ≡ Class.Small v → result ≡ Held.Int v }
+    ensures odd { (code : ℕ) → class ≡ Class.Odd code → result ≡ Held.Undefined }
+{
+    match class {
+        Class::Small(v) => Held::Int(v as i64),
+        Class::Ref(_) => Held::Undefined,
+        Class::Odd(_) => Held::Undefined,
+    }
+}
