@@ -1,5 +1,6 @@
 -- The parser of options and the definition agree on the sizes that words give: where no value is awaited.
-use Rattle.std.proofs.Common.{◌≡◌, ◌∙◌, Bool, true, false, List, [], ◌∷◌, Option, None, Some, option_and_then, refl, ap, sym}
+use Rattle.std.proofs.Common.{◌≡◌, ◌∙◌, Bool, true, false, List, [], ◌∷◌, Option, None, Some}
+use Rattle.std.proofs.Common.{option_and_then, refl, ap, sym}
 use Rattle.clap.specs.Walk.{Held, Row, Text, idle, option, first_of}
 use Rattle.clap.specs.Kinds.{or_else}
 use Rattle.clap.specs.declared.error.kind.ErrorKind.TheVariants.{ArgumentConflict}
@@ -123,6 +124,7 @@ word_agrees word words rest awaited h settings stands = elim (seen word) [
   | hyphen begin begins is kind ↦ ap sizes_read (outcome-stray h word words stands.skip is)
       ∙ sym (kind_means settings word words stray kind)
   | other is short kind ↦ ap sizes_read (outcome-stray h word words stands.skip is)
-      ∙ sym (hopeless_after words None (with_word settings word) (positional_is_hopeless (with_word settings word) word [] refl))
+      ∙ sym (hopeless_after words None (with_word settings word) (positional_is_hopeless
+      (with_word settings word) word [] refl))
       ∙ sym (kind_means settings word words plain kind)
 ]

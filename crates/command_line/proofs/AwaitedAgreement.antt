@@ -1,5 +1,6 @@
 -- The parser of options and the definition agree on the sizes that words give: where a value is awaited, and on all words.
-use Rattle.std.proofs.Common.{◌≡◌, ◌∙◌, Bool, true, false, List, [], ◌∷◌, None, Some, is_some, refl, ap, sym, true≢false}
+use Rattle.std.proofs.Common.{◌≡◌, ◌∙◌, Bool, true, false, List, [], ◌∷◌, None, Some, is_some, refl}
+use Rattle.std.proofs.Common.{ap, sym, true≢false}
 use Rattle.clap.specs.Walk.{Held, Text, Waiting, idle, option}
 use Rattle.clap.specs.Kinds.{Kinds}
 use Rattle.clap.specs.declared.error.kind.ErrorKind.{ErrorKind}

@@ -1,5 +1,6 @@
 -- What is given already can rule out sizes, whatever words follow.
-use Rattle.std.proofs.Common.{◌≡◌, ◌∙◌, ℕ, ◌&&◌, ◌||◌, Bool, true, false, not, List, [], ◌∷◌, ◌++◌, Option, None, Some}
+use Rattle.std.proofs.Common.{◌≡◌, ◌∙◌, ℕ, ◌&&◌, ◌||◌, Bool, true, false, not, List, []}
+use Rattle.std.proofs.Common.{◌∷◌, ◌++◌, Option, None, Some}
 use Rattle.std.proofs.Common.{option_map, option_and_then, cond, find, bytes_eq, codes, refl, ap, ap₂, sym}
 use Rattle.std.proofs.Common.{append-nil, append_assoc}
 use Rattle.page_space.specs.declared.sizes.Sizes.{Sizes}
@@ -156,7 +157,8 @@ no_sizes [] sizes e = e
 no_sizes (word ∷ words) sizes e = refl
 
 -- a value with a hyphen first rules out sizes
-pub hyphen_is_hopeless : (given : Given) (name text rest : Text) → is_option_name name ≡ true → is_set name given.settings ≡ false
+pub hyphen_is_hopeless : (given : Given) (name text rest : Text) → is_option_name name ≡ true
+    → is_set name given.settings ≡ false
     → text ≡ 45 ∷ rest → IsHopeless (record given { settings = and_setting given.settings name text })
 hyphen_is_hopeless given name text rest known new e settings words =
     no_sizes _ _ (hyphen_gives_none (text_in (and_setting given.settings name text ++ settings)) name rest known

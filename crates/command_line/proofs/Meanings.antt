@@ -1,5 +1,6 @@
 -- What the definition makes of a setting, and of a word.
-use Rattle.std.proofs.Common.{◌≡◌, ◌∙◌, Bool, true, false, List, [], ◌∷◌, Option, None, Some, option_and_then, refl, ap}
+use Rattle.std.proofs.Common.{◌≡◌, ◌∙◌, Bool, true, false, List, [], ◌∷◌, Option, None, Some}
+use Rattle.std.proofs.Common.{option_and_then, refl, ap}
 use Rattle.page_space.specs.declared.sizes.Sizes.{Sizes}
 use Rattle.command_line.specs.Given.{Text, Setting, Given, Kind, kind_of, given_after, given_by, with_setting, is_option_name}
 use Rattle.command_line.specs.Given.{is_set}

@@ -1,5 +1,6 @@
 -- A text that `parse` does not read.
-use Rattle.std.proofs.Common.{◌≡◌, ℕ, ◌<◌, ◌^◌, ◌&&◌, true, List, [], ◌∷◌, length, None, Some, Result, Err, cond, nat_lt, refl}
+use Rattle.std.proofs.Common.{◌≡◌, ℕ, ◌<◌, ◌^◌, ◌&&◌, true, List, [], ◌∷◌, length, None, Some}
+use Rattle.std.proofs.Common.{Result, Err, cond, nat_lt, refl}
 use Rattle.std.proofs.Common.{subst, ap, sym, ◌∙◌, arith, rules, inl, inr, lt-ltb}
 use Rattle.std.specs.Prelude.{option_and_then}
 use Rattle.std.specs.List.{list_all}

@@ -1,5 +1,6 @@
 -- What the parser of options makes of words is how its walk over them ends.
-use Rattle.std.proofs.Common.{◌≡◌, ◌∙◌, ◌||◌, Bool, true, false, List, [], ◌∷◌, map, option_and_then, cond, drop, fold, refl, ap}
+use Rattle.std.proofs.Common.{◌≡◌, ◌∙◌, ◌||◌, Bool, true, false, List, [], ◌∷◌, map}
+use Rattle.std.proofs.Common.{option_and_then, cond, drop, fold, refl, ap}
 use Rattle.std.proofs.Common.{ap₂}
 use Rattle.clap.specs.Walk.{Row, Text, finished, has_row, idle, nothing_held, walk, walk_from, with_default}
 use Rattle.clap.specs.Simple.{matches_of, built}

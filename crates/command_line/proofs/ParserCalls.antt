@@ -1,5 +1,6 @@
 -- What a call of the parser of options tells of the words.
-use Rattle.std.proofs.Common.{◌≡◌, ◌∙◌, true, List, [], ◌∷◌, Option, None, Some, option_and_then, drop, refl, subst, ap, ap₂, sym}
+use Rattle.std.proofs.Common.{◌≡◌, ◌∙◌, true, List, [], ◌∷◌, Option, None, Some, option_and_then}
+use Rattle.std.proofs.Common.{drop, refl, subst, ap, ap₂, sym}
 use Rattle.std.proofs.Common.{inl, inr}
 use Rattle.clap.specs.Walk.{Row, Text, rows_of}
 use Rattle.clap.specs.Simple.{App, is_simple, matches_of}
@@ -47,5 +48,6 @@ sizes_found words m sizes e is =
     ∙ sym is
 
 -- and where there are no matches, the words mean none
-pub sizes_missing : (words : List Text) → parsed_rows words ≡ None → option_and_then sizes_alone (given_of (drop 1 words)) ≡ None
+pub sizes_missing : (words : List Text) → parsed_rows words ≡ None
+    → option_and_then sizes_alone (given_of (drop 1 words)) ≡ None
 sizes_missing words e = sym (parsed_rows-sizes words) ∙ ap sizes_read e

@@ -1,5 +1,6 @@
 -- What the parser of options has: its rules, and what it finds by a name.
-use Rattle.std.proofs.Common.{◌≡◌, ◌∙◌, ℕ, ◌==◌, ◌&&◌, ◌||◌, not, is_some, Bool, true, false, List, [], ◌∷◌, map, None}
+use Rattle.std.proofs.Common.{◌≡◌, ◌∙◌, ℕ, ◌==◌, ◌&&◌, ◌||◌, not, is_some, Bool, true, false}
+use Rattle.std.proofs.Common.{List, [], ◌∷◌, map, None}
 use Rattle.std.proofs.Common.{Some, cond, find}
 use Rattle.std.proofs.Common.{bytes_eq, refl, ap}
 use Rattle.std.specs.List.{list_any}
@@ -73,6 +74,7 @@ or_false false = refl
 abbrev has_name : Text → Rule → Bool
 has_name name rule = not (is_some rule.index) && has_long rule name
 
+-- whether the rule is of an option with this letter
 abbrev has_letter : ℕ → Rule → Bool
 has_letter x rule = not (is_some rule.index) && has_short rule x
 

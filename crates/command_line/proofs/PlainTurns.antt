@@ -1,5 +1,6 @@
 -- The walk of the parser of options over a word that is no option.
-use Rattle.std.proofs.Common.{◌≡◌, ℕ, true, List, [], ◌∷◌, Option, None, Some, chars, slice_get, is_some, refl, subst, ap, sym}
+use Rattle.std.proofs.Common.{◌≡◌, ℕ, true, List, [], ◌∷◌, Option, None, Some, chars, slice_get, is_some}
+use Rattle.std.proofs.Common.{refl, subst, ap, sym}
 use Rattle.clap.specs.Lexer.{short_of}
 use Rattle.clap.specs.Walk.{Held, Row, Text, Walk, bundle, bundle_met, idle, option, plain, walked}
 use Rattle.clap.specs.Faults.{bundle_fault, flags_fault}

@@ -1,5 +1,6 @@
 -- What words that begin with `run` ask for.
-use Rattle.std.proofs.Common.{◌≡◌, ◌∙◌, ◌≤◌, List, [], ◌∷◌, length, map, drop, Option, None, Some, option_map, option_and_then}
+use Rattle.std.proofs.Common.{◌≡◌, ◌∙◌, ◌≤◌, List, [], ◌∷◌, length, map, drop, Option, None}
+use Rattle.std.proofs.Common.{Some, option_map, option_and_then}
 use Rattle.std.proofs.Common.{slice_index_or, codes, refl, ap, sym, arith}
 use Rattle.page_space.specs.declared.sizes.Sizes.{Sizes}
 use Rattle.command_line.specs.declared.invocation.Invocation.TheVariants.{Run}

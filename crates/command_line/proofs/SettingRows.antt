@@ -1,5 +1,6 @@
 -- The rows that the parser of options keeps of settings.
-use Rattle.std.proofs.Common.{◌≡◌, ◌∙◌, ◌||◌, Bool, true, false, List, [], ◌∷◌, ◌++◌, map, None, Some, option_map}
+use Rattle.std.proofs.Common.{◌≡◌, ◌∙◌, ◌||◌, Bool, true, false, List, [], ◌∷◌, ◌++◌, map}
+use Rattle.std.proofs.Common.{None, Some, option_map}
 use Rattle.std.proofs.Common.{option_and_then, slice_get, cond, find}
 use Rattle.std.proofs.Common.{bytes_eq, refl, ap, sym, append-nil}
 use Rattle.std.proofs.lemmas.List.{map-append}
@@ -38,7 +39,8 @@ at_row-new : (id : Text) (change : Row → List Row) (missing rows : List Row) �
 at_row-new id change missing [] new = refl
 at_row-new id change missing (r ∷ rows) new = go (bytes_eq r.id id) new (at_row-new id change missing rows)
   where
-    go : (b : Bool) → (b || has_row id rows) ≡ false → (has_row id rows ≡ false → at_row id change missing rows ≡ rows ++ missing)
+    go : (b : Bool) → (b || has_row id rows) ≡ false → (has_row id rows ≡ false
+        → at_row id change missing rows ≡ rows ++ missing)
         → cond b (change r ++ rows) (r ∷ at_row id change missing rows) ≡ r ∷ (rows ++ missing)
     go true e rest = cc
     go false e rest = ap (λ rs. r ∷ rs) (rest e)

@@ -102,7 +102,8 @@ no_subcommand (option name) word = refl
 no_subcommand positional word = refl
 
 -- a name that no option has
-pub outcome-unknown : (h : Held) (waiting : Waiting) (word name : Text) (v : Option Text) (words : List Text) → IsLong word name v
+pub outcome-unknown : (h : Held) (waiting : Waiting) (word name : Text) (v : Option Text) (words : List Text)
+    → IsLong word name v
     → is_option_name name ≡ false → outcome (walk_at h waiting) (word ∷ words) ≡ None
 outcome-unknown h waiting word name v words is unknown =
     refused (walk_at h waiting) word words UnknownArgument []
@@ -113,15 +114,19 @@ abbrev pub held_with : Text → Text → Held → Held
 held_with name text h = record h { rows = rows_with name text (held_rows h); pending = None }
 
 -- an option with its value is refused with what is held, or for itself
-valued_fault : (h : Held) (waiting : Waiting) (word name text : Text) → IsLong word name (Some text) → is_option_name name ≡ true
+valued_fault : (h : Held) (waiting : Waiting) (word name text : Text) → IsLong word name (Some text)
+    → is_option_name name ≡ true
     → word_fault (walk_at h waiting) word ≡ or_else (or_else (held_fault h) (value_fault name text (held_rows h))) []
-valued_fault h waiting word name text is known = rw (no_subcommand waiting word, is.no_dashes, is.long, by_long name, known) refl
+valued_fault h waiting word name text is known = rw
+    (no_subcommand waiting word, is.no_dashes, is.long, by_long name, known) refl
 
 -- the walk after it
-after_valued : (h : Held) (waiting : Waiting) (word name text : Text) → IsLong word name (Some text) → is_option_name name ≡ true
+after_valued : (h : Held) (waiting : Waiting) (word name text : Text) → IsLong word name (Some text)
+    → is_option_name name ≡ true
     → after_word (walk_at h waiting) word ≡ walk_at (held_with name text h) idle
 unfolding walked
-after_valued h waiting word name text is known = rw (no_subcommand waiting word, is.no_dashes, is.long, by_long name, known) refl
+after_valued h waiting word name text is known = rw
+    (no_subcommand waiting word, is.no_dashes, is.long, by_long name, known) refl
 
 -- an option with its value, which passes
 pub outcome-valued : (h : Held) (waiting : Waiting) (word name text : Text) (words : List Text) → IsLong word name (Some text)

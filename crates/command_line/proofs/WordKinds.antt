@@ -1,5 +1,6 @@
 -- The kind of a word, beside what the parser of options takes the word for.
-use Rattle.std.proofs.Common.{◌≡◌, ◌≢◌, ◌∙◌, ℕ, ◌+◌, ◌==◌, ◌||◌, Bool, true, false, not, [], ◌∷◌, length, take, Option, None}
+use Rattle.std.proofs.Common.{◌≡◌, ◌≢◌, ◌∙◌, ℕ, ◌+◌, ◌==◌, ◌||◌, Bool, true, false, not}
+use Rattle.std.proofs.Common.{[], ◌∷◌, length, take, Option, None}
 use Rattle.std.proofs.Common.{Some, cond}
 use Rattle.std.proofs.Common.{bytes_eq, nat_eq, refl, subst, ap, sym, inl, inr, arith, ne_eqb}
 use Rattle.std.specs.List.{list_any, before_first, after_first, position_or_len}

@@ -1,5 +1,6 @@
 -- The numbers of a command line.
-use Rattle.std.specs.Prelude.{ℕ, ◌&&◌, List, length, Option, Some, None, option_and_then, nat_lt, nat_le, if◌then◌else◌}
+use Rattle.std.specs.Prelude.{ℕ, ◌&&◌, List, length, Option, Some, None, option_and_then, nat_lt, nat_le}
+use Rattle.std.specs.Prelude.{if◌then◌else◌}
 use Rattle.std.specs.List.{list_all}
 use Rattle.std.specs.Char.{is_ascii_digit}
 use Rattle.std.specs.Str.Parse.{digits_value}

@@ -1,7 +1,8 @@
 -- What follows of a run from what it comes to and what the sink took.
 use Rattle.std.proofs.Common.{arith, ◌≡◌, ◌≢◌, ℕ, List, [], ◌∷◌, Option, Some}
 use Rattle.std.proofs.Common.{None, IfSome, Err, refl, sym, subst, lit<, ◌⊎◌, inl, inr}
-use Rattle.std.specs.Prelude.{Contains, Bool, true, false, not, ◌&&◌, ◌||◌, if◌then◌else◌, option_and_then, bytes_eq}
+use Rattle.std.specs.Prelude.{Contains, Bool, true, false, not, ◌&&◌, ◌||◌, if◌then◌else◌}
+use Rattle.std.specs.Prelude.{option_and_then, bytes_eq}
 use Rattle.page_space.specs.declared.sizes.Sizes.{Sizes}
 use Rattle.command_line.specs.declared.invocation.Invocation.{Invocation}
 use Rattle.command_line.specs.declared.invocation.Invocation.TheVariants.{Run}

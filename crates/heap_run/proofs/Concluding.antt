@@ -1,5 +1,6 @@
 -- What a run on a heap comes to, once its last line is written.
-use Rattle.std.proofs.Common.{◌≡◌, ◌≢◌, ℕ, ◌+◌, ◌≤◌, ◌⊎◌, inl, inr, List, [], length, arith, Some, None, Ok, refl, subst, ◌∙◌}
+use Rattle.std.proofs.Common.{◌≡◌, ◌≢◌, ℕ, ◌+◌, ◌≤◌, ◌⊎◌, inl, inr, List, [], length}
+use Rattle.std.proofs.Common.{arith, Some, None, Ok, refl, subst, ◌∙◌}
 use Rattle.script_text.specs.Scripts.{ScriptText}
 use Rattle.script_text.specs.Grammar.{reading}
 use Rattle.mutator.specs.Heap.{FirstWords}

@@ -6,3 +6,5 @@ mod PutLayouts
 mod Starting
 mod Ranges
 mod ClassValues
+mod BoxShapes
+mod ShownHeld

@@ -4,3 +4,4 @@ pub mod Lending
 pub mod Reading
 pub mod Opening
 pub mod Values
+pub mod ValueLaws

@@ -7,6 +7,7 @@
 #![tactic(auto)]
 
 mod blocks;
+mod laws;
 mod main_side;
 mod opening;
 mod room;
@@ -16,6 +17,7 @@ mod stores;
 mod tests;
 mod values;
 
+pub use laws::laws_of_values;
 pub use main_side::Main;
 pub use room::NoRoom;
 pub use values::slot_word;
