@@ -7,12 +7,12 @@ mod FoundObjects
 mod Changes
 mod Stays
 mod ReachedLinks
-mod Reaches
+pub mod Reaches
 mod Agreement
 pub mod FieldLimits
 mod DistinctKeys
 mod Held
-mod HeldParts
+pub mod HeldParts
 mod HeldElements
 pub mod ShortPaths
 pub mod MadeGraphs

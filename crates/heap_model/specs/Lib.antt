@@ -1,4 +1,5 @@
 pub mod Heaps
+pub mod Images
 pub mod Slots
 pub mod Kinds
 pub mod Wholeness

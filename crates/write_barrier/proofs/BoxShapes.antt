@@ -46,7 +46,8 @@ box_word_is paths (suc (suc (suc (suc (suc zero))))) same = refl
 box_word_is paths (suc (suc (suc (suc (suc (suc zero)))))) same = absurd (omega (arith, same))
 box_word_is paths (suc (suc (suc (suc (suc (suc (suc zero))))))) same = absurd (omega (arith, same))
 box_word_is paths (suc (suc (suc (suc (suc (suc (suc (suc place)))))))) same =
-    absurd (no_path_word (slice_get paths place) (ap (λ found. unwrap_or found 0) (sym (slice_get-map word_of paths place)) ∙ same))
+    absurd (no_path_word (slice_get paths place)
+    (ap (λ found. unwrap_or found 0) (sym (slice_get-map word_of paths place)) ∙ same))
 
 -- the layout word of a cell is that of its shape
 bits_are : {heap : Heap} {cell : Cell} {words : List ℕ} → HasSizes heap → HasCell heap cell words

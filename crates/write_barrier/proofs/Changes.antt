@@ -1,5 +1,6 @@
 -- Words that change one after another while a heap is opened.
-use Rattle.std.proofs.Common.{◌≡◌, ◌≢◌, ℕ, ◌+◌, ◌*◌, ◌<◌, ◌≤◌, ◌⊎◌, inl, inr, List, length, Some, slice_get}
+use Rattle.std.proofs.Common.{◌≡◌, ◌≢◌, ℕ, ◌+◌, ◌*◌, ◌<◌, ◌≤◌, ◌⊎◌, inl, inr, List}
+use Rattle.std.proofs.Common.{length, Some, slice_get}
 use Rattle.std.proofs.Common.{refl, sym, ◌∙◌, ap, subst, arith, length-set, below_more}
 use Rattle.std.specs.Prelude.{slice_set}
 use Rattle.std.proofs.lemmas.List.{length-replicate, get_or-replicate}
@@ -35,7 +36,8 @@ changes_none main from to =
     record { space = refl; phase = refl; paths = refl; young = refl; count = refl; beside = λ at out. refl }
 
 -- what is beside a stretch is beside a part of it
-still_out : (at from to start end : ℕ) → from ≤ start → end ≤ to → (at < from) ⊎ (to ≤ at) → (at < start) ⊎ (end ≤ at)
+still_out : (at from to start end : ℕ) → from ≤ start → end ≤ to → (at < from) ⊎ (to ≤ at)
+    → (at < start) ⊎ (end ≤ at)
 still_out at from to start end low high (inl before) = inl (omega arith)
 still_out at from to start end low high (inr behind) = inr (omega arith)
 

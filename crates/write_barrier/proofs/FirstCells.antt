@@ -100,7 +100,8 @@ gap_is_cell main page is below =
         first = (is.gaps page below).header;
         known = omega arith;
         is_layout = record { cap = refl; used = refl; raw = refl };
-        of_shape = slice_get-layouts_in space (heap_words main.seat) gap_shape (omega arith) ∙ is.layouts gap_shape (omega arith);
+        of_shape = slice_get-layouts_in space (heap_words main.seat) gap_shape (omega arith)
+            ∙ is.layouts gap_shape (omega arith);
         second = (is.gaps page below).size;
         sized = refl;
         ends = omega arith;
@@ -143,7 +144,8 @@ first_row_stands main extent is there =
     (first_row_of main extent.region is (cells_alone main.seat.space extent there) place.is_region)
 
 -- a cell of such a row is a gap
-row_has_gaps : (region : Region) (start : ℕ) (cell : Cell) → Contains (first_cells region start) cell → page_gap start ≡ cell
+row_has_gaps : (region : Region) (start : ℕ) (cell : Cell) → Contains (first_cells region start) cell
+    → page_gap start ≡ cell
 row_has_gaps (Page page) start cell there = contains_only (page_gap start) cell there
 row_has_gaps Eden start cell there = contains_none [] cell refl there
 row_has_gaps (Segment half worker) start cell there = contains_none [] cell refl there

@@ -40,7 +40,8 @@ start_is = record {
 }
 
 -- no segment has survivors
-no_survivors_in : (region : Region) (extent : Extent) → region ≡ extent.region → survivors_in (first_row extent) region ≡ 0
+no_survivors_in : (region : Region) (extent : Extent) → region ≡ extent.region
+    → survivors_in (first_row extent) region ≡ 0
 no_survivors_in (Segment half worker) extent same =
     ap (λ (r : Region). first_end r extent.start extent.words - extent.start) (sym same) ∙ omega arith
 no_survivors_in (Page page) extent same = refl
@@ -61,7 +62,8 @@ no_survivors (extent ∷ extents) =
 -- a row stands in each region of cells
 rows_are : (main : Mutator) → IsStarted main → AreRows (heap_of main) (map first_row (cell_extents main.seat.space))
 rows_are main is = record {
-  everywhere = map-map (λ (row : Row). row.extent) first_row (cell_extents main.seat.space) ∙ map-id (cell_extents main.seat.space);
+  everywhere = map-map (λ (row : Row). row.extent) first_row (cell_extents main.seat.space)
+      ∙ map-id (cell_extents main.seat.space);
   each = All-map (IsUsedRow (heap_of main)) first_row (cell_extents main.seat.space)
       (λ k extent below. first_row_stands main _ is (All-contains_itself (cell_extents main.seat.space) k extent below));
 }

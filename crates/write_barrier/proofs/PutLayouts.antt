@@ -1,5 +1,6 @@
 -- Layout words that are put one after another.
-use Rattle.std.proofs.Common.{◌≡◌, ◌≢◌, ℕ, ◌+◌, ◌<◌, ◌≤◌, List, length, map, Some, slice_get, unwrap_or}
+use Rattle.std.proofs.Common.{◌≡◌, ◌≢◌, ℕ, ◌+◌, ◌<◌, ◌≤◌, List, length, map, Some}
+use Rattle.std.proofs.Common.{slice_get, unwrap_or}
 use Rattle.std.proofs.Common.{refl, sym, ◌∙◌, ap, subst, arith, ⊎_elim, below_more, length-append}
 use Rattle.std.specs.Prelude.{slice_set}
 use Rattle.std.proofs.lemmas.Bool.{cases_lt}
@@ -62,17 +63,20 @@ layouts_rest old words shape is below other from few =
 -- one layout word more
 pub layouts_more : (old new : Mutator) (shape : ℕ)
     → new ≡ with_word old (layouts_start old.seat.space + shape) (layout_word old.paths shape)
-    → heap_words new.seat ≡ slice_set (heap_words old.seat) (layouts_start old.seat.space + shape) (layout_word old.paths shape)
+    → heap_words new.seat
+    ≡ slice_set (heap_words old.seat) (layouts_start old.seat.space + shape) (layout_word old.paths shape)
     → layouts_start old.seat.space + shape < length (heap_words old.seat) → LayoutsBelow old shape
     → LayoutsBelow new (shape + 1)
 layouts_more old new shape is heap within below =
     let same_space : old.seat.space ≡ new.seat.space = sym (ap (λ (main : Mutator). main.seat.space) is) in
     let same_paths : old.paths ≡ new.paths = sym (ap (λ (main : Mutator). main.paths) is) in
     let words = heap_words new.seat in
+    let Has : Space → List Path → ℕ → Type 0 = λ space paths other.
+    slice_get words (layouts_start space + other) ≡ Some (layout_word paths other) in
     record {
       known = λ other before few.
-          subst (λ (space : Space). slice_get words (layouts_start space + other) ≡ Some (layout_word new.paths other)) same_space
-          (subst (λ (paths : List Path). slice_get words (layouts_start old.seat.space + other) ≡ Some (layout_word paths other))
+          subst (λ (space : Space). Has space new.paths other) same_space
+          (subst (λ (paths : List Path). Has old.seat.space paths other)
           same_paths (layouts_put old words shape heap within below other before few));
       rest = λ other from few.
           subst (λ (space : Space). slice_get words (layouts_start space + other) ≡ Some 0) same_space

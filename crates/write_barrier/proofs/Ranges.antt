@@ -1,6 +1,8 @@
 -- Lists of words in which a stretch is put.
-use Rattle.std.proofs.Common.{◌≡◌, ℕ, ◌+◌, ◌<◌, ◌≤◌, List, [], ◌∷◌, ◌++◌, length, take, drop, get_or, set, replicate}
-use Rattle.std.proofs.Common.{zero, suc, arith, rules, refl, sym, ◌∙◌, ap, append_assoc, add-one, length-append, length-set, drop-cons, drop-set-lt}
+use Rattle.std.proofs.Common.{◌≡◌, ℕ, ◌+◌, ◌<◌, ◌≤◌, List, [], ◌∷◌, ◌++◌, length}
+use Rattle.std.proofs.Common.{take, drop, get_or, set, replicate}
+use Rattle.std.proofs.Common.{zero, suc, arith, rules, refl, sym, ◌∙◌, ap, append_assoc, add-one}
+use Rattle.std.proofs.Common.{length-append, length-set, drop-cons, drop-set-lt}
 use Rattle.std.proofs.lemmas.List.{places, same_lists, length-replicate, length-take-le, set_at, take_more_set}
 use Rattle.page_space.specs.Extents.{marks_start, words_count}
 use Rattle.word_store.specs.Copies.{copied}
@@ -25,7 +27,12 @@ fill_more words at i word within =
     let front = take at words ++ replicate i word in
     let behind = drop (suc (at + i)) words in
     let long : length front ≡ at + i =
-    omega (arith, length-append (take at words) (replicate i word), length-take-le at words (omega arith), length-replicate i word) in
+    omega (
+      arith,
+      length-append (take at words) (replicate i word),
+      length-take-le at words (omega arith),
+      length-replicate i word,
+    ) in
     let next : drop (at + length (replicate i word)) words ≡ get_or words (at + i) 0 ∷ behind =
     ap (λ n. drop (at + n) words) (length-replicate i word) ∙ drop-cons words (at + i) 0 within in
     let more : replicate (i + 1) word ≡ replicate i word ++ word ∷ [] =
@@ -51,7 +58,8 @@ take_copied words count from to many within room few =
 
 -- two words are put, and others right behind them
 pub with_two : (words others : List ℕ) (at first second : ℕ) → at + 2 + length others ≤ length words
-    → with_range (set (set words at first) (at + 1) second) (at + 2) others ≡ with_range words at (first ∷ second ∷ others)
+    → with_range (set (set words at first) (at + 1) second) (at + 2) others
+    ≡ with_range words at (first ∷ second ∷ others)
 with_two words others at first second within =
     let one = set words at first in
     let two = set one (at + 1) second in

@@ -135,8 +135,10 @@ all_started space first gaps bound last all within counted =
     record {
       quiet = all.layouts.phase ∙ all.put.roots.phase ∙ all.put.pages.phase
           ∙ ap (λ (main : Mutator). main.seat.phase) all.put.is;
-      paths = all.layouts.paths ∙ all.put.roots.paths ∙ all.put.pages.paths ∙ ap (λ (main : Mutator). main.paths) all.put.is;
-      young = all.layouts.young ∙ all.put.roots.young ∙ all.put.pages.young ∙ ap (λ (main : Mutator). main.young) all.put.is
+      paths = all.layouts.paths ∙ all.put.roots.paths ∙ all.put.pages.paths
+          ∙ ap (λ (main : Mutator). main.paths) all.put.is;
+      young = all.layouts.young ∙ all.put.roots.young ∙ all.put.pages.young
+          ∙ ap (λ (main : Mutator). main.young) all.put.is
           ∙ ap (λ (s : Space). (blank s).young) same;
       within = subst (λ (s : Space). AreWithin s.sizes s.variables) same within;
       count = counted;

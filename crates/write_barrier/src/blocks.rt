@@ -19,7 +19,8 @@ impl Main {
         requires within { at + 1 < marks_start self.old.seat.space }
         ensures made { let headed = with_word self.old at (header_bits box_header) in
             self.new ≡ with_word headed (at + 1) (raw_word v) }
-        ensures heap { let headed = slice_set (heap_words self.old.seat) at (header_bits box_header) in
+        ensures heap { let words = heap_words self.old.seat in
+            let headed = slice_set words at (header_bits box_header) in
             heap_words self.new.seat ≡ slice_set headed (at + 1) (raw_word v) }
     {
         // No address of a heap is past 32 bits.
@@ -57,7 +58,8 @@ impl Main {
     pub fn fill_holes(&mut self, at: u32, count: u32)
         requires quiet { self.old.seat.phase ≡ Quiet }
         requires within { at + count ≤ marks_start self.old.seat.space }
-        ensures filled { let table = with_range self.old.seat.table at (replicate count hole_word) in
+        ensures filled { let holes = replicate count hole_word in
+            let table = with_range self.old.seat.table at holes in
             self.new ≡ with_table self.old table }
         ensures heap { let words = heap_words self.old.seat in
             heap_words self.new.seat ≡ with_range words at (replicate count hole_word) }

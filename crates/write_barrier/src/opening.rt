@@ -92,7 +92,8 @@ impl Main {
         ensures firsts { AreUnbound self.new }
         ensures seconds { (variable : ℕ) → variable < self.old.seat.space.variables
             → let second = root_at self.old.seat.space variable + 1 in
-            slice_get (heap_words self.new.seat) second ≡ slice_get (heap_words self.old.seat) second }
+            let words = heap_words self.old.seat in
+            slice_get (heap_words self.new.seat) second ≡ slice_get words second }
         ensures changes { let space = self.old.seat.space in
             ChangesWithin self.old self.new (roots_start space) (layouts_start space) }
     {

@@ -7,10 +7,11 @@ ghost use Rattle.object_graph.specs.Graphs.{start};
 ghost use Rattle.cell_layout.specs.Cells.{IsCell};
 ghost use Rattle.heap_table.specs.declared.phase.Phase.TheVariants.{Quiet};
 ghost use Rattle.heap_table.specs.Seats.{heap_words};
-ghost use Rattle.shape_tree.specs.Shapes.{IsPathShape, IsFullFor, Leads, has_name, shape_path, stepped};
+ghost use Rattle.shape_tree.specs.Shapes.{IsPathShape, IsFullFor, Leads, has_name, shape_path};
+ghost use Rattle.shape_tree.specs.Shapes.{stepped};
 ghost use Rattle.write_barrier.specs.Mains.{IsOpened, MainShows};
 
-use crate::{Main, NoRoom};
+use crate::{Main, NoRoom, slot_word};
 use cell_layout::{Cell, NotACell, cell_at};
 use handle_roots::Held;
 use heap_table::HeapTable;
@@ -206,5 +207,75 @@ fn a_step_leads_to_a_new_shape(rt: HostRuntime) -> Result<(), Fail> {
     assert!(rt; main.shapes().find(shape, 3).is_none() && main.shapes().fields(shape) < 64);
     assert_eq!(rt; step(&mut main, shape, 3, Rep::Wide).ok(), Some(17));
     assert_eq!(rt; main.shapes().paths(), 10);
+    Ok(())
+}
+
+/// Two words of eden are made a box, and five behind them a store of three slots: the first slot
+/// comes to refer to the box, and both others are copied from behind the store.
+#[test]
+fn boxes_and_stores_have_the_words_of_the_table(rt: HostRuntime) -> Result<(), Fail> {
+    let mut main = opened(&rt, rt.alloc())?;
+    let _regions = main.regions();
+    assert!(rt; EDEN + 9 <= main.count());
+    main.make_box(EDEN, 1 << 40);
+    main.write(EDEN + 7, 10);
+    main.write(EDEN + 8, 12);
+    main.fill_store(EDEN + 2, 3);
+    for (offset, word) in [
+        (0, 22),
+        (1, 1 << 40),
+        (2, 14),
+        (3, 3),
+        (4, 7),
+        (5, 7),
+        (6, 7),
+    ] {
+        assert_eq!(rt; word_at(&rt, &main, EDEN + offset), word, "offset {offset}");
+    }
+    main.store(EDEN + 2, 2, Word::reference(EDEN));
+    main.copy_slots(EDEN + 7, EDEN + 5, 2);
+    for (offset, word) in [(3, 3), (4, 0x2001), (5, 10), (6, 12), (7, 10)] {
+        assert_eq!(rt; word_at(&rt, &main, EDEN + offset), word, "offset {offset}");
+    }
+    Ok(())
+}
+
+/// What a word stands for; nothing where it refers to no address before the marks.
+fn value_of(main: &Main, word: Word) -> Option<(bool, Held)>
+    requires { main.now.seat.phase ≡ Quiet }
+{
+    // There are as many words as addresses before the marks.
+    let _regions = main.regions();
+    match word.address() {
+        Some(at) => {
+            if main.count() > 1 && at < main.count() - 1 {
+                Some((main.is_box(word), main.value_of_word(word)))
+            } else {
+                None
+            }
+        }
+        None => Some((main.is_box(word), main.value_of_word(word))),
+    }
+}
+
+#[test]
+fn a_word_stands_for_its_value(rt: HostRuntime) -> Result<(), Fail> {
+    let mut main = opened(&rt, rt.alloc())?;
+    let _regions = main.regions();
+    assert!(rt; EDEN + 1 < main.count());
+    main.make_box(EDEN, -1 << 40);
+    let values = [
+        (Word(10), Some((false, Held::Int(5)))),
+        (Word(3), Some((false, Held::Undefined))),
+        (Word(0x2001), Some((true, Held::Int(-1 << 40)))),
+        (Word(0x15), Some((false, Held::Ref(5)))),
+    ];
+    for (word, value) in values {
+        assert_eq!(rt; value_of(&main, word), value);
+    }
+    assert_eq!(rt; slot_word(Held::Int(5)), Some(Word(10)));
+    assert_eq!(rt; slot_word(Held::Int(1 << 40)), None);
+    assert_eq!(rt; slot_word(Held::Ref(EDEN)), Some(Word(0x2001)));
+    assert_eq!(rt; slot_word(Held::Unbound), None);
     Ok(())
 }

@@ -14,7 +14,8 @@ pub loop-i-preserved : goal.loop-i-preserved
 loop-i-preserved c =
     let first = c.args.self.now in
     let i = c.loop-i.i in
-    let written = c.write.ensures.written ∙ ap (λ (word : ℕ). with_word c.loop-i.self (c.args.at + i) word) c.odd-hole.ensures in
+    let written =
+    c.write.ensures.written ∙ ap (λ (word : ℕ). with_word c.loop-i.self (c.args.at + i) word) c.odd-hole.ensures in
     let within : c.args.at + i < length first.seat.table =
     omega (arith, c.regions-regions.ensures.counted, marks_within first.seat.space) in
     put_more first c.loop-i.self c.write.new.self (with_range first.seat.table c.args.at (replicate i hole_word))

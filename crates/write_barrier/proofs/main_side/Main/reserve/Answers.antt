@@ -1,10 +1,12 @@
 -- The run that eden has room for.
 use Rattle.std.proofs.Common.{subst}
+use Rattle.page_space.specs.declared.run.Run.{Run}
 use Rattle.write_barrier.specs.Mains.{Mutator, IsNextRun}
 use Rattle.write_barrier.proofs.Places.{next_run}
 use Rattle.write_barrier.proofs.main_side.Main.reserve.Goals as goal
 
 pub returns-clause-run : goal.returns-clause-run
 returns-clause-run c =
-    subst (λ (main : Mutator). IsNextRun main.young.space main.young.used c.args.n (record { at = c.in-Some.at; words = c.args.n }))
+    let run : Run = record { at = c.in-Some.at; words = c.args.n } in
+    subst (λ (main : Mutator). IsNextRun main.young.space main.young.used c.args.n run)
     c.self.view_is (next_run c.self.inside.nursery c.args.n c.in-Some.at c.in-Some.ensures.at c.in-Some.ensures.room)

@@ -6,5 +6,6 @@ use Rattle.write_barrier.proofs.main_side.Main.value_of_word.Goals as goal
 
 pub returns-in-None : goal.returns-in-None
 returns-in-None c = λ class is bits.
-    value_by_class (heap_of c.args.self.now) c.args.word.0 c.value_in.result class (sym c.in-None.ensures) c.value_in.ensures.small
+    value_by_class (heap_of c.args.self.now) c.args.word.0 c.value_in.result class (sym c.in-None.ensures)
+    c.value_in.ensures.small
     c.value_in.ensures.odd is bits

@@ -1,0 +1,101 @@
+-- The words behind the rows of a heap, region by region.
+use Rattle.std.proofs.Common.{◌≡◌, ℕ, ◌+◌, ◌≤◌, ◌<◌, List, Contains, sym, ◌∙◌, ap, subst, inl, inr, arith}
+use Rattle.std.proofs.lemmas.Bool.{cases_lt}
+use Rattle.std.proofs.lemmas.List.Elements.{All-contains}
+use Rattle.tagged_word.proofs.Members.{in_map}
+use Rattle.page_space.specs.Extents.{Extent, Holds, CellsEndAt, roots_start}
+use Rattle.page_space.specs.RegionLaws.{IsSpace}
+use Rattle.page_space.proofs.Covering.{disjoint}
+use Rattle.heap_model.specs.Heaps.{Heap, Row, IsUsedRow, cell_extents}
+use Rattle.heap_model.specs.Wholeness.{HasRows, Blank}
+use Rattle.heap_model.proofs.RowEnds.{one_used_row}
+use Rattle.heap_model.proofs.CellsApart.{cell_extent_stands}
+use Rattle.heap_model.proofs.WordsAlike.{extent_below_roots}
+use Rattle.heap_check.specs.RegionRows.{StandsFrom, IsRowAt, EndsRowAt, AreZero, IsBlankFrom}
+use Rattle.heap_check.proofs.Extents.{one_extent, holds_first}
+use Rattle.heap_check.proofs.CountedRows.{row_at}
+use Rattle.heap_check.proofs.Seams.{IsSeam, first_seam, next_seam, seam_stands}
+
+-- the words behind the rows of the regions before the address are 0
+pub record BlankTo (heap : Heap) (at : ℕ) : Type 0 where
+  pub seam : IsSeam heap.space at
+  pub blank : (row : Row) → Contains (cell_extents heap.space) row.extent → IsUsedRow heap row → row.extent.start < at
+      → AreZero heap row.end (row.extent.start + row.extent.words)
+
+-- nothing was passed
+pub blank_none : (heap : Heap) → BlankTo heap 0
+blank_none heap = record {
+  seam = first_seam heap.space;
+  blank = λ row among used below. absurd (omega (arith, below));
+}
+
+-- one region more was passed
+pub blank_more : (heap : Heap) (at end : ℕ) → IsSpace heap.space → CellsEndAt heap.space at end → BlankTo heap at
+    → IsBlankFrom heap at end → BlankTo heap end
+blank_more heap at end limits cells to blank =
+    let stands = seam_stands heap.space at end to.seam limits cells in
+    record {
+      seam = (next_seam heap.space at end to.seam limits cells).next;
+      blank = λ row among used below. elim (cases_lt row.extent.start at) [
+        | inl early ↦ to.blank row among used early
+        | inr from ↦
+            let there = cell_extent_stands heap.space row.extent among in
+            let here : Holds stands.extent row.extent.start = record {
+              from = omega (arith, from, stands.starts);
+              below = omega (arith, below, stands.ends);
+            } in
+            let same : row.extent ≡ stands.extent =
+            disjoint heap.space row.extent stands.extent row.extent.start there
+            (cell_extent_stands heap.space stands.extent stands.among) (holds_first heap.space row.extent limits there) here in
+            let is : IsRowAt heap at row = record {
+              among = among;
+              starts = ap (λ (e : Extent). e.start) same ∙ stands.starts;
+              used = used;
+            } in
+            let ends = ap (λ (e : Extent). e.start + e.words) same ∙ stands.ends in
+            subst (AreZero heap row.end) (sym ends) (blank row is)
+      ];
+    }
+
+-- at the roots all words behind the rows are 0
+pub blank_all : (heap : Heap) (at : ℕ) → IsSpace heap.space → HasRows heap → roots_start heap.space ≤ at → BlankTo heap at
+    → Blank heap
+blank_all heap at limits rows past to = record {
+  rows = rows.rows;
+  are = rows.are;
+  rest = λ row a has from below.
+      let Has : List Extent → Type 0 = λ all. Contains all row.extent in
+      let among = subst Has rows.are.everywhere (in_map (λ (row : Row). row.extent) rows.rows row has) in
+      let used = All-contains (IsUsedRow heap) rows.rows row rows.are.each has in
+      let inside = holds_first heap.space row.extent limits (cell_extent_stands heap.space row.extent among) in
+      to.blank row among used
+      (omega (arith, inside.below, extent_below_roots heap.space row.extent among, past)) a from below;
+}
+
+-- in a blank heap the words behind the row of each region are 0
+pub blank_of : (heap : Heap) (start end : ℕ) → IsSpace heap.space → StandsFrom heap.space start end → Blank heap
+    → IsBlankFrom heap start end
+blank_of heap start end limits stands blank row is a from below =
+    let found = row_at heap blank.rows row.extent blank.are is.among in
+    let other = found.0 in
+    let one = one_used_row heap other row (All-contains (IsUsedRow heap) blank.rows other blank.are.each found.1) is.used
+    found.2 in
+    let same : row.extent ≡ stands.extent =
+    one_extent heap.space row.extent stands.extent limits is.among stands.among (is.starts ∙ sym stands.starts) in
+    let ends = ap (λ (e : Extent). e.start + e.words) (found.2 ∙ same) ∙ stands.ends in
+    blank.rest other a found.1 (omega (arith, one.end, from)) (omega (arith, ends, below))
+
+-- the row of a region ends in one place, behind which words are 0 or not
+pub zero_from : (heap : Heap) (start end at : ℕ) → EndsRowAt heap start at → IsSpace heap.space
+    → AreZero heap at end → IsBlankFrom heap start end
+zero_from heap start end at ends limits zero row is =
+    let same : row.extent ≡ ends.row.extent =
+    one_extent heap.space row.extent ends.row.extent limits is.among ends.is.among (is.starts ∙ sym ends.is.starts) in
+    let one = one_used_row heap row ends.row is.used ends.is.used same in
+    subst (λ (from : ℕ). AreZero heap from end) (sym (one.end ∙ ends.ends)) zero
+
+-- and the other way round
+pub from_zero : (heap : Heap) (start end at : ℕ) → EndsRowAt heap start at → IsBlankFrom heap start end
+    → AreZero heap at end
+from_zero heap start end at ends blank =
+    subst (λ (from : ℕ). AreZero heap from end) ends.ends (blank ends.row ends.is)

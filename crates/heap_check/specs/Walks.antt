@@ -1,0 +1,72 @@
+-- Walks along a row of cells: how far a row may go, and what a walk comes to.
+use Rattle.std.specs.Prelude.{◌≡◌, ℕ, ◌+◌, ◌≤◌, ◌<◌, ◌⊎◌, List, length, Contains, IsTrue, Some, slice_get}
+use Rattle.tagged_word.specs.Shapes.{shapes_most}
+use Rattle.page_space.specs.Extents.{layouts_start, marks_start}
+use Rattle.shape_tree.specs.ShapeLayouts.{layout_word}
+use Rattle.cell_layout.specs.declared.cell.Cell.{Cell}
+use Rattle.cell_layout.specs.Cells.{IsCell, IsRow}
+use Rattle.heap_model.specs.Heaps.{Heap}
+use Rattle.heap_check.specs.declared.row.Bound.{Bound}
+use Rattle.heap_check.specs.declared.row.Step.{Step}
+use Rattle.heap_check.specs.declared.row.Step.TheVariants.{Ended, Found, Broken}
+
+-- as many words as the regions before the marks have
+abbrev pub HasWords : Heap → Type 0
+HasWords heap = length heap.words ≡ marks_start heap.space
+
+-- the layout words are those of the shapes in use, and else 0
+abbrev pub HasLayouts : Heap → Type 0
+HasLayouts heap =
+    (shape : ℕ) → shape < shapes_most
+    → slice_get heap.words (layouts_start heap.space + shape) ≡ Some (layout_word heap.paths shape)
+
+-- a row may end there: at its limit, or where it may be blank and the word is 0
+abbrev pub Stops : Heap → Bound → ℕ → Type 0
+Stops heap bound end =
+    (end ≡ bound.limit) ⊎ (IsTrue bound.blank × (slice_get heap.words end ≡ Some 0))
+
+-- cells in a row from one address to another, where it may end
+pub record IsWalk (heap : Heap) (bound : Bound) (from end : ℕ) (cells : List Cell) : Type 0 where
+  pub row : IsRow heap.space heap.words from end cells
+  pub within : end ≤ bound.limit
+  pub stops : Stops heap bound end
+
+-- no row goes on from the address
+abbrev pub HasNoWalk : Heap → Bound → ℕ → Type 0
+HasNoWalk heap bound from = (end : ℕ) (cells : List Cell) → IsWalk heap bound from end cells → ⊥
+
+-- the cell stands at the address, and ends before the limit or there
+pub record GoesOn (heap : Heap) (bound : Bound) (at : ℕ) (cell : Cell) : Type 0 where
+  pub starts : cell.at ≡ at
+  pub is_cell : IsCell heap.space heap.words cell
+  pub some : 1 ≤ cell.size
+  pub within : at + cell.size ≤ bound.limit
+
+-- what a walk comes to at an address
+abbrev pub IsStep : Heap → Bound → ℕ → Step → Type 0
+IsStep heap bound at (Ended end) = (end ≡ at) × Stops heap bound at
+IsStep heap bound at (Found cell) = GoesOn heap bound at cell
+IsStep heap bound at Broken = HasNoWalk heap bound at
+
+-- all cells of a row stand before an address
+abbrev pub AreBefore : ℕ → List Cell → Type 0
+AreBefore least cells = (cell : Cell) → Contains cells cell → cell.at < least
+
+-- the row ends there, and no cell of it is at the address or behind it
+pub record EndsBefore (heap : Heap) (bound : Bound) (from least end : ℕ) : Type 0 where
+  pub cells : List Cell
+  pub walk : IsWalk heap bound from end cells
+  pub before : AreBefore least cells
+
+-- the cell is the first of the cells that stands at the address or behind it
+pub record IsFirstAmong (cells : List Cell) (least : ℕ) (cell : Cell) : Type 0 where
+  pub among : Contains cells cell
+  pub reached : least ≤ cell.at
+  pub first : (other : Cell) → Contains cells other → least ≤ other.at → cell.at ≤ other.at
+
+-- what a walk from an address comes to that looks for the first cell at another address or behind it
+abbrev pub IsFirstOfWalk : Heap → Bound → ℕ → ℕ → Step → Type 0
+IsFirstOfWalk heap bound from least (Ended end) = EndsBefore heap bound from least end
+IsFirstOfWalk heap bound from least (Found cell) =
+    (end : ℕ) (cells : List Cell) → IsWalk heap bound from end cells → IsFirstAmong cells least cell
+IsFirstOfWalk heap bound from least Broken = HasNoWalk heap bound from

@@ -1,0 +1,27 @@
+//! Heap check: whether an image is a whole heap, found out by looking at each of its words.
+//!
+//! Model: none of its own. An image is a `Heap` of `heap_model`, and each judge here answers
+//! whether one of the predicates of its `specs/Wholeness.antt` holds of it.
+//! Invariant: none. A judge that needs what another one found requires the predicate of that one;
+//! `has_frame` requires nothing.
+//! No judge takes memory: where one needs a cell again, it walks to it again.
+#![tactic(auto)]
+
+mod blank;
+mod finding;
+mod frame;
+mod reads;
+mod region_rows;
+mod roots;
+mod row;
+mod rows;
+mod sizes;
+#[cfg(test)]
+mod tests;
+
+pub use blank::is_blank;
+pub use finding::find_cell;
+pub use frame::has_frame;
+pub use roots::has_roots;
+pub use rows::has_rows;
+pub use sizes::has_sizes;

@@ -1,0 +1,82 @@
+//! The used row of a region: where it ends.
+ghost use Rattle.std.specs.Prelude.{◌≡◌, ◌+◌, ◌≤◌, MatchOption};
+ghost use Rattle.heap_model.specs.Images.{image_heap};
+ghost use Rattle.heap_check.specs.Walks.{HasWords};
+ghost use Rattle.heap_check.specs.RegionRows.{StandsFrom, BoundsFrom, bound_in, survivors_by};
+ghost use Rattle.heap_check.specs.RegionRows.{HasNoRowAt, EndsRowAt, CountsRowAt, IsFew};
+
+use crate::row::{Bound, Step, first_of_row};
+use heap_model::HeapImage;
+use page_space::Region;
+
+/// How far the row of a region may go that stands between two addresses.
+pub(crate) fn bound_of(image: &HeapImage, start: u32, end: u32) -> Bound
+    requires few { IsFew (image_heap image.now) }
+    requires stands { StandsFrom image.now.regions start end }
+    ensures { BoundsFrom (image_heap image.now) start end result }
+{
+    // Tells that the sizes are within their limits, so that no region is empty.
+    let _words_count = image.regions.count();
+    bound_by(image.regions.region(start), start, end, image.used)
+}
+
+/// How far the row of this region may go, by its kind.
+fn bound_by(region: Region, start: u32, end: u32, used: u32) -> Bound
+    requires { start + used ≤ u32.MAX }
+    ensures { result ≡ bound_in region start end used }
+{
+    match region {
+        Region::Eden => Bound {
+            limit: start + used,
+            blank: false,
+        },
+        Region::Segment { half: _, worker: _ } => Bound {
+            limit: end,
+            blank: true,
+        },
+        _ => Bound {
+            limit: end,
+            blank: false,
+        },
+    }
+}
+
+/// Where the used row of a region ends that stands between two addresses; none where no cells
+/// stand in it from its first address to its end.
+pub(crate) fn row_end(image: &HeapImage, start: u32, end: u32) -> Option<u32>
+    requires sized { HasWords (image_heap image.now) }
+    requires few { IsFew (image_heap image.now) }
+    requires stands { StandsFrom image.now.regions start end }
+    ensures { MatchOption result (HasNoRowAt (image_heap image.now) start)
+        (λ row_end. EndsRowAt (image_heap image.now) start row_end) }
+{
+    let bound = bound_of(image, start, end);
+    match first_of_row(image, start, bound, bound.limit) {
+        Step::Ended(row_end) => Some(row_end),
+        // No cell of a row is at its limit.
+        Step::Found(_) => None,
+        Step::Broken => None,
+    }
+}
+
+/// How many words of survivors a row has.
+pub(crate) fn survivors_at(image: &HeapImage, start: u32, end: u32, row_end: u32) -> u32
+    requires few { IsFew (image_heap image.now) }
+    requires stands { StandsFrom image.now.regions start end }
+    requires ends { EndsRowAt (image_heap image.now) start row_end }
+    ensures counted { CountsRowAt (image_heap image.now) start result }
+    ensures within { start + result ≤ end }
+{
+    let _words_count = image.regions.count();
+    survivors_of_region(image.regions.region(start), row_end - start)
+}
+
+/// How many of the words of a row are survivors', by the kind of its region.
+fn survivors_of_region(region: Region, words: u32) -> u32
+    ensures { result ≡ survivors_by region words }
+{
+    match region {
+        Region::Segment { half: _, worker: _ } => words,
+        _ => 0,
+    }
+}

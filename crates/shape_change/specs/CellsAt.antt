@@ -1,0 +1,82 @@
+-- The cells that calls touch, by their addresses.
+use Rattle.std.specs.Prelude.{◌≡◌, ℕ, ◌<◌, List, length, ℤ, IsTrue, FitsSigned}
+use Rattle.std.specs.Prelude.{Some, slice_get, nat_lt}
+use Rattle.std.specs.Int.{w64}
+use Rattle.object_graph.specs.declared.path.PathField.{PathField}
+use Rattle.object_graph.specs.declared.value.Value.{Value}
+use Rattle.shape_tree.specs.Shapes.{shape_path}
+use Rattle.heap_model.specs.Showing.{ShowsField, ShowsHeld}
+use Rattle.tagged_word.specs.declared.header.Header.{Header}
+use Rattle.tagged_word.specs.declared.layout.Kind.TheVariants as kind
+use Rattle.cell_layout.specs.declared.cell.Cell.{Cell}
+use Rattle.handle_roots.specs.declared.held.Held.{Held}
+use Rattle.handle_roots.specs.declared.held.Held.TheVariants as held
+use Rattle.heap_table.specs.declared.phase.Phase.TheVariants.{Quiet}
+use Rattle.heap_model.specs.Heaps.{Heap, HasCell}
+use Rattle.heap_model.specs.Slots.{raw_word, is_object_kind}
+use Rattle.heap_model.specs.Kinds.{HasWord, HasSlots}
+use Rattle.heap_model.specs.Wholeness.{Whole}
+use Rattle.write_barrier.specs.Mains.{Mutator, heap_of}
+
+-- The heap is whole, and only the mutator runs.
+pub record IsWhole (main : Mutator) : Type 0 where
+  pub quiet : main.seat.phase ≡ Quiet
+  pub whole : Whole (heap_of main)
+
+-- a cell of the heap stands at the address
+pub record HasCellAt (heap : Heap) (at : ℕ) : Type 0 where
+  pub cell : Cell
+  pub words : List ℕ
+  pub has : HasCell heap cell words
+  pub stands : cell.at ≡ at
+
+-- it is the header of the cell at the address
+abbrev pub IsHeaderAt : Heap → ℕ → Header → Type 0
+IsHeaderAt heap at header =
+    (cell : Cell) (words : List ℕ) → HasCell heap cell words → cell.at ≡ at → cell.header ≡ header
+
+-- of a box at the address it is the integer
+abbrev pub TellsBox : Heap → ℕ → Held → Type 0
+TellsBox heap at result =
+    (cell : Cell) (words : List ℕ) (v : ℤ) → HasCell heap cell words → cell.at ≡ at → cell.layout.kind ≡ kind.Boxed
+    → HasWord words 1 (raw_word v) → FitsSigned w64 v → result ≡ held.Int v
+
+-- of an object's cell at the address it is that object
+abbrev pub TellsObject : Heap → ℕ → Held → Type 0
+TellsObject heap at result =
+    (cell : Cell) (words : List ℕ) → HasCell heap cell words → cell.at ≡ at → IsTrue (is_object_kind cell.layout.kind)
+    → result ≡ held.Ref at
+
+-- the cell at the address has so many in-object slots
+abbrev pub IsCapAt : Heap → ℕ → ℕ → Type 0
+IsCapAt heap at cap = (cell : Cell) (words : List ℕ) → HasCell heap cell words → cell.at ≡ at → cell.layout.cap ≡ cap
+
+-- a plain object's cell stands at the address, and has a slot of this number
+pub record HasPlainSlot (heap : Heap) (at slot : ℕ) : Type 0 where
+  pub cell : Cell
+  pub words : List ℕ
+  pub has : HasCell heap cell words
+  pub stands : cell.at ≡ at
+  pub plain : cell.layout.kind ≡ kind.Plain
+  pub slots : List ℕ
+  pub are : HasSlots heap words slots
+  pub below : slot < length slots
+
+-- a plain object's cell of this shape stands at the address, and has a field of this number
+pub record HasField (heap : Heap) (at shape slot : ℕ) : Type 0 where
+  pub cell : Cell
+  pub words : List ℕ
+  pub has : HasCell heap cell words
+  pub stands : cell.at ≡ at
+  pub plain : cell.layout.kind ≡ kind.Plain
+  pub of_shape : cell.header.shape ≡ shape
+  pub below : slot < length (shape_path heap.paths shape).fields
+
+-- of the field of this number of the plain object at the address it is the value
+abbrev pub TellsField : Heap → ℕ → ℕ → Held → Type 0
+TellsField heap at slot result =
+    (cell : Cell) (words slots : List ℕ) (field : PathField) (word : ℕ) (value : Value) → HasCell heap cell words
+    → cell.at ≡ at → HasSlots heap words slots
+    → slice_get (shape_path heap.paths cell.header.shape).fields slot ≡ Some field → HasWord slots slot word
+    → ShowsField heap (nat_lt slot (shape_path heap.paths cell.header.shape).cap) word field.rep value
+    → ShowsHeld heap result (Some value)

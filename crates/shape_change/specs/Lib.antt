@@ -1,0 +1,4 @@
+pub mod FieldChanges
+pub mod CellsAt
+pub mod Places
+pub mod Refills
