@@ -1,5 +1,6 @@
 -- The walk from region to region: an address between two of them, and the next.
-use Rattle.std.proofs.Common.{◌≡◌, ℕ, ◌+◌, ◌≤◌, List, [], ◌∷◌, ◌++◌, Contains, refl, sym, ◌∙◌, ap, subst, arith}
+use Rattle.std.proofs.Common.{◌≡◌, ℕ, ◌+◌, ◌≤◌, List, [], ◌∷◌, ◌++◌, Contains, refl, sym}
+use Rattle.std.proofs.Common.{◌∙◌, ap, subst, arith}
 use Rattle.std.proofs.Common.{append_assoc, append-nil}
 use Rattle.page_space.specs.Extents.{Space, Stretch, Extent, CellsEndAt, cell_stretches, extents_from, words_in, roots_start}
 use Rattle.page_space.specs.RegionLaws.{IsSpace}

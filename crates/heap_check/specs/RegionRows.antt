@@ -1,5 +1,6 @@
 -- The used rows of the regions of cells, by their first addresses.
-use Rattle.std.specs.Prelude.{◌≡◌, ℕ, ◌+◌, ◌≤◌, ◌<◌, true, false, ◌↔◌, Contains, List, Some, slice_get}
+use Rattle.std.specs.Prelude.{◌≡◌, ℕ, ◌+◌, ◌≤◌, ◌<◌, true, false, ◌↔◌, Contains, List, Some}
+use Rattle.std.specs.Prelude.{slice_get}
 use Rattle.page_space.specs.declared.region.Region.{Region}
 use Rattle.page_space.specs.declared.region.Region.TheVariants.{Eden, Segment}
 use Rattle.page_space.specs.Sizes.{AreWithin}

@@ -1,5 +1,6 @@
 -- Walks along a row of cells: how far a row may go, and what a walk comes to.
-use Rattle.std.specs.Prelude.{◌≡◌, ℕ, ◌+◌, ◌≤◌, ◌<◌, ◌⊎◌, List, length, Contains, IsTrue, Some, slice_get}
+use Rattle.std.specs.Prelude.{◌≡◌, ℕ, ◌+◌, ◌≤◌, ◌<◌, ◌⊎◌, List, length, Contains, IsTrue}
+use Rattle.std.specs.Prelude.{Some, slice_get}
 use Rattle.tagged_word.specs.Shapes.{shapes_most}
 use Rattle.page_space.specs.Extents.{layouts_start, marks_start}
 use Rattle.shape_tree.specs.ShapeLayouts.{layout_word}

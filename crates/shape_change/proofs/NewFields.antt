@@ -1,5 +1,6 @@
 -- The fields that writing one or taking one out makes are fields that the object may have.
-use Rattle.std.proofs.Common.{◌≡◌, ℕ, ◌≤◌, ◌<◌, true, false, ◌&&◌, length, Option, Some, None, slice_get, refl, arith}
+use Rattle.std.proofs.Common.{◌≡◌, ℕ, ◌≤◌, ◌<◌, true, false, ◌&&◌, length, Option, Some, None}
+use Rattle.std.proofs.Common.{slice_get, refl, arith}
 use Rattle.std.proofs.Common.{inl, inr, nat_le}
 use Rattle.std.specs.Prelude.{All, Contains, is_none, IsTrue}
 use Rattle.std.proofs.lemmas.Bool.{cases_lt}
@@ -55,6 +56,7 @@ fields_reached graph plain is there marked =
 abbrev wide_limits : Limits
 wide_limits = record { fields = λ cap. fields_most; paths = None; dead_keys = true }
 
+-- these limits let no object have more fields than 64
 wide_limits_are : HasFieldLimit wide_limits
 wide_limits_are cap capped = omega arith
 

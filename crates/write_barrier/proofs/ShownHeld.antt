@@ -46,6 +46,7 @@ cell_before {heap} {cell} has =
       marks_start_is heap.space,
     )
 
+-- the address of a cell has 32 bits
 address_fits : {heap : Heap} {cell : Cell} {words : List ℕ} → IsSpace heap.space → HasCell heap cell words
     → cell.at < 2 ^ 32
 address_fits {heap} space has =
