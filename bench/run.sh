@@ -1,5 +1,5 @@
 #!/usr/bin/env bash
-# Times heaprun on generated scripts, and prints nanoseconds for each executed line, the best of five runs. The script of
+# Times heaprun on generated scripts, and prints nanoseconds in all and for each executed line, the best of five runs. The script of
 # parse is refused at its last line, so its lines are read and judged, and none is executed. Nothing is compared, and no
 # time fails.
 top=$(cd "$(dirname "$0")/.." && pwd) || exit 1
@@ -7,29 +7,38 @@ folder=$(mktemp -d) || exit 1
 trap 'rm -rf "$folder"' EXIT
 "$top/heaprun" run <"$top/examples/first.heap" >"$folder/out" || exit 1
 
-# a script, and how many of its lines are executed
-script() { cat >"$folder/$1"; printf '%s %d\n' "$1" "$2" >>"$folder/names"; }
+# a script, how many of its lines are executed, and words behind `run`
+script() { cat >"$folder/$1"; printf '%s\n' "$*" >>"$folder/names"; }
 
 awk 'BEGIN { for (i = 0; i < 22000; i++) printf "get some_variable_%d  x field_%d # a comment\n", i % 1000, i % 4000
   print "make x" }' | script parse 22001
 awk 'BEGIN { for (i = 0; i < 35000; i++) print "print 9223372036854775807" }' | script print 35000
 printf 'repeat 500000\nprint 9223372036854775807\nend\n' | script print_in_a_loop 1000001
-awk 'BEGIN { print "new x 8"; for (i = 0; i < 8; i++) printf "set x f%d %d\n", i, i
-  for (i = 0; i < 20000; i++) printf "set x f%d %d\nget y x f%d\n", i % 8, i, (i + 3) % 8 }' | script set_and_get 40009
-awk 'BEGIN { for (i = 0; i < 100000; i++) print "new x 0" }' | script new 100000
+
+# Fields: in the object, in its property store, of each representation, and ones that come and go.
+printf 'new x 2\nset x a 1\nset x b x\nrepeat 1000000\nset x a 7\nget y x b\nend\n' | script object_fields 3000004
+printf 'new x 0\nset x a 1\nset x b x\nrepeat 1000000\nset x a 7\nget y x b\nend\n' | script store_fields 3000004
+printf 'new x 1\nset x a x\nset x b x\nset x b 5000000000\nrepeat 1000000\nset x b 5000000001\nget y x b\nend\n' |
+  script boxed_fields 3000005
+printf 'new x 8\nset x a 1\nset x b 2\nset x c 3\nrepeat 500000\ndel x b\nset x b 2\nend\n' | script deletion 1500005
+printf 'repeat 13107\nnew x 3\nend\n' | script new 26215 --young 65536
+printf 'repeat 7000\nnew x 1\nset x a 1\nset x a 5000000000\nset x a x\nend\n' | script representations 35001 --young 65536
+printf '' | script empty 0
 # As many lines as may be executed.
 printf 'repeat 19999999\nend\n' | script empty_loop 20000000
 printf 'repeat 100\nrepeat 100\nrepeat 100\nrepeat 17\nend\nend\nend\nend\n' | script nested_loops 19020201
 printf 'let n 0\nrepeat 9999999\nadd n 1\nend\n' | script add_in_a_loop 20000000
 
-while read -r name lines; do
+while read -r name lines words; do
   best=
   for _ in 1 2 3 4 5; do
     from=$(date +%s%N)
-    "$top/heaprun" run <"$folder/$name" >"$folder/out"
+    # The words are separated by blanks.
+    # shellcheck disable=SC2086
+    "$top/heaprun" run $words <"$folder/$name" >"$folder/out"
     status=$?
     took=$(($(date +%s%N) - from))
     if [ -z "$best" ] || [ "$took" -lt "$best" ]; then best=$took; fi
   done
-  printf '%-16s %9d lines  status %d  %6d ns a line\n' "$name" "$lines" "$status" "$((best / lines))"
+  printf '%-16s %9d lines  status %d  %9d ns  %6d ns a line\n' "$name" "$lines" "$status" "$best" "$((best / (lines + 1)))"
 done <"$folder/names"

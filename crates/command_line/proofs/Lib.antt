@@ -11,3 +11,4 @@ mod AwaitedAgreement
 mod ParsedRows
 mod ParserCalls
 mod RunWords
+pub mod AskedSizes

@@ -5,3 +5,4 @@ pub mod Invocations
 pub mod Lines
 pub mod Parser
 pub mod Stops
+pub mod SizeLaws

@@ -7,12 +7,14 @@
 #![tactic(auto)]
 
 mod invocation;
+mod laws;
 mod number;
 mod options;
 mod reading;
 mod rows;
 
 pub use invocation::{Invocation, WordsStop};
+pub use laws::laws_of_sizes;
 pub use page_space::Sizes;
 pub use reading::read_words;
 pub use rows::{refused_number_rows, refused_word_rows, run_rows, unbuilt_rows};

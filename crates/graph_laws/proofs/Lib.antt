@@ -8,7 +8,6 @@ mod Changes
 mod Stays
 mod ReachedLinks
 pub mod Reaches
-mod Agreement
 pub mod FieldLimits
 mod DistinctKeys
 mod Held

@@ -2,4 +2,3 @@ pub mod Laws
 pub mod ReachLaws
 pub mod ReachAfter
 pub mod GraphLaws
-pub mod LimitLaws

@@ -3,3 +3,11 @@ pub mod RegionRows
 pub mod Finding
 pub mod Roots
 pub mod Frames
+pub mod Spans
+pub mod Sorts
+pub mod Onward
+pub mod Naming
+pub mod Elements
+pub mod PathSlots
+pub mod TablePairs
+pub mod SoundCells

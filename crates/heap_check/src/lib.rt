@@ -10,18 +10,37 @@
 mod blank;
 mod finding;
 mod frame;
+mod lists;
+mod naming;
+mod onward;
+#[cfg(test)]
+mod owner_tests;
+mod owners;
+mod plain;
 mod reads;
 mod region_rows;
 mod roots;
 mod row;
 mod rows;
 mod sizes;
+mod slots;
+mod sound;
+#[cfg(test)]
+mod sound_tests;
+mod spans;
+mod stores;
+mod tables;
 #[cfg(test)]
 mod tests;
+mod weak;
+mod whole;
 
 pub use blank::is_blank;
 pub use finding::find_cell;
 pub use frame::has_frame;
+pub use owners::has_owners;
 pub use roots::has_roots;
 pub use rows::has_rows;
 pub use sizes::has_sizes;
+pub use sound::has_sound_cells;
+pub use whole::is_whole;

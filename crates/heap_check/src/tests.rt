@@ -46,7 +46,7 @@ fn shapes(rt: &impl Abort, alloc: Global) -> Result<ShapeTree, Fail> {
 }
 
 /// Puts words at an address and behind it, as far as there are words.
-fn put_all(words: &mut Vec<u64>, at: usize, stretch: &[u64]) {
+pub(crate) fn put_all(words: &mut Vec<u64>, at: usize, stretch: &[u64]) {
     let mut a = at;
     for word in stretch {
         if a < words.len() {
@@ -57,7 +57,12 @@ fn put_all(words: &mut Vec<u64>, at: usize, stretch: &[u64]) {
 }
 
 /// The words of so many gaps of a page each, of the layouts, and of `count` words in all.
-fn words_of(alloc: Global, count: usize, pages: usize, layouts: usize) -> Result<Vec<u64>, Fail> {
+pub(crate) fn words_of(
+    alloc: Global,
+    count: usize,
+    pages: usize,
+    layouts: usize,
+) -> Result<Vec<u64>, Fail> {
     let mut words = vec![in alloc; 0u64; count]?;
     for page in 0..pages {
         put_all(&mut words, page.saturating_mul(2_048), &[30, 2_048]);
@@ -75,7 +80,7 @@ fn words_of(alloc: Global, count: usize, pages: usize, layouts: usize) -> Result
 
 /// The usual heap after `new x 2` and `set x a 1`: 64 pages, eden at 131,072, the roots at 188,416,
 /// the layout words at 188,418; 196,618 words.
-fn usual(rt: &impl Abort, alloc: Global) -> Result<HeapImage, Fail> {
+pub(crate) fn usual(rt: &impl Abort, alloc: Global) -> Result<HeapImage, Fail> {
     let sizes = Sizes {
         pages: 64,
         young: 8_192,
@@ -97,7 +102,7 @@ fn usual(rt: &impl Abort, alloc: Global) -> Result<HeapImage, Fail> {
 /// eden at 2,048, segments at 2,112 and 2,176, the root at 2,240, the layout words at 2,242; 10,442
 /// words. Eden has a list with a store for 4, 2 of them used, and beside it a second cell with the
 /// same number.
-fn small(rt: &impl Abort, alloc: Global) -> Result<HeapImage, Fail> {
+pub(crate) fn small(rt: &impl Abort, alloc: Global) -> Result<HeapImage, Fail> {
     let sizes = Sizes {
         pages: 1,
         young: 64,
@@ -121,7 +126,7 @@ fn small(rt: &impl Abort, alloc: Global) -> Result<HeapImage, Fail> {
 }
 
 /// The image with another word at an address.
-fn forged(image: HeapImage, at: usize, word: u64) -> HeapImage {
+pub(crate) fn forged(image: HeapImage, at: usize, word: u64) -> HeapImage {
     let mut words = image.words.into_vec();
     put_all(&mut words, at, &[word]);
     HeapImage {

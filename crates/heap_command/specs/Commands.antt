@@ -4,9 +4,14 @@ use Rattle.std.specs.Prelude.{List as Row}
 use Rattle.heap_command.specs.declared.command.Operand.{Operand}
 use Rattle.heap_command.specs.declared.command.Operand.TheVariants.{Int, Undefined, Var}
 use Rattle.heap_command.specs.declared.command.Command.{Command}
-use Rattle.heap_command.specs.declared.command.Command.TheVariants.{New, List, Weak, LetValue, DropVar, Add, Set, Get, Del, Push, Put, At, Shift, Trunc, WPut, WGet, WDel, Print, Same, Alike, Shape, Scavenge, Mark, Finish, Gc, Census}
+use Rattle.heap_command.specs.declared.command.Command.TheVariants.{New, List, Weak, LetValue, DropVar, Add, Set, Get}
+use Rattle.heap_command.specs.declared.command.Command.TheVariants.{Del, Push, Put, At, Shift, Trunc, WPut, WGet}
+use Rattle.heap_command.specs.declared.command.Command.TheVariants.{WDel, Print, Same, Alike, Shape, Scavenge, Mark}
+use Rattle.heap_command.specs.declared.command.Command.TheVariants.{Finish, Gc, Census}
 use Rattle.heap_command.specs.declared.command.FaultWord.{FaultWord}
-use Rattle.heap_command.specs.declared.command.FaultWord.TheVariants.{Unbound, NotObject, NotList, NotWeak, NotInt, BadKey, Range, Overflow, FieldsFull, ListFull, WeakFull, ShapesFull}
+use Rattle.heap_command.specs.declared.command.FaultWord.TheVariants.{Unbound, NotObject, NotList, NotWeak, NotInt}
+use Rattle.heap_command.specs.declared.command.FaultWord.TheVariants.{BadKey, Range, Overflow, FieldsFull, ListFull}
+use Rattle.heap_command.specs.declared.command.FaultWord.TheVariants.{WeakFull, ShapesFull}
 
 -- a variable that the operand names is below this count
 abbrev pub NamesBelow : ℕ → Operand → Type 0

@@ -39,16 +39,17 @@ status-apart last.BadWords e = cc
 
 -- a kept heap shows the graph of the bytes that the source had left
 pub keeps-comes : (words : List (List ℕ)) (input : Input) (answer : Answer) → Comes words input answer
-    → IfSome answer.kept (λ kept. (bytes : List ℕ) × IsInput input.before bytes × KeepsGraph (reading bytes) kept)
+    → IfSome answer.kept (λ kept. (sizes : Sizes) × (bytes : List ℕ) × AsksToRun words sizes × IsInput input.before bytes
+    × KeepsGraph sizes (reading bytes) kept)
 keeps-comes words input _ (Comes.bad_words refused unread steady) = tt
 keeps-comes words input _ (Comes.no_memory begins read) = tt
 keeps-comes words input _ (Comes.read_fault sizes asks rose) = tt
 keeps-comes words input _ (Comes.too_long sizes asks many) = tt
 keeps-comes words input _ (Comes.no_script sizes bytes stop line asks reads is refusal) = tt
-keeps-comes words input _ (Comes.ended sizes bytes script kept came asks reads is reached comes need) =
-    (bytes, reads.all, subst (λ r. KeepsGraph r kept) (sym is) reached)
-keeps-comes words input _ (Comes.cut_short sizes bytes script kept asks reads is reached line need fills) =
-    (bytes, reads.all, subst (λ r. KeepsGraph r kept) (sym is) reached)
+keeps-comes words input _ (Comes.ended sizes bytes script kept came asks reads is keeps comes need) =
+    (sizes, bytes, asks, reads.all, subst (λ r. KeepsGraph sizes r kept) (sym is) keeps)
+keeps-comes words input _ (Comes.cut_short sizes bytes script kept asks reads is keeps line need fills) =
+    (sizes, bytes, asks, reads.all, subst (λ r. KeepsGraph sizes r kept) (sym is) keeps)
 
 -- where a heap is kept, nothing of the source is left
 pub reads-comes : (words : List (List ℕ)) (input : Input) (answer : Answer) → Comes words input answer
@@ -58,8 +59,8 @@ reads-comes words input _ (Comes.no_memory begins read) = tt
 reads-comes words input _ (Comes.read_fault sizes asks rose) = tt
 reads-comes words input _ (Comes.too_long sizes asks many) = tt
 reads-comes words input _ (Comes.no_script sizes bytes stop line asks reads is refusal) = tt
-reads-comes words input _ (Comes.ended sizes bytes script kept came asks reads is reached comes need) = reads.none_left
-reads-comes words input _ (Comes.cut_short sizes bytes script kept asks reads is reached line need fills) = reads.none_left
+reads-comes words input _ (Comes.ended sizes bytes script kept came asks reads is keeps comes need) = reads.none_left
+reads-comes words input _ (Comes.cut_short sizes bytes script kept asks reads is keeps line need fills) = reads.none_left
 
 -- the status of the end of a script
 opened-ended : (came : How) (line : ℕ) → Contains (0 ∷ 1 ∷ 3 ∷ 5 ∷ 8 ∷ []) (status_of (last_line_of came line))
@@ -98,10 +99,10 @@ opened-line words input _ (Comes.too_long sizes asks many) line e =
 opened-line words input _ (Comes.no_script sizes bytes stop at asks reads is refusal) line e =
     let same : at ≡ line = cc in
     subst (λ l. IsOpened (status_of l) None) same (opened-refused stop at refusal)
-opened-line words input _ (Comes.ended sizes bytes script kept came asks reads is reached comes need) line e =
+opened-line words input _ (Comes.ended sizes bytes script kept came asks reads is keeps comes need) line e =
     let same : last_line_of came kept.line ≡ line = cc in
     subst (λ l. IsOpened (status_of l) (Some kept)) same (opened-ended came kept.line)
-opened-line words input _ (Comes.cut_short sizes bytes script kept asks reads is reached at need fills) line e = cc
+opened-line words input _ (Comes.cut_short sizes bytes script kept asks reads is keeps at need fills) line e = cc
 
 -- the status of a sink that failed goes with a heap and with none
 opened-failed : (kept : Option Kept) → IsOpened 5 kept
@@ -133,10 +134,12 @@ Taken-unopened old new faults_old faults_new status line written failed (inr oth
 -- what answers, by its parts
 pub Answers-keeps : (words : List (List ℕ)) (input : Input) (old new : List ℕ → Type 0) (faults_old faults_new : ℕ)
     (ended : Ended) → Answers words input old new faults_old faults_new ended
-    → IfSome ended.kept (λ kept. (bytes : List ℕ) × IsInput input.before bytes × KeepsGraph (reading bytes) kept)
+    → IfSome ended.kept (λ kept. (sizes : Sizes) × (bytes : List ℕ) × AsksToRun words sizes × IsInput input.before bytes
+    × KeepsGraph sizes (reading bytes) kept)
 Answers-keeps words input old new faults_old faults_new ended a =
     let P : Option Kept → Type 0 =
-    λ kept. IfSome kept (λ kept. (bytes : List ℕ) × IsInput input.before bytes × KeepsGraph (reading bytes) kept) in
+    λ kept. IfSome kept (λ kept. (sizes : Sizes) × (bytes : List ℕ) × AsksToRun words sizes × IsInput input.before bytes
+    × KeepsGraph sizes (reading bytes) kept) in
     subst P a.kept (keeps-comes words input a.answer a.comes)
 
 pub Answers-reads : (words : List (List ℕ)) (input : Input) (old new : List ℕ → Type 0) (faults_old faults_new : ℕ)
@@ -161,13 +164,13 @@ Answers-unopened words input old new faults_old faults_new ended line none comes
     record { answer = unopened line; kept = sym none; comes = comes; taken = taken }
 
 -- the same of a source that was read
-pub Runs-unopened : (bytes : List ℕ) (old new : List ℕ → Type 0) (faults_old faults_new : ℕ) (ended : Ended)
+pub Runs-unopened : (sizes : Sizes) (bytes : List ℕ) (old new : List ℕ → Type 0) (faults_old faults_new : ℕ) (ended : Ended)
     (line : LastLine) → ended.kept ≡ None
-    → ((words : List (List ℕ)) (input : Input) (sizes : Sizes) → AsksToRun words sizes → ReadsAll input bytes
+    → ((words : List (List ℕ)) (input : Input) → AsksToRun words sizes → ReadsAll input bytes
     → Comes words input (unopened line))
     → Taken old new faults_old faults_new (unopened line) ended.status
-    → Runs bytes old new faults_old faults_new ended
-Runs-unopened bytes old new faults_old faults_new ended line none comes taken =
+    → Runs sizes bytes old new faults_old faults_new ended
+Runs-unopened sizes bytes old new faults_old faults_new ended line none comes taken =
     record { answer = unopened line; kept = sym none; comes = comes; taken = taken }
 
 -- where a command is one of four by these tests, and none of the last three, it is the first
@@ -191,20 +194,20 @@ begins (first ∷ words) sizes asks =
     (λ command. option_and_then (invocation_by command) (given_of words)) (Run sizes) asks
 
 -- want of memory once the source was read
-pub Comes-memory : (bytes : List ℕ) (words : List (List ℕ)) (input : Input) (sizes : Sizes) → AsksToRun words sizes
+pub Comes-memory : (sizes : Sizes) (bytes : List ℕ) (words : List (List ℕ)) (input : Input) → AsksToRun words sizes
     → ReadsAll input bytes → Comes words input (unopened last.NoMemory)
-Comes-memory bytes words input sizes asks reads = Comes.no_memory (begins words sizes asks) (inr (bytes, reads))
+Comes-memory sizes bytes words input asks reads = Comes.no_memory (begins words sizes asks) (inr (bytes, reads))
 
 -- a source that is no script
-pub Comes-refused : (bytes : List ℕ) (stop : BadScript) (line : LastLine) → reading bytes ≡ Err stop
-    → refusal_of stop ≡ Some line → (words : List (List ℕ)) (input : Input) (sizes : Sizes) → AsksToRun words sizes
+pub Comes-refused : (sizes : Sizes) (bytes : List ℕ) (stop : BadScript) (line : LastLine) → reading bytes ≡ Err stop
+    → refusal_of stop ≡ Some line → (words : List (List ℕ)) (input : Input) → AsksToRun words sizes
     → ReadsAll input bytes → Comes words input (unopened line)
-Comes-refused bytes stop line is refusal words input sizes asks reads =
+Comes-refused sizes bytes stop line is refusal words input asks reads =
     Comes.no_script sizes bytes stop line asks reads is refusal
 
 -- a run whose source was read, under the words that ask for it
 pub Answers-runs : (words : List (List ℕ)) (input : Input) (bytes : List ℕ) (sizes : Sizes)
     (old new : List ℕ → Type 0) (faults_old faults_new : ℕ) (ended : Ended) → AsksToRun words sizes → ReadsAll input bytes
-    → Runs bytes old new faults_old faults_new ended → Answers words input old new faults_old faults_new ended
+    → Runs sizes bytes old new faults_old faults_new ended → Answers words input old new faults_old faults_new ended
 Answers-runs words input bytes sizes old new faults_old faults_new ended asks reads r =
-    record { answer = r.answer; kept = r.kept; comes = r.comes words input sizes asks reads; taken = r.taken }
+    record { answer = r.answer; kept = r.kept; comes = r.comes words input asks reads; taken = r.taken }

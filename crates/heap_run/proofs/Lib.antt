@@ -2,3 +2,5 @@ mod Pieces
 mod Excess
 mod Answering
 mod Concluding
+mod ExecutedNames
+mod Imaged

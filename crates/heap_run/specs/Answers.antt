@@ -15,6 +15,8 @@ use Rattle.heap_script.specs.declared.finished.How.{How}
 use Rattle.heap_script.specs.declared.finished.How.TheVariants as how
 use Rattle.mutator.specs.declared.output.TheConstants.{OUTPUT_BYTES}
 use Rattle.heap_script.specs.Runs.{Reached, ComesTo, need_at, FillsOutput}
+use Rattle.heap_model.specs.Images.{image_heap}
+use Rattle.heap_model.specs.Wholeness.{Blank}
 use Rattle.heap_run.specs.declared.ended.Kept.{Kept}
 use Rattle.heap_run.specs.declared.ended.Ended.{Ended}
 use Rattle.heap_run.specs.declared.last_line.LastLine.{LastLine}
@@ -90,6 +92,13 @@ pub record Answer : Type 0 where
 abbrev pub unopened : LastLine → Answer
 unopened line = record { told = []; last = Some line; kept = None }
 
+-- The kept heap of a script that was run with these sizes: its regions are those of the sizes and of the script's
+-- variables, it shows the graph after the executed lines, and all words that no cell uses are 0.
+pub record Keeps (sizes : Sizes) (script : ScriptText) (kept : Kept) : Type 0 where
+  pub regions : kept.image.regions ≡ record { sizes = sizes; variables = length script.variables }
+  pub blank : Blank (image_heap kept.image)
+  pub reached : Reached script (image_heap kept.image) kept.executed
+
 -- What a run comes to, by the words and the source.
 pub data Comes (words : List (List ℕ)) (input : Input) : Answer → Type 0 where
   -- the words are refused, and nothing is read
@@ -110,19 +119,19 @@ pub data Comes (words : List (List ℕ)) (input : Input) : Answer → Type 0 whe
   -- the source is a script, and its run came to an end
   ended : (sizes : Sizes) (bytes : List ℕ) (script : ScriptText) (kept : Kept) (came : How)
       → AsksToRun words sizes → ReadsAll input bytes → reading bytes ≡ Ok script
-      → (reached : Reached script kept.image kept.executed)
-      → ComesTo script kept.image kept.executed reached.so_far came kept.line → kept.need ≡ need_at came
+      → (keeps : Keeps sizes script kept)
+      → ComesTo script (image_heap kept.image) kept.executed keeps.reached.so_far came kept.line
+      → kept.need ≡ need_at came
       → Comes words input (record {
-        told = reached.so_far.bytes;
+        told = keeps.reached.so_far.bytes;
         last = Some (last_line_of came kept.line);
         kept = Some kept;
       })
   -- the source is a script, and the sink failed between two of its lines, where an output was due
   cut_short : (sizes : Sizes) (bytes : List ℕ) (script : ScriptText) (kept : Kept)
       → AsksToRun words sizes → ReadsAll input bytes → reading bytes ≡ Ok script
-      → (reached : Reached script kept.image kept.executed) → kept.line ≡ 0 → kept.need ≡ 0
-      → FillsOutput reached.so_far.bytes
-      → Comes words input (record { told = reached.so_far.bytes; last = None; kept = Some kept })
+      → (keeps : Keeps sizes script kept) → kept.line ≡ 0 → kept.need ≡ 0 → FillsOutput keeps.reached.so_far.bytes
+      → Comes words input (record { told = keeps.reached.so_far.bytes; last = None; kept = Some kept })
 
 -- the bytes of a last line, if there is one
 abbrev pub bytes_of : Option LastLine → List ℕ
@@ -145,10 +154,10 @@ abbrev pub IsOpened : ℕ → Option Kept → Type 0
 IsOpened status kept =
     MatchOption kept (Contains (2 ∷ 4 ∷ 5 ∷ 6 ∷ 7 ∷ 64 ∷ []) status) (λ _. Contains (0 ∷ 1 ∷ 3 ∷ 5 ∷ 8 ∷ []) status)
 
--- the source is a script, and the kept heap shows the graph after the executed lines
-abbrev pub KeepsGraph : Result ScriptText BadScript → Kept → Type 0
-KeepsGraph (Ok script) kept = Reached script kept.image kept.executed
-KeepsGraph (Err stop) kept = ⊥
+-- The source is a script, and the heap that is kept of its run with these sizes shows the graph after the executed lines.
+abbrev pub KeepsGraph : Sizes → Result ScriptText BadScript → Kept → Type 0
+KeepsGraph sizes (Ok script) kept = Keeps sizes script kept
+KeepsGraph sizes (Err stop) kept = ⊥
 
 -- How a run ended, with this status and this heap, is what the words and the source come to, and the sink took of it
 -- what it took.
@@ -159,10 +168,10 @@ pub record Answers (words : List (List ℕ)) (input : Input) (old new : List ℕ
   pub comes : Comes words input answer
   pub taken : Taken old new faults_old faults_new answer ended.status
 
--- the same of a run whose source was read as these bytes, for all words that ask for a run
-pub record Runs (bytes : List ℕ) (old new : List ℕ → Type 0) (faults_old faults_new : ℕ) (ended : Ended) : Type 0 where
+-- the same of a run whose source was read as these bytes, for all words that ask for a run with these sizes
+pub record Runs (sizes : Sizes) (bytes : List ℕ) (old new : List ℕ → Type 0) (faults_old faults_new : ℕ) (ended : Ended) : Type 0 where
   pub answer : Answer
   pub kept : answer.kept ≡ ended.kept
-  pub comes : (words : List (List ℕ)) (input : Input) (sizes : Sizes) → AsksToRun words sizes → ReadsAll input bytes
+  pub comes : (words : List (List ℕ)) (input : Input) → AsksToRun words sizes → ReadsAll input bytes
       → Comes words input answer
   pub taken : Taken old new faults_old faults_new answer ended.status

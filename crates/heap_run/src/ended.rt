@@ -1,12 +1,12 @@
 //! What a run leaves.
 
-use mutator::FirstHeap;
+use heap_model::HeapImage;
 
 /// The heap at the end of a run.
 #[derive(Drop)]
 pub struct Kept {
     /// It shows the graph after the executed lines.
-    pub image: FirstHeap,
+    pub image: HeapImage,
     /// The words that were wanted at a full heap, or 0.
     pub need: u32,
     /// The line that stopped the script, or 0.

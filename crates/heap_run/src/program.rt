@@ -1,30 +1,36 @@
 //! The program as one call. Its last line stands in `last_line`, the run of a script in `heap_script`.
-ghost use Rattle.std.specs.Prelude.{◌≡◌, ◌≢◌, ℕ, List, [], map, length, string_bytes, Some, None, Ok, IfSome};
+ghost use Rattle.std.specs.Prelude.{◌≡◌, ◌≢◌, ℕ, List, [], map, length, string_bytes};
+ghost use Rattle.std.specs.Prelude.{Some, None, Ok, IfSome, IfOk};
 ghost use Rattle.object_graph.specs.Graphs.{start};
 ghost use Rattle.script_text.specs.Grammar.{reading};
-ghost use Rattle.mutator.specs.Heap.{HasVariables, Shows};
+ghost use Rattle.page_space.specs.Sizes.{AreWithin};
+ghost use Rattle.collector.specs.States.{HeapShows};
 ghost use Rattle.byte_ends.specs.Faults.{Rose};
 ghost use Rattle.byte_ends.specs.Source.{IsInput};
 ghost use Rattle.byte_ends.specs.Sink.{Appends, AppendsSome};
 ghost use Rattle.heap_script.specs.Runs.{AreBuilt, IsCut};
 ghost use Rattle.heap_run.specs.Texts.{last_bytes, status_of};
-ghost use Rattle.heap_run.specs.Answers.{Answers, Runs, KeepsGraph, IsOpened, Taken, input_of, last_line_of, unopened};
+ghost use Rattle.heap_run.specs.Answers.{Answers, Runs, KeepsGraph, AsksToRun, IsOpened, Taken, input_of, last_line_of, unopened};
 
 use crate::ended::{Ended, Kept};
 use crate::last_line::{LastLine, SINK_FAULT};
 use crate::reading::{ReadStop, read_source};
 use byte_ends::{Sink, Source};
+use collector::Heap;
 use command_line::{Invocation, WordsStop, read_words};
 use crew::Gate;
 use heap_script::{Finished, How, run_script};
-use mutator::{FirstHeap, Output};
+use heap_table::HeapTable;
+use mutator::Output;
+use page_space::{Regions, Sizes};
 use script_text::{BadScript, Script, parse};
 use std::alloc::Global;
 use std::thread::Threads;
+use tagged_word::NoMemory;
 
 /// Runs the program. `words` are the words of the command line without the program's name, `source`
-/// is the script, and `sink` takes what it writes and the last line. The sizes that the words give
-/// are checked and have no effect so far; threads and gates are not used so far.
+/// is the script, and `sink` takes what it writes and the last line. The heap has the sizes that the
+/// words give; threads and gates are not used so far.
 ///
 /// Where a heap is kept, it shows the graph after the executed lines, whatever became of the bytes.
 pub fn run<S: Source, K: Sink, G: Gate, R: Threads + Sync>(
@@ -40,8 +46,9 @@ pub fn run<S: Source, K: Sink, G: Gate, R: Threads + Sync>(
         (K.HasTaken sink.old) (K.HasTaken sink.new) (K.faults sink.old) (K.faults sink.new) result }
 
     // The heap that is kept, of every run.
-    ensures kept { IfSome result.kept (λ kept. (input : List ℕ)
-        × IsInput (S.left source.old) input × KeepsGraph (reading input) kept) }
+    ensures kept { IfSome result.kept (λ kept. (sizes : Sizes) × (input : List ℕ)
+        × AsksToRun (map string_bytes words.now) sizes × IsInput (S.left source.old) input
+        × KeepsGraph sizes (reading input) kept) }
     ensures whole { IfSome result.kept (λ _.
         IfSome (S.left source.old) (λ _. S.left source.new ≡ Some [])) }
     ensures opened { IsOpened result.status result.kept }
@@ -71,14 +78,14 @@ fn run_words<S: Source, K: Sink, G: Gate, R: Threads + Sync>(
         (input_of (S.left source.old) (S.left source.new) (S.faults source.old) (S.faults source.new))
         (K.HasTaken sink.old) (K.HasTaken sink.new) (K.faults sink.old) (K.faults sink.new) result }
 {
-    match read_words(alloc, words) {
-        Ok(Invocation::Run(_)) => {}
+    let sizes = match read_words(alloc, words) {
+        Ok(Invocation::Run(sizes)) => sizes,
         Ok(_) => unreachable!(),
         Err(WordsStop::BadWords) => return give_up(sink, LastLine::BadWords),
         Err(WordsStop::NoMemory) => return give_up(sink, LastLine::NoMemory),
-    }
+    };
     match read_source(alloc, source) {
-        Ok(bytes) => run_source(rt, alloc, &bytes, sink, gate),
+        Ok(bytes) => run_source(rt, alloc, sizes, &bytes, sink, gate),
         Err(ReadStop::Fault) => give_up(sink, LastLine::ReadFault),
         Err(ReadStop::TooLong) => give_up(sink, LastLine::SourceTooLong),
         Err(ReadStop::NoMemory) => give_up(sink, LastLine::NoMemory),
@@ -99,11 +106,13 @@ fn give_up<K: Sink>(sink: &mut K, last: LastLine) -> Ended
 fn run_source<K: Sink, G: Gate, R: Threads + Sync>(
     rt: &R,
     alloc: Global,
+    sizes: Sizes,
     source: &[u8],
     sink: &mut K,
     gate: &G,
 ) -> Ended
-    ensures { Runs source.now (K.HasTaken sink.old) (K.HasTaken sink.new)
+    requires { AreWithin sizes 0 }
+    ensures { Runs sizes source.now (K.HasTaken sink.old) (K.HasTaken sink.new)
         (K.faults sink.old) (K.faults sink.new) result }
 {
     let script = match parse(alloc, source) {
@@ -116,7 +125,7 @@ fn run_source<K: Sink, G: Gate, R: Threads + Sync>(
         }
         Err(BadScript::NoMemory) => return give_up(sink, LastLine::NoMemory),
     };
-    let Ok(heap) = FirstHeap::new(alloc, script.variables()) else {
+    let Ok(heap) = open_heap(alloc, Regions::new(sizes, script.variables())) else {
         return give_up(sink, LastLine::NoMemory);
     };
     let Ok(out) = Output::new(alloc) else {
@@ -125,27 +134,37 @@ fn run_source<K: Sink, G: Gate, R: Threads + Sync>(
     run_on_heap(rt, heap, out, &script, sink, gate)
 }
 
-/// Runs a script on a heap that was just opened, and keeps the heap.
+/// A heap over these regions, in which there is no object and no variable is bound.
+fn open_heap(alloc: Global, regions: Regions) -> Result<Heap, NoMemory>
+    ensures { IfOk result (λ heap. HeapShows heap start × (heap.main.seat.space ≡ regions)) }
+{
+    let seat = HeapTable::open(alloc, regions)?;
+    Heap::open_new(alloc, seat, regions)
+}
+
+/// Runs a script on a heap that was just opened, and keeps an image of the heap.
 fn run_on_heap<K: Sink, G: Gate, R: Threads + Sync>(
     rt: &R,
-    mut heap: FirstHeap,
+    mut heap: Heap,
     mut out: Output,
     script: &Script<'_>,
     sink: &mut K,
     gate: &G,
 ) -> Ended
-    requires shown { Shows heap start }
-    requires variables { HasVariables heap (length script.now.variables) }
+    requires shown { HeapShows heap start }
+    requires variables { heap.main.seat.space.variables ≡ length script.now.variables }
     requires built { AreBuilt script.now.lines }
     requires empty { out ≡ [] }
     ensures { (bytes : List ℕ) → reading bytes ≡ Ok script.now →
-        Runs bytes (K.HasTaken sink.old) (K.HasTaken sink.new)
+        Runs heap.main.seat.space.sizes bytes (K.HasTaken sink.old) (K.HasTaken sink.new)
         (K.faults sink.old) (K.faults sink.new) result }
 {
+    // Tells that the lines name what the script has.
+    let _lines = script.lines();
     let finished = run_script(rt, &mut heap, script, &mut out, sink, false, gate);
     let status = conclude(&finished, sink);
     let kept = Kept {
-        image: heap,
+        image: heap.into_image(),
         need: finished.how.need(),
         line: finished.line,
         executed: finished.executed,

@@ -15,13 +15,7 @@ use Rattle.object_graph.specs.declared.path.Path.{Path}
 use Rattle.object_graph.specs.Graphs.{Graph}
 use Rattle.object_graph.specs.Meaning.{Limits, done, does}
 use Rattle.object_graph.proofs.Leads.{Leads, each, if_not, if_there}
-use Rattle.mutator.specs.Heap.{heap_words, FirstWords, Shows}
-use Rattle.mutator.proofs.Shown.{count_within}
 use Rattle.heap_script.specs.Progress.{objects_made}
-
--- a heap shows at most as many objects as it has words
-pub few_objects : (heap : FirstWords) (graph : Graph) → Shows heap graph → length graph.objects ≤ heap_words
-few_objects heap graph shown = omega (arith, count_within heap graph shown, shown.room)
 
 -- writing nothing more leaves what was written, whether the call went through or not
 pub written_nothing : (b : Bool) (out : List ℕ) → out ≡ (if b then out ++ [] else out)
@@ -70,6 +64,35 @@ leads-objects limits names graph command.Mark = binds graph graph.bindings
 leads-objects limits names graph command.Finish = binds graph graph.bindings
 leads-objects limits names graph command.Gc = binds graph graph.bindings
 leads-objects limits names graph command.Census = binds graph graph.bindings
+
+-- a command makes one object at most
+pub makes_one : (command : Command) → objects_made command ≤ 1
+makes_one (command.New x cap) = omega arith
+makes_one (command.List x) = omega arith
+makes_one (command.Weak x) = omega arith
+makes_one (command.LetValue x v) = omega arith
+makes_one (command.DropVar x) = omega arith
+makes_one (command.Add x v) = omega arith
+makes_one (command.Set x f v) = omega arith
+makes_one (command.Get y x f) = omega arith
+makes_one (command.Del x f) = omega arith
+makes_one (command.Push x v) = omega arith
+makes_one (command.Put x i v) = omega arith
+makes_one (command.At y x i) = omega arith
+makes_one (command.Shift x n) = omega arith
+makes_one (command.Trunc x n) = omega arith
+makes_one (command.WPut m k v) = omega arith
+makes_one (command.WGet y m k) = omega arith
+makes_one (command.WDel m k) = omega arith
+makes_one (command.Print v) = omega arith
+makes_one (command.Same a b) = omega arith
+makes_one (command.Alike x y) = omega arith
+makes_one (command.Shape x) = omega arith
+makes_one command.Scavenge = omega arith
+makes_one command.Mark = omega arith
+makes_one command.Finish = omega arith
+makes_one command.Gc = omega arith
+makes_one command.Census = omega arith
 
 -- so many objects more are there behind it
 pub length-does : (limits : Limits) (names : List (List ℕ)) (graph after : Graph) (command : Command) (text : List ℕ)

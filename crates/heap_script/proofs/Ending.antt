@@ -1,7 +1,8 @@
 -- How a run that goes no further has ended.
 use Rattle.std.proofs.Common.{◌≡◌, ℕ, ◌<◌, ◌≤◌, false, List, [], ◌∷◌, Option}
-use Rattle.std.proofs.Common.{Some, None, Err, cond, refl, sym, ap, subst, ◌∙◌, arith}
+use Rattle.std.proofs.Common.{Some, None, Err, cond, refl, sym, ap, subst, ◌∙◌, arith, ◌+◌, IsTrue, inl, inr}
 use Rattle.std.specs.Prelude.{slice_get, ◌==◌, nat_lt}
+use Rattle.std.proofs.lemmas.Bool.{cases_lt}
 use Rattle.std.proofs.lemmas.Bool.Decides.{nat_tests}
 use Rattle.heap_command.specs.declared.command.Command.{Command}
 use Rattle.heap_command.specs.Executed.{Executed}
@@ -13,7 +14,12 @@ use Rattle.script_text.specs.Left.{IsLeft, Goes}
 use Rattle.script_text.proofs.Left.{at_end}
 use Rattle.mutator.specs.declared.stop.Stop.{Stop}
 use Rattle.mutator.specs.declared.stop.Stop.TheVariants.{Fault, NoRoom}
-use Rattle.mutator.specs.Heap.{FirstWords, heap_limits}
+use Rattle.object_graph.specs.Limits.{ideal_limits}
+use Rattle.nursery.specs.Young.{HasRoom}
+use Rattle.heap_model.specs.Heaps.{Heap}
+use Rattle.heap_model.specs.Needs.{lacks_room}
+use Rattle.write_barrier.specs.Mains.{Mutator, heap_of, IsTied}
+use Rattle.page_space.specs.Extents.{Space}
 use Rattle.mutator.specs.Carries.{Carries}
 use Rattle.heap_script.specs.declared.finished.How.TheVariants as how
 use Rattle.heap_script.specs.Runs.{left_after, Reached, EndsAs, ComesTo, IsFullAt}
@@ -21,101 +27,113 @@ use Rattle.heap_script.specs.Progress.{how_of, CarriesLine, Handed, Pauses}
 
 -- within the limit, a run ends by what stands at the lines that are left
 ending-within : (names : List (List ℕ)) (graph : Graph) (n : ℕ) (lines : List Executed) → n ≤ lines_most
-    → ending heap_limits names graph n lines ≡ ending_here heap_limits names graph n lines
+    → ending ideal_limits names graph n lines ≡ ending_here ideal_limits names graph n lines
 ending-within names graph n lines few =
     let within : nat_lt lines_most n ≡ false = grind (arith, nat_tests) in
-    ap (λ test. cond test None (ending_here heap_limits names graph n lines)) within
+    ap (λ test. cond test None (ending_here ideal_limits names graph n lines)) within
 
 -- before the limit, it ends at a line by its fault
 ending-below : (names : List (List ℕ)) (graph : Graph) (n : ℕ) (next : Executed) (more : List Executed) → n < lines_most
-    → ending heap_limits names graph n (next ∷ more) ≡ fault_of heap_limits names graph next.number next.command
+    → ending ideal_limits names graph n (next ∷ more) ≡ fault_of ideal_limits names graph next.number next.command
 ending-below names graph n next more below =
     let few : n ≤ lines_most = omega (arith, below) in
     let apart : (n == lines_most) ≡ false = grind (arith, nat_tests) in
     ending-within names graph n (next ∷ more) few
-    ∙ ap (λ test. cond test (Some (limit_at next.number)) (fault_of heap_limits names graph next.number next.command)) apart
+    ∙ ap (λ test. cond test (Some (limit_at next.number)) (fault_of ideal_limits names graph next.number next.command)) apart
 
 -- at the limit, it ends at whatever line is next
 ending-limit : (names : List (List ℕ)) (graph : Graph) (next : Executed) (more : List Executed)
-    → ending heap_limits names graph lines_most (next ∷ more) ≡ Some (limit_at next.number)
+    → ending ideal_limits names graph lines_most (next ∷ more) ≡ Some (limit_at next.number)
 ending-limit names graph next more = refl
 
 -- a run that has reached so many lines ends as it ends at those that are left
-pub EndsAs-reached : (script : ScriptText) (heap : FirstWords) (n : ℕ) (how : Ending) → (r : Reached script heap n)
-    → ending heap_limits script.fields r.so_far.graph n (left_after script n) ≡ Some how → EndsAs script n r.so_far how
+pub EndsAs-reached : (script : ScriptText) (heap : Heap) (n : ℕ) (how : Ending) → (r : Reached script heap n)
+    → ending ideal_limits script.fields r.so_far.graph n (left_after script n) ≡ Some how → EndsAs script n r.so_far how
 EndsAs-reached script heap n how r ends = record { within = r.within; said = r.said; ends = ends }
 
 -- no line is left
-pub ComesTo-end : (script : ScriptText) (heap : FirstWords) (at n : ℕ) (ts : List ℕ) → (r : Reached script heap n)
+pub ComesTo-end : (script : ScriptText) (heap : Heap) (at n : ℕ) (ts : List ℕ) → (r : Reached script heap n)
     → IsLeft script.lines at ts (left_after script n) → slice_get script.lines at ≡ None
     → ComesTo script heap n r.so_far how.End 0
 ComesTo-end script heap at n ts r left none =
     let ended = at_end script.lines at ts (left_after script n) left none in
-    let ends : ending heap_limits script.fields r.so_far.graph n (left_after script n) ≡ Some end =
-    ap (ending heap_limits script.fields r.so_far.graph n) ended.1 ∙ ending-within script.fields r.so_far.graph n [] r.few in
+    let ends : ending ideal_limits script.fields r.so_far.graph n (left_after script n) ≡ Some end =
+    ap (ending ideal_limits script.fields r.so_far.graph n) ended.1 ∙ ending-within script.fields r.so_far.graph n [] r.few in
     (refl, EndsAs-reached script heap n end r ends)
 
 -- a line is left, and no more may be executed
-pub ComesTo-limit : (script : ScriptText) (heap : FirstWords) (at' n number : ℕ) (ts' : List ℕ) (command : Option Command)
+pub ComesTo-limit : (script : ScriptText) (heap : Heap) (at' n number : ℕ) (ts' : List ℕ) (command : Option Command)
     → (r : Reached script heap n) → Goes script.lines at' ts' (left_after script n) (executed number command)
     → n ≡ lines_most → ComesTo script heap n r.so_far how.LineLimit number
 ComesTo-limit script heap at' n number ts' command r goes most =
-    let ends : ending heap_limits script.fields r.so_far.graph n (left_after script n) ≡ Some (limit_at number) =
-    ap (ending heap_limits script.fields r.so_far.graph n) goes.is
-    ∙ ap (λ m. ending heap_limits script.fields r.so_far.graph m (executed number command ∷ goes.rest)) most
+    let ends : ending ideal_limits script.fields r.so_far.graph n (left_after script n) ≡ Some (limit_at number) =
+    ap (ending ideal_limits script.fields r.so_far.graph n) goes.is
+    ∙ ap (λ m. ending ideal_limits script.fields r.so_far.graph m (executed number command ∷ goes.rest)) most
     ∙ ending-limit script.fields r.so_far.graph (executed number command) goes.rest in
     EndsAs-reached script heap n (limit_at number) r ends
 
+-- where the young generation has no room for so many words, the heap is full for them
+full_for : (main : Mutator) (need : ℕ) → IsTied main → (HasRoom main.young need → ⊥)
+    → IsTrue (lacks_room (heap_of main) need)
+full_for main need tied refused =
+    let same : main.young.space.sizes.young ≡ main.seat.space.sizes.young =
+    ap (λ (space : Space). space.sizes.young) tied in
+    elim (cases_lt main.seat.space.sizes.young (main.young.survivors + main.young.used + need)) [
+      | inl over ↦ grind (arith, nat_tests)
+      | inr within ↦ absurd (refused (omega (arith, same, within)))
+    ]
+
 -- a command was not carried out
-ComesTo-stopped : (script : ScriptText) (heap after : FirstWords) (at' n number : ℕ) (ts' : List ℕ) (command : Command)
+ComesTo-stopped : (script : ScriptText) (main after : Mutator) (at' n number : ℕ) (ts' : List ℕ) (command : Command)
     (text : List ℕ) (stop : Stop)
-    → (r : Reached script heap n) → n < lines_most
+    → IsTied main → (r : Reached script (heap_of main) n) → n < lines_most
     → Goes script.lines at' ts' (left_after script n) (executed number (Some command))
-    → Carries script.fields heap after r.so_far.graph command text (Err stop)
-    → ComesTo script heap n r.so_far (how_of stop) number
-ComesTo-stopped script heap after at' n number ts' command text (Fault word) r below goes (does-is, same) =
+    → Carries script.fields main after r.so_far.graph command text (Err stop)
+    → ComesTo script (heap_of main) n r.so_far (how_of stop) number
+ComesTo-stopped script main after at' n number ts' command text (Fault word) tied r below goes (does-is, same) =
     let graph = r.so_far.graph in
-    let ends : ending heap_limits script.fields graph n (left_after script n) ≡ Some (fault_at number word) =
-    ap (ending heap_limits script.fields graph n) goes.is
+    let ends : ending ideal_limits script.fields graph n (left_after script n) ≡ Some (fault_at number word) =
+    ap (ending ideal_limits script.fields graph n) goes.is
     ∙ ending-below script.fields graph n (executed number (Some command)) goes.rest below
     ∙ ap (fault_in number) does-is in
-    EndsAs-reached script heap n (fault_at number word) r ends
-ComesTo-stopped script heap after at' n number ts' command text (NoRoom need) r below goes
+    EndsAs-reached script (heap_of main) n (fault_at number word) r ends
+ComesTo-stopped script main after at' n number ts' command text (NoRoom need) tied r below goes
     (next, written, does-is, need-is, full, same) =
     let graph = r.so_far.graph in
     let first = executed number (Some command) in
     record {
-      goes_on = ap (ending heap_limits script.fields graph n) goes.is
+      goes_on = ap (ending ideal_limits script.fields graph n) goes.is
           ∙ ending-below script.fields graph n first goes.rest below
           ∙ ap (fault_in number) does-is;
-      full = subst (IsFullAt heap graph number need) (sym goes.is) (refl, (need-is, full));
+      full = subst (IsFullAt (heap_of main) graph number need) (sym goes.is)
+          (refl, (need-is, full_for main need tied full));
     }
 
 -- a line was not executed
-pub ComesTo-line : (script : ScriptText) (heap after : FirstWords) (at' n number : ℕ) (ts' : List ℕ) (command : Option Command)
+pub ComesTo-line : (script : ScriptText) (main after : Mutator) (at' n number : ℕ) (ts' : List ℕ) (command : Option Command)
     (text : List ℕ) (stop : Stop)
-    → (r : Reached script heap n) → n < lines_most
+    → IsTied main → (r : Reached script (heap_of main) n) → n < lines_most
     → Goes script.lines at' ts' (left_after script n) (executed number command)
-    → CarriesLine script.fields heap after r.so_far.graph command text (Err stop)
-    → ComesTo script heap n r.so_far (how_of stop) number
-ComesTo-line script heap after at' n number ts' None text stop r below goes (same, nothing, is) = absurd (cc)
-ComesTo-line script heap after at' n number ts' (Some command) text stop r below goes carries =
-    ComesTo-stopped script heap after at' n number ts' command text stop r below goes carries
+    → CarriesLine script.fields main after r.so_far.graph command text (Err stop)
+    → ComesTo script (heap_of main) n r.so_far (how_of stop) number
+ComesTo-line script main after at' n number ts' None text stop tied r below goes (same, nothing, is) = absurd (cc)
+ComesTo-line script main after at' n number ts' (Some command) text stop tied r below goes carries =
+    ComesTo-stopped script main after at' n number ts' command text stop tied r below goes carries
 
 -- a command that is not carried out leaves the heap as it was
-same-stopped : (names : List (List ℕ)) (heap after : FirstWords) (graph : Graph) (command : Command) (text : List ℕ)
-    (stop : Stop) → Carries names heap after graph command text (Err stop) → after ≡ heap
-same-stopped names heap after graph command text (Fault word) (does-is, same) = same
-same-stopped names heap after graph command text (NoRoom need) (next, written, does-is, need-is, full, same) = same
+same-stopped : (names : List (List ℕ)) (main after : Mutator) (graph : Graph) (command : Command) (text : List ℕ)
+    (stop : Stop) → Carries names main after graph command text (Err stop) → after ≡ main
+same-stopped names main after graph command text (Fault word) (does-is, same) = same
+same-stopped names main after graph command text (NoRoom need) (next, written, does-is, need-is, full, same) = same
 
 -- and so does a line
-pub same-line : (names : List (List ℕ)) (heap after : FirstWords) (graph : Graph) (command : Option Command) (text : List ℕ)
-    (stop : Stop) → CarriesLine names heap after graph command text (Err stop) → after ≡ heap
-same-line names heap after graph None text stop (same, nothing, is) = same
-same-line names heap after graph (Some command) text stop carries = same-stopped names heap after graph command text stop carries
+pub same-line : (names : List (List ℕ)) (main after : Mutator) (graph : Graph) (command : Option Command) (text : List ℕ)
+    (stop : Stop) → CarriesLine names main after graph command text (Err stop) → after ≡ main
+same-line names main after graph None text stop (same, nothing, is) = same
+same-line names main after graph (Some command) text stop carries = same-stopped names main after graph command text stop carries
 
 -- a run that halts at a line whose command was not carried out
-pub Pauses-stopped : (script : ScriptText) (heap : FirstWords) (waiting : List ℕ) (n number : ℕ) (stop : Stop)
+pub Pauses-stopped : (script : ScriptText) (heap : Heap) (waiting : List ℕ) (n number : ℕ) (stop : Stop)
     (old new : List ℕ → Type 0) (faults_old faults_new : ℕ)
     → (r : Reached script heap n) → ComesTo script heap n r.so_far (how_of stop) number
     → Handed old new waiting r.so_far.bytes → faults_new ≡ faults_old

@@ -1,7 +1,7 @@
 -- A run that has paused, once its last bytes are handed on.
 use Rattle.std.proofs.Common.{◌≡◌, ℕ, List, inl, inr, refl, subst, ◌∙◌}
 use Rattle.script_text.specs.Scripts.{ScriptText}
-use Rattle.mutator.specs.Heap.{FirstWords}
+use Rattle.heap_model.specs.Heaps.{Heap}
 use Rattle.byte_ends.specs.Faults.{Rose}
 use Rattle.byte_ends.specs.Sink.{Appends}
 use Rattle.heap_script.specs.declared.finished.How.{How}
@@ -16,7 +16,7 @@ abbrev finished_by : How → ℕ → ℕ → Finished
 finished_by how line executed = record { how = how; line = line; executed = executed }
 
 -- the sink failed between two lines
-pub Finishes-cut : (script : ScriptText) (heap : FirstWords) (waiting : List ℕ) (how : How) (line n need : ℕ)
+pub Finishes-cut : (script : ScriptText) (heap : Heap) (waiting : List ℕ) (how : How) (line n need : ℕ)
     (old new : List ℕ → Type 0) (faults_old faults_new : ℕ) → how ≡ SinkFault need
     → Pauses script heap waiting (finished_by how line n) old new faults_old faults_new
     → Finishes script heap (finished_by how line n) old new faults_old faults_new
@@ -29,7 +29,7 @@ Finishes-cut script heap waiting (SinkFault none) line n need old new faults_old
 Finishes-cut script heap waiting LineLimit line n need old new faults_old faults_new is p = absurd (cc)
 
 -- a run that paused at an end: what it came to, what was handed on, and that no write failed
-record PausedAt (script : ScriptText) (heap : FirstWords) (waiting : List ℕ) (how : How) (line n : ℕ)
+record PausedAt (script : ScriptText) (heap : Heap) (waiting : List ℕ) (how : How) (line n : ℕ)
     (old mid : List ℕ → Type 0) (faults_old faults_mid : ℕ)
     (paused : Pauses script heap waiting (finished_by how line n) old mid faults_old faults_mid) : Type 0 where
   comes : ComesTo script heap n paused.reached.so_far how line
@@ -37,7 +37,7 @@ record PausedAt (script : ScriptText) (heap : FirstWords) (waiting : List ℕ) (
   steady : faults_mid ≡ faults_old
 
 -- each pause but at a failed sink is at an end
-paused_at : (script : ScriptText) (heap : FirstWords) (waiting : List ℕ) (how : How) (line n : ℕ)
+paused_at : (script : ScriptText) (heap : Heap) (waiting : List ℕ) (how : How) (line n : ℕ)
     (old mid : List ℕ → Type 0) (faults_old faults_mid : ℕ) → ((need : ℕ) → how ≡ SinkFault need → ⊥)
     → (p : Pauses script heap waiting (finished_by how line n) old mid faults_old faults_mid)
     → PausedAt script heap waiting how line n old mid faults_old faults_mid p
@@ -52,7 +52,7 @@ paused_at script heap waiting LineLimit line n old mid faults_old faults_mid oth
     record { comes = p.halts.0; handed = p.halts.1; steady = p.halts.2 }
 
 -- what waited was written
-pub Finishes-written : (script : ScriptText) (heap : FirstWords) (waiting : List ℕ) (how : How) (line n : ℕ)
+pub Finishes-written : (script : ScriptText) (heap : Heap) (waiting : List ℕ) (how : How) (line n : ℕ)
     (old mid new : List ℕ → Type 0) (faults_old faults_mid faults_new : ℕ) → ((need : ℕ) → how ≡ SinkFault need → ⊥)
     → Pauses script heap waiting (finished_by how line n) old mid faults_old faults_mid
     → Appends mid new waiting → faults_new ≡ faults_mid
@@ -69,7 +69,7 @@ Finishes-written script heap waiting LineLimit line n old mid new faults_old fau
     record { reached = p.reached; writes = (p.halts.0, Appends-handed p.halts.1 wrote, same ∙ p.halts.2) }
 
 -- writing what waited failed
-pub Finishes-failed : (script : ScriptText) (heap : FirstWords) (waiting : List ℕ) (how : How) (line n : ℕ)
+pub Finishes-failed : (script : ScriptText) (heap : Heap) (waiting : List ℕ) (how : How) (line n : ℕ)
     (old mid new : List ℕ → Type 0) (faults_old faults_mid faults_new : ℕ) → ((need : ℕ) → how ≡ SinkFault need → ⊥)
     → Pauses script heap waiting (finished_by how line n) old mid faults_old faults_mid
     → CutsOff mid new waiting → Rose faults_mid faults_new

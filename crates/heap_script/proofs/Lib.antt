@@ -1,4 +1,6 @@
 mod Counts
+mod FewWords
+mod Carrying
 pub mod Handing
 mod Ways
 mod Running

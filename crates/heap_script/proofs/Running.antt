@@ -1,9 +1,10 @@
 -- What holds of a run between two of its lines, and how a line carries it on.
-use Rattle.std.proofs.Common.{◌≡◌, ℕ, suc, zero, ◌+◌, ◌<◌, List, [], ◌∷◌, ◌++◌, length, take, drop, Option, Some, None, Ok, refl, sym, ap, subst, ◌∙◌, add-one, add-zero, append-nil, arith}
+use Rattle.std.proofs.Common.{◌≡◌, ℕ, suc, zero, ◌+◌, ◌<◌, List, [], ◌∷◌, ◌++◌, length, take, drop, Option, Some, ◌≤◌}
+use Rattle.std.proofs.Common.{None, Ok, refl, sym, ap, subst, ◌∙◌, add-one, add-zero, append-nil, arith}
 use Rattle.std.specs.Prelude.{option_and_then}
 use Rattle.heap_command.specs.declared.command.Command.{Command}
 use Rattle.heap_command.specs.Executed.{Executed}
-use Rattle.object_graph.specs.Graphs.{start}
+use Rattle.object_graph.specs.Graphs.{Graph, start}
 use Rattle.object_graph.specs.Run.{Told, untold, told_with, tell, told, lines_most}
 use Rattle.object_graph.proofs.Runs.{told-push}
 use Rattle.script_text.specs.Scripts.{ScriptText}
@@ -11,21 +12,27 @@ use Rattle.script_text.specs.Unrolled.{executed, executed_lines}
 use Rattle.script_text.specs.Whole.{IsPlaced}
 use Rattle.script_text.specs.Left.{IsLeft, Goes}
 use Rattle.script_text.proofs.Left.{begins}
-use Rattle.mutator.specs.Heap.{FirstWords, HasVariables, Shows, heap_limits}
+use Rattle.object_graph.specs.Limits.{ideal_limits}
+use Rattle.page_space.specs.Extents.{Space, marks_start}
+use Rattle.heap_model.specs.declared.image.HeapImage.{HeapImage}
+use Rattle.write_barrier.specs.Mains.{Mutator, heap_of, MainShows}
+use Rattle.collector.specs.States.{HeapState, HeapShows}
 use Rattle.mutator.specs.Carries.{Carries}
 use Rattle.heap_script.specs.Runs.{left_after, Reached}
 use Rattle.heap_script.specs.Progress.{objects_made, made_by, CarriesLine, Handed}
-use Rattle.heap_script.proofs.Counts.{length-does}
+use Rattle.heap_script.proofs.Counts.{length-does, makes_one}
 use Rattle.heap_script.proofs.Handing.{Handed-none, Handed-more, Handed-told}
 
 -- Between two lines: the lines that are left are those from this place on with these turns left, what was told was
 -- handed on or waits, and the objects are counted.
-pub record Running (script : ScriptText) (heap : FirstWords) (objects : ℕ) (waiting : List ℕ)
+pub record Running (script : ScriptText) (heap : HeapState) (objects : ℕ) (waiting : List ℕ)
     (old new : List ℕ → Type 0) (at : ℕ) (ts : List ℕ) (executed : ℕ) : Type 0 where
-  pub reached : Reached script heap executed
+  pub reached : Reached script (heap_of heap.main) executed
+  pub shown : HeapShows heap reached.so_far.graph
   pub left : IsLeft script.lines at ts (left_after script executed)
   pub handed : Handed old new waiting reached.so_far.bytes
   pub made : objects ≡ length reached.so_far.graph.objects
+  pub few : objects ≤ executed
 
 -- a list whose rest after the first n begins with an element
 pub record Next {A : Type 0} (xs : List A) (n : ℕ) (x : A) (rest : List A) : Type 0 where
@@ -57,8 +64,9 @@ next-drop (first ∷ xs) zero x rest e =
 next-drop (first ∷ xs) (suc n) x rest e = next_after first xs n x rest (next-drop xs n x rest e)
 
 -- a script begins
-pub Running-start : (script : ScriptText) (heap : FirstWords) (old : List ℕ → Type 0) → IsPlaced 0 script.lines
-    → Shows heap start → HasVariables heap (length script.variables) → Running script heap 0 [] old old 0 [] 0
+pub Running-start : (script : ScriptText) (heap : HeapState) (old : List ℕ → Type 0) → IsPlaced 0 script.lines
+    → HeapShows heap start → heap.main.seat.space.variables ≡ length script.variables
+    → Running script heap 0 [] old old 0 [] 0
 Running-start script heap old placed shown variables = record {
   reached = record {
     within = omega arith;
@@ -66,37 +74,41 @@ Running-start script heap old placed shown variables = record {
     variables = variables;
     so_far = untold;
     said = refl;
-    shown = shown;
+    shown = shown.main.shows;
   };
+  shown = shown;
   left = begins script.lines placed;
   handed = Handed-none old;
   made = refl;
+  few = omega arith;
 }
 
 -- what waits is handed on
-pub Running-handed : (script : ScriptText) (heap : FirstWords) (objects : ℕ) (waiting rest : List ℕ)
+pub Running-handed : (script : ScriptText) (heap : HeapState) (objects : ℕ) (waiting rest : List ℕ)
     (old mid new : List ℕ → Type 0) (at : ℕ) (ts : List ℕ) (n : ℕ)
     → Running script heap objects waiting old mid at ts n → Handed mid new rest waiting
     → Running script heap objects rest old new at ts n
 Running-handed script heap objects waiting rest old mid new at ts n r h = record {
   reached = r.reached;
+  shown = r.shown;
   left = r.left;
   handed = Handed-more r.handed h;
   made = r.made;
+  few = r.few;
 }
 
 -- one line more is told: what the run tells after it
 said-next : (script : ScriptText) (n : ℕ) (so_far later : Told) (line : Executed) (rest : List Executed)
     → Next (executed_lines script.lines) n line rest
-    → told heap_limits script.fields (take n (executed_lines script.lines)) ≡ Some so_far
-    → tell heap_limits script.fields so_far line.command ≡ Some later
-    → told heap_limits script.fields (take (n + 1) (executed_lines script.lines)) ≡ Some later
+    → told ideal_limits script.fields (take n (executed_lines script.lines)) ≡ Some so_far
+    → tell ideal_limits script.fields so_far line.command ≡ Some later
+    → told ideal_limits script.fields (take (n + 1) (executed_lines script.lines)) ≡ Some later
 said-next script n so_far later line rest next said tells =
     let lines = executed_lines script.lines in
-    ap (λ m. told heap_limits script.fields (take m lines)) (add-one n)
-    ∙ ap (told heap_limits script.fields) next.taken
-    ∙ told-push heap_limits script.fields (take n lines) line
-    ∙ ap (option_and_then (λ so_far. tell heap_limits script.fields so_far line.command)) said
+    ap (λ m. told ideal_limits script.fields (take m lines)) (add-one n)
+    ∙ ap (told ideal_limits script.fields) next.taken
+    ∙ told-push ideal_limits script.fields (take n lines) line
+    ∙ ap (option_and_then (λ so_far. tell ideal_limits script.fields so_far line.command)) said
     ∙ tells
 
 -- one line more is executed: what is left is the rest
@@ -105,7 +117,7 @@ dropped-next : (script : ScriptText) (n : ℕ) {line : Executed} {rest : List Ex
 dropped-next script n next = ap (λ m. drop m (executed_lines script.lines)) (add-one n) ∙ next.dropped
 
 -- a `repeat` or an `end` was executed
-pub Running-passed : (script : ScriptText) (heap : FirstWords) (objects : ℕ) (waiting : List ℕ)
+pub Running-passed : (script : ScriptText) (heap : HeapState) (objects : ℕ) (waiting : List ℕ)
     (old new : List ℕ → Type 0) (at at' : ℕ) (ts ts' : List ℕ) (n number : ℕ)
     → Running script heap objects waiting old new at ts n → n < lines_most
     → Goes script.lines at' ts' (left_after script n) (executed number None)
@@ -122,20 +134,39 @@ Running-passed script heap objects waiting old new at at' ts ts' n number r belo
         said = said-next script n so_far so_far (executed number None) goes.rest next r.reached.said refl;
         shown = r.reached.shown;
       };
+      shown = r.shown;
       left = subst (IsLeft script.lines at' ts') (sym (dropped-next script n next)) goes.left;
       handed = r.handed;
       made = r.made;
+      few = omega (arith, r.few);
     }
 
+-- a heap with the same parts is the same
+pub same_heap : (heap after : HeapState) → after.main ≡ heap.main → after.spare ≡ heap.spare → after ≡ heap
+same_heap heap after main spare =
+    ap (λ (m : Mutator). record { main = m; spare = after.spare }) main
+    ∙ ap (λ (s : HeapImage). record { main = heap.main; spare = s }) spare
+
+-- where the mutator's side shows a graph, and the regions and the memory for an image are the same, the heap shows it
+still_shows : (heap after : HeapState) (graph : Graph) {before : Graph} → HeapShows heap before
+    → after.spare ≡ heap.spare → after.main.seat.space ≡ heap.main.seat.space → MainShows after.main graph
+    → HeapShows after graph
+still_shows heap after graph shown spare space shows = record {
+  main = shows;
+  regions = ap (λ (image : HeapImage). image.regions) spare ∙ shown.regions ∙ sym space;
+  ready = ap (λ (image : HeapImage). length image.words) spare ∙ shown.ready ∙ ap marks_start (sym space);
+}
+
 -- a command was carried out
-pub Running-carried : (script : ScriptText) (heap after : FirstWords) (objects : ℕ) (waiting : List ℕ)
+pub Running-carried : (script : ScriptText) (heap after : HeapState) (objects : ℕ) (waiting : List ℕ)
     (old new : List ℕ → Type 0) (at at' : ℕ) (ts ts' : List ℕ) (n number : ℕ) (command : Command) (text : List ℕ)
     → (r : Running script heap objects waiting old new at ts n) → n < lines_most
     → Goes script.lines at' ts' (left_after script n) (executed number (Some command))
-    → Carries script.fields heap after r.reached.so_far.graph command text (Ok tt)
+    → after.spare ≡ heap.spare
+    → Carries script.fields heap.main after.main r.reached.so_far.graph command text (Ok tt)
     → Running script after (objects + objects_made command) (waiting ++ text) old new at' ts' (n + 1)
-Running-carried script heap after objects waiting old new at at' ts ts' n number command text r below goes carries =
-    let (graph, does-is, shown, roots, room) = carries in
+Running-carried script heap after objects waiting old new at at' ts ts' n number command text r below goes spare carries =
+    let (graph, does-is, shown, room, uses) = carries in
     let so_far = r.reached.so_far in
     let later : Told = record { graph = graph; bytes = so_far.bytes ++ text } in
     let line = executed number (Some command) in
@@ -144,26 +175,37 @@ Running-carried script heap after objects waiting old new at at' ts ts' n number
       reached = record {
         within = omega (arith, next.within);
         few = omega (arith, below);
-        variables = roots ∙ r.reached.variables;
+        variables = ap (λ (space : Space). space.variables) uses.space ∙ r.reached.variables;
         so_far = later;
         said = said-next script n so_far later line goes.rest next r.reached.said (ap (told_with so_far) does-is);
-        shown = shown;
+        shown = shown.shows;
       };
+      shown = still_shows heap after graph r.shown spare uses.space shown;
       left = subst (IsLeft script.lines at' ts') (sym (dropped-next script n next)) goes.left;
       handed = Handed-told text r.handed;
       made = ap (λ m. m + objects_made command) r.made
-          ∙ sym (length-does heap_limits script.fields so_far.graph graph command text does-is);
+          ∙ sym (length-does ideal_limits script.fields so_far.graph graph command text does-is);
+      few = omega (arith, r.few, makes_one command);
     }
 
+-- a line that was executed leaves the regions as they were
+pub same_space : (heap after : HeapState) (graph : Graph) (command : Option Command) (names : List (List ℕ)) (text : List ℕ)
+    → CarriesLine names heap.main after.main graph command text (Ok tt) → after.main.seat.space ≡ heap.main.seat.space
+same_space heap after graph None names text (same, nothing, is) = ap (λ (m : Mutator). m.seat.space) same
+same_space heap after graph (Some command) names text (next, does-is, shown, room, uses) = uses.space
+
 -- a line was executed
-pub Running-line : (script : ScriptText) (heap after : FirstWords) (objects : ℕ) (waiting : List ℕ)
+pub Running-line : (script : ScriptText) (heap after : HeapState) (objects : ℕ) (waiting : List ℕ)
     (old new : List ℕ → Type 0) (at at' : ℕ) (ts ts' : List ℕ) (n number : ℕ) (command : Option Command) (text : List ℕ)
     → (r : Running script heap objects waiting old new at ts n) → n < lines_most
     → Goes script.lines at' ts' (left_after script n) (executed number command)
-    → CarriesLine script.fields heap after r.reached.so_far.graph command text (Ok tt)
+    → after.spare ≡ heap.spare
+    → CarriesLine script.fields heap.main after.main r.reached.so_far.graph command text (Ok tt)
     → Running script after (objects + made_by command) (waiting ++ text) old new at' ts' (n + 1)
-Running-line script heap after objects waiting old new at at' ts ts' n number None text r below goes (same, nothing, is) =
+Running-line script heap after objects waiting old new at at' ts ts' n number None text r below goes spare
+    (same, nothing, is) =
     let passed = Running-passed script heap objects waiting old new at at' ts ts' n number r below goes in
-    rw (same, nothing, append-nil, add-zero) passed
-Running-line script heap after objects waiting old new at at' ts ts' n number (Some command) text r below goes carries =
-    Running-carried script heap after objects waiting old new at at' ts ts' n number command text r below goes carries
+    rw (same_heap heap after same spare, nothing, append-nil, add-zero) passed
+Running-line script heap after objects waiting old new at at' ts ts' n number (Some command) text r below goes spare
+    carries =
+    Running-carried script heap after objects waiting old new at at' ts ts' n number command text r below goes spare carries

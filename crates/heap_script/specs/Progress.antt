@@ -9,7 +9,8 @@ use Rattle.script_text.specs.declared.script.What.TheVariants.{Run}
 use Rattle.script_text.specs.Scripts.{ScriptText}
 use Rattle.mutator.specs.declared.stop.Stop.{Stop}
 use Rattle.mutator.specs.declared.stop.Stop.TheVariants as stop
-use Rattle.mutator.specs.Heap.{FirstWords}
+use Rattle.write_barrier.specs.Mains.{Mutator}
+use Rattle.heap_model.specs.Heaps.{Heap}
 use Rattle.mutator.specs.Carries.{Carries}
 use Rattle.byte_ends.specs.Faults.{Rose}
 use Rattle.byte_ends.specs.Sink.{Appends}
@@ -36,7 +37,7 @@ made_by None = 0
 made_by (Some command) = objects_made command
 
 -- a line that runs a command does with the heap what the command does, and one that runs none does nothing
-abbrev pub CarriesLine : List (List ℕ) → FirstWords → FirstWords → Graph → Option Command → List ℕ
+abbrev pub CarriesLine : List (List ℕ) → Mutator → Mutator → Graph → Option Command → List ℕ
     → Result (Unit {0}) Stop → Type 0
 CarriesLine names old new graph None text result = (new ≡ old) × (text ≡ []) × (result ≡ Ok tt)
 CarriesLine names old new graph (Some command) text result = Carries names old new graph command text result
@@ -54,7 +55,7 @@ pub record Handed (old new : List ℕ → Type 0) (waiting all : List ℕ) : Typ
 
 -- The run came to this, and what it told was handed on or waits. Or the sink failed between two lines, and a front of
 -- what was told was written.
-abbrev pub Halts : ScriptText → FirstWords → List ℕ → Finished → Told → (List ℕ → Type 0) → (List ℕ → Type 0)
+abbrev pub Halts : ScriptText → Heap → List ℕ → Finished → Told → (List ℕ → Type 0) → (List ℕ → Type 0)
     → ℕ → ℕ → How → Type 0
 Halts script heap waiting finished so_far old new faults_old faults_new (SinkFault need) =
     ((finished.line ≡ 0) × (need ≡ 0) × FillsOutput so_far.bytes)
@@ -64,7 +65,7 @@ Halts script heap waiting finished so_far old new faults_old faults_new came =
     × Handed old new waiting so_far.bytes × (faults_new ≡ faults_old)
 
 -- the run before its last bytes are handed on: how far it came, and how it halted
-pub record Pauses (script : ScriptText) (heap : FirstWords) (waiting : List ℕ) (finished : Finished)
+pub record Pauses (script : ScriptText) (heap : Heap) (waiting : List ℕ) (finished : Finished)
     (old new : List ℕ → Type 0) (faults_old faults_new : ℕ) : Type 0 where
   pub reached : Reached script heap finished.executed
   pub halts : Halts script heap waiting finished reached.so_far old new faults_old faults_new finished.how

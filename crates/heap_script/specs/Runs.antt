@@ -1,15 +1,18 @@
 -- How far a script was run on a heap, and how the run ended.
-use Rattle.std.specs.Prelude.{◌≡◌, ◌⊎◌, ℕ, ◌+◌, ◌<◌, ◌≤◌, List, ◌∷◌, length, take, drop, All, Option, Some, None}
+use Rattle.std.specs.Prelude.{◌≡◌, ◌⊎◌, ℕ, ◌+◌, ◌<◌, ◌≤◌, List, ◌∷◌, length, take, drop, All, Option, Some, None, IsTrue}
 use Rattle.heap_command.specs.declared.command.Command.{Command}
 use Rattle.heap_command.specs.Executed.{Executed}
 use Rattle.object_graph.specs.Graphs.{Graph}
+use Rattle.object_graph.specs.Limits.{ideal_limits}
 use Rattle.object_graph.specs.Run.{Told, told, lines_most, Ending, end, fault_at, limit_at, ending, EndsAfter}
 use Rattle.script_text.specs.Scripts.{ScriptText}
 use Rattle.script_text.specs.Table.{unbuilt_today}
 use Rattle.script_text.specs.declared.script.Line.{Line}
 use Rattle.script_text.specs.Sound.{IsBuilt}
 use Rattle.script_text.specs.Unrolled.{executed_lines}
-use Rattle.mutator.specs.Heap.{FirstWords, HasVariables, Shows, heap_limits, need_of, IsFull}
+use Rattle.heap_model.specs.Heaps.{Heap}
+use Rattle.heap_model.specs.Needs.{need_of, lacks_room}
+use Rattle.heap_model.specs.Showing.{Shows}
 use Rattle.mutator.specs.declared.output.TheConstants.{OUTPUT_BYTES, ROOM}
 use Rattle.byte_ends.specs.Faults.{Rose}
 use Rattle.byte_ends.specs.Sink.{Appends, AppendsSome}
@@ -25,38 +28,44 @@ AreBuilt lines = All (λ line. IsBuilt unbuilt_today line.what) lines
 abbrev pub left_after : ScriptText → ℕ → List Executed
 left_after script executed = drop executed (executed_lines script.lines)
 
--- The script was run for so many lines, of which none faulted, and the heap shows the graph after them.
-pub record Reached (script : ScriptText) (heap : FirstWords) (executed : ℕ) : Type 0 where
+-- The heap, which shows this graph, is full for so many words: the survivors, the used words and these are more than the
+-- words of the young generation.
+abbrev pub IsFull : Heap → Graph → ℕ → Type 0
+IsFull heap graph need = IsTrue (lacks_room heap need)
+
+-- The script was run for so many lines, of which none faulted, and the heap, which has a root for each variable of the
+-- script, shows the graph after them.
+pub record Reached (script : ScriptText) (heap : Heap) (executed : ℕ) : Type 0 where
   pub within : executed ≤ length (executed_lines script.lines)
   pub few : executed ≤ lines_most
-  pub variables : HasVariables heap (length script.variables)
+  pub variables : heap.space.variables ≡ length script.variables
   pub so_far : Told
-  pub said : told heap_limits script.fields (take executed (executed_lines script.lines)) ≡ Some so_far
+  pub said : told ideal_limits script.fields (take executed (executed_lines script.lines)) ≡ Some so_far
   pub shown : Shows heap so_far.graph
 
 -- the run of the script ends after so many lines, with this told, in this way
 abbrev pub EndsAs : ScriptText → ℕ → Told → Ending → Type 0
 EndsAs script executed so_far ended =
-    EndsAfter heap_limits script.fields (executed_lines script.lines) executed so_far ended
+    EndsAfter ideal_limits script.fields (executed_lines script.lines) executed so_far ended
 
 -- the line runs a command that needs so many words, and the heap, which shows this graph, is full for them
-abbrev pub IsFullFor : FirstWords → Graph → ℕ → Option Command → Type 0
+abbrev pub IsFullFor : Heap → Graph → ℕ → Option Command → Type 0
 IsFullFor heap graph need None = ⊥
 IsFullFor heap graph need (Some command) = (need ≡ need_of heap command) × IsFull heap graph need
 
 -- of these lines the next one has this number, and the heap is full for its command
-abbrev pub IsFullAt : FirstWords → Graph → ℕ → ℕ → List Executed → Type 0
+abbrev pub IsFullAt : Heap → Graph → ℕ → ℕ → List Executed → Type 0
 IsFullAt heap graph line need (next ∷ more) = (next.number ≡ line) × IsFullFor heap graph need next.command
 IsFullAt heap graph line need _ = ⊥
 
 -- The run does not end after so many lines: one is next, and it neither faults nor stands at the limit. But the heap is
 -- full for its command.
-pub record FullAt (script : ScriptText) (heap : FirstWords) (executed : ℕ) (so_far : Told) (line need : ℕ) : Type 0 where
-  pub goes_on : ending heap_limits script.fields so_far.graph executed (left_after script executed) ≡ None
+pub record FullAt (script : ScriptText) (heap : Heap) (executed : ℕ) (so_far : Told) (line need : ℕ) : Type 0 where
+  pub goes_on : ending ideal_limits script.fields so_far.graph executed (left_after script executed) ≡ None
   pub full : IsFullAt heap so_far.graph line need (left_after script executed)
 
 -- After so many lines the run comes to an end, in this way and at this line; a sink that fails is no end of a script.
-abbrev pub ComesTo : ScriptText → FirstWords → ℕ → Told → How → ℕ → Type 0
+abbrev pub ComesTo : ScriptText → Heap → ℕ → Told → How → ℕ → Type 0
 ComesTo script heap executed so_far how.End line = (line ≡ 0) × EndsAs script executed so_far end
 ComesTo script heap executed so_far (how.Fault word) line = EndsAs script executed so_far (fault_at line word)
 ComesTo script heap executed so_far (how.HeapFull need) line = FullAt script heap executed so_far line need
@@ -86,13 +95,13 @@ IsCut _ = ⊥
 
 -- Where the sink failed: between two lines, which is the line 0 and the need 0, once so much was told that an output was
 -- to be handed on. Or at an end with this line and this need.
-abbrev pub FailedAt : ScriptText → FirstWords → ℕ → Told → ℕ → ℕ → Type 0
+abbrev pub FailedAt : ScriptText → Heap → ℕ → Told → ℕ → ℕ → Type 0
 FailedAt script heap executed so_far line need =
     ((line ≡ 0) × (need ≡ 0) × FillsOutput so_far.bytes)
     ⊎ ((came : How) × ComesTo script heap executed so_far came line × (need ≡ need_at came))
 
 -- What was told was written, and the run came to this. Or the sink failed, and a front of what was told was written.
-abbrev pub Writes : ScriptText → FirstWords → Finished → Told → (List ℕ → Type 0) → (List ℕ → Type 0)
+abbrev pub Writes : ScriptText → Heap → Finished → Told → (List ℕ → Type 0) → (List ℕ → Type 0)
     → ℕ → ℕ → How → Type 0
 Writes script heap finished so_far old new faults_old faults_new (how.SinkFault need) =
     FailedAt script heap finished.executed so_far finished.line need
@@ -103,7 +112,7 @@ Writes script heap finished so_far old new faults_old faults_new came =
 
 -- The run of a script: how far it came, how it ended, and what the sink took, which may have taken these bytes before
 -- and after, with so many faults.
-pub record Finishes (script : ScriptText) (heap : FirstWords) (finished : Finished)
+pub record Finishes (script : ScriptText) (heap : Heap) (finished : Finished)
     (old new : List ℕ → Type 0) (faults_old faults_new : ℕ) : Type 0 where
   pub reached : Reached script heap finished.executed
   pub writes : Writes script heap finished reached.so_far old new faults_old faults_new finished.how

@@ -1,81 +1,129 @@
 //! One command of a script on the heap. Which line comes next stands in `interpreter` and `turns`.
-ghost use Rattle.std.specs.Prelude.{◌≡◌, ◌+◌, ◌≤◌, ℕ, List, [], ◌++◌, length, is_ok, if◌then◌else◌, OnOk};
+ghost use Rattle.std.specs.Prelude.{◌≡◌, ◌+◌, ◌<◌, ◌≤◌, ℕ, List, [], ◌++◌, length, is_ok, if◌then◌else◌, OnOk, false};
 ghost use Rattle.object_graph.specs.Graphs.{Graph};
+ghost use Rattle.object_graph.specs.Run.{lines_most};
 ghost use Rattle.heap_command.specs.Commands.{IsWithin};
 ghost use Rattle.script_text.specs.declared.script.What.TheVariants.{Run};
 ghost use Rattle.script_text.specs.Table.{unbuilt_today};
-ghost use Rattle.script_text.specs.Sound.{IsBuilt, NamesWithin};
-ghost use Rattle.mutator.specs.Heap.{Shows, field_numbers, variable_count};
-ghost use Rattle.mutator.specs.Carries.{Carries};
+ghost use Rattle.script_text.specs.Sound.{IsBuilt, NamesWithin, AreShort};
+ghost use Rattle.write_barrier.specs.Mains.{MainShows};
+ghost use Rattle.mutator.specs.Carries.{Carries, field_numbers};
+ghost use Rattle.collector.specs.States.{HeapShows};
 ghost use Rattle.heap_script.specs.Progress.{objects_made, made_by, command_in, CarriesLine};
 
+use collector::{Full, Heap};
 use heap_command::Command;
-use mutator::{FirstHeap, OUTPUT_BYTES, Output, ROOM, Stop};
-use script_text::What;
+use mutator::{OUTPUT_BYTES, Output, ROOM, Stop};
+use script_text::{Script, What};
+use write_barrier::Main;
 
 /// Carries the command of a line out, if it runs one. `objects` counts the objects made so far.
 pub(crate) fn execute_line(
-    heap: &mut FirstHeap,
+    heap: &mut Heap,
+    script: &Script<'_>,
     objects: &mut u32,
     what: &What,
     out: &mut Output,
 ) -> Result<(), Stop>
     requires built { IsBuilt unbuilt_today what.now }
-    requires shown { (graph : Graph) × Shows heap.old graph × (objects.old ≡ length graph.objects) }
-    requires within { NamesWithin (variable_count heap.old) field_numbers what.now }
+    requires shown { (graph : Graph) × HeapShows heap.old graph × (objects.old ≡ length graph.objects) }
+    requires within { NamesWithin heap.old.main.seat.space.variables field_numbers what.now }
+    requires few { objects.old < lines_most }
+    requires short { AreShort script.now.fields }
     requires room { length out.old + ROOM ≤ OUTPUT_BYTES }
-    ensures carried { (graph : Graph) (names : List (List ℕ)) → Shows heap.old graph →
+    ensures carried { (graph : Graph) → HeapShows heap.old graph →
         objects.old ≡ length graph.objects → (text : List ℕ)
-        × CarriesLine names heap.old heap.new graph (command_in what.now) text result
+        × CarriesLine script.now.fields heap.old.main heap.new.main graph (command_in what.now) text result
         × (out.new ≡ (if is_ok result then out.old ++ text else out.old)) }
+    ensures spare { heap.new.spare ≡ heap.old.spare }
     ensures counted { OnOk result (objects.new ≡ objects.old + made_by (command_in what.now)) }
 {
     match what {
-        What::Run(command) => execute(heap, objects, command, out),
+        What::Run(command) => carry_out(heap, script, objects, command, out),
         What::Repeat { .. } | What::End { .. } => Ok(()),
     }
 }
 
-/// Carries a command out. `objects` counts the objects made so far.
-fn execute(
-    heap: &mut FirstHeap,
+/// Carries a command out. Where there is no room for it, the heap is to make some, and then it is
+/// tried again.
+fn carry_out(
+    heap: &mut Heap,
+    script: &Script<'_>,
     objects: &mut u32,
     command: &Command,
     out: &mut Output,
 ) -> Result<(), Stop>
     requires built { IsBuilt unbuilt_today (Run command.now) }
-    requires shown { (graph : Graph) × Shows heap.old graph × (objects.old ≡ length graph.objects) }
-    requires within { IsWithin (variable_count heap.old) field_numbers command.now }
+    requires shown { (graph : Graph) × HeapShows heap.old graph × (objects.old ≡ length graph.objects) }
+    requires within { IsWithin heap.old.main.seat.space.variables field_numbers command.now }
+    requires few { objects.old < lines_most }
+    requires short { AreShort script.now.fields }
     requires room { length out.old + ROOM ≤ OUTPUT_BYTES }
-    ensures carried { (graph : Graph) (names : List (List ℕ)) → Shows heap.old graph →
+    ensures carried { (graph : Graph) → HeapShows heap.old graph →
         objects.old ≡ length graph.objects → (text : List ℕ)
-        × Carries names heap.old heap.new graph command.now text result
+        × Carries script.now.fields heap.old.main heap.new.main graph command.now text result
         × (out.new ≡ (if is_ok result then out.old ++ text else out.old)) }
+    ensures spare { heap.new.spare ≡ heap.old.spare }
     ensures counted { OnOk result (objects.new ≡ objects.old + objects_made command.now) }
 {
+    match execute(heap.main_mut(), script, objects, command, out) {
+        Err(Stop::NoRoom { need }) => match heap.ensure(need) {
+            Ok(()) => execute(heap.main_mut(), script, objects, command, out),
+            Err(Full { need }) => Err(Stop::NoRoom { need }),
+        },
+        carried => carried,
+    }
+}
+
+/// Carries a command out, if there is room for it. `objects` counts the objects made so far.
+fn execute(
+    main: &mut Main,
+    script: &Script<'_>,
+    objects: &mut u32,
+    command: &Command,
+    out: &mut Output,
+) -> Result<(), Stop>
+    requires built { IsBuilt unbuilt_today (Run command.now) }
+    requires shown { (graph : Graph) × MainShows main.old graph × (objects.old ≡ length graph.objects) }
+    requires within { IsWithin main.old.seat.space.variables field_numbers command.now }
+    requires few { objects.old < lines_most }
+    requires short { AreShort script.now.fields }
+    requires room { length out.old + ROOM ≤ OUTPUT_BYTES }
+    ensures carried { (graph : Graph) → MainShows main.old graph →
+        objects.old ≡ length graph.objects → (text : List ℕ)
+        × Carries script.now.fields main.old main.new graph command.now text result
+        × (out.new ≡ (if is_ok result then out.old ++ text else out.old)) }
+    ensures counted { OnOk result (objects.new ≡ objects.old + objects_made command.now) }
+    ensures uncounted { is_ok result ≡ false → objects.new ≡ objects.old }
+{
     match *command {
-        Command::New { x, cap } => make(heap, objects, x, cap),
-        Command::LetValue { x, v } => mutator::let_value(heap, x, v),
-        Command::DropVar { x } => mutator::drop_var(heap, x),
-        Command::Add { x, v } => mutator::add(heap, x, v),
-        Command::Set { x, f, v } => mutator::set(heap, x, f, v),
-        Command::Get { y, x, f } => mutator::get(heap, y, x, f),
-        Command::Print { v } => mutator::print(heap, v, out),
-        Command::Same { a, b } => mutator::same(heap, a, b, out),
+        Command::New { x, cap } => make(main, objects, x, cap),
+        Command::LetValue { x, v } => mutator::let_value(main, x, v),
+        Command::DropVar { x } => mutator::drop_var(main, x),
+        Command::Add { x, v } => mutator::add(main, x, v),
+        Command::Set { x, f, v } => mutator::set(main, x, f, v),
+        Command::Get { y, x, f } => mutator::get(main, y, x, f),
+        Command::Del { x, f } => mutator::del(main, x, f),
+        Command::Print { v } => mutator::print(main, v, out),
+        Command::Same { a, b } => mutator::same(main, a, b, out),
+        Command::Alike { x, y } => mutator::alike(main, x, y, out),
+        Command::Shape { x } => mutator::shape(main, script, x, out),
         _ => unreachable!(),
     }
 }
 
 /// Makes a plain object and counts it.
-fn make(heap: &mut FirstHeap, objects: &mut u32, x: u32, cap: u32) -> Result<(), Stop>
-    requires shown { (graph : Graph) × Shows heap.old graph × (objects.old ≡ length graph.objects) }
-    requires within { IsWithin (variable_count heap.old) field_numbers (Command.New x cap) }
-    ensures carried { (graph : Graph) (names : List (List ℕ)) → Shows heap.old graph →
+fn make(main: &mut Main, objects: &mut u32, x: u32, cap: u32) -> Result<(), Stop>
+    requires shown { (graph : Graph) × MainShows main.old graph × (objects.old ≡ length graph.objects) }
+    requires within { IsWithin main.old.seat.space.variables field_numbers (Command.New x cap) }
+    requires few { objects.old < lines_most }
+    ensures carried { (graph : Graph) (names : List (List ℕ)) → MainShows main.old graph →
         objects.old ≡ length graph.objects →
-        Carries names heap.old heap.new graph (Command.New x cap) [] result }
+        Carries names main.old main.new graph (Command.New x cap) [] result }
     ensures counted { OnOk result (objects.new ≡ objects.old + 1) }
+    ensures uncounted { is_ok result ≡ false → objects.new ≡ objects.old }
 {
-    let made = mutator::new_plain(heap, x, *objects, cap);
+    let made = mutator::new_plain(main, x, *objects, cap);
     if made.is_ok() {
         *objects += 1;
     }

@@ -1,8 +1,11 @@
 //! A script on the heap, line by line in the order of execution.
 ghost use Rattle.std.specs.Prelude.{◌≡◌, ◌≢◌, ◌+◌, ◌≤◌, false, [], length, OnOk, OnErr};
-ghost use Rattle.object_graph.specs.Graphs.{start};
-ghost use Rattle.mutator.specs.Heap.{HasVariables, Shows, field_numbers};
+ghost use Rattle.object_graph.specs.Graphs.{Graph, start};
+ghost use Rattle.mutator.specs.Carries.{field_numbers};
+ghost use Rattle.write_barrier.specs.Mains.{heap_of};
+ghost use Rattle.collector.specs.States.{HeapShows};
 ghost use Rattle.byte_ends.specs.Faults.{Rose};
+ghost use Rattle.script_text.specs.Sound.{AreShort};
 ghost use Rattle.heap_script.specs.Runs.{AreBuilt, Finishes, CutsOff, FillsOutput, IsCut};
 ghost use Rattle.heap_script.specs.Progress.{Handed, Pauses, how_of};
 
@@ -11,38 +14,39 @@ use crate::finished::{Finished, How};
 use crate::handing_on::hand_on;
 use crate::turns::Turns;
 use byte_ends::{Failed, Sink};
+use collector::Heap;
 use crew::Gate;
-use mutator::{FirstHeap, OUTPUT_BYTES, Output, ROOM, Stop};
+use mutator::{OUTPUT_BYTES, Output, ROOM, Stop};
 use script_text::Script;
 use std::thread::Threads;
 
 /// How many lines are executed at most.
 const LINES_MOST: u64 = 20_000_000;
 
-/// How many names of fields a script has at most.
-const FIELDS_MOST: u32 = 4096;
-
 /// Runs a script on a heap that was just opened, with an output that is empty, and writes to the sink
 /// what it tells. Threads and gates are not used so far, and the heap is not checked.
 pub fn run_script<K: Sink, G: Gate, R: Threads + Sync>(
     _rt: &R,
-    heap: &mut FirstHeap,
+    heap: &mut Heap,
     script: &Script<'_>,
     out: &mut Output,
     sink: &mut K,
     _check: bool,
     _gate: &G,
 ) -> Finished
-    requires shown { Shows heap.old start }
-    requires variables { HasVariables heap.old (length script.now.variables) }
+    requires shown { HeapShows heap.old start }
+    requires variables { heap.old.main.seat.space.variables ≡ length script.now.variables }
     requires built { AreBuilt script.now.lines }
     requires empty { out.old ≡ [] }
     requires unchecked { _check ≡ false }
-    ensures finishes { Finishes script.now heap.new result
+    ensures finishes { Finishes script.now (heap_of heap.new.main) result
         (K.HasTaken sink.old) (K.HasTaken sink.new) (K.faults sink.old) (K.faults sink.new) }
     ensures emptied { ¬ IsCut result.how → out.new ≡ [] }
+    ensures shows { (graph : Graph) × HeapShows heap.new graph }
+    ensures space { heap.new.main.seat.space ≡ heap.old.main.seat.space }
 {
-    prove!(script.fields() <= FIELDS_MOST);
+    // Tells that the script has at most 4,096 fields, whose names are short.
+    let _fields = script.fields();
     let finished = run_lines(heap, script, out, sink);
     match finished.how {
         How::SinkFault { .. } => finished,
@@ -58,18 +62,21 @@ pub fn run_script<K: Sink, G: Gate, R: Threads + Sync>(
 
 /// Executes lines from the first on. What they write waits in the output or was handed to the sink.
 fn run_lines<K: Sink>(
-    heap: &mut FirstHeap,
+    heap: &mut Heap,
     script: &Script<'_>,
     out: &mut Output,
     sink: &mut K,
 ) -> Finished
-    requires shown { Shows heap.old start }
-    requires variables { HasVariables heap.old (length script.now.variables) }
+    requires shown { HeapShows heap.old start }
+    requires variables { heap.old.main.seat.space.variables ≡ length script.now.variables }
     requires fields { length script.now.fields ≤ field_numbers }
+    requires short { AreShort script.now.fields }
     requires built { AreBuilt script.now.lines }
     requires empty { out.old ≡ [] }
-    ensures { Pauses script.now heap.new out.new result
+    ensures pauses { Pauses script.now (heap_of heap.new.main) out.new result
         (K.HasTaken sink.old) (K.HasTaken sink.new) (K.faults sink.old) (K.faults sink.new) }
+    ensures shows { (graph : Graph) × HeapShows heap.new graph }
+    ensures space { heap.new.main.seat.space ≡ heap.old.main.seat.space }
 {
     let lines = script.lines();
     let mut turns = Turns::new();
@@ -83,7 +90,7 @@ fn run_lines<K: Sink>(
                 executed,
             };
         }
-        if let Err(stop) = execute_line(heap, &mut objects, &line.what, out) {
+        if let Err(stop) = execute_line(heap, script, &mut objects, &line.what, out) {
             return stopped(stop, line.number, executed);
         }
         at = turns.next(at, &line.what);

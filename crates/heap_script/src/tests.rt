@@ -3,9 +3,12 @@
 
 use crate::{Finished, How, run_script};
 use byte_ends::MemSink;
+use collector::Heap;
 use crew::OpenGate;
 use heap_command::FaultWord;
-use mutator::{FirstHeap, Output};
+use heap_table::HeapTable;
+use mutator::Output;
+use page_space::{Regions, Sizes};
 use script_text::parse;
 use std::test::Fail;
 use std::thread::Threads;
@@ -16,7 +19,14 @@ fn ran<R: Threads + Sync + AllocGlobal>(rt: &R, source: &str) -> Result<(Vec<u8>
     let Ok(script) = parse(alloc, source.as_bytes()) else {
         return Err(Fail::from("the source is a script"));
     };
-    let mut heap = FirstHeap::new(alloc, script.variables())?;
+    let sizes = Sizes {
+        pages: 64,
+        young: 8_192,
+        helpers: 2,
+    };
+    let regions = Regions::new(sizes, script.variables());
+    let seat = HeapTable::open(alloc, regions)?;
+    let mut heap = Heap::open_new(alloc, seat, regions)?;
     let mut out = Output::new(alloc)?;
     let mut sink = MemSink::new(alloc, 1 << 20, 4096, Vec::new(alloc))?;
     let finished = run_script(
@@ -65,7 +75,7 @@ fn scripts_run_in_the_order_of_execution(rt: HostRuntime) -> Result<(), Fail> {
         (
             "repeat 6000\nnew x 8\nend",
             "",
-            finished(How::HeapFull { need: 25 }, 2, 10_485),
+            finished(How::HeapFull { need: 10 }, 2, 1_639),
         ),
     ];
     for (source, text, wanted) in table {

@@ -1,31 +1,65 @@
 -- What a call leaves, however it ends.
-use Rattle.std.proofs.Common.{◌≡◌, ℕ, List, Result, Ok, Err, length, sym, ap, subst}
+use Rattle.std.proofs.Common.{◌≡◌, ℕ, ◌+◌, List, [], ◌∷◌, length, Result, Ok, Err, sym, ap, subst, arith, length-append}
 use Rattle.heap_command.specs.declared.command.Command.{Command}
-use Rattle.object_graph.specs.Graphs.{Graph}
+use Rattle.heap_command.specs.declared.command.Command.TheVariants.{New}
+use Rattle.object_graph.specs.declared.object.Object.TheVariants.{Plain}
+use Rattle.object_graph.specs.Graphs.{Graph, make}
+use Rattle.object_graph.specs.Meaning.{Outcome, done, fault}
+use Rattle.write_barrier.specs.Mains.{Mutator, MainShows}
 use Rattle.mutator.specs.declared.stop.Stop.{Stop}
 use Rattle.mutator.specs.declared.stop.Stop.TheVariants.{Fault, NoRoom}
-use Rattle.mutator.specs.Heap.{FirstWords, Shows}
-use Rattle.mutator.specs.Carries.{Carries, SameVariables}
+use Rattle.mutator.specs.Carries.{Carries}
 
 -- a heap that shows a graph, with as many variables
-pub record Leaves (old new : FirstWords) : Type 0 where
-  pub graph : Graph
-  pub shown : Shows new graph
-  pub variables : SameVariables old new
+pub record Leaves (old new : Mutator) : Type 0 where
+  pub shown : (graph : Graph) × MainShows new graph
+  pub variables : new.seat.space.variables ≡ old.seat.space.variables
 
 -- a heap that was not changed
-unchanged : (old new : FirstWords) (graph : Graph) → new ≡ old → Shows old graph → Leaves old new
-unchanged old new graph same shown = record {
-  graph = graph;
-  shown = subst (λ heap. Shows heap graph) (sym same) shown;
-  variables = ap (λ heap. length heap.roots) same;
+unchanged : (old new : Mutator) (graph : Graph) → new ≡ old → MainShows old graph → Leaves old new
+unchanged old new graph same shows = record {
+  shown = (graph, subst (λ main. MainShows main graph) (sym same) shows);
+  variables = ap (λ (main : Mutator). main.seat.space.variables) same;
 }
 
 -- each call leaves such a heap
-pub leaves : (names : List (List ℕ)) (old new : FirstWords) (graph : Graph) (command : Command) (text : List ℕ)
-    (result : Result (Unit {0}) Stop) → Carries names old new graph command text result → Shows old graph
+pub leaves : (names : List (List ℕ)) (old new : Mutator) (graph : Graph) (command : Command) (text : List ℕ)
+    (result : Result (Unit {0}) Stop) → Carries names old new graph command text result → MainShows old graph
     → Leaves old new
-leaves names old new graph command text (Ok done) carries shown =
-    record { graph = carries.0; shown = carries.2; variables = carries.3 }
-leaves names old new graph command text (Err (Fault word)) carries shown = unchanged old new graph carries.1 shown
-leaves names old new graph command text (Err (NoRoom need)) carries shown = unchanged old new graph carries.5 shown
+leaves names old new graph command text (Ok result) carries shows = record {
+  shown = (carries.0, carries.2);
+  variables = ap (λ space. space.variables) carries.4.space;
+}
+leaves names old new graph command text (Err (Fault word)) carries shows = unchanged old new graph carries.1 shows
+leaves names old new graph command text (Err (NoRoom need)) carries shows = unchanged old new graph carries.5 shows
+
+-- a heap that shows a graph with so many objects, and has as many variables as another
+pub record Makes (old new : Mutator) (count : ℕ) : Type 0 where
+  pub graph : Graph
+  pub shows : MainShows new graph
+  pub counted : count ≡ length graph.objects
+  pub variables : new.seat.space.variables ≡ old.seat.space.variables
+
+-- the graph that a command comes to
+graph_in : Graph → Outcome → Graph
+graph_in other (done graph text) = graph
+graph_in other (fault word) = other
+
+-- `new` leaves one with an object more
+pub makes : (old new : Mutator) (graph : Graph) (x cap count : ℕ) (result : Unit {0}) → count ≡ length graph.objects
+    → Carries [] old new graph (New x cap) [] (Ok result) → Makes old new (count + 1)
+unfolding graph_in
+makes old new graph x cap count result counted carries =
+    let same : make graph x (Plain cap []) ≡ carries.0 = ap (graph_in graph) carries.1 in
+    record {
+      graph = carries.0;
+      shows = carries.2;
+      counted = omega (
+        arith,
+        counted,
+        length-append graph.objects (Plain cap [] ∷ []),
+        ap
+            (λ g. length g.objects) same,
+      );
+      variables = ap (λ space. space.variables) carries.4.space;
+    }

@@ -1,9 +1,6 @@
-pub mod Cells
-pub mod Heap
 pub mod Carries
-pub mod Pairs
-pub mod Roots
 pub mod Reading
-pub mod Places
-pub mod Writes
-pub mod Grows
+pub mod Kinds
+pub mod Written
+pub mod Making
+pub mod Stops

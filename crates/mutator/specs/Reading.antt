@@ -1,53 +1,62 @@
--- What is read from a heap that shows a graph: the words of the value that is sought, and what it stands for.
-use Rattle.std.specs.Prelude.{◌≡◌, ℤ, List, Option, Some, None, Result, Ok, Err}
+-- What is read from a heap that shows a graph: what is held of the values that are sought, and the objects that it
+-- refers to.
+use Rattle.std.specs.Prelude.{◌≡◌, ℤ, ◌⊎◌, Option, Some, None, Result, Ok, Err}
 use Rattle.heap_command.specs.declared.command.FaultWord.{FaultWord}
 use Rattle.heap_command.specs.declared.command.FaultWord.TheVariants.{Unbound, NotObject, NotInt}
 use Rattle.object_graph.specs.declared.value.Value.{Value}
-use Rattle.object_graph.specs.declared.value.Value.TheVariants as value
-use Rattle.object_graph.specs.declared.object.Field.{Field}
-use Rattle.object_graph.specs.declared.object.Object.{Object}
-use Rattle.object_graph.specs.Graphs.{Graph, integer_in, plain_at}
-use Rattle.mutator.specs.declared.pairs.Pair.{Pair}
+use Rattle.object_graph.specs.declared.value.Value.TheVariants.{Ref}
+use Rattle.object_graph.specs.Paths.{path_of}
+use Rattle.object_graph.specs.Graphs.{Graph, PlainObject, integer_in, plain_at}
+use Rattle.shape_tree.specs.Shapes.{IsShapeOf}
+use Rattle.handle_roots.specs.declared.held.Held.{Held}
+use Rattle.handle_roots.specs.Roots.{FitsHeld}
+use Rattle.write_barrier.specs.Mains.{Mutator, MainShows}
+use Rattle.shape_change.specs.FieldChanges.{IsValueHeld, IsPlainAt}
 use Rattle.mutator.specs.declared.reading.Found.{Found}
-use Rattle.mutator.specs.declared.reading.Content.{Content}
-use Rattle.mutator.specs.declared.reading.Content.TheVariants as content
-use Rattle.mutator.specs.Cells.{address_of}
-use Rattle.mutator.specs.Heap.{FirstWords, Shows}
-use Rattle.mutator.specs.Pairs.{IsPairOf}
 
--- the heap shows a graph of which the pair holds the value
-pub record IsReadable (heap : FirstWords) (graph : Graph) (value : Value) (pair : Pair) : Type 0 where
-  pub shown : Shows heap graph
-  pub held : IsPairOf graph.objects value pair
-
--- found is the plain object that the value refers to
-pub record IsFound (objects : List Object) (value : Value) (found : Found) : Type 0 where
-  pub fields : List Field
-  pub plain : plain_at objects value ≡ Some (record { number = found.object; cap = found.cap; fields = fields })
-  pub address : found.address ≡ address_of objects found.object
-
--- what was read is the value
-abbrev pub IsRead : List Object → Value → Content → Type 0
-IsRead objects (value.Int v) (content.Int w) = v ≡ w
-IsRead objects (value.Int v) content.Undefined = ⊥
-IsRead objects (value.Int v) (content.Object found) = ⊥
-IsRead objects value.Undefined (content.Int w) = ⊥
-IsRead objects value.Undefined content.Undefined = Unit {0}
-IsRead objects value.Undefined (content.Object found) = ⊥
-IsRead objects (value.Ref number) (content.Int w) = ⊥
-IsRead objects (value.Ref number) content.Undefined = ⊥
-IsRead objects (value.Ref number) (content.Object found) =
-    (found.object ≡ number) × IsFound objects (value.Ref number) found
+-- what is held stands for the value: it shows it, and a variable may hold it
+pub record StandsFor (main : Mutator) (graph : Graph) (value : Value) (held : Held) : Type 0 where
+  pub is : IsValueHeld main graph held value
+  pub fits : FitsHeld held
 
 -- what was found stands for the value that is sought; where none is there, the word is `unbound`
-abbrev pub Finds : {A : Type 0} → (Value → A → Type 0) → Option Value → Result A FaultWord → Type 0
-Finds StandsFor sought (Ok found) = (value : Value) × (sought ≡ Some value) × StandsFor value found
-Finds StandsFor sought (Err word) = (sought ≡ None) × (word ≡ Unbound)
+abbrev pub Finds : Mutator → Graph → Option Value → Result Held FaultWord → Type 0
+Finds main graph sought (Ok held) = (value : Value) × (sought ≡ Some value) × StandsFor main graph value held
+Finds main graph sought (Err word) = (sought ≡ None) × (word ≡ Unbound)
 
--- found is the plain object that the value refers to; where it refers to none, the word is `notobject`
-abbrev pub FindsPlain : List Object → Value → Result Found FaultWord → Type 0
-FindsPlain objects value (Ok found) = IsFound objects value found
-FindsPlain objects value (Err word) = (plain_at objects value ≡ None) × (word ≡ NotObject)
+-- What was found stands for the two values that are sought, in order.
+pub record StandForBoth (main : Mutator) (graph : Graph) (one other : Option Value) (found : Held × Held) : Type 0 where
+  pub first : Value
+  pub is_first : one ≡ Some first
+  pub stands_first : StandsFor main graph first found.0
+  pub second : Value
+  pub is_second : other ≡ Some second
+  pub stands_second : StandsFor main graph second found.1
+
+-- both were found; where one of them is not there, the word is `unbound`
+abbrev pub FindsBoth : Mutator → Graph → Option Value → Option Value → Result (Held × Held) FaultWord → Type 0
+FindsBoth main graph one other (Ok found) = StandForBoth main graph one other found
+FindsBoth main graph one other (Err word) = ((one ≡ None) ⊎ (other ≡ None)) × (word ≡ Unbound)
+
+-- what is held stands for a value of a graph that the heap shows
+pub record IsShownValue (main : Mutator) (held : Held) : Type 0 where
+  pub graph : Graph
+  pub value : Value
+  pub shows : MainShows main graph
+  pub stands : StandsFor main graph value held
+
+-- the plain object to which the value refers stands where it was found, and has this shape
+pub record IsFound (main : Mutator) (graph : Graph) (value : Value) (found : Found) : Type 0 where
+  pub plain : PlainObject
+  pub is : value ≡ Ref plain.number
+  pub refers : plain_at graph.objects value ≡ Some plain
+  pub stands : IsPlainAt main graph found.at plain
+  pub shaped : IsShapeOf main.paths (path_of plain.cap plain.fields) found.shape
+
+-- the plain object to which the value refers was found; where it refers to none, the word is `notobject`
+abbrev pub FindsPlain : Mutator → Graph → Value → Result Found FaultWord → Type 0
+FindsPlain main graph value (Ok found) = IsFound main graph value found
+FindsPlain main graph value (Err word) = (plain_at graph.objects value ≡ None) × (word ≡ NotObject)
 
 -- the integer is the value; where it is none, the word is `notint`
 abbrev pub FindsInteger : Value → Result ℤ FaultWord → Type 0

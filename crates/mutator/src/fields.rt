@@ -1,54 +1,63 @@
-//! The commands `set` and `get`, on the fields of an object. Where an object keeps a field is said
-//! in `places.rt`. A field stands by the number of its name, which is below 2^30.
+//! The commands `set`, `get` and `del`, on the fields of a plain object. What they do to its cells
+//! is done in `shape_change`; what is written of its shape is said in `shapes.rt`.
 ghost use Rattle.std.specs.Prelude.{ℕ, List, []};
 ghost use Rattle.heap_command.specs.Commands.{IsWithin};
 ghost use Rattle.object_graph.specs.Graphs.{Graph};
-ghost use Rattle.mutator.specs.Carries.{Carries};
-ghost use Rattle.mutator.specs.Heap.{variable_count, field_numbers, Shows};
+ghost use Rattle.write_barrier.specs.Mains.{MainShows};
+ghost use Rattle.mutator.specs.Carries.{Carries, field_numbers};
 
-use crate::heap::FirstHeap;
-use crate::places::{Place, field_pair, place_in, write_place};
-use crate::reading::{bound_value, operand_pair, plain};
-use crate::roots::write_root;
+use crate::reading::{bound, operands, plain};
 use crate::stop::Stop;
-use heap_command::{Command, FaultWord, Operand};
+use heap_command::{Command, Operand};
+use write_barrier::Main;
 
-/// Gives the field `f` of the plain object `x` the value. A name that is new to the object takes
-/// its next place.
+/// Gives the field `f` of the plain object `x` the value. A name that is new to the object becomes
+/// its last field.
 ///
-/// Stops with `unbound`, `notobject`, or `fieldsfull` where the name is new and the object has as
-/// many fields as its cap.
-pub fn set(heap: &mut FirstHeap, x: u32, f: u32, v: Operand) -> Result<(), Stop>
-    requires shown { (graph : Graph) × Shows heap.old graph }
-    requires within { IsWithin (variable_count heap.old) field_numbers (Command.Set x f v) }
-    ensures carried { (graph : Graph) (names : List (List ℕ)) → Shows heap.old graph →
-        Carries names heap.old heap.new graph (Command.Set x f v) [] result }
+/// Stops with `unbound`, `notobject`, `fieldsfull` where the name is new and the object has 64
+/// fields, `shapesfull` where there may not be as many field paths, or for want of room for a new
+/// property store or box.
+pub fn set(main: &mut Main, x: u32, f: u32, v: Operand) -> Result<(), Stop>
+    requires shown { (graph : Graph) × MainShows main.old graph }
+    requires within { IsWithin main.old.seat.space.variables field_numbers (Command.Set x f v) }
+    ensures carried { (graph : Graph) (names : List (List ℕ)) → MainShows main.old graph →
+        Carries names main.old main.new graph (Command.Set x f v) [] result }
 {
-    let target = bound_value(heap, x)?;
     // The value is read before the object is judged: `unbound` comes before `notobject`.
-    let value = operand_pair(heap, v)?;
-    let found = plain(target)?;
-    match place_in(heap, found, f) {
-        Place::Held(i) | Place::Unused(i) => {
-            write_place(heap, found, i, f, value);
-            Ok(())
-        }
-        Place::Full => Err(Stop::Fault(FaultWord::FieldsFull)),
-    }
+    let (target, value) = operands(main, Operand::Var(x), v)?;
+    let found = plain(main, target)?;
+    shape_change::set(main, found.at, f, value)?;
+    Ok(())
 }
 
 /// Binds `y` to the field `f` of the plain object `x`, or to `undefined` where there is none.
 ///
 /// Stops with `unbound` or `notobject`.
-pub fn get(heap: &mut FirstHeap, y: u32, x: u32, f: u32) -> Result<(), Stop>
-    requires shown { (graph : Graph) × Shows heap.old graph }
-    requires within { IsWithin (variable_count heap.old) field_numbers (Command.Get y x f) }
-    ensures carried { (graph : Graph) (names : List (List ℕ)) → Shows heap.old graph →
-        Carries names heap.old heap.new graph (Command.Get y x f) [] result }
+pub fn get(main: &mut Main, y: u32, x: u32, f: u32) -> Result<(), Stop>
+    requires shown { (graph : Graph) × MainShows main.old graph }
+    requires within { IsWithin main.old.seat.space.variables field_numbers (Command.Get y x f) }
+    ensures carried { (graph : Graph) (names : List (List ℕ)) → MainShows main.old graph →
+        Carries names main.old main.new graph (Command.Get y x f) [] result }
 {
-    let target = bound_value(heap, x)?;
-    let found = plain(target)?;
-    let value = field_pair(heap, found, f);
-    write_root(heap, y, value);
+    let target = bound(main, x)?;
+    let found = plain(main, target)?;
+    let value = shape_change::get(main, found.at, f);
+    main.hold(y, value);
+    Ok(())
+}
+
+/// Takes the field `f` out of the plain object `x`; later fields keep their order. Nothing happens
+/// where there is none.
+///
+/// Stops with `unbound`, `notobject`, or `shapesfull` where there may not be as many field paths.
+pub fn del(main: &mut Main, x: u32, f: u32) -> Result<(), Stop>
+    requires shown { (graph : Graph) × MainShows main.old graph }
+    requires within { IsWithin main.old.seat.space.variables field_numbers (Command.Del x f) }
+    ensures carried { (graph : Graph) (names : List (List ℕ)) → MainShows main.old graph →
+        Carries names main.old main.new graph (Command.Del x f) [] result }
+{
+    let target = bound(main, x)?;
+    let found = plain(main, target)?;
+    shape_change::delete(main, found.at, f)?;
     Ok(())
 }

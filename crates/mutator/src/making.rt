@@ -1,92 +1,63 @@
-//! The command `new`: a new cell behind the used words. The layout of a cell is said in
-//! `specs/Cells.antt`, and what a variable's words are in `pairs.rt`.
-ghost use Rattle.std.specs.Prelude.{◌≡◌, ℕ, ◌+◌, ◌*◌, ◌<◌, ◌≤◌, List, [], ◌∷◌, length, replicate, flat_map};
+//! The command `new`: a new cell in eden.
+ghost use Rattle.std.specs.Prelude.{◌≡◌, ℕ, ◌+◌, ◌≤◌, List, [], length};
+ghost use Rattle.tagged_word.specs.Headers.{IsHeader};
+ghost use Rattle.page_space.specs.Extents.{marks_start};
 ghost use Rattle.heap_command.specs.Commands.{IsWithin};
 ghost use Rattle.object_graph.specs.Graphs.{Graph};
-ghost use Rattle.object_graph.specs.Invariants.{cap_most};
-ghost use Rattle.object_graph.specs.declared.object.Object.TheVariants.{Plain};
-ghost use Rattle.mutator.specs.Cells.{size_of, unused_words, cell_words};
-ghost use Rattle.mutator.specs.Heap.{heap_words, field_numbers, variable_count, Shows};
-ghost use Rattle.mutator.specs.Carries.{Carries};
-ghost use Rattle.mutator.specs.Grows.{Grows};
+ghost use Rattle.heap_table.specs.declared.phase.Phase.TheVariants.{Quiet};
+ghost use Rattle.heap_table.specs.Seats.{heap_words};
+ghost use Rattle.write_barrier.specs.Mains.{MainShows, with_table};
+ghost use Rattle.write_barrier.specs.Values.{with_range};
+ghost use Rattle.mutator.specs.Carries.{Carries, field_numbers};
+ghost use Rattle.mutator.specs.Making.{empty_plain};
 
-use crate::heap::{FIRST_SHAPE, FirstHeap, HEAP_WORDS, PLACE_WORDS};
-use crate::pairs::Pair;
-use crate::roots::write_root;
 use crate::stop::Stop;
+use handle_roots::Held;
 use heap_command::Command;
 use tagged_word::{Header, Word, odd};
+use write_barrier::Main;
 
-/// Binds `x` to a new plain object with `cap` places for fields. `object` is the number of objects
-/// made so far, and becomes the new one's number.
+/// The words of a plain cell before its in-object slots.
+const PLAIN_HEAD: u32 = 2;
+
+/// The offset of the slot for the property store.
+const STORE_SLOT: u32 = 1;
+
+/// Binds `x` to a new plain object with `cap` slots of its own and no field. `object` is the number
+/// of objects made so far, and becomes the new one's number.
 ///
-/// Stops with `NoRoom` where the cell's words, a header and three for each place, are more than the
-/// unused words of the heap.
-pub fn new_plain(heap: &mut FirstHeap, x: u32, object: u32, cap: u32) -> Result<(), Stop>
-    requires shown { (graph : Graph) × Shows heap.old graph × (object ≡ length graph.objects) }
-    requires within { IsWithin (variable_count heap.old) field_numbers (Command.New x cap) }
-    ensures carried { (graph : Graph) (names : List (List ℕ)) → Shows heap.old graph →
+/// Stops with `NoRoom` where eden has not the cell's words: two and one for each slot.
+pub fn new_plain(main: &mut Main, x: u32, object: u32, cap: u32) -> Result<(), Stop>
+    requires shown { (graph : Graph) × MainShows main.old graph × (object ≡ length graph.objects) }
+    requires within { IsWithin main.old.seat.space.variables field_numbers (Command.New x cap) }
+    ensures carried { (graph : Graph) (names : List (List ℕ)) → MainShows main.old graph →
         object ≡ length graph.objects →
-        Carries names heap.old heap.new graph (Command.New x cap) [] result }
+        Carries names main.old main.new graph (Command.New x cap) [] result }
 {
-    // The need is judged before a word is written: a heap that refuses the command is as it was.
-    let need = cell_size(cap);
-    if need > HEAP_WORDS - heap.used {
-        return Err(Stop::NoRoom { need });
+    let shape = main.shapes().root(cap);
+    match main.reserve(PLAIN_HEAD + cap) {
+        Ok(run) => {
+            fill_plain(main, run.at, Header { shape, object }, cap);
+            main.hold(x, Held::Ref(run.at));
+            Ok(())
+        }
+        Err(no_room) => Err(Stop::NoRoom { need: no_room.need }),
     }
-    // The cell will stand where the used words end, and adding it raises them.
-    let address = heap.used;
-    add_cell(heap, object, cap);
-    write_root(heap, x, Pair::reference(address));
-    Ok(())
 }
 
-// How many words the cell of a plain object has.
-fn cell_size(cap: u32) -> u32
-    requires { cap ≤ cap_most }
-    ensures { result ≡ size_of (Plain cap []) }
+// Makes the words at an address the cell of a plain object without fields.
+fn fill_plain(main: &mut Main, at: u32, header: Header, cap: u32)
+    requires quiet { main.old.seat.phase ≡ Quiet }
+    requires is { IsHeader header }
+    requires within { at + (PLAIN_HEAD + cap) ≤ marks_start main.old.seat.space }
+    ensures filled { let words = empty_plain header cap in
+        main.new ≡ with_table main.old (with_range main.old.seat.table at words) }
+    ensures heap { let words = empty_plain header cap in
+        heap_words main.new.seat ≡ with_range (heap_words main.old.seat) at words }
 {
-    1 + PLACE_WORDS * cap
-}
-
-// Adds the cell of a plain object without fields.
-fn add_cell(heap: &mut FirstHeap, object: u32, cap: u32)
-    requires cap { cap ≤ cap_most }
-    requires whole { length heap.old.words ≡ heap_words }
-    requires room { heap.old.used + size_of (Plain cap []) ≤ heap_words }
-    ensures { Grows heap.old heap.new object cap }
-{
-    let start = heap.used as usize;
-    heap.used += cell_size(cap);
-    let end = heap.used as usize;
-    write_cell(&mut heap.words[start..end], object, cap);
-}
-
-// Writes the words of a plain object without fields.
-fn write_cell(cell: &mut [u64], object: u32, cap: u32)
-    requires cap { cap ≤ cap_most }
-    requires size { length cell.old ≡ size_of (Plain cap []) }
-    ensures { cell.new ≡ cell_words [] object (Plain cap []) }
-{
-    cell[0] = Header {
-        shape: FIRST_SHAPE + cap,
-        object,
-    }
-    .word()
-    .0;
-    write_unused(&mut cell[1..], cap);
-}
-
-// Writes places without a field.
-fn write_unused(places: &mut [u64], count: u32)
-    requires count { count ≤ cap_most }
-    requires size { length places.old ≡ PLACE_WORDS * count }
-    ensures { places.new ≡ flat_map (λ (_ : ℕ). unused_words) (replicate count 0) }
-{
-    for i in 0..count {
-        let place = (PLACE_WORDS * i) as usize;
-        places[place] = Word::odd(odd::HOLE).0;
-        places[place + 1] = Word::odd(odd::UNDEFINED).0;
-        places[place + 2] = 0;
-    }
+    // No address of a heap is past 32 bits.
+    let _regions = main.regions();
+    main.set_header(at, header);
+    main.write(at + STORE_SLOT, Word::odd(odd::UNDEFINED).0);
+    main.fill_holes(at + PLAIN_HEAD, cap);
 }

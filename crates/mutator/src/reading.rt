@@ -1,143 +1,116 @@
-//! What a command reads: variables, operands, and the objects that values refer to. The fields of
-//! an object are read in `places.rt`.
-ghost use Rattle.std.specs.Prelude.{◌≡◌, ℕ, ◌+◌, ◌*◌, ◌<◌, List, length, slice_range};
+//! What a command reads: variables, operands, and the objects that values refer to. A read changes
+//! nothing. The fields of an object are read by `shape_change`.
+ghost use Rattle.std.specs.Prelude.{◌≡◌, ℕ, ◌<◌};
 ghost use Rattle.std.specs.FinMap.{get};
 ghost use Rattle.heap_command.specs.Commands.{NamesBelow};
 ghost use Rattle.object_graph.specs.Graphs.{Graph, value_of};
-ghost use Rattle.object_graph.specs.declared.object.Object.{Object};
 ghost use Rattle.object_graph.specs.declared.value.Value.{Value};
-ghost use Rattle.mutator.specs.Cells.{address_of};
-ghost use Rattle.mutator.specs.Heap.{variable_count, Shows};
-ghost use Rattle.mutator.specs.Pairs.{IsPairOf};
-ghost use Rattle.mutator.specs.Reading.{IsReadable, IsFound, IsRead, Finds, FindsPlain, FindsInteger};
+ghost use Rattle.write_barrier.specs.Mains.{Mutator, heap_of, MainShows};
+ghost use Rattle.shape_change.specs.CellsAt.{IsWhole, HasCellAt, IsHeaderAt};
+ghost use Rattle.mutator.specs.Reading.{StandsFor, Finds, FindsBoth, IsShownValue, FindsPlain};
+ghost use Rattle.mutator.specs.Reading.{FindsInteger};
 
-use crate::heap::{FIRST_SHAPE, FirstHeap};
-use crate::pairs::Pair;
-use crate::roots::root;
+use handle_roots::Held;
 use heap_command::{FaultWord, Operand};
-use tagged_word::{Class, Header, Word, odd};
+use tagged_word::{Header, Word, shape};
+use write_barrier::Main;
 
-/// A plain object, by its cell.
+/// A plain object: where its cell stands, and its shape.
 #[derive(Clone, Copy, Debug)]
 pub(crate) struct Found {
-    /// Where its cell begins.
-    pub(crate) address: u32,
-    pub(crate) cap: u32,
-    /// The object's number.
-    pub(crate) object: u32,
-}
-
-/// What a value is.
-#[derive(Clone, Copy, Debug)]
-pub(crate) enum Content {
-    Int(i64),
-    Undefined,
-    Object(Found),
-}
-
-/// The words of what the variable is bound to.
-pub(crate) fn bound_pair(heap: &FirstHeap, x: u32) -> Result<Pair, FaultWord>
-    requires { x < variable_count heap.now }
-    ensures { (graph : Graph) → Shows heap.now graph →
-        Finds (IsPairOf graph.objects) (get graph.bindings x) result }
-{
-    let pair = root(heap, x);
-    if pair.first == Word::odd(odd::UNBOUND).0 {
-        Err(FaultWord::Unbound)
-    } else {
-        Ok(pair)
-    }
-}
-
-/// The words of the value that the operand stands for, to be kept.
-pub(crate) fn operand_pair(heap: &FirstHeap, v: Operand) -> Result<Pair, FaultWord>
-    requires { NamesBelow (variable_count heap.now) v }
-    ensures { (graph : Graph) → Shows heap.now graph →
-        Finds (IsPairOf graph.objects) (value_of graph v) result }
-{
-    match v {
-        Operand::Int(v) => Ok(Pair::int(v)),
-        Operand::Undefined => Ok(Pair::undefined()),
-        Operand::Var(x) => bound_pair(heap, x),
-    }
+    pub(crate) at: u32,
+    pub(crate) shape: u32,
 }
 
 /// What the variable is bound to.
-pub(crate) fn bound_value(heap: &FirstHeap, x: u32) -> Result<Content, FaultWord>
-    requires shown { (graph : Graph) × Shows heap.now graph }
-    requires within { x < variable_count heap.now }
-    ensures { (graph : Graph) → Shows heap.now graph →
-        Finds (IsRead graph.objects) (get graph.bindings x) result }
+pub(crate) fn bound(main: &mut Main, x: u32) -> Result<Held, FaultWord>
+    requires shown { (graph : Graph) × MainShows main.old graph }
+    requires within { x < main.old.seat.space.variables }
+    ensures found { (graph : Graph) → MainShows main.old graph →
+        Finds main.old graph (get graph.bindings x) result }
+    ensures same { main.new ≡ main.old }
 {
-    let pair = bound_pair(heap, x)?;
-    Ok(read(heap, pair))
+    match main.held(x) {
+        Held::Unbound => Err(FaultWord::Unbound),
+        held => Ok(held),
+    }
 }
 
 /// The value that the operand stands for.
-pub(crate) fn operand_value(heap: &FirstHeap, v: Operand) -> Result<Content, FaultWord>
-    requires shown { (graph : Graph) × Shows heap.now graph }
-    requires within { NamesBelow (variable_count heap.now) v }
-    ensures { (graph : Graph) → Shows heap.now graph →
-        Finds (IsRead graph.objects) (value_of graph v) result }
+pub(crate) fn operand(main: &mut Main, v: Operand) -> Result<Held, FaultWord>
+    requires shown { (graph : Graph) × MainShows main.old graph }
+    requires within { NamesBelow main.old.seat.space.variables v }
+    ensures found { (graph : Graph) → MainShows main.old graph →
+        Finds main.old graph (value_of graph v) result }
+    ensures same { main.new ≡ main.old }
 {
     match v {
-        Operand::Int(v) => Ok(Content::Int(v)),
-        Operand::Undefined => Ok(Content::Undefined),
-        Operand::Var(x) => bound_value(heap, x),
+        Operand::Int(v) => Ok(Held::Int(v)),
+        Operand::Undefined => Ok(Held::Undefined),
+        Operand::Var(x) => bound(main, x),
     }
+}
+
+/// The values that two operands stand for. Both are read before either is judged: `unbound` comes
+/// before all other faults.
+pub(crate) fn operands(main: &mut Main, a: Operand, b: Operand) -> Result<(Held, Held), FaultWord>
+    requires shown { (graph : Graph) × MainShows main.old graph }
+    requires first { NamesBelow main.old.seat.space.variables a }
+    requires second { NamesBelow main.old.seat.space.variables b }
+    ensures found { (graph : Graph) → MainShows main.old graph →
+        FindsBoth main.old graph (value_of graph a) (value_of graph b) result }
+    ensures same { main.new ≡ main.old }
+{
+    let first = operand(main, a)?;
+    let second = operand(main, b)?;
+    Ok((first, second))
 }
 
 /// The plain object that the value refers to.
-pub(crate) fn plain(content: Content) -> Result<Found, FaultWord>
-    ensures { (objects : List Object) (value : Value) → IsRead objects value content →
-        FindsPlain objects value result }
+pub(crate) fn plain(main: &Main, held: Held) -> Result<Found, FaultWord>
+    requires { IsShownValue main.now held }
+    ensures { (graph : Graph) (value : Value) → MainShows main.now graph →
+        StandsFor main.now graph value held → FindsPlain main.now graph value result }
 {
-    match content {
-        Content::Object(found) => Ok(found),
-        Content::Int(_) | Content::Undefined => Err(FaultWord::NotObject),
-    }
-}
-
-/// The integer that the value is.
-pub(crate) fn integer(content: Content) -> Result<i64, FaultWord>
-    ensures { (objects : List Object) (value : Value) → IsRead objects value content →
-        FindsInteger value result }
-{
-    match content {
-        Content::Int(v) => Ok(v),
-        Content::Undefined | Content::Object(_) => Err(FaultWord::NotInt),
-    }
-}
-
-// What a pair of words stands for.
-fn read(heap: &FirstHeap, pair: Pair) -> Content
-    requires { (graph : Graph) × (value : Value) × IsReadable heap.now graph value pair }
-    ensures { (graph : Graph) (value : Value) → IsReadable heap.now graph value pair →
-        IsRead graph.objects value result }
-{
-    match Word(pair.first).class() {
-        Some(Class::Small(v)) => Content::Int(v as i64),
-        Some(Class::Odd(odd::WIDE)) => Content::Int(pair.second.cast_signed()),
-        Some(Class::Ref(address)) => Content::Object(object_at(heap, address)),
-        Some(Class::Odd(_)) => Content::Undefined,
-        None => unreachable!(),
+    match held {
+        Held::Ref(at) => plain_at(main, at),
+        Held::Unbound | Held::Undefined | Held::Int(_) => Err(FaultWord::NotObject),
     }
 }
 
 // The plain object whose cell stands at an address.
-fn object_at(heap: &FirstHeap, address: u32) -> Found
-    requires { (graph : Graph) × (number : ℕ) × Shows heap.now graph
-        × (number < length graph.objects) × (address ≡ address_of graph.objects number) }
-    ensures { (graph : Graph) (number : ℕ) → Shows heap.now graph → number < length graph.objects →
-        address ≡ address_of graph.objects number →
-        (result.object ≡ number) × IsFound graph.objects (Value.Ref number) result }
+fn plain_at(main: &Main, at: u32) -> Result<Found, FaultWord>
+    requires { IsShownValue main.now (Held.Ref at) }
+    ensures { (graph : Graph) (value : Value) → MainShows main.now graph →
+        StandsFor main.now graph value (Held.Ref at) → FindsPlain main.now graph value result }
 {
-    match Header::parse(Word(heap.words[address as usize])) {
-        Some(header) => Found {
-            address,
-            cap: header.shape - FIRST_SHAPE,
-            object: header.object,
-        },
+    let shape = header_at(main, at).shape;
+    // The shapes before those of the paths are those of lists, weak maps and cells of no object.
+    if shape < shape::PATHS {
+        return Err(FaultWord::NotObject);
+    }
+    Ok(Found { at, shape })
+}
+
+/// The integer that the value is.
+pub(crate) fn integer(held: Held) -> Result<i64, FaultWord>
+    ensures { (main : Mutator) (graph : Graph) (value : Value) → StandsFor main graph value held →
+        FindsInteger value result }
+{
+    match held {
+        Held::Int(v) => Ok(v),
+        Held::Unbound | Held::Undefined | Held::Ref(_) => Err(FaultWord::NotInt),
+    }
+}
+
+/// The header of the cell at an address.
+pub(crate) fn header_at(main: &Main, at: u32) -> Header
+    requires whole { IsWhole main.now }
+    requires there { HasCellAt (heap_of main.now) at }
+    ensures { IsHeaderAt (heap_of main.now) at result }
+{
+    match Header::parse(Word(main.word(at))) {
+        Some(header) => header,
         None => unreachable!(),
     }
 }

@@ -1,14 +1,16 @@
-//! Why a command is not carried out: its fault, or a heap that is full for it.
+//! Why a command is not carried out: its fault, or a heap that has no room for it.
 ghost use Rattle.std.specs.Prelude.{◌≡◌};
 
 use heap_command::FaultWord;
+use shape_change::FieldStop;
+use shape_tree::ShapesFull;
 
 /// Why a command was not carried out. The heap and the output are as they were.
 #[derive(Clone, Copy, Debug, PartialEq, Eq)]
 pub enum Stop {
     /// The command's meaning is this fault.
     Fault(FaultWord),
-    /// The heap has no room for the words that the command allocates, which are so many.
+    /// Eden has no room for the words that the command allocates, which are so many.
     NoRoom { need: u32 },
 }
 
@@ -19,5 +21,30 @@ impl From<FaultWord> for Stop {
 
     fn from(word: FaultWord) -> Stop {
         Stop::Fault(word)
+    }
+}
+
+impl From<FieldStop> for Stop {
+    ghost use Rattle.mutator.specs.Stops.{stop_of};
+
+    ghost from_gives = { λ field stop. stop ≡ stop_of field };
+
+    fn from(stop: FieldStop) -> Stop {
+        match stop {
+            FieldStop::FieldsFull => Stop::Fault(FaultWord::FieldsFull),
+            FieldStop::ShapesFull(_) => Stop::Fault(FaultWord::ShapesFull),
+            FieldStop::Full(room) => Stop::NoRoom { need: room.need },
+        }
+    }
+}
+
+impl From<ShapesFull> for Stop {
+    ghost use Rattle.heap_command.specs.declared.command.FaultWord.TheVariants as word;
+    ghost use Rattle.mutator.specs.declared.stop.Stop.TheVariants.{Fault};
+
+    ghost from_gives = { λ _ stop. stop ≡ Fault word.ShapesFull };
+
+    fn from(_full: ShapesFull) -> Stop {
+        Stop::Fault(FaultWord::ShapesFull)
     }
 }

@@ -3,62 +3,59 @@
 ghost use Rattle.std.specs.Prelude.{ℕ, List, []};
 ghost use Rattle.heap_command.specs.Commands.{IsWithin};
 ghost use Rattle.object_graph.specs.Graphs.{Graph};
-ghost use Rattle.mutator.specs.Carries.{Carries};
-ghost use Rattle.mutator.specs.Heap.{variable_count, field_numbers, Shows};
+ghost use Rattle.write_barrier.specs.Mains.{MainShows};
+ghost use Rattle.mutator.specs.Carries.{Carries, field_numbers};
 
-use crate::heap::FirstHeap;
-use crate::pairs::Pair;
-use crate::reading::{bound_pair, bound_value, integer, operand_pair, operand_value};
-use crate::roots::write_root;
+use crate::reading::{bound, integer, operand, operands};
 use crate::stop::Stop;
+use handle_roots::Held;
 use heap_command::{Command, FaultWord, Operand};
+use write_barrier::Main;
 
 /// Binds `x` to the value.
 ///
 /// Stops with `unbound`.
-pub fn let_value(heap: &mut FirstHeap, x: u32, v: Operand) -> Result<(), Stop>
-    requires shown { (graph : Graph) × Shows heap.old graph }
-    requires within { IsWithin (variable_count heap.old) field_numbers (Command.LetValue x v) }
-    ensures carried { (graph : Graph) (names : List (List ℕ)) → Shows heap.old graph →
-        Carries names heap.old heap.new graph (Command.LetValue x v) [] result }
+pub fn let_value(main: &mut Main, x: u32, v: Operand) -> Result<(), Stop>
+    requires shown { (graph : Graph) × MainShows main.old graph }
+    requires within { IsWithin main.old.seat.space.variables field_numbers (Command.LetValue x v) }
+    ensures carried { (graph : Graph) (names : List (List ℕ)) → MainShows main.old graph →
+        Carries names main.old main.new graph (Command.LetValue x v) [] result }
 {
-    let value = operand_pair(heap, v)?;
-    write_root(heap, x, value);
+    let value = operand(main, v)?;
+    main.hold(x, value);
     Ok(())
 }
 
 /// Unbinds `x`. The words of what it was bound to stay used.
 ///
 /// Stops with `unbound` where it is bound to nothing.
-pub fn drop_var(heap: &mut FirstHeap, x: u32) -> Result<(), Stop>
-    requires shown { (graph : Graph) × Shows heap.old graph }
-    requires within { IsWithin (variable_count heap.old) field_numbers (Command.DropVar x) }
-    ensures carried { (graph : Graph) (names : List (List ℕ)) → Shows heap.old graph →
-        Carries names heap.old heap.new graph (Command.DropVar x) [] result }
+pub fn drop_var(main: &mut Main, x: u32) -> Result<(), Stop>
+    requires shown { (graph : Graph) × MainShows main.old graph }
+    requires within { IsWithin main.old.seat.space.variables field_numbers (Command.DropVar x) }
+    ensures carried { (graph : Graph) (names : List (List ℕ)) → MainShows main.old graph →
+        Carries names main.old main.new graph (Command.DropVar x) [] result }
 {
     // Judged before the write: an unbound variable does not tell whether it was bound.
-    bound_pair(heap, x)?;
-    write_root(heap, x, Pair::unbound());
+    bound(main, x)?;
+    main.hold(x, Held::Unbound);
     Ok(())
 }
 
 /// Binds `x` to the sum of its integer and the value.
 ///
 /// Stops with `unbound`, `notint`, or `overflow` where the sum is outside 64 bits.
-pub fn add(heap: &mut FirstHeap, x: u32, v: Operand) -> Result<(), Stop>
-    requires shown { (graph : Graph) × Shows heap.old graph }
-    requires within { IsWithin (variable_count heap.old) field_numbers (Command.Add x v) }
-    ensures carried { (graph : Graph) (names : List (List ℕ)) → Shows heap.old graph →
-        Carries names heap.old heap.new graph (Command.Add x v) [] result }
+pub fn add(main: &mut Main, x: u32, v: Operand) -> Result<(), Stop>
+    requires shown { (graph : Graph) × MainShows main.old graph }
+    requires within { IsWithin main.old.seat.space.variables field_numbers (Command.Add x v) }
+    ensures carried { (graph : Graph) (names : List (List ℕ)) → MainShows main.old graph →
+        Carries names main.old main.new graph (Command.Add x v) [] result }
 {
-    let bound = bound_value(heap, x)?;
-    // Both values are read before either is judged: `unbound` comes before `notint`.
-    let added = operand_value(heap, v)?;
+    let (bound, added) = operands(main, Operand::Var(x), v)?;
     let first = integer(bound)?;
     let second = integer(added)?;
     let Some(sum) = first.checked_add(second) else {
         return Err(Stop::Fault(FaultWord::Overflow));
     };
-    write_root(heap, x, Pair::int(sum));
+    main.hold(x, Held::Int(sum));
     Ok(())
 }

@@ -8,7 +8,9 @@
 ghost use Rattle.script_laws.specs.Naming.{FirstUsesName, NumbersNameBack};
 ghost use Rattle.script_laws.specs.Words.{IntegersAreRead, IntegersAreWritten, KeywordsAreFound};
 ghost use Rattle.script_laws.specs.Refusals.{RefusesFirst, RefusesOpen, CountsNamesLast};
-ghost use Rattle.script_laws.specs.Execution.{ScriptsAreWhole, UnrollsRuns, UnrollsBlocks, AllIsLeft, NothingIsLeft, GoesPastCommands, GoesIntoBlocks, GoesPastBlocks, GoesBack, GoesOut, EndsStandInBlocks, CountsOpenBlocks, FewBlocksAreOpen};
+ghost use Rattle.script_laws.specs.Execution.{ScriptsAreWhole, UnrollsRuns, UnrollsBlocks, AllIsLeft, NothingIsLeft};
+ghost use Rattle.script_laws.specs.Execution.{GoesPastCommands, GoesIntoBlocks, GoesPastBlocks, GoesBack, GoesOut};
+ghost use Rattle.script_laws.specs.Execution.{EndsStandInBlocks, CountsOpenBlocks, FewBlocksAreOpen};
 ghost use Rattle.script_laws.specs.Canonical.{PhrasesAreReadAgain, PrintedIsReadAgain};
 
 /// The names that get numbers are those that are used, each once, and the number of a name names it

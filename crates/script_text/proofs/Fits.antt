@@ -19,7 +19,7 @@ use Rattle.script_text.specs.Phrases.{phrase_with, with_operands, if_built}
 -- the operand may stand at this place
 abbrev pub Fits : Place → Written → Type 0
 Fits Variable (variable token) = Unit {0}
-Fits Field (field token) = Unit {0}
+Fits Field (field token) = is_name token ≡ true
 Fits (Literal most) (literal n) = n ≤ most
 Fits Value (integer v) = Unit {0}
 Fits Value undefined = Unit {0}
@@ -76,7 +76,8 @@ undefined_fits false v token written e = value_fits v token written e
 written_at-Fits : (place : Place) (token : List ℕ) (written : Written) → written_at place token ≡ Ok written
     → Fits place written
 written_at-Fits Variable token written e = subst (Fits Variable) (given (is_name token) (variable token) why.Name written e).1 tt
-written_at-Fits Field token written e = subst (Fits Field) (given (is_name token) (field token) why.Name written e).1 tt
+written_at-Fits Field token written e =
+    let made = given (is_name token) (field token) why.Name written e in subst (Fits Field) made.1 made.0
 written_at-Fits Value token written e = undefined_fits (bytes_eq token (codes "undefined")) (integer_of token) token written e
 written_at-Fits (Literal most) token written e = literal_fits most (integer_of token) written e
 

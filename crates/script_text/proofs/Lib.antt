@@ -16,6 +16,7 @@ mod Phrasing
 pub mod Placed
 mod Positions
 mod Pushing
+mod ShortNames
 pub mod Reading
 pub mod Scanning
 pub mod Speaking

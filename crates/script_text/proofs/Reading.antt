@@ -14,11 +14,12 @@ use Rattle.script_text.specs.Scripts.{ScriptText, Spoken}
 use Rattle.script_text.specs.Grammar.{spoken_from, past_limit, script_of, within_limit, script_or_stop, reading_with}
 use Rattle.script_text.specs.Shown.{spoken_shown}
 use Rattle.script_text.specs.Whole.{IsPlaced}
-use Rattle.script_text.specs.Sound.{IsNumbered, IsMatched, IsSound, IsBuilt}
+use Rattle.script_text.specs.Sound.{IsNumbered, IsMatched, IsSound, IsBuilt, AreShort}
 use Rattle.script_text.proofs.Speaking.{spoken_from-AreSpoken, spoken_from-few}
 use Rattle.script_text.proofs.Matched.{IsMatched-placed}
 use Rattle.script_text.proofs.Nested.{nested}
 use Rattle.script_text.proofs.Placed.{lines_from-IsPlaced}
+use Rattle.script_text.proofs.ShortNames.{fields_short}
 use Rattle.script_text.proofs.Within.{script_of-IsNumbered, lines_from-IsBuilt}
 
 -- a byte before the first of some pieces makes at most one piece more
@@ -70,6 +71,7 @@ script_of-IsSound unbuilt lines spoken script e same few_variables few_fields =
       placed = subst (λ (s : ScriptText). IsPlaced 0 s.lines) same placed;
       few_variables = few_variables;
       few_fields = few_fields;
+      short = subst (λ (s : ScriptText). AreShort s.fields) same (fields_short unbuilt spoken are);
     }
 
 -- the phrases of a source that is read as a script

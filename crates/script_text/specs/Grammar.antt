@@ -1,10 +1,12 @@
 -- What a source is read as: a script, or the first line that is refused.
-use Rattle.std.specs.Prelude.{ℕ, suc, ◌||◌, List, [], ◌∷◌, length, fold, flat_map, Option, Some, None, Result, Ok, Err, nat_lt, if◌then◌else◌, codes}
+use Rattle.std.specs.Prelude.{ℕ, suc, ◌||◌, List, [], ◌∷◌, length, fold, flat_map, Option, Some, None, Result, Ok}
+use Rattle.std.specs.Prelude.{Err, nat_lt, if◌then◌else◌, codes}
 use Rattle.script_text.specs.declared.table.Keyword.{Keyword}
 use Rattle.script_text.specs.declared.table.Keyword.TheVariants as keyword
 use Rattle.script_text.specs.declared.script.Line.{Line}
 use Rattle.script_text.specs.declared.script.Why.{Why}
-use Rattle.script_text.specs.declared.script.Why.TheVariants.{Long, Command, NotBuilt, Count, Name, Integer, Value, Nesting, End, Open}
+use Rattle.script_text.specs.declared.script.Why.TheVariants.{Long, Command, NotBuilt, Count, Name, Integer, Value}
+use Rattle.script_text.specs.declared.script.Why.TheVariants.{Nesting, End, Open}
 use Rattle.script_text.specs.declared.script.BadScript.{BadScript}
 use Rattle.script_text.specs.declared.script.BadScript.TheVariants.{BadLine, TooManyNames}
 use Rattle.script_text.specs.Limits.{open_most, variables_most, fields_most}

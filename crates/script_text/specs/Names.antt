@@ -1,5 +1,6 @@
 -- Names get numbers in the order in which they first appear.
-use Rattle.std.specs.Prelude.{ℕ, suc, List, [], ◌∷◌, ◌++◌, Option, Some, None, is_some, option_map, unwrap_or, if◌then◌else◌, bytes_eq, fold, flat_map}
+use Rattle.std.specs.Prelude.{ℕ, suc, List, [], ◌∷◌, ◌++◌, Option, Some, None, is_some, option_map, unwrap_or}
+use Rattle.std.specs.Prelude.{if◌then◌else◌, bytes_eq, fold, flat_map}
 use Rattle.script_text.specs.Phrases.{Phrase, Written, variable, field, bound}
 
 -- where the name stands in the list

@@ -1,5 +1,6 @@
 -- What holds of each script that was read.
-use Rattle.std.specs.Prelude.{◌≡◌, ℕ, suc, ◌-◌, ◌<◌, ◌≤◌, List as Row, [], ◌∷◌, All, length, take, slice_get, false, option_map, Option, Some}
+use Rattle.std.specs.Prelude.{◌≡◌, ℕ, suc, ◌-◌, ◌<◌, ◌≤◌, List as Row, [], ◌∷◌, All, length, take, slice_get, false}
+use Rattle.std.specs.Prelude.{option_map, Option, Some}
 use Rattle.std.specs.List.{list_any}
 use Rattle.heap_command.specs.declared.command.Command.TheVariants as command
 use Rattle.heap_command.specs.Commands.{IsWithin}
@@ -10,7 +11,7 @@ use Rattle.script_text.specs.declared.script.What.{What}
 use Rattle.script_text.specs.declared.script.What.TheVariants.{Run, Repeat, End}
 use Rattle.script_text.specs.Table.{same_keyword}
 use Rattle.script_text.specs.Scripts.{ScriptText}
-use Rattle.script_text.specs.Limits.{turns_most, open_most, variables_most, fields_most}
+use Rattle.script_text.specs.Limits.{turns_most, open_most, variables_most, fields_most, name_bytes_most}
 use Rattle.script_text.specs.Whole.{IsPlaced}
 
 -- a script of these lines, variables and fields
@@ -54,13 +55,19 @@ pub record IsMatched (lines : Row Line) : Type 0 where
   pub nested : (at : ℕ) → depth_of 0 (take at lines) ≤ open_most
   pub closed : depth_of 0 lines ≡ 0
 
--- the lines name only what the script has, each `repeat` has its `end`, and there are not too many names
+-- the names have at most 32 bytes each
+abbrev pub AreShort : Row (Row ℕ) → Type 0
+AreShort names = All (λ name. length name ≤ name_bytes_most) names
+
+-- The lines name only what the script has, each `repeat` has its `end`, there are not too many names, and those of fields
+-- are short.
 pub record IsSound (script : ScriptText) : Type 0 where
   pub numbered : IsNumbered script
   pub matched : IsMatched script.lines
   pub placed : IsPlaced 0 script.lines
   pub few_variables : length script.variables ≤ variables_most
   pub few_fields : length script.fields ≤ fields_most
+  pub short : AreShort script.fields
 
 -- the command of a line
 abbrev pub keyword_of : What → Keyword

@@ -2,7 +2,9 @@
 use Rattle.std.specs.Prelude.{ℕ, Bool, Option, Some, None, codes, bytes_eq, if◌then◌else◌, List as Row, [], ◌∷◌}
 use Rattle.script_text.specs.Limits.{cap_most, turns_most}
 use Rattle.script_text.specs.declared.table.Keyword.{Keyword}
-use Rattle.script_text.specs.declared.table.Keyword.TheVariants.{New, List, Weak, Let, Drop, Add, Set, Get, Del, Push, Put, At, Shift, Trunc, WPut, WGet, WDel, Print, Same, Alike, Shape, Repeat, End, Scavenge, Mark, Finish, Gc, Census}
+use Rattle.script_text.specs.declared.table.Keyword.TheVariants.{New, List, Weak, Let, Drop, Add, Set, Get, Del, Push}
+use Rattle.script_text.specs.declared.table.Keyword.TheVariants.{Put, At, Shift, Trunc, WPut, WGet, WDel, Print, Same}
+use Rattle.script_text.specs.declared.table.Keyword.TheVariants.{Alike, Shape, Repeat, End, Scavenge, Mark, Finish, Gc, Census}
 use Rattle.script_text.specs.declared.table.Place.{Place}
 use Rattle.script_text.specs.declared.table.Place.TheVariants.{Variable, Field, Value, Literal}
 
@@ -82,5 +84,4 @@ same_keyword a b = bytes_eq (keyword_text a) (keyword_text b)
 -- the commands that are not built
 abbrev pub unbuilt_today : Row Keyword
 unbuilt_today =
-    List ∷ Weak ∷ Del ∷ Push ∷ Put ∷ At ∷ Shift ∷ Trunc ∷ WPut ∷ WGet ∷ WDel ∷ Alike ∷ Shape ∷ Scavenge ∷ Mark ∷ Finish
-    ∷ Gc ∷ Census ∷ []
+    List ∷ Weak ∷ Push ∷ Put ∷ At ∷ Shift ∷ Trunc ∷ WPut ∷ WGet ∷ WDel ∷ Scavenge ∷ Mark ∷ Finish ∷ Gc ∷ Census ∷ []

@@ -2,7 +2,7 @@
 ghost use Rattle.std.specs.Prelude.{◌≡◌, ◌<◌, ◌≤◌, Some, length, map, slice_get};
 ghost use Rattle.script_text.specs.Limits.{variables_most, fields_most};
 ghost use Rattle.script_text.specs.Grammar.{why_text};
-ghost use Rattle.script_text.specs.Sound.{script_text, IsNumbered, IsMatched, IsSound};
+ghost use Rattle.script_text.specs.Sound.{script_text, IsNumbered, IsMatched, IsSound, AreShort};
 ghost use Rattle.script_text.specs.Whole.{IsPlaced};
 
 use heap_command::Command;
@@ -153,6 +153,7 @@ impl<'s> Script<'s> {
     pub fn fields(&self) -> u32
         ensures count { result ≡ length self.now.fields }
         ensures few { result ≤ fields_most }
+        ensures short { AreShort self.now.fields }
     {
         self.fields.len() as u32
     }

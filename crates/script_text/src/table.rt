@@ -58,7 +58,6 @@ pub(crate) const PLACES_MOST: usize = 3;
 pub(crate) const UNBUILT_TODAY: &[Keyword] = &[
     Keyword::List,
     Keyword::Weak,
-    Keyword::Del,
     Keyword::Push,
     Keyword::Put,
     Keyword::At,
@@ -67,8 +66,6 @@ pub(crate) const UNBUILT_TODAY: &[Keyword] = &[
     Keyword::WPut,
     Keyword::WGet,
     Keyword::WDel,
-    Keyword::Alike,
-    Keyword::Shape,
     Keyword::Scavenge,
     Keyword::Mark,
     Keyword::Finish,

@@ -20,7 +20,7 @@ no_value cap (field ∷ fields) name none =
     ap (λ test. cond test (Some field.value) (field_value fields name)) parts.0 ∙ no_value cap fields name parts.1
 
 -- a name that differs from all of these differs from the one at a place
-apart_at : (names : List ℕ) (k name other : ℕ) → AllByRecursion (λ one. (name == one) ≡ false) names
+pub apart_at : (names : List ℕ) (k name other : ℕ) → AllByRecursion (λ one. (name == one) ≡ false) names
     → slice_get names k ≡ Some other → (name == other) ≡ false
 apart_at [] k name other all there = absurd (none-some other there)
 apart_at (first ∷ names) zero name other all there =

@@ -1,7 +1,81 @@
 pub mod CellsRead
-pub mod WordsTold
-pub mod SlotPlaces
-pub mod FieldsFound
+mod WordsTold
+mod SlotTargets
+mod Filled
+mod UnusedWords
+mod NewBoxes
+mod WordsPut
+mod OneWord
+mod ReadyHeaps
+mod OwnCells
+mod SlotsNow
+mod OwnPlaces
+mod OneField
+mod HeldContents
+mod FieldsSet
+mod SettingNeeds
+mod ContentsShown
+mod FilledSlots
+mod FoundPlaces
+mod Settings
+mod SetFields
+mod FilledFields
+mod BoxedFields
+mod SetShown
+mod SetOutcomes
+mod SetRefused
+mod SetThere
+mod SetByPlace
+mod SlotPlaces
+mod FieldsFound
 pub mod PlainFields
-pub mod Refills
-pub mod NewFields
+mod ShownFields
+mod Refills
+mod NewFields
+mod NewLayouts
+mod StoreCells
+mod SlotAddresses
+mod SlotsClosed
+mod StoresRead
+mod NewNeeds
+mod FullStores
+mod AddedFields
+mod TaggedBefore
+mod AddedSlots
+mod CellWritesRead
+mod CellWrites
+mod NumberedSlots
+mod FieldWords
+mod WrittenPlaces
+mod RefilledFields
+mod RefilledCells
+mod RefilledNames
+mod RefilledHeaps
+mod FieldsLess
+mod StoresFound
+mod TakenOut
+mod TakenFields
+mod DeletedSlots
+mod DeletedCells
+mod DeletedCame
+mod DrawnFields
+mod DeletedFields
+mod DeletedHeaps
+mod DeletedGraphs
+mod AddedWords
+mod OneAdded
+mod AddedContents
+mod AddedShown
+mod OneAdding
+mod OwnAdded
+mod MadeBoxes
+mod StoreAdded
+mod PutRanges
+mod NewStores
+mod StoreWords
+mod GrownWords
+mod GrownStores
+mod GrownSlots
+mod GrownAdded
+mod FieldAdded
+mod NewNames

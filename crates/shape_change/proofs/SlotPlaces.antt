@@ -101,7 +101,7 @@ behind_cap_below {words = words} slot cap has plain are caps from below =
     omega (arith, plain_words has plain, length-drop plain_head words, ap length are.are, length-append own are.beside)
 
 -- one word has one list of slots beside it
-one_beside : {heap : Heap} (word other : ℕ) (beside others : List ℕ) → word ≡ other
+pub one_beside : {heap : Heap} (word other : ℕ) (beside others : List ℕ) → word ≡ other
     → IsBeside heap kind.Store word beside
     → IsBeside heap kind.Store other others → beside ≡ others
 one_beside word other beside others same IsBeside.none IsBeside.none = refl

@@ -14,7 +14,7 @@ ghost use Rattle.heap_model.specs.Showing.{ShowsHeld, ShowsField};
 ghost use Rattle.write_barrier.specs.Mains.{heap_of};
 ghost use Rattle.shape_change.specs.CellsAt.{IsWhole, HasCellAt, HasPlainSlot, IsHeaderAt, IsCapAt};
 ghost use Rattle.shape_change.specs.CellsAt.{TellsBox, TellsObject};
-ghost use Rattle.shape_change.specs.Places.{place_at, is_own, StandsSlot};
+ghost use Rattle.shape_change.specs.Places.{place_at, is_own, IsPlaceOf, StandsSlot};
 
 use crate::place::Place;
 use handle_roots::Held;
@@ -24,11 +24,11 @@ use write_barrier::Main;
 
 // The words of a plain cell before its in-object slots, those of a store before its slots, and the
 // offset of the slot for the store.
-const PLAIN_HEAD: u32 = 2;
+pub(crate) const PLAIN_HEAD: u32 = 2;
 
-const STORE_HEAD: u32 = 2;
+pub(crate) const STORE_HEAD: u32 = 2;
 
-const STORE_SLOT: u32 = 1;
+pub(crate) const STORE_SLOT: u32 = 1;
 
 /// The header of the cell at an address.
 pub(crate) fn header_at(main: &Main, at: u32) -> Header
@@ -112,6 +112,7 @@ pub(crate) fn place_of(main: &Main, object: u32, cap: u32, slot: u32) -> Place
     requires cap { IsCapAt (heap_of main.now) object cap }
     ensures stands { StandsSlot (heap_of main.now) object slot result }
     ensures own { is_own result ≡ nat_lt slot cap }
+    ensures place { IsPlaceOf (heap_of main.now) object cap slot result }
     ensures within { place_at object result < marks_start main.now.seat.space }
 {
     // No address of a heap is past 32 bits.

@@ -10,7 +10,8 @@ use Rattle.tagged_word.specs.declared.layout.Kind.{Kind}
 use Rattle.tagged_word.specs.declared.layout.Kind.TheVariants as kind
 use Rattle.tagged_word.specs.declared.layout.LayoutWord.{LayoutWord}
 use Rattle.tagged_word.specs.Layouts.{is_raw}
-use Rattle.tagged_word.specs.Cells.{in_object_offsets, plain_head, store_head, store_slot, scavenge_offsets, scavenge_offsets_of, tagged_offsets, tagged_offsets_of}
+use Rattle.tagged_word.specs.Cells.{in_object_offsets, plain_head, store_head, store_slot, scavenge_offsets}
+use Rattle.tagged_word.specs.Cells.{scavenge_offsets_of, tagged_offsets, tagged_offsets_of}
 use Rattle.tagged_word.proofs.Offsets.{in_object_is}
 
 -- each number is below all that follow

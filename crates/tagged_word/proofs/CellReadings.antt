@@ -1,5 +1,6 @@
 -- The function of words that reads the cell at an address agrees with the relation between words and cells.
-use Rattle.std.proofs.Common.{ℕ, ◌+◌, ◌<◌, ◌≤◌, ◌≡◌, Bool, true, false, IsTrue, List, length, slice_get, Option, Some, None, nat_lt, if◌then◌else◌, arith, refl, ap, subst, ◌∙◌}
+use Rattle.std.proofs.Common.{ℕ, ◌+◌, ◌<◌, ◌≤◌, ◌≡◌, Bool, true, false, IsTrue, List, length, slice_get, Option, Some}
+use Rattle.std.proofs.Common.{None, nat_lt, if◌then◌else◌, arith, refl, ap, subst, ◌∙◌}
 use Rattle.std.proofs.lemmas.Bool.Decides.{nat_tests}
 use Rattle.std.specs.Option.{option_and_then}
 use Rattle.std.proofs.lemmas.Option.{option_and_then_some}
@@ -10,7 +11,8 @@ use Rattle.tagged_word.specs.Headers.{IsHeader, header_bits}
 use Rattle.tagged_word.specs.Layouts.{IsLayout, layout_bits}
 use Rattle.tagged_word.specs.Shapes.{shapes_most}
 use Rattle.tagged_word.specs.Cells.{ReadsAs, cell_size}
-use Rattle.tagged_word.specs.Readings.{header_in, layout_in, shape_layout, length_at, is_within, sized_cell, long_cell, laid_cell, headed_cell, header_at, read_cell}
+use Rattle.tagged_word.specs.Readings.{header_in, layout_in, shape_layout, length_at, is_within, sized_cell}
+use Rattle.tagged_word.specs.Readings.{long_cell, laid_cell, headed_cell, header_at, read_cell}
 use Rattle.tagged_word.proofs.Cells.{made}
 use Rattle.tagged_word.proofs.Readings.{given_is, given_some, header_from, header_to, layout_from, layout_to}
 

@@ -8,7 +8,9 @@ use Rattle.tagged_word.specs.declared.layout.Kind.TheVariants as kind
 use Rattle.tagged_word.specs.declared.layout.LayoutWord.{LayoutWord}
 use Rattle.tagged_word.specs.declared.reading.Reading.{Reading}
 use Rattle.tagged_word.specs.Layouts.{IsLayout, IsLayoutOfKind, HasInObjectSlots, layout_bits}
-use Rattle.tagged_word.specs.Cells.{ReadsAs, has_length, length_by, length_offset, cell_size, size_within, words_least, words_of, cell_words_most, in_object_offsets, plain_head, store_head, store_slot, scavenge_offsets, scavenge_offsets_of, tagged_offsets, tagged_offsets_of}
+use Rattle.tagged_word.specs.Cells.{ReadsAs, has_length, length_by, length_offset, cell_size, size_within}
+use Rattle.tagged_word.specs.Cells.{words_least, words_of, cell_words_most, in_object_offsets, plain_head, store_head}
+use Rattle.tagged_word.specs.Cells.{store_slot, scavenge_offsets, scavenge_offsets_of, tagged_offsets, tagged_offsets_of}
 use Rattle.tagged_word.proofs.Headers.{same_header}
 use Rattle.tagged_word.proofs.Layouts.{same_layout}
 use Rattle.tagged_word.proofs.Members.{one_in, in_cases, range_bounds}

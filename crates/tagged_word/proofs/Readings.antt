@@ -1,5 +1,6 @@
 -- The functions of one word read exactly what stands there.
-use Rattle.std.proofs.Common.{ℕ, zero, suc, ◌/◌, ◌%◌, ◌<◌, ◌≡◌, ◌==◌, ◌&&◌, Bool, true, false, IsTrue, nat_lt, Option, Some, arith, refl, sym, ap, subst, ◌∙◌}
+use Rattle.std.proofs.Common.{ℕ, zero, suc, ◌/◌, ◌%◌, ◌<◌, ◌≡◌, ◌==◌, ◌&&◌, Bool, true, false, IsTrue, nat_lt, Option}
+use Rattle.std.proofs.Common.{Some, arith, refl, sym, ap, subst, ◌∙◌}
 use Rattle.std.proofs.lemmas.Bool.Decides.{nat_tests}
 use Rattle.std.specs.Option.{option_and_then}
 use Rattle.std.proofs.lemmas.Option.{option_and_then_some}
@@ -10,8 +11,11 @@ use Rattle.tagged_word.specs.declared.layout.LayoutWord.{LayoutWord}
 use Rattle.tagged_word.specs.declared.word.Class.TheVariants.{Ref}
 use Rattle.tagged_word.specs.Words.{IsClass, bits_of}
 use Rattle.tagged_word.specs.Headers.{IsHeader, header_bits}
-use Rattle.tagged_word.specs.Layouts.{HasInObjectSlots, HasNoInObjectSlots, IsLayout, IsLayoutOfKind, kind_number, layout_bits}
-use Rattle.tagged_word.specs.Readings.{given, reference_in, low_part, is_header_word, header_in, kind_in, has_no_in_object_slots, has_in_object_slots, is_layout_of_kind, is_layout, layout_parts, layout_in}
+use Rattle.tagged_word.specs.Layouts.{HasInObjectSlots, HasNoInObjectSlots, IsLayout, IsLayoutOfKind, kind_number}
+use Rattle.tagged_word.specs.Layouts.{layout_bits}
+use Rattle.tagged_word.specs.Readings.{given, reference_in, low_part, is_header_word, header_in, kind_in}
+use Rattle.tagged_word.specs.Readings.{has_no_in_object_slots, has_in_object_slots, is_layout_of_kind, is_layout}
+use Rattle.tagged_word.specs.Readings.{layout_parts, layout_in}
 use Rattle.tagged_word.proofs.Layouts.{Parts, parts, fits, same_made}
 use Rattle.tagged_word.proofs.Cells.{some_same}
 use Rattle.tagged_word.proofs.Headers.{same_made as same_header_made}
@@ -100,6 +104,7 @@ slots_from layout t = record {
   raw = grind (arith, nat_tests);
 }
 
+-- what its record says passes the test
 slots_to : (layout : LayoutWord) → HasInObjectSlots layout → IsTrue (has_in_object_slots layout)
 slots_to layout is = grind (arith, nat_tests)
 
@@ -111,6 +116,7 @@ none_from layout t = record {
   raw = grind (arith, nat_tests);
 }
 
+-- and so does what its record says of none
 none_to : (layout : LayoutWord) → HasNoInObjectSlots layout → IsTrue (has_no_in_object_slots layout)
 none_to layout is = grind (arith, nat_tests)
 
@@ -125,6 +131,7 @@ layout_test_from kind.Boxed layout t = none_from layout t
 layout_test_from kind.Filler layout t = none_from layout t
 layout_test_from kind.Gap layout t = none_from layout t
 
+-- what the relation of its kind says passes the test
 layout_test_to : (k : Kind) (layout : LayoutWord) → IsLayoutOfKind k layout → IsTrue (is_layout_of_kind k layout)
 layout_test_to kind.Plain layout is = slots_to layout is
 layout_test_to kind.List layout is = none_to layout is

@@ -2,7 +2,6 @@
 ghost use Rattle.std.specs.Prelude.{◌≡◌, ℕ, ◌+◌, ◌*◌, ◌<◌, slice_get, IfOk};
 ghost use Rattle.page_space.specs.Sizes.{page_words};
 ghost use Rattle.page_space.specs.Extents.{eden_start, roots_start, layouts_start, marks_start};
-ghost use Rattle.tagged_word.specs.Shapes.{shapes_most};
 ghost use Rattle.object_graph.specs.Graphs.{start};
 ghost use Rattle.handle_roots.specs.Roots.{root_at};
 ghost use Rattle.heap_table.specs.declared.phase.Phase.TheVariants.{Quiet};
@@ -30,6 +29,7 @@ impl Main {
     pub fn open(alloc: Global, seat: MainSeat, regions: Regions) -> Result<Main, NoMemory>
         requires { seat ≡ fresh regions }
         ensures opened { IfOk result (λ main. MainShows main start × IsOpened main) }
+        ensures regions { IfOk result (λ main. main.seat.space ≡ regions) }
     {
         let shapes = ShapeTree::new(alloc)?;
         let nursery = Nursery::new(&regions);
@@ -45,7 +45,8 @@ impl Main {
     // Puts all that is not 0 in a heap that was just opened.
     fn start(&mut self, regions: &Regions)
         requires { self.old ≡ blank regions.now }
-        ensures { IsStarted self.new }
+        ensures started { IsStarted self.new }
+        ensures space { self.new.seat.space ≡ regions.now }
     {
         // There are as many words as addresses.
         let _regions = self.regions();
@@ -112,11 +113,6 @@ impl Main {
         ensures changes { let space = self.old.seat.space in
             ChangesWithin self.old self.new (layouts_start space) (marks_start space) }
     {
-        // There are as many words as addresses before the marks.
-        let _regions = self.regions();
-        let paths = self.shapes().paths();
-        for shape in 1..shape::PATHS + paths {
-            self.set_layout(shape);
-        }
+        self.set_layouts(1);
     }
 }

@@ -1,14 +1,16 @@
 //! Stores: the calls by which the words of the heap change.
-ghost use Rattle.std.specs.Prelude.{◌≡◌, ◌+◌, ◌<◌, ◌⊎◌, slice_get, slice_set, Some};
+ghost use Rattle.std.specs.Prelude.{◌≡◌, ◌+◌, ◌<◌, ◌≤◌, ◌⊎◌, length, slice_get, slice_set, Some};
 ghost use Rattle.tagged_word.specs.Headers.{IsHeader, header_bits};
 ghost use Rattle.page_space.specs.Extents.{layouts_start, marks_start};
 ghost use Rattle.heap_table.specs.declared.phase.Phase.TheVariants.{Quiet};
 ghost use Rattle.heap_table.specs.Seats.{heap_words};
 ghost use Rattle.shape_tree.specs.ShapeLayouts.{IsInUse, layout_word};
+ghost use Rattle.tagged_word.specs.Shapes.{first_path_shape};
 ghost use Rattle.write_barrier.specs.Mains.{with_word};
+ghost use Rattle.write_barrier.specs.Opening.{ChangesWithin, HasLayouts, LayoutsBelow};
 
 use crate::main_side::Main;
-use tagged_word::{Header, Word};
+use tagged_word::{Header, Word, shape};
 
 impl Main {
     /// Puts a word at an address before the marks: one that is no slot of a cell that marking may
@@ -70,6 +72,25 @@ impl Main {
         let word = self.shapes.layout(shape).word();
         let at = self.regions().layout_at(shape);
         self.write(at, word);
+    }
+
+    /// Puts the layout words of the shapes from one on: those of the shapes below it are there, and
+    /// from it on they are 0. No other word changes.
+    pub fn set_layouts(&mut self, first: u32)
+        requires quiet { self.old.seat.phase ≡ Quiet }
+        requires from { 1 ≤ first }
+        requires below { first ≤ first_path_shape + length self.old.paths }
+        requires layouts { LayoutsBelow self.old first }
+        ensures layouts { HasLayouts self.new }
+        ensures changes { let space = self.old.seat.space in
+            ChangesWithin self.old self.new (layouts_start space) (marks_start space) }
+    {
+        // There are as many words as addresses before the marks.
+        let _regions = self.regions();
+        let paths = self.shapes().paths();
+        for shape in first..shape::PATHS + paths {
+            self.set_layout(shape);
+        }
     }
 
     /// Tells the marking that a cell was made whole and needs no look: nothing while the phase is

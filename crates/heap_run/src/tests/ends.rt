@@ -58,7 +58,7 @@ fn a_sink_that_fails_at_the_end_keeps_line_and_need(rt: HostRuntime) -> Result<(
     };
     let came_to = came(&rt, full, ends)?;
     assert_eq!(rt; came_to.status, 5);
-    assert_eq!(rt; came_to.seen, seen(10_485, 2, 25));
+    assert_eq!(rt; came_to.seen, seen(1_639, 2, 10));
     let ends = Pace {
         most: 2,
         failing_write: 2,

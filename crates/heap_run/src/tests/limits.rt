@@ -1,6 +1,6 @@
 //! Scripts on both sides of each limit.
 
-use super::{SURE, came, seen};
+use super::{SURE, came, came_by, seen};
 use std::test::Fail;
 
 /// A head, and then so many lines, each with its number in place of `#`.
@@ -34,14 +34,55 @@ fn each_limit_has_an_answer_on_both_sides(rt: HostRuntime) -> Result<(), Fail> {
             2,
             "bad script 4098 names\n",
         ),
-        ("", "new x 8", 5242, 0, ""),
-        ("", "new x 8", 5243, 3, "heap full 5243\n"),
+        ("", "new x 8", 819, 0, ""),
+        ("", "new x 8", 820, 3, "heap full 820\n"),
+        ("new x 8\n", "set x a# 0", 64, 0, ""),
+        ("new x 8\n", "set x a# 0", 65, 1, "fault 66 fieldsfull\n"),
     ];
     for (head, line, count, status, text) in table {
         let script = numbered(&rt, head, line, count)?;
         let came = came(&rt, &script, SURE)?;
         assert_eq!(rt; came.status, status, "{line} {count}");
         assert_eq!(rt; came.written.as_slice(), text.as_bytes(), "{line} {count}");
+    }
+    Ok(())
+}
+
+// A field more for each of so many names, of an object that was just made: 9 paths stand at the
+// start.
+#[test]
+fn there_are_8192_field_paths_at_most(rt: HostRuntime) -> Result<(), Fail> {
+    let first = numbered(&rt, "", "new x 0\nset x f# 0", 4096)?;
+    for (count, status, text) in [(4087, 0, ""), (4088, 1, "fault 16368 shapesfull\n")] {
+        let mut script = first.clone()?;
+        script.extend_from_slice(&numbered(&rt, "", "new x 1\nset x f# 0", count)?)?;
+        let came = came_by(&rt, &["run", "--young", "65536"], &script, SURE)?;
+        assert_eq!(rt; came.written.as_slice(), text.as_bytes(), "{count}");
+        assert_eq!(rt; came.status, status, "{count}");
+    }
+    Ok(())
+}
+
+// With 64 young words: each object has 4, and then each box 2, where none stands.
+#[test]
+fn a_heap_is_full_where_the_young_words_are_used(rt: HostRuntime) -> Result<(), Fail> {
+    let table = [
+        ("repeat 100\nnew x 2\nend", "heap full 2\n", seen(33, 2, 4)),
+        (
+            "new x 1\nset x a x\nrepeat 100\nset x a 1\nset x a 5000000000\nend",
+            "heap full 5\n",
+            seen(94, 5, 2),
+        ),
+        (
+            "new x 1\nset x a x\nrepeat 100\nset x a 5000000000\nend",
+            "",
+            seen(203, 0, 0),
+        ),
+    ];
+    for (script, text, wanted) in table {
+        let came = came_by(&rt, &["run", "--young", "64"], script.as_bytes(), SURE)?;
+        assert_eq!(rt; came.written.as_slice(), text.as_bytes(), "{script}");
+        assert_eq!(rt; came.seen, wanted, "{script}");
     }
     Ok(())
 }

@@ -14,6 +14,9 @@ use crate::keyed::value_under;
 use heap_command::{FaultWord, Operand};
 use object_graph::{Entry, Field, Object, Value};
 
+/// So many fields an object may have.
+const MOST_FIELDS: usize = 64;
+
 /// A plain object of the graph, with its number.
 #[derive(Clone, Copy)]
 pub(crate) struct Plain<'a> {
@@ -28,7 +31,7 @@ impl Plain<'_> {
         ensures { result ≡ no_room_for ideal_limits (seen_plain self.now) name }
     {
         let is_new = value_under(self.fields, name).is_none();
-        is_new && self.fields.len() >= self.cap as usize
+        is_new && self.fields.len() >= MOST_FIELDS
     }
 }
 

@@ -8,7 +8,7 @@ use heap_command::Command::{
     Push, Put, Same, Scavenge, Set, Shape, WDel, WGet, WPut, Weak,
 };
 use heap_command::FaultWord::{
-    self, BadKey, FieldsFull, NotInt, NotList, NotObject, NotWeak, Overflow, Range, Unbound,
+    self, BadKey, NotInt, NotList, NotObject, NotWeak, Overflow, Range, Unbound,
 };
 use heap_command::Operand::{self, Int, Undefined, Var};
 use std::alloc::Global;
@@ -202,7 +202,7 @@ fn objects_are_alike_by_shape_and_the_same_by_number(rt: HostRuntime) -> Result<
 
 #[test]
 fn faults_stop_scripts(rt: HostRuntime) {
-    let scripts: [(&[Command], FaultWord); 10] = [
+    let scripts: [(&[Command], FaultWord); 9] = [
         (&[get(Y, X, A)], Unbound),
         (&[DropVar { x: X }], Unbound),
         (&[List { x: X }, set(X, A, Int(1))], NotObject),
@@ -212,10 +212,6 @@ fn faults_stop_scripts(rt: HostRuntime) {
         (&[List { x: X }, at(Y, X, Int(0))], Range),
         (&[let_value(X, Undefined), add(X, Int(1))], NotInt),
         (&[let_value(X, Int(i64::MAX)), add(X, Int(1))], Overflow),
-        (
-            &[new(X, 1), set(X, A, Int(5)), set(X, B, Int(6))],
-            FieldsFull,
-        ),
     ];
     for (commands, word) in scripts {
         let stop = said(rt.alloc(), 3, commands).err();

@@ -1,15 +1,36 @@
+use Rattle.std.proofs.Common.{◌≡◌, ℕ, ◌∙◌, ap, length}
 use Rattle.std.proofs.lemmas.Bool.{cases_eq}
-use Rattle.heap_run.proofs.Concluding.{Runs-finished}
+use Rattle.page_space.specs.Extents.{Space}
+use Rattle.heap_model.specs.Heaps.{Heap}
+use Rattle.heap_model.specs.Images.{image_heap}
+use Rattle.write_barrier.specs.Mains.{heap_of}
+use Rattle.collector.proofs.ImagesShow.{images_show, images_are_blank}
+use Rattle.collector.proofs.ImageNeeds.{images_need_as_much}
+use Rattle.heap_run.proofs.Concluding.{IsKeepable, Runs-finished}
+use Rattle.heap_run.proofs.Imaged.{Laws, finishes_imaged}
 use Rattle.heap_run.proofs.program.run_on_heap.Goals as goal
 
 pub returns : goal.returns
 returns g c = λ bytes is.
     let finished = c.run_script-finished.result in
+    let ran = c.run_script-finished.ensures in
     let concluded = c.conclude-status.ensures in
+    let script = c.args.script.now in
+    let space = c.args.heap.main.seat.space in
+    let heap : Heap = heap_of c.run_script-finished.new.heap.main in
+    let image = c.into_image.result in
+    let imaged = c.into_image.ensures in
+    let laws : Laws = record { show = images_show; need = images_need_as_much } in
+    let finishes = finishes_imaged finished _ _ _ _ laws c.lines-lines.ensures.numbered imaged ran.finishes in
+    let keepable : IsKeepable space.sizes script image = record {
+      regions = imaged.space ∙ ran.space
+          ∙ ap (λ (n : ℕ). record { sizes = space.sizes; variables = n }) c.requires.variables;
+      blank = images_are_blank heap (image_heap image) ran.finishes.reached.shown.whole imaged;
+    } in
     rw c.need.ensures
-    (Runs-finished bytes c.args.script.now c.run_script-finished.new.heap finished.how finished.line finished.executed
-    c.conclude-status.result _ _ _ _ _ _ is c.run_script-finished.ensures.finishes
+    (Runs-finished space.sizes bytes script image finished.how finished.line finished.executed c.conclude-status.result
+    _ _ _ _ _ _ is keepable finishes
     (λ cut. (concluded.cut cut).0)
-    (λ cut. rw (concluded.cut cut).1 c.run_script-finished.ensures.finishes)
+    (λ cut. rw (concluded.cut cut).1 finishes)
     (λ other. record { written = concluded.written other; failed = concluded.failed other })
     (cases_eq c.conclude-status.result 5))

@@ -10,8 +10,8 @@ returns-in-Err-BadLine g c =
     let stop = BadLine c.in-Err-BadLine.line c.in-Err-BadLine.why in
     let apart : stop ≢ NoMemory = λ e. cc in
     let refused = rw c.in-Err-BadLine.field-0-is at c.in-Err-BadLine.ensures in
-    Runs-unopened source _ _ _ _ c.give_up.result (last.BadScript c.in-Err-BadLine.line c.in-Err-BadLine.why)
-    c.give_up.ensures.unopened (Comes-refused source stop _ (refused.refused apart) refl)
+    Runs-unopened c.args.sizes source _ _ _ _ c.give_up.result (last.BadScript c.in-Err-BadLine.line c.in-Err-BadLine.why)
+    c.give_up.ensures.unopened (Comes-refused c.args.sizes source stop _ (refused.refused apart) refl)
     (rw (c.in-Err-BadLine.line-is, c.in-Err-BadLine.why-is) at c.give_up.ensures.taken)
 
 pub returns-in-Err-TooManyNames : goal.returns-in-Err-TooManyNames
@@ -21,27 +21,28 @@ returns-in-Err-TooManyNames g c =
     let apart : stop ≢ NoMemory = λ e. cc in
     let refused = rw c.in-Err-TooManyNames.field-0-is at c.in-Err-TooManyNames.ensures in
     let given = c.give_up-in-Err-TooManyNames in
-    Runs-unopened source _ _ _ _ given.result (last.TooManyNames c.in-Err-TooManyNames.line)
-    given.ensures.unopened (Comes-refused source stop _ (refused.refused apart) refl)
+    Runs-unopened c.args.sizes source _ _ _ _ given.result (last.TooManyNames c.in-Err-TooManyNames.line)
+    given.ensures.unopened (Comes-refused c.args.sizes source stop _ (refused.refused apart) refl)
     (rw c.in-Err-TooManyNames.line-is at given.ensures.taken)
 
 pub returns-in-Err-NoMemory : goal.returns-in-Err-NoMemory
 returns-in-Err-NoMemory g c =
     let given = c.give_up-in-Err-NoMemory in
-    Runs-unopened c.args.source.now _ _ _ _ given.result last.NoMemory given.ensures.unopened
-    (Comes-memory c.args.source.now) given.ensures.taken
+    Runs-unopened c.args.sizes c.args.source.now _ _ _ _ given.result last.NoMemory given.ensures.unopened
+    (Comes-memory c.args.sizes c.args.source.now) given.ensures.taken
 
 pub returns-in_default : goal.returns-in_default
 returns-in_default g c =
     let given = c.give_up-in_default in
-    Runs-unopened c.args.source.now _ _ _ _ given.result last.NoMemory given.ensures.unopened
-    (Comes-memory c.args.source.now) given.ensures.taken
+    Runs-unopened c.args.sizes c.args.source.now _ _ _ _ given.result last.NoMemory given.ensures.unopened
+    (Comes-memory c.args.sizes c.args.source.now) given.ensures.taken
 
 pub returns-in_default-new : goal.returns-in_default-new
 returns-in_default-new g c =
     let given = c.give_up-in_default-new in
-    Runs-unopened c.args.source.now _ _ _ _ given.result last.NoMemory given.ensures.unopened
-    (Comes-memory c.args.source.now) given.ensures.taken
+    Runs-unopened c.args.sizes c.args.source.now _ _ _ _ given.result last.NoMemory given.ensures.unopened
+    (Comes-memory c.args.sizes c.args.source.now) given.ensures.taken
 
 pub returns : goal.returns
-returns g c = c.run_on_heap.ensures c.args.source.now c.in-Ok.ensures.script
+returns g c =
+    rw (c.in-Ok-open_heap.ensures.1, c.new.ensures) at (c.run_on_heap.ensures c.args.source.now c.in-Ok.ensures.script)

@@ -1,8 +1,15 @@
-use Rattle.std.proofs.Common.{inl, Some, refl, ap, ◌∙◌, map, string_bytes}
+use Rattle.command_line.proofs.AskedSizes.{asked_sizes_are_within}
+use Rattle.std.proofs.Common.{arith, inl, Some, refl, ap, ◌∙◌, map, string_bytes}
 use Rattle.heap_run.specs.declared.last_line.LastLine.TheVariants as last
 use Rattle.heap_run.specs.Answers.{Comes, AsksToRun}
 use Rattle.heap_run.proofs.Answering.{Answers-unopened, Answers-runs, begins}
 use Rattle.heap_run.proofs.program.run_words.Goals as goal
+
+pub run_source-requires-after_bounds : goal.run_source-requires-after_bounds
+run_source-requires-after_bounds g c κs within =
+    let asks : AsksToRun (map string_bytes c.args.words.now) c.in-Ok-Run.sizes =
+    c.in-Ok-Run.ensures.invocation ∙ ap Some c.in-Ok-Run.field-0-is in
+    asked_sizes_are_within (map string_bytes c.args.words.now) c.in-Ok-Run.sizes 0 asks (omega arith)
 
 pub returns-in-Err-BadWords : goal.returns-in-Err-BadWords
 returns-in-Err-BadWords g c =
@@ -19,7 +26,7 @@ returns-in-Err-NoMemory g c =
 
 pub returns-in-Ok-read_source : goal.returns-in-Ok-read_source
 returns-in-Ok-read_source g c =
-    let asks : AsksToRun (map string_bytes c.args.words.now) c.in-Ok-Run.field-0-0 =
+    let asks : AsksToRun (map string_bytes c.args.words.now) c.in-Ok-Run.sizes =
     c.in-Ok-Run.ensures.invocation ∙ ap Some c.in-Ok-Run.field-0-is in
     let read = c.in-Ok-read_source.ensures in
     Answers-runs _ _ c.in-Ok-read_source.bytes.items _ _ _ _ _ c.run_source.result asks
@@ -28,7 +35,7 @@ returns-in-Ok-read_source g c =
 
 pub returns-in-Err-Fault : goal.returns-in-Err-Fault
 returns-in-Err-Fault g c =
-    let asks : AsksToRun (map string_bytes c.args.words.now) c.in-Ok-Run.field-0-0 =
+    let asks : AsksToRun (map string_bytes c.args.words.now) c.in-Ok-Run.sizes =
     c.in-Ok-Run.ensures.invocation ∙ ap Some c.in-Ok-Run.field-0-is in
     let stopped = rw c.in-Err-Fault.field-0-is at c.in-Err-Fault.ensures in
     let given = c.give_up-in-Err-Fault in
@@ -37,7 +44,7 @@ returns-in-Err-Fault g c =
 
 pub returns-in-Err-TooLong : goal.returns-in-Err-TooLong
 returns-in-Err-TooLong g c =
-    let asks : AsksToRun (map string_bytes c.args.words.now) c.in-Ok-Run.field-0-0 =
+    let asks : AsksToRun (map string_bytes c.args.words.now) c.in-Ok-Run.sizes =
     c.in-Ok-Run.ensures.invocation ∙ ap Some c.in-Ok-Run.field-0-is in
     let stopped = rw c.in-Err-TooLong.field-0-is at c.in-Err-TooLong.ensures in
     let many = stopped.too_long refl in
@@ -47,10 +54,10 @@ returns-in-Err-TooLong g c =
 
 pub returns-in-Err-NoMemory-read_source : goal.returns-in-Err-NoMemory-read_source
 returns-in-Err-NoMemory-read_source g c =
-    let asks : AsksToRun (map string_bytes c.args.words.now) c.in-Ok-Run.field-0-0 =
+    let asks : AsksToRun (map string_bytes c.args.words.now) c.in-Ok-Run.sizes =
     c.in-Ok-Run.ensures.invocation ∙ ap Some c.in-Ok-Run.field-0-is in
     let stopped = rw c.in-Err-NoMemory-read_source.field-0-is at c.in-Err-NoMemory-read_source.ensures in
     let given = c.give_up-in-Err-NoMemory-read_source in
     Answers-unopened _ _ _ _ _ _ given.result last.NoMemory given.ensures.unopened
-    (Comes.no_memory (begins (map string_bytes c.args.words.now) c.in-Ok-Run.field-0-0 asks) (inl (stopped.no_memory refl)))
+    (Comes.no_memory (begins (map string_bytes c.args.words.now) c.in-Ok-Run.sizes asks) (inl (stopped.no_memory refl)))
     given.ensures.taken

@@ -3,48 +3,65 @@ use Rattle.heap_script.proofs.Counts.{written_nothing}
 use Rattle.heap_script.proofs.execute.execute.Goals as goal
 
 pub returns-in-New-clause-carried : goal.returns-in-New-clause-carried
-returns-in-New-clause-carried c = λ graph names shown made.
-    ([], rw c.in-New.is (c.make.ensures.carried graph names shown made), written_nothing (is_ok c.make.result) c.args.out.now)
+returns-in-New-clause-carried c = λ graph shown made. (
+  [],
+  rw c.in-New.is (c.make.ensures.carried graph c.args.script.now.fields shown made),
+  written_nothing (is_ok c.make.result) c.args.out.now,
+)
 
 pub returns-in-LetValue-clause-carried : goal.returns-in-LetValue-clause-carried
-returns-in-LetValue-clause-carried c = λ graph names shown made. (
+returns-in-LetValue-clause-carried c = λ graph shown made. (
   [],
-  rw c.in-LetValue.is (c.let_value.ensures.carried graph names shown),
+  rw c.in-LetValue.is (c.let_value.ensures.carried graph c.args.script.now.fields shown),
   written_nothing (is_ok c.let_value.result) c.args.out.now,
 )
 
 pub returns-in-DropVar-clause-carried : goal.returns-in-DropVar-clause-carried
-returns-in-DropVar-clause-carried c = λ graph names shown made. (
+returns-in-DropVar-clause-carried c = λ graph shown made. (
   [],
-  rw c.in-DropVar.is (c.drop_var.ensures.carried graph names shown),
+  rw c.in-DropVar.is (c.drop_var.ensures.carried graph c.args.script.now.fields shown),
   written_nothing (is_ok c.drop_var.result) c.args.out.now,
 )
 
 pub returns-in-Add-clause-carried : goal.returns-in-Add-clause-carried
-returns-in-Add-clause-carried c = λ graph names shown made. (
+returns-in-Add-clause-carried c = λ graph shown made. (
   [],
-  rw c.in-Add.is (c.add.ensures.carried graph names shown),
+  rw c.in-Add.is (c.add.ensures.carried graph c.args.script.now.fields shown),
   written_nothing (is_ok c.add.result) c.args.out.now,
 )
 
 pub returns-in-Set-clause-carried : goal.returns-in-Set-clause-carried
-returns-in-Set-clause-carried c = λ graph names shown made. (
+returns-in-Set-clause-carried c = λ graph shown made. (
   [],
-  rw c.in-Set.is (c.set.ensures.carried graph names shown),
+  rw c.in-Set.is (c.set.ensures.carried graph c.args.script.now.fields shown),
   written_nothing (is_ok c.set.result) c.args.out.now,
 )
 
 pub returns-in-Get-clause-carried : goal.returns-in-Get-clause-carried
-returns-in-Get-clause-carried c = λ graph names shown made. (
+returns-in-Get-clause-carried c = λ graph shown made. (
   [],
-  rw c.in-Get.is (c.get.ensures.carried graph names shown),
+  rw c.in-Get.is (c.get.ensures.carried graph c.args.script.now.fields shown),
   written_nothing (is_ok c.get.result) c.args.out.now,
 )
 
+pub returns-in-Del-clause-carried : goal.returns-in-Del-clause-carried
+returns-in-Del-clause-carried c = λ graph shown made. (
+  [],
+  rw c.in-Del.is (c.del.ensures.carried graph c.args.script.now.fields shown),
+  written_nothing (is_ok c.del.result) c.args.out.now,
+)
+
 pub returns-in-Print-clause-carried : goal.returns-in-Print-clause-carried
-returns-in-Print-clause-carried c = λ graph names shown made.
-    rw c.in-Print.is (c.print.ensures.carried graph names shown)
+returns-in-Print-clause-carried c = λ graph shown made.
+    rw c.in-Print.is (c.print.ensures.carried graph c.args.script.now.fields shown)
 
 pub returns-in-Same-clause-carried : goal.returns-in-Same-clause-carried
-returns-in-Same-clause-carried c = λ graph names shown made.
-    rw c.in-Same.is (c.same.ensures.carried graph names shown)
+returns-in-Same-clause-carried c = λ graph shown made.
+    rw c.in-Same.is (c.same.ensures.carried graph c.args.script.now.fields shown)
+
+pub returns-in-Alike-clause-carried : goal.returns-in-Alike-clause-carried
+returns-in-Alike-clause-carried c = λ graph shown made.
+    rw c.in-Alike.is (c.alike.ensures.carried graph c.args.script.now.fields shown)
+
+pub returns-in-Shape-clause-carried : goal.returns-in-Shape-clause-carried
+returns-in-Shape-clause-carried c = λ graph shown made. rw c.in-Shape.is (c.shape.ensures.carried graph shown)

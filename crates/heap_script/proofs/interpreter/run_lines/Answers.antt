@@ -3,9 +3,10 @@ use Rattle.std.proofs.lemmas.Option.{slice_get_past}
 use Rattle.std.specs.Prelude.{slice_get, None}
 use Rattle.object_graph.specs.Run.{lines_most}
 use Rattle.script_text.proofs.Left.{at_most_four}
+use Rattle.write_barrier.specs.Mains.{heap_of}
 use Rattle.heap_script.proofs.Ways.{goes_on, past_end}
 use Rattle.heap_script.proofs.Handing.{CutsOff-handed, fills-handed}
-use Rattle.heap_script.proofs.Running.{Running-start, Running-handed, Running-line}
+use Rattle.heap_script.proofs.Running.{same_heap, same_space, Running-start, Running-handed, Running-line}
 use Rattle.heap_script.proofs.Ending.{ComesTo-end, ComesTo-limit, ComesTo-line, Pauses-stopped, same-line}
 use Rattle.heap_script.proofs.interpreter.run_lines.Goals as goal
 
@@ -18,6 +19,7 @@ loop-at-init g c =
           (Running-start c.args.script.now c.args.heap.now taken (rw lines.all at lines.placed) c.requires.shown
           c.requires.variables);
       room = rw c.requires.empty (omega arith);
+      space = refl;
       steady = refl;
     }
 
@@ -31,8 +33,8 @@ next-at-requires-clause-deep g c =
     r.left in
     at_most_four script.lines _ _ _ c.lines-lines.ensures.matched goes.left
 
-pub returns-then-executed-eq-LINES_MOST : goal.returns-then-executed-eq-LINES_MOST
-returns-then-executed-eq-LINES_MOST g c =
+pub returns-then-executed-eq-LINES_MOST-clause-pauses : goal.returns-then-executed-eq-LINES_MOST-clause-pauses
+returns-then-executed-eq-LINES_MOST-clause-pauses g c =
     let r = c.loop-at.invariant.running in
     let lines = c.lines-lines.result.now in
     let line = get_or lines c.loop-at.at past_end in
@@ -42,15 +44,22 @@ returns-then-executed-eq-LINES_MOST g c =
     record {
       reached = r.reached;
       halts = (
-        ComesTo-limit script c.loop-at.heap _ c.loop-at.executed line.number _ _ r.reached goes
+        ComesTo-limit script (heap_of c.loop-at.heap.main) _ c.loop-at.executed line.number _ _ r.reached goes
             c.if-executed-eq-LINES_MOST.true,
         r.handed,
         c.loop-at.invariant.steady,
       );
     }
 
-pub returns : goal.returns
-returns g c =
+pub returns-then-executed-eq-LINES_MOST-clause-shows : goal.returns-then-executed-eq-LINES_MOST-clause-shows
+returns-then-executed-eq-LINES_MOST-clause-shows g c =
+    let r = c.loop-at.invariant.running in (r.reached.so_far.graph, r.shown)
+
+pub returns-clause-shows : goal.returns-clause-shows
+returns-clause-shows g c = let r = c.loop-at.invariant.running in (r.reached.so_far.graph, r.shown)
+
+pub returns-clause-pauses : goal.returns-clause-pauses
+returns-clause-pauses g c =
     let r = c.loop-at.invariant.running in
     let lines = c.lines-lines.result.now in
     let past : slice_get c.args.script.now.lines c.loop-at.at ≡ None =
@@ -58,7 +67,7 @@ returns g c =
     record {
       reached = r.reached;
       halts = (
-        ComesTo-end c.args.script.now c.loop-at.heap c.loop-at.at c.loop-at.executed c.loop-at.turns r.reached r.left past,
+        ComesTo-end c.args.script.now (heap_of c.loop-at.heap.main) c.loop-at.at c.loop-at.executed c.loop-at.turns r.reached r.left past,
         r.handed,
         c.loop-at.invariant.steady,
       );
@@ -74,14 +83,21 @@ returns-in-Err g c =
     let goes = goes_on lines script.lines c.loop-at.at c.loop-at.turns _ c.lines-lines.ensures.all c.loop-at-test.true
     r.left in
     let below : n < lines_most = omega (arith, r.reached.few) in
-    let (text, carries, out-is) =
-    c.in-Err.ensures.carried r.reached.so_far.graph script.fields r.reached.shown r.made in
     let graph = r.reached.so_far.graph in
-    let same = same-line script.fields c.loop-at.heap c.execute_line.new.heap graph _ text c.in-Err.stop carries in
-    rw (same, out-is, c.stopped.ensures)
-    (Pauses-stopped script c.loop-at.heap c.loop-at.out n line.number c.in-Err.stop _ _ _ _ r.reached
-    (ComesTo-line script c.loop-at.heap c.execute_line.new.heap _ n line.number _ _ text c.in-Err.stop r.reached below goes carries)
-    r.handed c.loop-at.invariant.steady)
+    let heap = c.loop-at.heap in
+    let after = c.execute_line.new.heap in
+    let (text, carries, out-is) = c.in-Err.ensures.carried graph r.shown r.made in
+    let same = same_heap heap after (same-line script.fields heap.main after.main graph _ text c.in-Err.stop carries)
+    c.in-Err.ensures.spare in
+    let comes = ComesTo-line script heap.main after.main _ n line.number _ _ text c.in-Err.stop r.shown.main.tied r.reached
+    below goes carries in
+    record {
+      pauses = rw (same, out-is, c.stopped.ensures)
+          (Pauses-stopped script (heap_of heap.main) c.loop-at.out n line.number c.in-Err.stop _ _ _ _ r.reached comes
+          r.handed c.loop-at.invariant.steady);
+      shows = rw same (graph, r.shown);
+      space = rw same c.loop-at.invariant.space;
+    }
 
 pub loop-at-preserved : goal.loop-at-preserved
 loop-at-preserved g c =
@@ -93,15 +109,15 @@ loop-at-preserved g c =
     let goes = goes_on lines script.lines c.loop-at.at c.loop-at.turns _ c.lines-lines.ensures.all c.loop-at-test.true
     r.left in
     let below : n < lines_most = omega (arith, r.reached.few) in
-    let (text, carries, out-is) =
-    c.in_default.ensures.carried r.reached.so_far.graph script.fields r.reached.shown r.made in
+    let (text, carries, out-is) = c.in_default.ensures.carried r.reached.so_far.graph r.shown r.made in
     let ran = Running-line script c.loop-at.heap c.execute_line.new.heap c.loop-at.objects c.loop-at.out _ _
-    c.loop-at.at _ c.loop-at.turns _ n line.number _ text r below goes carries in
+    c.loop-at.at _ c.loop-at.turns _ n line.number _ text r below goes c.in_default.ensures.spare carries in
     record {
       running = rw (c.next-at.ensures.place, c.next-at.ensures.turns, c.in_default.ensures.counted)
           (Running-handed script c.execute_line.new.heap _ _ c.make_room.new.out _ _ _ _ _ _
           ran (rw out-is at c.in-Ok.ensures.handed));
       room = c.in-Ok.ensures.room;
+      space = same_space c.loop-at.heap c.execute_line.new.heap _ _ script.fields text carries ∙ c.loop-at.invariant.space;
       steady = c.in-Ok.ensures.steady ∙ c.loop-at.invariant.steady;
     }
 
@@ -115,15 +131,18 @@ returns-in_default-make_room g c =
     let goes = goes_on lines script.lines c.loop-at.at c.loop-at.turns _ c.lines-lines.ensures.all c.loop-at-test.true
     r.left in
     let below : n < lines_most = omega (arith, r.reached.few) in
-    let (text, carries, out-is) =
-    c.in_default.ensures.carried r.reached.so_far.graph script.fields r.reached.shown r.made in
+    let (text, carries, out-is) = c.in_default.ensures.carried r.reached.so_far.graph r.shown r.made in
     let ran = Running-line script c.loop-at.heap c.execute_line.new.heap c.loop-at.objects c.loop-at.out _ _
-    c.loop-at.at _ c.loop-at.turns _ n line.number _ text r below goes carries in
+    c.loop-at.at _ c.loop-at.turns _ n line.number _ text r below goes c.in_default.ensures.spare carries in
     record {
-      reached = ran.reached;
-      halts = (
-        (refl, refl, fills-handed ran.handed (rw out-is at c.in_default-make_room.ensures.due)),
-        CutsOff-handed ran.handed (rw out-is at c.in_default-make_room.ensures.stopped),
-        rw c.loop-at.invariant.steady at c.in_default-make_room.ensures.failed,
-      );
+      pauses = record {
+        reached = ran.reached;
+        halts = (
+          (refl, refl, fills-handed ran.handed (rw out-is at c.in_default-make_room.ensures.due)),
+          CutsOff-handed ran.handed (rw out-is at c.in_default-make_room.ensures.stopped),
+          rw c.loop-at.invariant.steady at c.in_default-make_room.ensures.failed,
+        );
+      };
+      shows = (ran.reached.so_far.graph, ran.shown);
+      space = same_space c.loop-at.heap c.execute_line.new.heap _ _ script.fields text carries ∙ c.loop-at.invariant.space;
     }

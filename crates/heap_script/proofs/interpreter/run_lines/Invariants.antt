@@ -9,6 +9,7 @@ invariant-loop-at g l = record {
   running : Running l.script l.heap l.objects l.out (g.K.Sink.HasTaken l.initial.sink) (g.K.Sink.HasTaken l.sink)
       l.at l.turns l.executed;
   room : length l.out + ROOM ≤ OUTPUT_BYTES;
+  space : l.heap.main.seat.space ≡ l.initial.heap.main.seat.space;
   steady : g.K.Sink.faults l.sink ≡ g.K.Sink.faults l.initial.sink;
 }
 

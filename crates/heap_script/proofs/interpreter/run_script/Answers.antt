@@ -4,15 +4,15 @@ use Rattle.heap_script.proofs.interpreter.run_script.Goals as goal
 pub returns-in-SinkFault-clause-finishes : goal.returns-in-SinkFault-clause-finishes
 returns-in-SinkFault-clause-finishes g c =
     Finishes-cut c.args.script.now _ _ c.run_lines-finished.result.how _ _ c.in-SinkFault.need _ _ _ _ c.in-SinkFault.is
-    c.run_lines-finished.ensures
+    c.run_lines-finished.ensures.pauses
 
 pub returns-in-Ok-clause-finishes : goal.returns-in-Ok-clause-finishes
 returns-in-Ok-clause-finishes g c =
     Finishes-written c.args.script.now _ _ c.run_lines-finished.result.how _ _ _ _ _ _ _ _ c.in_default.not-SinkFault
-    c.run_lines-finished.ensures c.in-Ok.ensures.appended c.in-Ok.ensures.steady
+    c.run_lines-finished.ensures.pauses c.in-Ok.ensures.appended c.in-Ok.ensures.steady
 
 pub returns-in-Err-clause-finishes : goal.returns-in-Err-clause-finishes
 returns-in-Err-clause-finishes g c =
     rw c.need.ensures
     (Finishes-failed c.args.script.now _ _ c.run_lines-finished.result.how _ _ _ _ _ _ _ _ c.in_default.not-SinkFault
-    c.run_lines-finished.ensures c.in-Err.ensures.stopped c.in-Err.ensures.failed)
+    c.run_lines-finished.ensures.pauses c.in-Err.ensures.stopped c.in-Err.ensures.failed)

@@ -3,7 +3,7 @@
 use super::{X, Y, Z, at, new, print, said, set};
 use crate::ideal::IdealStop;
 use heap_command::Command::{self, List, Push, Shift, Trunc, WGet, WPut, Weak};
-use heap_command::FaultWord::{ListFull, ShapesFull, WeakFull};
+use heap_command::FaultWord::{FieldsFull, ListFull, ShapesFull, WeakFull};
 use heap_command::Operand::{Int, Var};
 use std::alloc::{AllocError, Global};
 use std::test::Fail;
@@ -88,6 +88,22 @@ fn a_weak_map_has_256_entries_at_most(rt: HostRuntime) -> Result<(), Fail> {
     commands.push(weak_put(1))?;
     let stop = said(rt.alloc(), 0, &commands).err();
     assert_eq!(rt; stop, Some(IdealStop::ScriptFault(WeakFull)));
+    Ok(())
+}
+
+// The 64 fields are more than the cap: it bounds no fields.
+#[test]
+fn an_object_has_64_fields_at_most(rt: HostRuntime) -> Result<(), Fail> {
+    let mut commands = Vec::new(rt.alloc());
+    commands.push(new(X, 8))?;
+    for field in 0..64 {
+        commands.push(set(X, field, Int(0)))?;
+    }
+    commands.push(set(X, 63, Int(1)))?;
+    assert!(rt; said(rt.alloc(), 65, &commands).is_ok());
+    commands.push(set(X, 64, Int(0)))?;
+    let stop = said(rt.alloc(), 65, &commands).err();
+    assert_eq!(rt; stop, Some(IdealStop::ScriptFault(FieldsFull)));
     Ok(())
 }
 

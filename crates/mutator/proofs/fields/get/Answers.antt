@@ -1,32 +1,48 @@
-use Rattle.std.proofs.Common.{unwrap_or, arith}
+-- The variable is bound to the field.
+use Rattle.std.proofs.Common.{◌<◌, [], Ok, refl, sym, subst}
+use Rattle.heap_command.specs.declared.command.Command.TheVariants.{Get}
 use Rattle.object_graph.specs.Graphs.{bind}
-use Rattle.object_graph.specs.Objects.{field_value}
-use Rattle.object_graph.specs.declared.value.Value.TheVariants.{Undefined}
-use Rattle.mutator.proofs.Bindings.{Shows-bind}
-use Rattle.mutator.proofs.FoundLaws.{has_fields}
+use Rattle.shape_change.specs.FieldChanges.{value_or_undefined}
+use Rattle.write_barrier.specs.Mains.{Mutator, heap_of}
+use Rattle.heap_model.specs.Showing.{ShowsHeld}
+use Rattle.heap_model.proofs.AnewBindings.{get-insert_same, binds_anew}
+use Rattle.mutator.specs.Carries.{Carries}
 use Rattle.mutator.proofs.Meanings.{get_done}
+use Rattle.mutator.proofs.Rebinding.{binding_carried}
+use Rattle.mutator.proofs.StillShown.{shows_still, stands_still, value_still}
 use Rattle.mutator.proofs.fields.get.Goals as goal
 
-pub field_pair-value-requires-clause-shown : goal.field_pair-value-requires-clause-shown
-field_pair-value-requires-clause-shown c =
-    let (graph, shown) = c.requires.shown in
-    let (target, is, read) = c.in_ok-target.ensures graph shown in
-    let found = c.in_ok-found.ensures graph.objects target read in
-    (graph, found.fields, has_fields c.args.heap.now graph target c.in_ok-found.found shown found)
+pub plain-requires : goal.plain-requires
+plain-requires c =
+    let (graph, shows) = c.requires.shown in
+    let (value, is, stands) = c.in_ok-target.ensures.found graph shows in
+    value_still graph value c.in_ok-target.target c.bound.ensures.same shows stands
+
+pub get-value-requires : goal.get-value-requires
+get-value-requires c =
+    let (graph, shows) = c.requires.shown in
+    let (value, is, stands) = c.in_ok-target.ensures.found graph shows in
+    let shown = shows_still c.bound.ensures.same shows in
+    let found = c.in_ok-found.ensures graph value shown (stands_still c.bound.ensures.same stands) in
+    record { graph = graph; plain = found.plain; shows = shown; is = found.stands }
 
 pub returns : goal.returns
 returns c = record {
-  carried = λ graph names shown.
-      let old = c.args.heap.now in
-      let (target, is, read) = c.in_ok-target.ensures graph shown in
-      let found = c.in_ok-found.ensures graph.objects target read in
-      let has = has_fields old graph target c.in_ok-found.found shown found in
-      let held = c.field_pair-value.ensures graph found.fields has in
-      let value = unwrap_or (field_value found.fields c.args.f) Undefined in (
-        bind graph c.args.y value,
-        get_done names graph c.args.y c.args.x c.args.f target _ is found.plain,
-        Shows-bind old c.write_root.new.heap graph c.args.y c.field_pair-value.result value c.write_root.ensures shown held,
-        c.write_root.ensures.count,
-        omega (arith, shown.room),
-      );
+  carried = λ graph names shows.
+      let (target, is, stands) = c.in_ok-target.ensures.found graph shows in
+      let now = c.bound.new.main in
+      let y = c.args.y in
+      let shown = shows_still c.bound.ensures.same shows in
+      let found = c.in_ok-found.ensures graph target shown (stands_still c.bound.ensures.same stands) in
+      let value = value_or_undefined found.plain c.args.f in
+      let held = c.get-value.result in
+      let below = subst (λ (main : Mutator). y < main.seat.space.variables)
+      (sym c.bound.ensures.same) c.requires.within.0 in
+      let read = subst (ShowsHeld (heap_of now) held) (sym (get-insert_same graph.bindings y value))
+      (c.get-value.ensures graph found.plain shown found.stands) in
+      subst (λ main. Carries names main c.hold.new.self graph (Get y c.args.x c.args.f) [] (Ok tt)) c.bound.ensures.same
+      (binding_carried (bind graph y value) names (Get y c.args.x c.args.f) y held shown
+      (get_done names graph y c.args.x c.args.f target found.plain is found.refers) refl
+      tt (binds_anew graph y value) below c.hold.ensures.holds.fits read
+      (record { held = c.hold.ensures.held; heap = c.hold.ensures.heap }) refl);
 }

@@ -1,63 +1,55 @@
-use Rattle.std.proofs.Common.{length, refl, ap, arith}
-use Rattle.object_graph.specs.Meaning.{refill}
-use Rattle.object_graph.specs.Objects.{with_field}
-use Rattle.mutator.proofs.SearchLaws.{place_within}
-use Rattle.mutator.proofs.ShownWithField.{shown_written}
-use Rattle.mutator.proofs.FoundLaws.{fields_held, cell_inside, has_fields}
-use Rattle.mutator.proofs.Meanings.{set_full, set_done, paths_with}
+-- The field comes to have the value, or the command stops with why it cannot.
+use Rattle.std.proofs.Common.{[], Ok, sym, subst}
+use Rattle.heap_command.specs.declared.command.Command.TheVariants.{Set}
+use Rattle.mutator.specs.Stops.{stop_of}
+use Rattle.mutator.specs.Carries.{Carries}
+use Rattle.mutator.proofs.FieldsSet.{setting_known, setting_shown, set_carried, set_stopped}
+use Rattle.mutator.proofs.StoppedBy.{stopped_by}
+use Rattle.mutator.proofs.StillShown.{shows_still, stands_still, value_still}
 use Rattle.mutator.proofs.fields.set.Goals as goal
 
-pub place_in-requires-clause-shown : goal.place_in-requires-clause-shown
-place_in-requires-clause-shown c =
-    let (graph, shown) = c.requires.shown in
-    let (target, is, read) = c.in_ok-target.ensures graph shown in
-    let found = c.in_ok-found.ensures graph.objects target read in
-    (graph, found.fields, has_fields c.args.heap.now graph target c.in_ok-found.found shown found)
+pub plain-requires : goal.plain-requires
+plain-requires c =
+    let (graph, shows) = c.requires.shown in
+    let both = c.in_ok-target.ensures.found graph shows in
+    value_still graph both.first c.in_ok-target.target c.operands.ensures.same shows both.stands_first
 
-pub write_place-requires-clause-within : goal.write_place-requires-clause-within
-write_place-requires-clause-within c =
-    let old = c.args.heap.now in
-    let object = c.in_ok-found.found in
-    let (graph, shown) = c.requires.shown in
-    let (target, is, read) = c.in_ok-target.ensures graph shown in
-    let found = c.in_ok-found.ensures graph.objects target read in
-    let has = has_fields old graph target object shown found in
-    let within = (fields_held old graph object found.fields has).0 in
-    let place = c.place_in.ensures graph found.fields has in
-    let at = place_within object.cap found.fields c.args.f c.in-Held.i c.place_in.result within c.in-Held.is place in
-    omega (arith, at.1, cell_inside old graph object found.fields has)
+pub set-requires : goal.set-requires
+set-requires c =
+    let (graph, shows) = c.requires.shown in
+    let same = c.operands.ensures.same in
+    let both = c.in_ok-target.ensures.found graph shows in
+    let found = c.in_ok-found.ensures graph both.first (shows_still same shows) (stands_still same both.stands_first) in
+    setting_shown (setting_known c.args.x c.args.v same shows both found c.requires.within.0 c.requires.within.2)
 
-pub returns-in-Full : goal.returns-in-Full
-returns-in-Full c = record {
-  carried = λ graph names shown.
-      let old = c.args.heap.now in
-      let (target, target_is, read) = c.in_ok-target.ensures graph shown in
-      let (value, value_is, held) = c.in_ok-value.ensures graph shown in
-      let found = c.in_ok-found.ensures graph.objects target read in
-      let full = c.in-Full.ensures graph found.fields (has_fields old graph target c.in_ok-found.found shown found) in
-      (set_full names graph c.args.x c.args.f c.args.v target value _ target_is value_is found.plain full.0 full.1, refl);
+pub returns : goal.returns
+returns c = record {
+  carried = λ graph names shows.
+      let same = c.operands.ensures.same in
+      let both = c.in_ok-target.ensures.found graph shows in
+      let found = c.in_ok-found.ensures graph both.first (shows_still same shows)
+      (stands_still same both.stands_first) in
+      let setting = setting_known c.args.x c.args.v same shows both found c.requires.within.0 c.requires.within.2 in
+      let sets = c.in_ok-set.ensures graph setting.plain setting.value setting.shows setting.stands setting.held in
+      subst (λ main. Carries names main c.set.new.main graph (Set c.args.x c.args.f c.args.v) [] (Ok tt)) same
+      (set_carried names c.args.f setting sets);
 }
 
-pub returns-in-Held : goal.returns-in-Held
-returns-in-Held c = record {
-  carried = λ graph names shown.
-      let old = c.args.heap.now in
-      let object = c.in_ok-found.found in
-      let (target, target_is, read) = c.in_ok-target.ensures graph shown in
-      let (value, value_is, held) = c.in_ok-value.ensures graph shown in
-      let found = c.in_ok-found.ensures graph.objects target read in
-      let has = has_fields old graph target object shown found in
-      let within = (fields_held old graph object found.fields has).0 in
-      let place = c.place_in.ensures graph found.fields has in
-      let at = place_within object.cap found.fields c.args.f c.in-Held.i c.place_in.result within c.in-Held.is place in
-      let fields = with_field found.fields c.args.f value in
-      let paths = paths_with graph object.cap fields in (
-        refill graph (record { number = object.object; cap = object.cap; fields = found.fields }) fields paths,
-        set_done names graph c.args.x c.args.f c.args.v target value _ target_is value_is found.plain within
-            (omega (arith, at.0, at.1)),
-        shown_written old c.write_place.new.heap graph object found.fields c.args.f c.in-Held.i value
-            c.in_ok-value.value paths has at.0 at.1 c.requires.within.1 held c.write_place.ensures,
-        ap (λ heap. length heap.roots) c.write_place.ensures,
-        omega (arith, shown.room),
-      );
+pub returns-in_err-set : goal.returns-in_err-set
+returns-in_err-set c = record {
+  carried = λ graph names shows.
+      let same = c.operands.ensures.same in
+      let both = c.in_ok-target.ensures.found graph shows in
+      let found = c.in_ok-found.ensures graph both.first (shows_still same shows)
+      (stands_still same both.stands_first) in
+      let setting = setting_known c.args.x c.args.v same shows both found c.requires.within.0 c.requires.within.2 in
+      let stop = c.in_err-set.field-0.0 in
+      let sets = c.in_err-set.ensures graph setting.plain setting.value setting.shows setting.stands setting.held in
+      let answer = stopped_by c.from_residual-in_err-set.result (stop_of stop) c.from_residual-in_err-set.ensures.1 in
+      subst (λ main. Carries names main c.set.new.main graph
+      (Set c.args.x c.args.f c.args.v) [] c.from_residual-in_err-set.result)
+      same
+      (subst (λ one. Carries names c.operands.new.main c.set.new.main graph (Set c.args.x c.args.f c.args.v) [] one)
+      (sym answer)
+      (set_stopped c.set.new.main names c.args.f stop setting sets));
 }

@@ -1,5 +1,5 @@
 -- What stands in the heap at last.
-use Rattle.std.proofs.Common.{subst}
+use Rattle.std.proofs.Common.{subst, ap, ◌∙◌}
 use Rattle.page_space.specs.Sizes.{AreWithin}
 use Rattle.write_barrier.specs.Mains.{Mutator}
 use Rattle.write_barrier.proofs.Starting.{put_to, put_all, layouts_zero, all_started}
@@ -13,8 +13,13 @@ put_layouts-requires-clause-zero c =
     (put_to space first c.put_gaps.new.self c.put_unbound.new.self c.requires c.put_gaps.ensures.changes
     c.put_unbound.ensures.changes)
 
-pub returns : goal.returns
-returns c =
+pub returns-clause-space : goal.returns-clause-space
+returns-clause-space c =
+    c.put_layouts.ensures.changes.space ∙ c.put_unbound.ensures.changes.space ∙ c.put_gaps.ensures.changes.space
+    ∙ ap (λ (main : Mutator). main.seat.space) c.requires
+
+pub returns-clause-started : goal.returns-clause-started
+returns-clause-started c =
     let space = c.args.regions.now in
     let first = c.args.self.now in
     let gaps = c.put_gaps.new.self in

@@ -1,0 +1,209 @@
+-- The words of an image: the same cells stand in them, in the same rows.
+use Rattle.std.proofs.Common.{◌≡◌, ℕ, ◌+◌, inl, inr, List, All, Contains, slice_get}
+use Rattle.std.proofs.Common.{refl, sym, ◌∙◌, subst, arith}
+use Rattle.std.proofs.lemmas.Bool.{cases_lt}
+use Rattle.std.proofs.lemmas.List.Elements.{All-contains, All-weaker, All-contains_itself}
+use Rattle.tagged_word.specs.Shapes.{shapes_most}
+use Rattle.tagged_word.proofs.Members.{in_map}
+use Rattle.page_space.specs.declared.region.Region.{Region}
+use Rattle.page_space.specs.declared.region.Region.TheVariants.{Page, Eden, Segment, Root, Layout, Mark, Board, Outside}
+use Rattle.page_space.specs.Extents.{Extent, layouts_start}
+use Rattle.page_space.proofs.Starts.{marks_start_is}
+use Rattle.cell_layout.specs.declared.cell.Cell.{Cell}
+use Rattle.cell_layout.specs.Cells.{IsRow, layouts_in}
+use Rattle.cell_layout.specs.CellLaws.{ReadsAlike}
+use Rattle.cell_layout.proofs.Rows.{rows_stay}
+use Rattle.cell_layout.proofs.CellsThere.{slice_get-layouts_in, slice_get-layouts_past}
+use Rattle.heap_model.specs.Heaps.{Heap, Row, EndsUsed, IsUsedRow, HasCell, cell_extents, words_of_cell}
+use Rattle.heap_model.specs.Changes.{written}
+use Rattle.heap_model.specs.Wholeness.{HasSizes, HasRows, Blank}
+use Rattle.heap_model.proofs.RowEnds.{one_used_row}
+use Rattle.heap_model.proofs.CellsApart.{IsOfCell, has_is_cell, first_of_cell}
+use Rattle.heap_model.proofs.RowCovers.{stretch_alike}
+use Rattle.heap_model.proofs.FreeCells.{second_word}
+use Rattle.heap_model.proofs.WordsAlike.{extent_below_roots}
+use Rattle.collector.specs.Images.{AreWordsOf}
+use Rattle.collector.proofs.RowAddresses.{not_behind, row_of}
+
+-- the words are those of an image of a heap whose sizes and rows are right
+pub record Copying (heap : Heap) (words : List ℕ) : Type 0 where
+  pub sized : HasSizes heap
+  pub rows : HasRows heap
+  pub are : AreWordsOf heap words
+
+-- the words of a cell are the heap's
+pub cell_word : {heap : Heap} {words : List ℕ} {cell : Cell} {others : List ℕ} (at : ℕ) → Copying heap words
+    → HasCell heap cell others → IsOfCell cell at → slice_get words at ≡ slice_get heap.words at
+cell_word {cell = cell} {others} at copying has of_cell =
+    copying.are.cells at record {
+      cell = cell;
+      words = others;
+      has = has;
+      from = of_cell.from;
+      below = of_cell.below;
+    }
+
+-- so the cell has the same words
+pub cell_words : {heap : Heap} {words : List ℕ} {cell : Cell} {others : List ℕ} → Copying heap words
+    → HasCell heap cell others → words_of_cell (written heap words) cell ≡ words_of_cell heap cell
+cell_words {heap} {words} {cell} copying has =
+    stretch_alike cell.at cell.size heap.words words
+    (λ at from below. cell_word at copying has record { from = from; below = below })
+
+-- the layout words are the heap's
+layouts_stay : {heap : Heap} {words : List ℕ} (shape : ℕ) → Copying heap words
+    → slice_get (layouts_in heap.space words) shape ≡ slice_get (layouts_in heap.space heap.words) shape
+layouts_stay {heap} {words} shape copying =
+    elim (cases_lt shape shapes_most) [
+      | inl below ↦
+          let at : ℕ = layouts_start heap.space + shape in
+          slice_get-layouts_in heap.space words shape below
+          ∙ copying.are.layouts at (omega arith) (omega (arith, marks_start_is heap.space))
+          ∙ sym (slice_get-layouts_in heap.space heap.words shape below)
+      | inr past ↦
+          slice_get-layouts_past heap.space words shape past
+          ∙ sym (slice_get-layouts_past heap.space heap.words shape past)
+    ]
+
+-- the cell is read off the same words
+reads_alike : {heap : Heap} {words : List ℕ} {cell : Cell} {others : List ℕ} → Copying heap words
+    → HasCell heap cell others → ReadsAlike heap.space heap.words words cell
+reads_alike {heap} {cell = cell} copying has =
+    let is_cell = has_is_cell has in
+    record {
+      first = cell_word cell.at copying has (first_of_cell has);
+      second = λ long. cell_word (cell.at + 1) copying has record {
+        from = omega arith;
+        below = omega (arith, second_word heap.space heap.words cell is_cell long);
+      };
+      of_shape = layouts_stay cell.header.shape copying;
+    }
+
+-- a used row is a row of the same cells
+row_stands : {heap : Heap} {words : List ℕ} (row : Row) → Copying heap words
+    → Contains (cell_extents heap.space) row.extent → IsUsedRow heap row
+    → IsRow heap.space words row.extent.start row.end row.cells
+row_stands {heap} {words} row copying among used =
+    let has = λ (cell : Cell) (in_row : Contains row.cells cell).
+    let one : HasCell heap cell (words_of_cell heap cell) =
+    record { row = row; in_region = among; used = used; in_row = in_row; words_are = refl } in
+    reads_alike copying one in
+    rows_stay heap.space heap.words words row.extent.start row.end row.cells used.stands
+    (copying.are.count ∙ sym copying.sized.words)
+    (All-weaker (Contains row.cells) (ReadsAlike heap.space heap.words words) has row.cells
+    (All-contains_itself row.cells))
+
+-- a used row ends where it ended, kind by kind: behind the cells of a segment the word is 0
+ends_of : {heap : Heap} {words : List ℕ} (row : Row) (region : Region) → Copying heap words
+    → Contains (cell_extents heap.space) row.extent → IsUsedRow heap row → EndsUsed heap row.extent row.end region
+    → EndsUsed (written heap words) row.extent row.end region
+ends_of row (Page page) copying among used ends = ends
+ends_of row Eden copying among used ends = ends
+ends_of {heap} row (Segment half worker) copying among used ends = (
+  ends.0,
+  elim (cases_lt row.end (row.extent.start + row.extent.words)) [
+    | inl inside ↦ inr
+        (copying.are.rest row.end (omega (arith, inside, extent_below_roots heap.space row.extent among))
+        (not_behind heap row row.end copying.rows among used (omega arith) inside))
+    | inr at_end ↦ inl (omega (arith, ends.0, at_end))
+  ],
+)
+ends_of row (Root variable) copying among used ends = ends
+ends_of row (Layout shape) copying among used ends = ends
+ends_of row (Mark mark) copying among used ends = ends
+ends_of row (Board place) copying among used ends = ends
+ends_of row Outside copying among used ends = ends
+
+-- a used row is one in the words of the image
+pub row_stays : {heap : Heap} {words : List ℕ} (row : Row) → Copying heap words
+    → Contains (cell_extents heap.space) row.extent → IsUsedRow heap row → IsUsedRow (written heap words) row
+row_stays row copying among used = record {
+  ends = ends_of row row.extent.region copying among used used.ends;
+  stands = row_stands row copying among used;
+}
+
+-- the cells of the heap are cells of the image
+pub cell_stays : {heap : Heap} {words : List ℕ} {cell : Cell} {others : List ℕ} → Copying heap words
+    → HasCell heap cell others → HasCell (written heap words) cell others
+cell_stays copying has = record {
+  row = has.row;
+  in_region = has.in_region;
+  used = row_stays has.row copying has.in_region has.used;
+  in_row = has.in_row;
+  words_are = cell_words copying has ∙ has.words_are;
+}
+
+-- and those of the image are cells of the heap
+pub cell_stood : {heap : Heap} {words : List ℕ} {cell : Cell} {others : List ℕ} → Copying heap words
+    → HasCell (written heap words) cell others → HasCell heap cell others
+cell_stood {heap} {words} {cell} copying has =
+    let own = row_of heap has.row.extent copying.rows has.in_region in
+    let row = own.row in
+    let Has : Extent → Type 0 = λ extent. Contains (cell_extents heap.space) extent in
+    let among : Has row.extent = subst Has (sym own.of_extent) has.in_region in
+    let one =
+    one_used_row (written heap words) row has.row (row_stays row copying among own.used) has.used own.of_extent in
+    let stood : HasCell heap cell (words_of_cell heap cell) = record {
+      row = row;
+      in_region = among;
+      used = own.used;
+      in_row = subst (λ (cells : List Cell). Contains cells cell) (sym one.cells) has.in_row;
+      words_are = refl;
+    } in
+    record {
+      row = row;
+      in_region = among;
+      used = own.used;
+      in_row = stood.in_row;
+      words_are = sym (cell_words copying stood) ∙ has.words_are;
+    }
+
+-- a row of the heap stands in a region of cells
+among_rows : {heap : Heap} (rows : HasRows heap) (row : Row) → Contains rows.rows row
+    → Contains (cell_extents heap.space) row.extent
+among_rows rows row there =
+    subst (λ all. Contains all row.extent) rows.are.everywhere
+    (in_map (λ (one : Row). one.extent) rows.rows row there)
+
+-- the rows of the heap are those of the image
+pub rows_are : {heap : Heap} {words : List ℕ} (copying : Copying heap words)
+    → All (IsUsedRow (written heap words)) copying.rows.rows
+rows_are {heap} {words} copying =
+    let rows = copying.rows in
+    let used = λ (row : Row) (there : Contains rows.rows row).
+    row_stays row copying (among_rows rows row there)
+    (All-contains (IsUsedRow heap) rows.rows row rows.are.each there) in
+    All-weaker (Contains rows.rows) (IsUsedRow (written heap words)) used rows.rows (All-contains_itself rows.rows)
+
+-- the image has rows
+pub has_rows : {heap : Heap} {words : List ℕ} → Copying heap words → HasRows (written heap words)
+has_rows copying = record {
+  rows = copying.rows.rows;
+  are = record { everywhere = copying.rows.are.everywhere; each = rows_are copying };
+  counted = copying.rows.counted;
+  few = copying.rows.few;
+}
+
+-- and the right sizes
+pub has_sizes : {heap : Heap} {words : List ℕ} → Copying heap words → HasSizes (written heap words)
+has_sizes {heap} copying = record {
+  words = copying.are.count;
+  shapes = copying.sized.shapes;
+  layouts = λ shape below.
+      copying.are.layouts (layouts_start heap.space + shape) (omega arith) (omega (arith, marks_start_is heap.space))
+      ∙ copying.sized.layouts shape below;
+}
+
+-- the image is blank
+pub is_blank : {heap : Heap} {words : List ℕ} → Copying heap words → Blank (written heap words)
+is_blank {heap} copying =
+    let rows = copying.rows in
+    record {
+      rows = rows.rows;
+      are = record { everywhere = rows.are.everywhere; each = rows_are copying };
+      rest = λ row at there past below.
+          let among = among_rows rows row there in
+          copying.are.rest at (omega (arith, below, extent_below_roots heap.space row.extent among))
+          (not_behind heap row at rows among (All-contains (IsUsedRow heap) rows.rows row rows.are.each there) past
+          below);
+    }

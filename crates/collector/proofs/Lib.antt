@@ -1,0 +1,10 @@
+pub mod RowAddresses
+mod CopiedCells
+pub mod ImagesShow
+mod CellRegions
+mod RowWalks
+mod FilledWords
+mod NeedWords
+mod FieldWords
+mod FieldNeeds
+pub mod ImageNeeds

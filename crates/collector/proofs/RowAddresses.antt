@@ -1,0 +1,61 @@
+-- Which addresses of a region are of cells: those of its used row, and no others.
+use Rattle.std.proofs.Common.{◌≡◌, ℕ, ◌+◌, ◌≤◌, ◌<◌, List, Contains, refl, sym, subst, arith}
+use Rattle.std.proofs.lemmas.List.Elements.{All-contains}
+use Rattle.tagged_word.proofs.Members.{map_from}
+use Rattle.page_space.specs.Extents.{Extent, Holds}
+use Rattle.page_space.proofs.Covering.{disjoint}
+use Rattle.cell_layout.proofs.Rows.{cell_within, row_ascends}
+use Rattle.heap_model.specs.Heaps.{Heap, Row, IsUsedRow, cell_extents, words_of_cell}
+use Rattle.heap_model.specs.Wholeness.{HasRows}
+use Rattle.heap_model.proofs.RowEnds.{one_used_row}
+use Rattle.heap_model.proofs.CellsApart.{IsOfCell, cell_extent_stands}
+use Rattle.heap_model.proofs.RowCovers.{covered}
+use Rattle.heap_model.proofs.Patches.{row_holds}
+use Rattle.collector.specs.Images.{IsOfSomeCell}
+
+-- each address of a used row is of a cell
+pub of_row : (heap : Heap) (row : Row) (at : ℕ) → Contains (cell_extents heap.space) row.extent → IsUsedRow heap row
+    → row.extent.start ≤ at → at < row.end → IsOfSomeCell heap at
+of_row heap row at among used from below =
+    let one = covered heap.space heap.words row.extent.start row.end row.cells at used.stands from below in
+    record {
+      cell = one.cell;
+      words = words_of_cell heap one.cell;
+      has = record { row = row; in_region = among; used = used; in_row = one.among; words_are = refl };
+      from = one.of_cell.from;
+      below = one.of_cell.below;
+    }
+
+-- no address of a region behind its used row is
+pub not_behind : (heap : Heap) (row : Row) (at : ℕ) → HasRows heap → Contains (cell_extents heap.space) row.extent
+    → IsUsedRow heap row → row.end ≤ at → at < row.extent.start + row.extent.words → IsOfSomeCell heap at → ⊥
+not_behind heap row at rows among used past below of_some =
+    let has = of_some.has in
+    let own = has.row in
+    let of_cell : IsOfCell of_some.cell at = record { from = of_some.from; below = of_some.below } in
+    let ascends = row_ascends heap.space heap.words row.extent.start row.end row.cells used.stands in
+    let here : Holds row.extent at = record { from = omega (arith, ascends, past); below = below } in
+    let same : own.extent ≡ row.extent =
+    disjoint heap.space own.extent row.extent at (cell_extent_stands heap.space own.extent has.in_region)
+    (cell_extent_stands heap.space row.extent among) (row_holds rows has.in_region has.used has.in_row of_cell) here in
+    let within =
+    cell_within heap.space heap.words own.extent.start own.end own.cells of_some.cell has.used.stands has.in_row in
+    omega (arith, within.1, (one_used_row heap own row has.used used same).end, past, of_cell.below)
+
+-- the used row of a region
+pub record HasRow (heap : Heap) (extent : Extent) : Type 0 where
+  pub row : Row
+  pub used : IsUsedRow heap row
+  pub of_extent : row.extent ≡ extent
+
+-- each region of cells has one
+pub row_of : (heap : Heap) (extent : Extent) → HasRows heap → Contains (cell_extents heap.space) extent
+    → HasRow heap extent
+row_of heap extent rows among =
+    let Has : List Extent → Type 0 = λ all. Contains all extent in
+    let found = map_from (λ (row : Row). row.extent) rows.rows extent (subst Has (sym rows.are.everywhere) among) in
+    record {
+      row = found.0;
+      used = All-contains (IsUsedRow heap) rows.rows found.0 rows.are.each found.1;
+      of_extent = found.2;
+    }

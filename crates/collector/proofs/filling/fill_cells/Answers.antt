@@ -1,0 +1,52 @@
+use Rattle.std.proofs.Common.{◌≡◌, ◌≤◌, ℕ, refl, sym, ◌∙◌, subst, arith}
+use Rattle.page_space.specs.Extents.{Space, roots_start}
+use Rattle.write_barrier.specs.Mains.{Mutator, heap_of}
+use Rattle.collector.specs.Filling.{StandsBetween, FillsWithin}
+use Rattle.collector.proofs.CellRegions.{begins_first, begins_behind, begins_roots, told_stands}
+use Rattle.collector.proofs.FilledWords.{fills_none, fills_more}
+use Rattle.collector.proofs.filling.fill_cells.Goals as goal
+
+pub loop-end-init : goal.loop-end-init
+loop-end-init c = record {
+  begins = begins_first c.args.main.now.seat.space;
+  fills = fills_none (heap_of c.args.main.now) c.args.words.now 0;
+  same = refl;
+}
+
+pub fill_region-requires-clause-stands : goal.fill_region-requires-clause-stands
+fill_region-requires-clause-stands c =
+    let stands = told_stands c.args.main.now.seat.space c.regions-regions.result c.loop-end.at c.in-Some.end
+    c.regions-regions.ensures.within c.regions-regions.ensures.regions c.loop-end.invariant.begins
+    c.in-Some.ensures.cells in
+    let Stands : Mutator → Type 0 = λ main. StandsBetween main.seat.space c.loop-end.at c.in-Some.end in
+    subst Stands (sym c.loop-end.invariant.same) stands
+
+pub loop-end-preserved : goal.loop-end-preserved
+loop-end-preserved c =
+    let space = c.args.main.now.seat.space in
+    let stands = told_stands space c.regions-regions.result c.loop-end.at c.in-Some.end c.regions-regions.ensures.within
+    c.regions-regions.ensures.regions c.loop-end.invariant.begins c.in-Some.ensures.cells in
+    let Fills : Mutator → Type 0 = λ main.
+    FillsWithin (heap_of main) c.loop-end.words c.fill_region.new.words c.loop-end.at c.in-Some.end in
+    record {
+      begins = begins_behind space c.loop-end.at c.in-Some.end stands;
+      fills = fills_more (heap_of c.args.main.now) c.args.words.now c.loop-end.words c.fill_region.new.words 0
+          c.loop-end.at c.in-Some.end (omega arith) (omega (arith, c.in-Some.ensures.ahead)) c.loop-end.invariant.fills
+          (subst Fills c.loop-end.invariant.same c.fill_region.ensures.filled);
+      same = c.fill_region.ensures.same ∙ c.loop-end.invariant.same;
+    }
+
+-- the roots begin where no region of cells goes on
+roots_begin : (c : goal.In_default) → c.loop-end.at ≡ roots_start c.args.main.now.seat.space
+roots_begin c =
+    let past : roots_start c.regions-regions.result ≤ c.loop-end.at = c.in_default.ensures.behind.0 refl in
+    begins_roots c.args.main.now.seat.space c.loop-end.at c.loop-end.invariant.begins
+    (subst (λ (space : Space). roots_start space ≤ c.loop-end.at) c.regions-regions.ensures.regions past)
+
+pub returns-clause-roots : goal.returns-clause-roots
+returns-clause-roots c = roots_begin c
+
+pub returns-clause-filled : goal.returns-clause-filled
+returns-clause-filled c =
+    let Fills : ℕ → Type 0 = λ to. FillsWithin (heap_of c.args.main.now) c.args.words.now c.loop-end.words 0 to in
+    subst Fills (roots_begin c) c.loop-end.invariant.fills

@@ -1,0 +1,6 @@
+pub mod States
+pub mod Kept
+pub mod Lending
+pub mod Images
+pub mod ImageLaws
+pub mod Filling

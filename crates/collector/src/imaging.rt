@@ -1,0 +1,74 @@
+//! Images of a heap: a heap as plain data, copied out of the table of words.
+ghost use Rattle.std.specs.Prelude.{◌≡◌, length};
+ghost use Rattle.std.specs.Borrow.{sem};
+ghost use Rattle.object_graph.specs.Graphs.{Graph};
+ghost use Rattle.page_space.specs.Extents.{marks_start};
+ghost use Rattle.heap_table.specs.declared.phase.Phase.TheVariants.{Quiet};
+ghost use Rattle.heap_model.specs.Images.{image_heap};
+ghost use Rattle.heap_model.specs.Wholeness.{Whole};
+ghost use Rattle.write_barrier.specs.Mains.{heap_of};
+ghost use Rattle.collector.specs.Images.{AreWordsOf, IsImageOf};
+
+use crate::filling::fill_words;
+use crate::script_heap::Heap;
+use heap_model::{HeapImage, HeapWords};
+use std::mem;
+use write_barrier::Main;
+
+/// The words of an image of the heap, put into words that are given back.
+fn imaged(main: &mut Main, spare: HeapWords) -> HeapWords
+    requires quiet { main.old.seat.phase ≡ Quiet }
+    requires whole { Whole (heap_of main.old) }
+    requires ready { length spare ≡ marks_start main.old.seat.space }
+    ensures words { AreWordsOf (heap_of main.old) result }
+    ensures same { main.new ≡ main.old }
+{
+    let mut words = spare.into_vec();
+    fill_words(main, &mut words);
+    HeapWords::from_vec(words)
+}
+
+impl Heap {
+    ghost use Rattle.collector.specs.States.{HeapShows};
+    ghost use Rattle.collector.specs.Lending.{EndsKept};
+
+    // Makes the spare image one of the heap.
+    fn make_image(&mut self)
+        requires { (graph : Graph) × HeapShows self.old graph }
+        ensures image { IsImageOf (heap_of self.old.main) (image_heap self.new.spare) }
+        ensures main { self.new.main ≡ self.old.main }
+    {
+        self.spare.used = self.main.used();
+        self.spare.survivors = self.main.nursery_mut().survivors();
+        self.spare.shapes.copy_from(self.main.shapes());
+        let none = HeapWords::from_vec(Vec::new(self.alloc));
+        let spare = mem::replace(&mut self.spare.words, none);
+        self.spare.words = imaged(&mut self.main, spare);
+    }
+
+    /// An image of the heap, to be stored. It takes no memory. The heap is the same when the image
+    /// is no longer looked at.
+    pub fn image(&mut self) -> &HeapImage
+        requires { (graph : Graph) × HeapShows self.old graph }
+        ensures* kept { sem 𝓛 (EndsKept self.entry) }
+        ensures image { IsImageOf (heap_of self.old.main) (image_heap result.now) }
+    {
+        self.make_image();
+        &self.spare
+    }
+
+    /// The heap as an image of it. It takes no memory, and gives back all that the heap had but
+    /// the image's.
+    pub fn into_image(mut self) -> HeapImage
+        requires { (graph : Graph) × HeapShows self graph }
+        ensures { IsImageOf (heap_of self.main) (image_heap result) }
+    {
+        self.make_image();
+        let Heap {
+            main: _,
+            spare,
+            alloc: _,
+        } = self;
+        spare
+    }
+}

@@ -1,0 +1,10 @@
+//! Laws of images.
+ghost use Rattle.collector.specs.ImageLaws.{ImagesShow, ImagesAreBlank, ImagesNeedAsMuch};
+
+/// An image shows each graph that the heap shows, and has no word but 0 where no cell stands. A
+/// command allocates as many words on it as on the heap.
+pub fn laws_of_images()
+    ensures show { ImagesShow }
+    ensures blank { ImagesAreBlank }
+    ensures need { ImagesNeedAsMuch }
+{}

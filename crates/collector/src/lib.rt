@@ -1,0 +1,21 @@
+//! The collector's side of a heap: the heap that a script runs on, and images of it.
+//!
+//! Model: a `HeapState` of `specs/States.antt`: the mutator's side, which is lent to commands, and
+//! the memory that an image of it is copied into.
+//! Invariant: none over the mutator's side, which is lent. `HeapShows` of `specs/States.antt` is
+//! what holds between two commands. `IsImageOf` of `specs/Images.antt` says what an image is, and
+//! `laws_of_images` what it shows.
+#![tactic(auto)]
+
+mod filling;
+mod imaging;
+mod laws;
+mod room;
+mod row_ends;
+mod script_heap;
+#[cfg(test)]
+mod tests;
+
+pub use laws::laws_of_images;
+pub use room::Full;
+pub use script_heap::Heap;

@@ -1,0 +1,87 @@
+//! The heap that a script runs on. Room in it is in `room.rt`, images of it in `imaging.rt`.
+ghost use Rattle.std.specs.Prelude.{◌≡◌, IfOk, length};
+ghost use Rattle.std.specs.Borrow.{sem};
+ghost use Rattle.object_graph.specs.Graphs.{start};
+ghost use Rattle.heap_table.specs.Seats.{fresh};
+ghost use Rattle.write_barrier.specs.Mains.{IsOpened};
+
+use heap_model::{HeapImage, HeapWords};
+use heap_table::MainSeat;
+use page_space::Regions;
+use shape_tree::ShapeTree;
+use std::alloc::Global;
+use std::marker::Model;
+use tagged_word::NoMemory;
+use word_store::Reads;
+use write_barrier::Main;
+
+/// The heap that a script runs on: the mutator's side, and memory for an image of it, which is
+/// taken when the heap is opened.
+#[derive(Drop)]
+pub struct Heap {
+    pub(crate) main: Main,
+    pub(crate) spare: HeapImage,
+    // What an empty list of words is made with. It gives no memory after the heap is opened.
+    pub(crate) alloc: Global,
+}
+
+impl Model for Heap {
+    ghost use Rattle.collector.specs.States.{HeapState};
+
+    ghost Value = { HeapState };
+
+    ghost use Rattle.collector.specs.Kept.{state_of};
+
+    ghost view = { state_of };
+}
+
+/// An image of these regions with so many words of 0 and nothing used.
+fn spare_image(alloc: Global, regions: Regions, count: u32) -> Result<HeapImage, NoMemory>
+    ensures regions { IfOk result (λ image. image.regions ≡ regions) }
+    ensures count { IfOk result (λ image. length image.words ≡ count) }
+{
+    let shapes = ShapeTree::new(alloc)?;
+    let words = vec![in alloc; 0u64; count as usize]?;
+    Ok(HeapImage {
+        regions,
+        used: 0,
+        survivors: 0,
+        shapes,
+        words: HeapWords::from_vec(words),
+    })
+}
+
+impl Heap {
+    ghost use Rattle.collector.specs.States.{HeapShows};
+    ghost use Rattle.collector.specs.Lending.{LendsMain};
+
+    /// Opens a heap over words of 0: no object, each page one gap, each variable bound to nothing.
+    /// It takes the memory for the shapes and for an image; later calls need none.
+    ///
+    /// # Errors
+    /// Memory was refused.
+    pub fn open_new(alloc: Global, seat: MainSeat, regions: Regions) -> Result<Heap, NoMemory>
+        requires { seat ≡ fresh regions }
+        ensures opened { IfOk result (λ heap. HeapShows heap start × IsOpened heap.main) }
+        ensures regions { IfOk result (λ heap. heap.main.seat.space ≡ regions) }
+    {
+        let main = Main::open(alloc, seat, regions)?;
+        let spare = spare_image(alloc, main.regions(), main.count())?;
+        Ok(Heap { main, spare, alloc })
+    }
+
+    /// The mutator's side.
+    pub fn main(&self) -> &Main
+        ensures { result.now ≡ self.now.main }
+    {
+        &self.main
+    }
+
+    /// The mutator's side, to run commands. The memory for an image stays.
+    pub fn main_mut(&mut self) -> &mut Main
+        ensures* lends { sem 𝓛 (LendsMain self.entry result) }
+        ensures main { result.now ≡ self.old.main }
+    {
+        &mut self.main
+    }
+}

@@ -1,0 +1,109 @@
+-- The sizes that words ask for are within their limits.
+use Rattle.std.proofs.Common.{◌≡◌, ℕ, ◌≤◌, List, [], ◌∷◌, Option, Some, None, Bool, true, false, IsTrue, ◌&&◌, nat_le, cond}
+use Rattle.std.proofs.Common.{arith, refl, subst}
+use Rattle.std.proofs.lemmas.Bool.Decides.{nat_tests}
+use Rattle.std.proofs.lemmas.Option.{option_and_then_some, same_Some}
+use Rattle.std.specs.Option.{option_map, option_and_then}
+use Rattle.std.specs.Prelude.{◌||◌, if◌then◌else◌, bytes_eq, codes}
+use Rattle.page_space.specs.declared.sizes.Sizes.{Sizes}
+use Rattle.page_space.specs.Sizes.{AreWithin, variables_most}
+use Rattle.command_line.specs.declared.number.Limits.{Limits}
+use Rattle.command_line.specs.declared.invocation.Invocation.{Invocation}
+use Rattle.command_line.specs.declared.invocation.Invocation.TheVariants.{Run}
+use Rattle.command_line.specs.Given.{Text, Given, given_of}
+use Rattle.command_line.specs.Numbers.{number_of, within, number_or_default}
+use Rattle.command_line.specs.Sizes.{pages_limits, young_limits, helpers_limits, sizes_from, text_in, sizes_of, if_no_word, sizes_alone}
+use Rattle.command_line.specs.Invocations.{Command, run, check, soak, gen, command_text, invocation_by}
+use Rattle.command_line.specs.SizeLaws.{AskedSizesAreWithin}
+
+-- a number that passes the test of its limits is within them
+pass_limits : (test : Bool) (number found : ℕ) → cond test (Some number) None ≡ Some found → IsTrue test × (number ≡ found)
+pass_limits true number found e = (refl, same_Some number found e)
+pass_limits false number found e = cc
+
+-- so it is with a number that is found within limits
+within_limits : (least most number found : ℕ) → within least most number ≡ Some found → (least ≤ found) × (found ≤ most)
+within_limits least most number found e =
+    let passed = pass_limits (nat_le least number && nat_le number most) number found e in
+    let test : IsTrue (nat_le least number && nat_le number most) = passed.0 in
+    subst (λ (n : ℕ). (least ≤ n) × (n ≤ most)) passed.1 (grind (arith, nat_tests), grind (arith, nat_tests))
+
+-- the number of an option is within the limits, if the default is
+number_within : (limits : Limits) (text : Option Text) (number : ℕ) → limits.least ≤ limits.default
+    → limits.default ≤ limits.most → number_or_default limits text ≡ Some number
+    → (limits.least ≤ number) × (number ≤ limits.most)
+number_within limits None number least most e =
+    subst (λ (n : ℕ). (limits.least ≤ n) × (n ≤ limits.most)) (same_Some limits.default number e) (least, most)
+number_within limits (Some text) number least most e =
+    option_and_then_some (within limits.least limits.most) (number_of text) number e
+    (λ found is f. within_limits limits.least limits.most found number f)
+
+-- three numbers that are sizes
+pub record FromThree (pages young helpers : Option ℕ) (sizes : Sizes) : Type 0 where
+  pub of_pages : pages ≡ Some sizes.pages
+  pub of_young : young ≡ Some sizes.young
+  pub of_helpers : helpers ≡ Some sizes.helpers
+
+-- sizes that are found are of three numbers
+from_three : (pages young helpers : Option ℕ) (sizes : Sizes) → sizes_from pages young helpers ≡ Some sizes
+    → FromThree pages young helpers sizes
+from_three None young helpers sizes e = cc
+from_three (Some pages) None helpers sizes e = cc
+from_three (Some pages) (Some young) None sizes e = cc
+from_three (Some pages) (Some young) (Some helpers) sizes e =
+    let made : Sizes = record { pages = pages; young = young; helpers = helpers } in
+    subst (FromThree (Some pages) (Some young) (Some helpers)) (same_Some made sizes e)
+    (record { of_pages = refl; of_young = refl; of_helpers = refl })
+
+-- the sizes of settings are within their limits
+settings_within : (given : Given) (sizes : Sizes) (variables : ℕ) → sizes_of given.settings ≡ Some sizes
+    → variables ≤ variables_most → AreWithin sizes variables
+settings_within given sizes variables e few =
+    let text : Text → Option Text = text_in given.settings in
+    let three = from_three _ _ _ sizes e in
+    let pages = number_within pages_limits (text (codes "pages")) sizes.pages (omega arith) (omega arith) three.of_pages in
+    let young = number_within young_limits (text (codes "young")) sizes.young (omega arith) (omega arith) three.of_young in
+    let helpers = number_within helpers_limits (text (codes "helpers")) sizes.helpers (omega arith) (omega arith)
+    three.of_helpers in
+    record {
+      some_page = pages.0;
+      pages = pages.1;
+      young_is_least = young.0;
+      young = young.1;
+      helpers = helpers.1;
+      of_variables = few;
+    }
+
+-- sizes that stand alone are those of the settings
+alone : (positional : List Text) (found : Option Sizes) (sizes : Sizes) → if_no_word positional found ≡ Some sizes
+    → found ≡ Some sizes
+alone [] found sizes e = e
+alone (word ∷ words) found sizes e = cc
+
+-- an invocation that runs with sizes is made of them
+run_of : (found : Option Sizes) (sizes : Sizes) → option_map Run found ≡ Some (Run sizes) → found ≡ Some sizes
+run_of None sizes e = cc
+run_of (Some found) sizes e = cc
+
+-- where a command is one of four by these tests, and none of the last three, the words ask what the first does
+asked_by : (r k s g : Bool) (next : Command → Option Invocation) (invocation : Invocation)
+    → (if (k || (s || (g || false))) then None else option_and_then next
+    (if r then Some run else (if k then Some check else (if s then Some soak else (if g then Some gen else None)))))
+    ≡ Some invocation → next run ≡ Some invocation
+asked_by r true s g next invocation e = cc
+asked_by r false true g next invocation e = cc
+asked_by r false false true next invocation e = cc
+asked_by true false false false next invocation e = e
+asked_by false false false false next invocation e = cc
+
+-- where words ask for the run of a script, its sizes are within their limits
+pub asked_sizes_are_within : AskedSizesAreWithin
+asked_sizes_are_within [] sizes variables asks few = absurd (cc)
+asked_sizes_are_within (first ∷ words) sizes variables asks few =
+    let test : Command → Bool = λ command. bytes_eq (command_text command) first in
+    let next : Command → Option Invocation = λ command. option_and_then (invocation_by command) (given_of words) in
+    let ran : next run ≡ Some (Run sizes) =
+    asked_by (test run) (test check) (test soak) (test gen) next (Run sizes) asks in
+    option_and_then_some (invocation_by run) (given_of words) (Run sizes) ran
+    (λ given is f. settings_within given sizes variables
+    (alone given.positional (sizes_of given.settings) sizes (run_of (sizes_alone given) sizes f)) few)

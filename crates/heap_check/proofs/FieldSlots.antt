@@ -1,0 +1,65 @@
+-- What the slots of a plain object hold, slot by slot.
+use Rattle.std.proofs.Common.{◌≡◌, ℕ, ◌≤◌, List, ◌++◌, length, drop, sym, ◌∙◌, ap, subst}
+use Rattle.std.proofs.lemmas.Option.{same_Some}
+use Rattle.tagged_word.specs.declared.layout.Kind.TheVariants as kind
+use Rattle.tagged_word.specs.Cells.{store_slot, plain_head}
+use Rattle.object_graph.specs.declared.path.Path.{Path}
+use Rattle.shape_tree.specs.Shapes.{IsPathShape, shape_path}
+use Rattle.cell_layout.specs.declared.cell.Cell.{Cell}
+use Rattle.heap_model.specs.Heaps.{Heap}
+use Rattle.heap_model.specs.Slots.{IsBeside}
+use Rattle.heap_model.specs.Kinds.{HasWord, HoldFields, IsPlainCell}
+use Rattle.heap_check.specs.declared.spans.Span.{Span}
+use Rattle.heap_check.specs.Spans.{EachWord, span_words, IsBesideAs}
+use Rattle.heap_check.specs.PathSlots.{FitsSlot}
+use Rattle.heap_check.proofs.SlotsBeside.{one_beside}
+
+-- where each slot holds what it may, the slots hold the fields
+pub hold_fields_from : (heap : Heap) (path : Path) (slots : List ℕ) → length path.fields ≤ length slots
+    → EachWord slots (FitsSlot heap path) → HoldFields heap path slots
+hold_fields_from heap path slots room each = record {
+  room = room;
+  each = λ at field word has there. (each at word there).field field has;
+  rest = λ at word past there. (each at word there).rest past;
+}
+
+-- where they hold the fields, each holds what it may
+pub hold_fields_to : (heap : Heap) (path : Path) (slots : List ℕ) → HoldFields heap path slots
+    → EachWord slots (FitsSlot heap path)
+hold_fields_to heap path slots hold at word there =
+    record { field = λ field has. hold.each at field word has there; rest = λ past. hold.rest at word past there }
+
+-- a plain object is one by its shape, its own slots and those beside them
+pub plain_from : (heap : Heap) (cell : Cell) (words : List ℕ) (store : ℕ) (own beside : Span)
+    → IsPathShape heap.paths cell.header.shape → HasWord words store_slot store
+    → span_words heap own ≡ drop plain_head words → IsBesideAs heap kind.Store store beside
+    → HoldFields heap (shape_path heap.paths cell.header.shape) (span_words heap own ++ span_words heap beside)
+    → IsPlainCell heap cell words
+plain_from heap cell words store own beside shape slot own_are stands hold = record {
+  shape = shape;
+  slots = span_words heap own ++ span_words heap beside;
+  has = record {
+    store = store;
+    slot = slot;
+    beside = span_words heap beside;
+    stands = stands.beside;
+    are = ap (λ slots. slots ++ span_words heap beside) own_are;
+  };
+  hold = hold;
+}
+
+-- and then these slots hold its fields
+pub plain_to : (heap : Heap) (cell : Cell) (words : List ℕ) (store : ℕ) (own beside : Span)
+    → HasWord words store_slot store → span_words heap own ≡ drop plain_head words
+    → IsBesideAs heap kind.Store store beside → IsPlainCell heap cell words
+    → HoldFields heap (shape_path heap.paths cell.header.shape) (span_words heap own ++ span_words heap beside)
+plain_to heap cell words store own beside slot own_are stands plain =
+    let has = plain.has in
+    let same_store : has.store ≡ store = same_Some _ _ (sym has.slot ∙ slot) in
+    let stands_too : IsBeside heap kind.Store store has.beside =
+    subst (λ w. IsBeside heap kind.Store w has.beside) same_store has.stands in
+    let same : has.beside ≡ span_words heap beside = one_beside stands_too stands.beside in
+    let slots : plain.slots ≡ span_words heap own ++ span_words heap beside =
+    has.are ∙ ap (λ all. drop plain_head words ++ all) same
+    ∙ ap (λ all. all ++ span_words heap beside) (sym own_are) in
+    subst (HoldFields heap (shape_path heap.paths cell.header.shape)) slots plain.hold

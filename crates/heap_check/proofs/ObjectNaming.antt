@@ -1,0 +1,133 @@
+-- The slots of an object that refer to an address: its own, and those of the cell to which its slot 1 refers.
+use Rattle.std.proofs.Common.{◌≡◌, ℕ, ◌+◌, ◌^◌, ◌<◌, ◌⊎◌, inl, inr, List, Contains, Option, Some, None, slice_get}
+use Rattle.std.proofs.Common.{IsTrue, refl, sym, ◌∙◌, ap, subst}
+use Rattle.std.proofs.lemmas.Option.{same_Some}
+use Rattle.tagged_word.specs.Cells.{store_slot, scavenge_offsets}
+use Rattle.tagged_word.specs.Readings.{reference_in}
+use Rattle.tagged_word.proofs.Readings.{reference_from, reference_to}
+use Rattle.page_space.specs.Extents.{words_count}
+use Rattle.cell_layout.specs.declared.cell.Cell.{Cell}
+use Rattle.cell_layout.specs.Cells.{IsCell}
+use Rattle.cell_layout.proofs.OneCell.{one_cell, slots_lie_within}
+use Rattle.heap_model.specs.Heaps.{Heap, HasCell, words_of_cell}
+use Rattle.heap_model.specs.Slots.{is_object_kind, reference_word}
+use Rattle.heap_model.specs.Kinds.{HasWord}
+use Rattle.heap_model.specs.Wholeness.{HasSlotAt}
+use Rattle.heap_model.proofs.CellsApart.{has_is_cell}
+use Rattle.heap_model.proofs.ObjectSlots.{store_slot_in}
+use Rattle.heap_check.specs.Walks.{HasWords}
+use Rattle.heap_check.specs.Spans.{StandsIn}
+use Rattle.heap_check.specs.Naming.{IsOtherOf, IsSlotIn, IsNextTo, IsSlotNextTo, IsSlotOf}
+use Rattle.heap_check.proofs.SpanWords.{word_of_cell, address_few}
+
+-- an object has a slot 1
+pub slot_within : (heap : Heap) (object : Cell) → StandsIn heap object → IsTrue (is_object_kind object.layout.kind)
+    → store_slot < object.size
+slot_within heap object stands is =
+    (slots_lie_within heap.space heap.words object store_slot (has_is_cell stands)
+    (store_slot_in object.layout.kind object.layout object.length is)).within
+
+-- the address of the cell to which slot 1 refers is that of its word
+pub next_to_at : (heap : Heap) (object other : Cell) (word : ℕ) → HasWords heap → words_count heap.space < 2 ^ 32
+    → HasWord (words_of_cell heap object) store_slot word → IsNextTo heap object other
+    → reference_in word ≡ Some other.at
+next_to_at heap object other word sized few there is =
+    reference_to word other.at (address_few heap other _ sized is.stands few) (same_Some _ _ (sym there ∙ is.slot))
+
+-- a cell that words at that address read as is the one, where one stands there
+pub is_next_to : (heap : Heap) (object cell other : Cell) (word at : ℕ)
+    → HasWord (words_of_cell heap object) store_slot word → reference_in word ≡ Some at
+    → IsCell heap.space heap.words cell → cell.at ≡ at → StandsIn heap other → other.at ≡ at → IsNextTo heap object cell
+is_next_to heap object cell other word at there refers is_cell place stands place_too =
+    let same : other ≡ cell =
+    one_cell heap.space heap.words other cell (has_is_cell stands) is_cell (place_too ∙ sym place) in
+    record {
+      slot = there ∙ ap (λ w. Some w) ((reference_from word at refers).1 ∙ ap reference_word (sym place));
+      stands = subst (StandsIn heap) same stands;
+    }
+
+-- what holds of the slots of the cell there holds of those of the one to which slot 1 refers
+pub of_next_to : (heap : Heap) (object cell : Cell) (named slot at : ℕ) → IsCell heap.space heap.words cell
+    → cell.at ≡ at → (is : IsSlotNextTo heap object named slot) → is.other.at ≡ at → IsSlotIn heap cell named slot
+of_next_to heap object cell named slot at is_cell place is place_too =
+    let same : is.other ≡ cell =
+    one_cell heap.space heap.words is.other cell (has_is_cell is.next_to.stands) is_cell (place_too ∙ sym place) in
+    subst (λ (one : Cell). IsSlotIn heap one named slot) same is.is
+
+-- the word of a slot stands at its address
+slot_word : {heap : Heap} {cell : Cell} {words : List ℕ} (offset word : ℕ) → HasCell heap cell words
+    → Contains (scavenge_offsets cell.layout cell.length) offset → HasWord words offset word
+    → slice_get heap.words (cell.at + offset) ≡ Some word
+slot_word {heap} {cell} {words} offset word has among there =
+    let within = (slots_lie_within heap.space heap.words cell offset (has_is_cell has) among).within in
+    sym (word_of_cell heap cell offset within) ∙ ap (λ all. slice_get all offset) has.words_are ∙ there
+
+-- and the other way round
+word_of_slot : (heap : Heap) (cell : Cell) (named slot : ℕ) → StandsIn heap cell → (is : IsSlotIn heap cell named slot)
+    → HasWord (words_of_cell heap cell) is.offset (reference_word named)
+word_of_slot heap cell named slot stands is =
+    let within = (slots_lie_within heap.space heap.words cell is.offset (has_is_cell stands) is.among).within in
+    word_of_cell heap cell is.offset within ∙ ap (slice_get heap.words) is.place ∙ is.refers
+
+-- an own slot is one of the object's
+pub own_slot : (heap : Heap) (object : Cell) (named slot : ℕ) → StandsIn heap object → IsSlotIn heap object named slot
+    → IsSlotOf heap object named slot
+own_slot heap object named slot stands is =
+    subst (IsSlotOf heap object named) is.place
+    (HasSlotAt.own is.offset (reference_word named) is.among (word_of_slot heap object named slot stands is))
+
+-- and so is one of the cell to which slot 1 refers
+pub slot_beside_is : (heap : Heap) (object : Cell) (named slot : ℕ) → IsSlotNextTo heap object named slot
+    → IsSlotOf heap object named slot
+slot_beside_is heap object named slot is =
+    let other = is.other in
+    let stands = is.next_to.stands in
+    subst (IsSlotOf heap object named) is.is.place
+    (HasSlotAt.beside (reference_word other.at) other (words_of_cell heap other) is.is.offset (reference_word named)
+    is.next_to.slot (record { refers = refl; has = stands }) is.is.among
+    (word_of_slot heap other named slot stands is.is))
+
+-- there are no others, whatever the words of the object
+slot_cases : {heap : Heap} {object : Cell} {words : List ℕ} {slot word : ℕ} (named : ℕ) → StandsIn heap object
+    → words_of_cell heap object ≡ words → word ≡ reference_word named → HasSlotAt heap object words slot word
+    → IsSlotIn heap object named slot ⊎ IsSlotNextTo heap object named slot
+slot_cases {heap} {object} {words} named stands same refers (HasSlotAt.own offset word among there) =
+    let own : HasWord (words_of_cell heap object) offset word = ap (λ all. slice_get all offset) same ∙ there in
+    inl record {
+      offset = offset;
+      among = among;
+      place = refl;
+      refers = slot_word offset word stands among own ∙ ap (λ w. Some w) refers;
+    }
+slot_cases {heap} {object} {words} named stands same refers
+    (HasSlotAt.beside store other others offset word slot target among there) =
+    inr record {
+      other = other;
+      next_to = record {
+        slot = ap (λ all. slice_get all store_slot) same ∙ slot ∙ ap (λ w. Some w) target.refers;
+        stands = subst (λ all. HasCell heap other all) (sym target.has.words_are) target.has;
+      };
+      is = record {
+        offset = offset;
+        among = among;
+        place = refl;
+        refers = slot_word offset word target.has among there ∙ ap (λ w. Some w) refers;
+      };
+    }
+
+-- a slot of an object that refers to an address is one of its own or one of the cell to which its slot 1 refers
+pub slot_is : (heap : Heap) (object : Cell) (named slot : ℕ) → StandsIn heap object → IsSlotOf heap object named slot
+    → IsSlotIn heap object named slot ⊎ IsSlotNextTo heap object named slot
+slot_is heap object named slot stands is = slot_cases named stands refl refl is
+
+-- where no own slot but the known one refers to the address, what is found among the others is found among all
+pub other_of_object : (heap : Heap) (object : Cell) (named : ℕ) (known found : Option ℕ) → StandsIn heap object
+    → ((slot : ℕ) → IsSlotIn heap object named slot → known ≡ Some slot)
+    → IsOtherOf (IsSlotNextTo heap object named) known found → IsOtherOf (IsSlotOf heap object named) known found
+other_of_object heap object named known None stands own next_to =
+    λ slot is. elim (slot_is heap object named slot stands is) [
+      | inl one ↦ own slot one
+      | inr other ↦ next_to slot other
+    ]
+other_of_object heap object named known (Some slot) stands own next_to =
+    (slot_beside_is heap object named slot next_to.0, next_to.1)

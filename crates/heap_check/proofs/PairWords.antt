@@ -1,0 +1,135 @@
+-- The pairs of weak tables, by their words, and the table to which a word refers.
+use Rattle.std.proofs.Common.{◌≡◌, ℕ, zero, suc, ◌-◌, ◌*◌, ◌/◌, ◌⊎◌, inl, inr, List, [], ◌∷◌, length, drop}
+use Rattle.std.proofs.Common.{Some, slice_get, refl, sym, ◌∙◌, ap, subst, arith, length-drop}
+use Rattle.std.proofs.lemmas.Option.{none-some, same_Some}
+use Rattle.tagged_word.specs.declared.layout.Kind.TheVariants as kind
+use Rattle.tagged_word.specs.Cells.{store_head}
+use Rattle.cell_layout.specs.declared.cell.Cell.{Cell}
+use Rattle.heap_model.specs.Heaps.{Heap, words_of_cell}
+use Rattle.heap_model.specs.Slots.{undefined_word, RefersTo, IsBeside}
+use Rattle.heap_model.specs.Kinds.{Pair, pairs_in, IsPowerOfTwo, HasTable}
+use Rattle.heap_model.proofs.CellWords.{words_by_kind}
+use Rattle.heap_model.proofs.SlotWords.{same_target}
+use Rattle.heap_model.proofs.WordClasses.{undefined_refers_not}
+use Rattle.heap_check.specs.declared.spans.Span.{Span}
+use Rattle.heap_check.specs.Spans.{span_words, IsSpan, IsBesideAs, HasNoBeside}
+use Rattle.heap_check.specs.TablePairs.{table_pairs, HasNoTable}
+use Rattle.heap_check.proofs.SpanWords.{length-span}
+use Rattle.heap_check.proofs.SlotsBeside.{Beside, beside_is, target_stands}
+
+-- there are half as many pairs as words
+pub length-pairs_in : (words : List ℕ) → length (pairs_in words) ≡ length words / 2
+length-pairs_in [] = refl
+length-pairs_in (key ∷ []) = omega arith
+length-pairs_in (key ∷ value ∷ words) = omega (arith, length-pairs_in words)
+
+-- so it is of a table
+pub length-table_pairs : (heap : Heap) (table : Span) → IsSpan heap table
+    → length (table_pairs heap table) ≡ (table.end - table.from) / 2
+length-table_pairs heap table is =
+    omega (arith, length-pairs_in (span_words heap table), length-span heap table is)
+
+-- two words one behind the other make a pair
+pub pair_of_words : (words : List ℕ) (at place key value : ℕ) → place ≡ 2 * at → slice_get words place ≡ Some key
+    → slice_get words (suc place) ≡ Some value
+    → slice_get (pairs_in words) at ≡ Some (record { key = key; value = value })
+pair_of_words [] at place key value is first second = absurd (none-some key first)
+pair_of_words (one ∷ []) at zero key value is first second = absurd (none-some value second)
+pair_of_words (one ∷ []) at (suc place) key value is first second = absurd (none-some key first)
+pair_of_words (one ∷ two ∷ words) zero zero key value is first second =
+    let same_key : one ≡ key = same_Some one key first in
+    let same_value : two ≡ value = same_Some two value second in
+    ap (λ k. Some (record { key = k; value = two })) same_key
+    ∙ ap (λ v. Some (record { key = key; value = v })) same_value
+pair_of_words (one ∷ two ∷ words) zero (suc place) key value is first second = absurd (omega arith)
+pair_of_words (one ∷ two ∷ words) (suc at) zero key value is first second = absurd (omega arith)
+pair_of_words (one ∷ two ∷ words) (suc at) (suc zero) key value is first second = absurd (omega arith)
+pair_of_words (one ∷ two ∷ words) (suc at) (suc (suc place)) key value is first second =
+    pair_of_words words at place key value (omega arith) first second
+
+-- What a word says of a weak table: there is none, or its pairs are those of a table of a power of two.
+pub data TableBeside (heap : Heap) (word : ℕ) (pairs : List Pair) : Type 0 where
+  no_table : word ≡ undefined_word → pairs ≡ [] → TableBeside heap word pairs
+  to_table : (cell : Cell) → RefersTo heap word cell (words_of_cell heap cell) → cell.layout.kind ≡ kind.Table
+      → IsPowerOfTwo cell.length → pairs ≡ pairs_in (drop store_head (words_of_cell heap cell))
+      → TableBeside heap word pairs
+
+-- the table of a weak map is such
+pub table_is : {heap : Heap} {word : ℕ} {pairs : List Pair} → HasTable heap word pairs → TableBeside heap word pairs
+table_is HasTable.none = TableBeside.no_table refl refl
+table_is (HasTable.table to cell words refers is power) =
+    TableBeside.to_table cell (target_stands refers) is power
+    (ap (λ all. pairs_in (drop store_head all)) (sym refers.has.words_are))
+
+-- a word says it of one list of pairs, case by case
+one_table_of : {heap : Heap} {word : ℕ} {pairs others : List Pair} → TableBeside heap word pairs
+    → TableBeside heap word others → pairs ≡ others
+one_table_of (TableBeside.no_table undefined are) (TableBeside.no_table undefined_too are_too) = are ∙ sym are_too
+one_table_of (TableBeside.no_table undefined are) (TableBeside.to_table cell refers is power are_too) =
+    absurd (undefined_refers_not cell.at (sym undefined ∙ refers.refers))
+one_table_of (TableBeside.to_table cell refers is power are) (TableBeside.no_table undefined are_too) =
+    absurd (undefined_refers_not cell.at (sym undefined ∙ refers.refers))
+one_table_of {heap} (TableBeside.to_table cell refers is power are)
+    (TableBeside.to_table other refers_other is_too power_too are_too) =
+    are ∙ ap (λ one. pairs_in (drop store_head (words_of_cell heap one))) (same_target refers refers_other)
+    ∙ sym are_too
+
+-- a word says it of one list of pairs
+pub one_table : {heap : Heap} {word : ℕ} {pairs others : List Pair} → HasTable heap word pairs
+    → HasTable heap word others → pairs ≡ others
+one_table has has_other = one_table_of (table_is has) (table_is has_other)
+
+-- a table of a span has half as many pairs as the span has words
+table_capacity : (heap : Heap) (word : ℕ) (cell : Cell) (table : Span)
+    → RefersTo heap word cell (words_of_cell heap cell)
+    → cell.layout.kind ≡ kind.Table → IsSpan heap table
+    → span_words heap table ≡ drop store_head (words_of_cell heap cell) → cell.length ≡ (table.end - table.from) / 2
+table_capacity heap word cell table refers is there are =
+    omega (
+      arith,
+      length-span heap table there,
+      ap length are,
+      length-drop store_head (words_of_cell heap cell),
+      words_by_kind kind.Table refers.has is,
+    )
+
+-- the pairs of a span of slots are those of a table, if there is none or its capacity is a power of two
+pub table_from : (heap : Heap) (word : ℕ) (table : Span) → IsBesideAs heap kind.Table word table
+    → (word ≡ undefined_word) ⊎ IsPowerOfTwo ((table.end - table.from) / 2)
+    → HasTable heap word (table_pairs heap table)
+table_from heap word table beside power = elim (beside_is beside.beside) [
+  | Beside.none undefined are ↦
+      let pairs : table_pairs heap table ≡ [] = ap pairs_in are in
+      subst (λ w. HasTable heap w (table_pairs heap table)) (sym undefined)
+      (subst (HasTable heap undefined_word) (sym pairs) HasTable.none)
+  | Beside.store cell refers is are ↦ elim power [
+    | inl undefined ↦ absurd (undefined_refers_not cell.at (sym undefined ∙ refers.refers))
+    | inr some ↦
+        let same = table_capacity heap word cell table refers is beside.is are in
+        subst (HasTable heap word) (sym (ap pairs_in are))
+        (HasTable.table word cell (words_of_cell heap cell) refers is (subst IsPowerOfTwo (sym same) some))
+  ]
+]
+
+-- where a word refers to no table of slots, it refers to none of pairs
+pub no_slots_no_table : (heap : Heap) (word : ℕ) → HasNoBeside heap kind.Table word → HasNoTable heap word
+no_slots_no_table heap word none pairs has = elim (table_is has) [
+  | TableBeside.no_table undefined are ↦
+      none [] (subst (λ w. IsBeside heap kind.Table w []) (sym undefined) IsBeside.none)
+  | TableBeside.to_table cell refers is power are ↦
+      none (drop store_head (words_of_cell heap cell)) (IsBeside.store word cell (words_of_cell heap cell) refers is)
+]
+
+-- nor where its capacity is no power of two
+pub no_power_no_table : (heap : Heap) (word : ℕ) (table : Span) → IsBesideAs heap kind.Table word table
+    → (word ≡ undefined_word → ⊥) → (IsPowerOfTwo ((table.end - table.from) / 2) → ⊥) → HasNoTable heap word
+no_power_no_table heap word table beside some odd pairs has = elim (table_is has) [
+  | TableBeside.no_table undefined are ↦ some undefined
+  | TableBeside.to_table cell refers is power are ↦ elim (beside_is beside.beside) [
+    | Beside.none undefined none ↦ some undefined
+    | Beside.store one refers_one is_one are_one ↦
+        let same = ap (λ (c : Cell). c.length) (same_target refers refers_one) in
+        let capacity = table_capacity heap word one table refers_one is_one beside.is are_one in
+        odd (subst IsPowerOfTwo (same ∙ capacity) power)
+  ]
+]

@@ -1,0 +1,62 @@
+-- The slots that name a cell, and whether there is another than one that is known.
+use Rattle.std.specs.Prelude.{◌≡◌, ℕ, ◌+◌, Contains, Option, Some, None, slice_get, IsTrue}
+use Rattle.tagged_word.specs.Cells.{store_slot, scavenge_offsets}
+use Rattle.cell_layout.specs.declared.cell.Cell.{Cell}
+use Rattle.heap_model.specs.Heaps.{Heap, words_of_cell}
+use Rattle.heap_model.specs.Slots.{is_object_kind, reference_word}
+use Rattle.heap_model.specs.Kinds.{HasWord}
+use Rattle.heap_model.specs.Wholeness.{HasSlotAt, IsOwnedKind, NamesFrom}
+use Rattle.heap_check.specs.Spans.{StandsIn}
+
+-- a slot of which this holds, apart from the known one; none where it holds of that one alone, if there is one
+abbrev pub IsOtherOf : (ℕ → Type 0) → Option ℕ → Option ℕ → Type 0
+IsOtherOf P known None = (slot : ℕ) → P slot → known ≡ Some slot
+IsOtherOf P known (Some slot) = P slot × (known ≡ Some slot → ⊥)
+
+-- the word at the address refers to the named address, and the address is not the known one
+pub record RefersFrom (heap : Heap) (named : ℕ) (known : Option ℕ) (slot : ℕ) : Type 0 where
+  pub refers : slice_get heap.words slot ≡ Some (reference_word named)
+  pub other : known ≡ Some slot → ⊥
+
+-- the slot at the address is one of the cell's, and refers to the named address
+pub record IsSlotIn (heap : Heap) (cell : Cell) (named slot : ℕ) : Type 0 where
+  pub offset : ℕ
+  pub among : Contains (scavenge_offsets cell.layout cell.length) offset
+  pub place : cell.at + offset ≡ slot
+  pub refers : slice_get heap.words slot ≡ Some (reference_word named)
+
+-- slot 1 of the object refers to the cell
+pub record IsNextTo (heap : Heap) (object other : Cell) : Type 0 where
+  pub slot : HasWord (words_of_cell heap object) store_slot (reference_word other.at)
+  pub stands : StandsIn heap other
+
+-- the slot at the address is one of the cell's to which slot 1 of the object refers, and refers to the named address
+pub record IsSlotNextTo (heap : Heap) (object : Cell) (named slot : ℕ) : Type 0 where
+  pub other : Cell
+  pub next_to : IsNextTo heap object other
+  pub is : IsSlotIn heap other named slot
+
+-- the slot at the address is one of the object's, and refers to the named address
+abbrev pub IsSlotOf : Heap → Cell → ℕ → ℕ → Type 0
+IsSlotOf heap object named slot = HasSlotAt heap object (words_of_cell heap object) slot (reference_word named)
+
+-- the same, if the cell is an object's
+pub record IsSlotOfObject (heap : Heap) (cell : Cell) (named slot : ℕ) : Type 0 where
+  pub object : IsTrue (is_object_kind cell.layout.kind)
+  pub is : IsSlotOf heap cell named slot
+
+-- the slot at the address is some object's, and refers to the named address
+pub record IsSomeSlot (heap : Heap) (named slot : ℕ) : Type 0 where
+  pub owner : Cell
+  pub stands : StandsIn heap owner
+  pub is : IsSlotOfObject heap owner named slot
+
+-- no two slots name the store, table or box at the address
+abbrev pub IsNamedOnce : Heap → ℕ → Type 0
+IsNamedOnce heap named =
+    (owner another : Cell) (slot other : ℕ) → NamesFrom heap owner slot named → NamesFrom heap another other named
+    → slot ≡ other
+
+-- no two slots name the cell, if it is a store, a table or a box
+abbrev pub HasOneOwner : Heap → Cell → Type 0
+HasOneOwner heap cell = IsOwnedKind cell.layout.kind → IsNamedOnce heap cell.at

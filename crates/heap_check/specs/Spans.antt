@@ -1,0 +1,43 @@
+-- Words of a cell, and spans of words.
+use Rattle.std.specs.Prelude.{◌≡◌, ℕ, ◌≤◌, ◌⊎◌, List, length, Some, slice_get, slice_range}
+use Rattle.tagged_word.specs.declared.layout.Kind.{Kind}
+use Rattle.tagged_word.specs.declared.layout.Kind.TheVariants as kind
+use Rattle.cell_layout.specs.declared.cell.Cell.{Cell}
+use Rattle.heap_model.specs.Heaps.{Heap, HasCell, words_of_cell}
+use Rattle.heap_model.specs.Slots.{IsBeside}
+use Rattle.heap_model.specs.Kinds.{HasWord}
+use Rattle.heap_check.specs.declared.spans.Span.{Span}
+
+-- the cell stands in the heap
+abbrev pub StandsIn : Heap → Cell → Type 0
+StandsIn heap cell = HasCell heap cell (words_of_cell heap cell)
+
+-- the words of a span
+abbrev pub span_words : Heap → Span → List ℕ
+span_words heap span = slice_range heap.words span.from span.end
+
+-- the words of the span are all there
+pub record IsSpan (heap : Heap) (span : Span) : Type 0 where
+  pub ascends : span.from ≤ span.end
+  pub within : span.end ≤ length heap.words
+
+-- what is said holds of each word of a list, and of its place there
+abbrev pub EachWord : List ℕ → (ℕ → ℕ → Type 0) → Type 0
+EachWord words P = (at word : ℕ) → HasWord words at word → P at word
+
+-- what is said holds of the word at the address, if there is one
+abbrev pub WordAt : Heap → ℕ → (ℕ → Type 0) → Type 0
+WordAt heap at P = (word : ℕ) → slice_get heap.words at ≡ Some word → P word
+
+-- the words of the span are the slots of the store or table of the kind to which the word refers, or none
+pub record IsBesideAs (heap : Heap) (of : Kind) (word : ℕ) (span : Span) : Type 0 where
+  pub beside : IsBeside heap of word (span_words heap span)
+  pub is : IsSpan heap span
+
+-- the word neither refers to a store or table of the kind nor says that there is none
+abbrev pub HasNoBeside : Heap → Kind → ℕ → Type 0
+HasNoBeside heap of word = (slots : List ℕ) → IsBeside heap of word slots → ⊥
+
+-- a store or a weak table
+abbrev pub IsStoreKind : Kind → Type 0
+IsStoreKind k = (k ≡ kind.Store) ⊎ (k ≡ kind.Table)

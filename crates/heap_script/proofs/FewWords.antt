@@ -1,0 +1,90 @@
+-- A command allocates at most as many words as a cell may have.
+use Rattle.std.proofs.Common.{◌≡◌, ℕ, ◌+◌, ◌-◌, ◌*◌, ◌≤◌, ◌<◌, Bool, true, false, List, [], length, Option, Some, None, ◌&&◌, not}
+use Rattle.std.proofs.Common.{arith, refl, sym, ap, subst, inl, inr, cond, nat_lt, slice_get, max}
+use Rattle.std.proofs.Math.Nat.{max-le}
+use Rattle.std.proofs.Math.ListN.{get_or-eq_default}
+use Rattle.std.proofs.lemmas.Bool.{cases_lt}
+use Rattle.std.proofs.lemmas.Bool.Decides.{nat_tests}
+use Rattle.std.proofs.lemmas.List.Elements.{All-get_or}
+use Rattle.tagged_word.specs.Shapes.{first_path_shape}
+use Rattle.tagged_word.specs.Cells.{store_head, cell_words_most}
+use Rattle.heap_command.specs.declared.command.Command.{Command}
+use Rattle.heap_command.specs.declared.command.Command.TheVariants as command
+use Rattle.heap_command.specs.Commands.{IsWithin}
+use Rattle.object_graph.specs.declared.path.Path.{Path}
+use Rattle.object_graph.specs.Invariants.{IsPath, fields_most}
+use Rattle.shape_tree.specs.Shapes.{AreShapes, shape_path}
+use Rattle.heap_model.specs.Heaps.{Heap}
+use Rattle.handle_roots.specs.Roots.{root_at}
+use Rattle.tagged_word.specs.Readings.{reference_in}
+use Rattle.heap_model.specs.Needs.{box_need, grown, store_need, new_field_need, field_need, set_need_by, set_need, need_of}
+use Rattle.heap_model.specs.Needs.{word_at, shape_at, path_at, index_of, is_wide_operand, is_raw_after, is_box_word, field_word}
+
+-- a box has two words
+box_few : (wide : Bool) → box_need wide ≤ 2
+box_few true = omega arith
+box_few false = omega arith
+
+-- a store is made where there is no room beside the fields in it, so it has not many more slots
+made_few : (room : Bool) (capacity used : ℕ) → room ≡ nat_lt used capacity → used ≤ fields_most
+    → cond room 0 (store_head + grown capacity) ≤ 130
+made_few true capacity used is few = omega arith
+made_few false capacity used is few =
+    let full : capacity ≤ used = grind (arith, nat_tests) in
+    let grows : grown capacity ≤ 128 = max-le (omega arith) (omega (arith, full, few)) in
+    omega (arith, grows)
+
+-- so it is with what a store needs
+store_few : (capacity used : ℕ) → used ≤ fields_most → store_need capacity used ≤ 130
+store_few capacity used few = made_few (nat_lt used capacity) capacity used refl few
+
+-- a path has at most 64 fields
+path_few : (paths : List Path) (shape : ℕ) → AreShapes paths → length (shape_path paths shape).fields ≤ fields_most
+path_few paths shape are =
+    let none : Path = record { cap = 0; fields = [] } in
+    let at : ℕ = shape - first_path_shape in
+    elim (cases_lt at (length paths)) [
+      | inl below ↦ (All-get_or IsPath paths at none below are.are.each).short
+      | inr past ↦ subst (λ (path : Path). length path.fields ≤ fields_most) (sym (get_or-eq_default paths none past)) (omega arith)
+    ]
+
+-- a field that is new needs few words
+added_few : (inside : Bool) (store : ℕ) (wide : Bool) → store ≤ 130 → cond inside 0 (store + box_need wide) ≤ 132
+added_few true store wide few = omega arith
+added_few false store wide few = omega (arith, few, box_few wide)
+
+-- so it is with what a new field needs
+new_few : (heap : Heap) (at : ℕ) (path : Path) (wide : Bool) → length path.fields ≤ fields_most
+    → new_field_need heap at path wide ≤ 132
+new_few heap at path wide few = added_few (nat_lt (length path.fields) path.cap) _ wide (store_few _ _ (omega (arith, few)))
+
+-- a field that is there needs a box at most
+field_few : (heap : Heap) (at : ℕ) (path : Path) (field : ℕ) (wide : Bool) → field_need heap at path field wide ≤ 132
+field_few heap at path field wide =
+    let few : field_need heap at path field wide ≤ 2 = box_few
+    (wide && not (is_raw_after path field (slice_get path.fields field))
+    && not (is_box_word heap (field_word heap at path.cap field))) in
+    omega (arith, few)
+
+-- what `set` needs, by whether the field is there
+set_few : (heap : Heap) (at : ℕ) (path : Path) (field : Option ℕ) (wide : Bool) → length path.fields ≤ fields_most
+    → set_need_by heap at path field wide ≤ 132
+set_few heap at path None wide few = new_few heap at path wide few
+set_few heap at path (Some field) wide few = field_few heap at path field wide
+
+-- what `set` needs of what a root refers to
+put_few : (heap : Heap) (at : Option ℕ) (name : ℕ) (wide : Bool) → AreShapes heap.paths
+    → set_need heap at name wide ≤ 132
+put_few heap None name wide are = omega arith
+put_few heap (Some at) name wide are =
+    let path : Path = path_at heap at in
+    set_few heap at path (index_of path.fields name) wide (path_few heap.paths (shape_at heap at) are)
+
+-- each command needs few words
+pub need_few : (heap : Heap) (fields : ℕ) (command : Command) → AreShapes heap.paths
+    → IsWithin heap.space.variables fields command → need_of heap command ≤ cell_words_most
+need_few heap fields (command.New x slots) are within = omega (arith, within.1)
+need_few heap fields (command.Set x name v) are within =
+    let few = put_few heap (reference_in (word_at heap (root_at heap.space x))) name (is_wide_operand heap v) are in
+    omega (arith, few)
+need_few heap fields _ are within = omega arith

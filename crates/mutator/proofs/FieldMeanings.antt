@@ -1,0 +1,97 @@
+-- What `set` and `del` mean, where their variables and their object are known.
+use Rattle.std.proofs.Common.{◌≡◌, ℕ, ◌≤◌, true, false, ◌&&◌, List, [], length, Option, Some, None, refl, ◌∙◌, ap}
+use Rattle.std.proofs.Common.{arith, inl, inr, nat_le}
+use Rattle.std.specs.Prelude.{is_none}
+use Rattle.std.specs.FinMap.{get}
+use Rattle.std.proofs.lemmas.Bool.{cases_lt}
+use Rattle.std.proofs.lemmas.Bool.Decides.{nat_tests}
+use Rattle.heap_command.specs.declared.command.Operand.{Operand}
+use Rattle.heap_command.specs.declared.command.Command.TheVariants.{Set, Del}
+use Rattle.heap_command.specs.declared.command.FaultWord.TheVariants.{FieldsFull, ShapesFull}
+use Rattle.object_graph.specs.declared.value.Value.{Value}
+use Rattle.object_graph.specs.declared.object.Field.{Field}
+use Rattle.object_graph.specs.declared.path.Path.{Path}
+use Rattle.object_graph.specs.Objects.{field_value, with_field, without_field}
+use Rattle.object_graph.specs.Paths.{path_of, with_path}
+use Rattle.object_graph.specs.Graphs.{Graph, PlainObject, value_of, plain_at}
+use Rattle.object_graph.specs.Meaning.{done, fault, given, unless, no_room_for, refill, reshape, reshape_if, does}
+use Rattle.object_graph.specs.Invariants.{fields_most}
+use Rattle.object_graph.specs.Limits.{ideal_limits, paths_most}
+use Rattle.shape_change.specs.FieldChanges.{LacksFields, LacksPaths}
+
+-- what the variables of a command on a field and its object are
+pub record IsKnown (graph : Graph) (x : ℕ) (target : Value) (plain : PlainObject) : Type 0 where
+  pub bound : get graph.bindings x ≡ Some target
+  pub refers : plain_at graph.objects target ≡ Some plain
+
+-- where there may be the paths of the fields, the object has them
+pub reshape_done : (graph : Graph) (plain : PlainObject) (fields : List Field) (paths : List Path)
+    → with_path (Some paths_most) graph.paths (path_of plain.cap fields) ≡ Some paths
+    → reshape ideal_limits graph plain fields ≡ done (refill graph plain fields paths) []
+reshape_done graph plain fields paths added =
+    ap (λ (found : Option (List Path)). given ShapesFull found (λ more. done (refill graph plain fields more) [])) added
+
+-- and where not, that is the fault
+pub reshape_full : (graph : Graph) (plain : PlainObject) (fields : List Field) → LacksPaths graph plain fields
+    → reshape ideal_limits graph plain fields ≡ fault ShapesFull
+reshape_full graph plain fields lacks =
+    ap (λ (found : Option (List Path)). given ShapesFull found (λ more. done (refill graph plain fields more) [])) lacks
+
+-- there are paths where they are not lacking
+pub paths_there : (found : Option (List Path)) → (found ≡ None → ⊥) → (paths : List Path) × (found ≡ Some paths)
+paths_there None lacks = absurd (lacks refl)
+paths_there (Some paths) lacks = (paths, refl)
+
+-- there is room for a field where the name is there, or there are few fields
+room_by : (found : Option Value) (count : ℕ) → (found ≡ None → fields_most ≤ count → ⊥)
+    → (is_none found && nat_le fields_most count) ≡ false
+room_by (Some value) count lacks = refl
+room_by None count lacks = elim (cases_lt count fields_most) [
+  | inl below ↦ grind (arith, nat_tests)
+  | inr full ↦ absurd (lacks refl full)
+]
+
+-- there is none where the name is new and there are many
+no_room_by : (found : Option Value) (count : ℕ) → found ≡ None → fields_most ≤ count
+    → (is_none found && nat_le fields_most count) ≡ true
+no_room_by found count fresh full =
+    ap (λ one. is_none one && nat_le fields_most count) fresh ∙ full_test count full
+  where
+    full_test : (count : ℕ) → fields_most ≤ count → nat_le fields_most count ≡ true
+    full_test count full = grind (arith, nat_tests)
+
+-- a `set` whose variables and object are known
+set_known : (names : List (List ℕ)) (graph : Graph) (x f : ℕ) (v : Operand) (target value : Value) (plain : PlainObject)
+    → IsKnown graph x target plain → value_of graph v ≡ Some value
+    → does ideal_limits names graph (Set x f v)
+    ≡ unless FieldsFull (no_room_for ideal_limits plain f) (reshape ideal_limits graph plain
+    (with_field plain.fields f value))
+set_known names graph x f v target value plain known is = rw (known.bound, is, known.refers)
+
+-- where there is room for the field, it is written
+pub set_room : (names : List (List ℕ)) (graph : Graph) (x f : ℕ) (v : Operand) (target value : Value)
+    (plain : PlainObject)
+    → IsKnown graph x target plain → value_of graph v ≡ Some value → (LacksFields plain f → ⊥)
+    → does ideal_limits names graph (Set x f v) ≡ reshape ideal_limits graph plain (with_field plain.fields f value)
+set_room names graph x f v target value plain known is few =
+    set_known names graph x f v target value plain known is
+    ∙ ap (λ test. unless FieldsFull test (reshape ideal_limits graph plain (with_field plain.fields f value)))
+    (room_by (field_value plain.fields f) (length plain.fields)
+    (λ fresh full. few (record { fresh = fresh; full = full })))
+
+-- where there is none, that is the fault
+pub set_full : (names : List (List ℕ)) (graph : Graph) (x f : ℕ) (v : Operand) (target value : Value)
+    (plain : PlainObject)
+    → IsKnown graph x target plain → value_of graph v ≡ Some value → LacksFields plain f
+    → does ideal_limits names graph (Set x f v) ≡ fault FieldsFull
+set_full names graph x f v target value plain known is lacks =
+    set_known names graph x f v target value plain known is
+    ∙ ap (λ test. unless FieldsFull test (reshape ideal_limits graph plain (with_field plain.fields f value)))
+    (no_room_by (field_value plain.fields f) (length plain.fields) lacks.fresh lacks.full)
+
+-- a `del` whose variable and object are known
+pub del_known : (names : List (List ℕ)) (graph : Graph) (x f : ℕ) (target : Value) (plain : PlainObject)
+    → IsKnown graph x target plain
+    → does ideal_limits names graph (Del x f)
+    ≡ reshape_if ideal_limits graph plain (field_value plain.fields f) (without_field plain.fields f)
+del_known names graph x f target plain known = rw (known.bound, known.refers)

@@ -1,0 +1,128 @@
+-- `set` and `del` are carried out as the calls on fields say.
+use Rattle.std.proofs.Common.{◌≡◌, ℕ, ◌<◌, List, [], Ok, Err, Some, sym, ◌∙◌, ap, subst}
+use Rattle.std.specs.FinMap.{get}
+use Rattle.heap_command.specs.declared.command.Operand.{Operand}
+use Rattle.heap_command.specs.declared.command.Command.TheVariants.{Set}
+use Rattle.heap_command.specs.Commands.{NamesBelow}
+use Rattle.object_graph.specs.declared.value.Value.{Value}
+use Rattle.object_graph.specs.declared.value.Value.TheVariants.{Ref}
+use Rattle.object_graph.specs.Objects.{with_field}
+use Rattle.object_graph.specs.Paths.{path_of, with_path}
+use Rattle.object_graph.specs.Graphs.{Graph, PlainObject, value_of, plain_at}
+use Rattle.object_graph.specs.Meaning.{refill}
+use Rattle.object_graph.specs.Limits.{paths_most}
+use Rattle.nursery.specs.Young.{HasRoom}
+use Rattle.handle_roots.specs.declared.held.Held.{Held}
+use Rattle.heap_model.specs.Needs.{need_of, set_need_at}
+use Rattle.write_barrier.specs.Mains.{Mutator, heap_of, MainShows}
+use Rattle.shape_change.specs.FieldChanges.{IsPlainAt, IsValueHeld, IsShownSetting, UsesMore, is_wide, HasSetField}
+use Rattle.shape_change.specs.FieldChanges.{SetsField}
+use Rattle.shape_change.specs.declared.stop.FieldStop.{FieldStop}
+use Rattle.shape_change.specs.declared.stop.FieldStop.TheVariants.{FieldsFull, ShapesFull, Full}
+use Rattle.mutator.specs.Stops.{stop_of}
+use Rattle.mutator.specs.declared.reading.Found.{Found}
+use Rattle.mutator.specs.Carries.{Carries}
+use Rattle.mutator.specs.Reading.{StandForBoth, IsFound}
+use Rattle.mutator.proofs.FieldMeanings.{IsKnown, reshape_done, reshape_full, paths_there, set_room, set_full}
+use Rattle.mutator.proofs.SetNeeds.{set_need_is}
+use Rattle.mutator.proofs.StillShown.{shows_still, stands_still}
+
+-- what is known once the variables of a `set` and its object were found
+pub record IsSetting (main : Mutator) (graph : Graph) (x : ℕ) (v : Operand) (at : ℕ) (one : Held) : Type 0 where
+  pub plain : PlainObject
+  pub value : Value
+  pub shows : MainShows main graph
+  pub known : IsKnown graph x (Ref plain.number) plain
+  pub value_is : value_of graph v ≡ Some value
+  pub stands : IsPlainAt main graph at plain
+  pub held : IsValueHeld main graph one value
+  pub below : x < main.seat.space.variables
+  pub names : NamesBelow main.seat.space.variables v
+
+-- so it is once they were read
+pub setting_known : {old now : Mutator} {graph : Graph} {pair : Held × Held} {where_at : Found} (x : ℕ) (v : Operand)
+    → now ≡ old → MainShows old graph
+    → (both : StandForBoth old graph (get graph.bindings x) (value_of graph v) pair)
+    → IsFound now graph both.first where_at → x < old.seat.space.variables → NamesBelow old.seat.space.variables v
+    → IsSetting now graph x v where_at.at pair.1
+setting_known {graph = graph} x v same shows both found below names = record {
+  plain = found.plain;
+  value = both.second;
+  shows = shows_still same shows;
+  known = record {
+    bound = both.is_first ∙ ap (λ one. Some one) found.is;
+    refers = ap (plain_at graph.objects) (sym found.is) ∙ found.refers;
+  };
+  value_is = both.is_second;
+  stands = found.stands;
+  held = (stands_still same both.stands_second).is;
+  below = subst (λ (main : Mutator). x < main.seat.space.variables) (sym same) below;
+  names = subst (λ (main : Mutator). NamesBelow main.seat.space.variables v) (sym same) names;
+}
+
+-- the call on the field may be made
+pub setting_shown : {main : Mutator} {graph : Graph} {x at : ℕ} {v : Operand} {one : Held}
+    → IsSetting main graph x v at one → IsShownSetting main at one
+setting_shown {graph = graph} setting = record {
+  graph = graph;
+  plain = setting.plain;
+  value = setting.value;
+  shows = setting.shows;
+  is = setting.stands;
+  is_held = setting.held;
+}
+
+-- the words that the command needs are those of the field
+setting_need : {main : Mutator} {graph : Graph} {x at : ℕ} {v : Operand} {one : Held} (f : ℕ)
+    → (setting : IsSetting main graph x v at one)
+    → set_need_at (heap_of main) at f (is_wide setting.value) ≡ need_of (heap_of main) (Set x f v)
+setting_need {x = x} {at} {v} f setting =
+    sym (set_need_is x f at v setting.value setting.plain setting.shows setting.below setting.names setting.known.bound
+    setting.value_is setting.stands)
+
+-- a field that was set
+pub set_carried : {main new : Mutator} {graph : Graph} {x at : ℕ} {v : Operand} {one : Held} (names : List (List ℕ))
+    (f : ℕ)
+    → (setting : IsSetting main graph x v at one) → HasSetField main new graph at setting.plain f setting.value
+    → Carries names main new graph (Set x f v) [] (Ok tt)
+set_carried {main} {new} {graph} {x} {at} {v} names f setting sets =
+    let fields = with_field setting.plain.fields f setting.value in
+    let need = setting_need f setting in (
+      refill graph setting.plain fields sets.shows.paths,
+      set_room names graph x f v (Ref setting.plain.number) setting.value setting.plain setting.known setting.value_is
+          sets.few
+          ∙ reshape_done graph setting.plain fields sets.shows.paths sets.shows.added,
+      sets.shows.shows,
+      subst (HasRoom main.young) need sets.room,
+      subst (UsesMore main new) need sets.uses,
+    )
+
+-- and one that was not
+pub set_stopped : {main : Mutator} {graph : Graph} {x at : ℕ} {v : Operand} {one : Held} (new : Mutator)
+    (names : List (List ℕ)) (f : ℕ) (stop : FieldStop) → (setting : IsSetting main graph x v at one)
+    → SetsField main new graph at setting.plain f setting.value (Err stop)
+    → Carries names main new graph (Set x f v) [] (Err (stop_of stop))
+set_stopped {graph = graph} {x} {v = v} new names f FieldsFull setting sets = (
+  set_full names graph x f v (Ref setting.plain.number) setting.value setting.plain setting.known setting.value_is
+      sets.0,
+  sets.1,
+)
+set_stopped {graph = graph} {x} {v = v} new names f (ShapesFull full) setting sets = (
+  set_room names graph x f v (Ref setting.plain.number) setting.value setting.plain setting.known setting.value_is
+      sets.0
+      ∙ reshape_full graph setting.plain (with_field setting.plain.fields f setting.value) sets.1,
+  sets.2,
+)
+set_stopped {graph = graph} {x} {v = v} new names f (Full room) setting sets =
+    let fields = with_field setting.plain.fields f setting.value in
+    let (more, added) =
+    paths_there (with_path (Some paths_most) graph.paths (path_of setting.plain.cap fields)) sets.1 in (
+      refill graph setting.plain fields more,
+      [],
+      set_room names graph x f v (Ref setting.plain.number) setting.value setting.plain setting.known setting.value_is
+          sets.0
+          ∙ reshape_done graph setting.plain fields more added,
+      sets.2 ∙ setting_need f setting,
+      sets.3,
+      sets.4,
+    )

@@ -1,0 +1,101 @@
+-- A heap in which a variable was bound anew shows the graph after the command.
+use Rattle.std.proofs.Common.{◌≡◌, ℕ, ◌<◌, List, [], None, Ok, inl, inr, sym, ◌∙◌, ap, subst, arith, add-zero}
+use Rattle.std.specs.Prelude.{Option, IsTrue, is_some}
+use Rattle.std.specs.FinMap.{get}
+use Rattle.std.proofs.lemmas.Bool.{false≢true}
+use Rattle.heap_command.specs.declared.command.Command.{Command}
+use Rattle.object_graph.specs.Graphs.{Graph}
+use Rattle.object_graph.specs.Meaning.{done, does}
+use Rattle.object_graph.specs.Limits.{ideal_limits}
+use Rattle.graph_laws.specs.GraphLaws.{FitsCommand}
+use Rattle.graph_laws.specs.ReachAfter.{made_for}
+use Rattle.graph_laws.proofs.FieldLimits.{ideal_field_limit}
+use Rattle.graph_laws.proofs.GraphsStay.{graphs_stay}
+use Rattle.graph_laws.proofs.NothingNew.{only_made_is_new}
+use Rattle.page_space.specs.Extents.{Space}
+use Rattle.nursery.specs.Young.{HasRoom}
+use Rattle.handle_roots.specs.declared.held.Held.{Held}
+use Rattle.handle_roots.specs.Roots.{FitsHeld, with_root}
+use Rattle.heap_table.specs.declared.phase.Phase.TheVariants.{Quiet}
+use Rattle.heap_table.specs.Seats.{heap_words}
+use Rattle.heap_model.specs.Needs.{need_of}
+use Rattle.heap_model.specs.Showing.{ShowsHeld, Shows}
+use Rattle.heap_model.specs.Laws.{ReachesNoMore, BindsAnew, bound}
+use Rattle.heap_model.proofs.BoundGraphs.{bindings_show}
+use Rattle.write_barrier.specs.Mains.{Mutator, heap_of, IsTied, MainShows, with_variable}
+use Rattle.shape_change.specs.FieldChanges.{UsesMore}
+use Rattle.mutator.specs.Carries.{Carries}
+
+-- a variable was made to hold a value, and only its root words changed
+pub record HoldsAnew (old new : Mutator) (x : ℕ) (one : Held) : Type 0 where
+  pub held : new ≡ with_variable old x one
+  pub heap : heap_words new.seat ≡ with_root old.seat.space (heap_words old.seat) x one
+
+-- it is so of a heap that is the same as another
+pub holds_after : {old now new : Mutator} (x : ℕ) (one : Held) → now ≡ old → HoldsAnew now new x one
+    → HoldsAnew old new x one
+holds_after {new = new} x one same holds = subst (λ main. HoldsAnew main new x one) same holds
+
+-- the heap is then the one with these root words
+pub heap_bound : {old new : Mutator} (x : ℕ) (one : Held) → HoldsAnew old new x one → heap_of new
+    ≡ bound (heap_of old) x one
+heap_bound {old} {new} x one holds =
+    ap heap_of holds.held
+    ∙ ap (λ (words : List ℕ). record (heap_of old) { words = words })
+    (sym (ap (λ (main : Mutator). heap_words main.seat) holds.held) ∙ holds.heap)
+
+-- a command that makes no object lets nothing more be reached
+pub reaches_no_more : {graph after : Graph} {main : Mutator} (names : List (List ℕ)) (command : Command) (text : List ℕ)
+    → MainShows main graph → does ideal_limits names graph command ≡ done after text → made_for command ≡ None
+    → ReachesNoMore graph after
+reaches_no_more {graph} {after} names command text shows carried none number marked =
+    elim (only_made_is_new ideal_limits names graph command after text number shows.is_graph carried marked) [
+      | inl before ↦ before
+      | inr made ↦ absurd (false≢true (subst (λ (found : Option ℕ). IsTrue (is_some found)) none made.0))
+    ]
+
+-- there is room for no word
+pub room_for_none : {main : Mutator} {graph : Graph} → MainShows main graph → HasRoom main.young 0
+room_for_none shows =
+    omega (arith, shows.shows.whole.rows.few, ap (λ (space : Space). space.sizes.young) shows.tied)
+
+-- a heap in which a variable was bound anew uses no word more
+pub uses_none : {old new : Mutator} (x : ℕ) (one : Held) → HoldsAnew old new x one → UsesMore old new 0
+uses_none {old} x one holds = record {
+  space = ap (λ (main : Mutator). main.seat.space) holds.held;
+  young = ap (λ (main : Mutator). main.young) holds.held
+      ∙ ap (λ (used : ℕ). record old.young { used = used }) (sym (add-zero old.young.used));
+}
+
+-- it shows the graph after the command
+pub rebound_shows : {old new : Mutator} {graph after : Graph} (names : List (List ℕ)) (command : Command)
+    (text : List ℕ)
+    (x : ℕ) (one : Held) → MainShows old graph → does ideal_limits names graph command ≡ done after text
+    → made_for command ≡ None → FitsCommand command → BindsAnew graph after x → x < old.seat.space.variables
+    → FitsHeld one → ShowsHeld (heap_of old) one (get after.bindings x) → HoldsAnew old new x one → MainShows new after
+rebound_shows {old} {new} {graph} {after} names command text x one shows carried none fits anew below held_fits shown
+    holds =
+    record {
+      tied = subst IsTied (sym holds.held) shows.tied;
+      is_graph = graphs_stay ideal_limits names graph command after text ideal_field_limit fits carried shows.is_graph;
+      quiet = subst (λ (main : Mutator). main.seat.phase ≡ Quiet) (sym holds.held) shows.quiet;
+      shows = subst (λ heap. Shows heap after) (sym (heap_bound x one holds))
+          (bindings_show (heap_of old) graph after x one below shows.shows anew held_fits shown
+          (reaches_no_more names command text shows carried none));
+    }
+
+-- so the command is carried out, if it is one that binds a variable and needs no words
+pub binding_carried : {old new : Mutator} {graph : Graph} (after : Graph) (names : List (List ℕ)) (command : Command)
+    (x : ℕ)
+    (one : Held) → MainShows old graph → does ideal_limits names graph command ≡ done after []
+    → made_for command ≡ None → FitsCommand command → BindsAnew graph after x → x < old.seat.space.variables
+    → FitsHeld one → ShowsHeld (heap_of old) one (get after.bindings x) → HoldsAnew old new x one
+    → need_of (heap_of old) command ≡ 0 → Carries names old new graph command [] (Ok tt)
+binding_carried {old} {new} after names command x one shows carried none fits anew below held_fits shown holds no_need
+    = (
+      after,
+      carried,
+      rebound_shows names command [] x one shows carried none fits anew below held_fits shown holds,
+      subst (HasRoom old.young) (sym no_need) (room_for_none shows),
+      subst (UsesMore old new) (sym no_need) (uses_none x one holds),
+    )

@@ -1,0 +1,29 @@
+-- A heap that is the same as before shows the same.
+use Rattle.std.proofs.Common.{◌≡◌, sym, subst}
+use Rattle.object_graph.specs.Graphs.{Graph}
+use Rattle.object_graph.specs.declared.value.Value.{Value}
+use Rattle.handle_roots.specs.declared.held.Held.{Held}
+use Rattle.write_barrier.specs.Mains.{Mutator, MainShows}
+use Rattle.mutator.specs.Reading.{StandsFor, IsShownValue}
+
+-- it shows a graph where it showed one
+pub some_still : {old new : Mutator} → new ≡ old → (graph : Graph) × MainShows old graph
+    → (graph : Graph) × MainShows new graph
+some_still same shown = (shown.0, subst (λ main. MainShows main shown.0) (sym same) shown.1)
+
+-- it shows the graph that it showed
+pub shows_still : {old new : Mutator} {graph : Graph} → new ≡ old → MainShows old graph → MainShows new graph
+shows_still {graph = graph} same shows = subst (λ main. MainShows main graph) (sym same) shows
+
+-- what stood for a value stands for it
+pub stands_still : {old new : Mutator} {graph : Graph} {value : Value} {held : Held} → new ≡ old
+    → StandsFor old graph value held → StandsFor new graph value held
+stands_still {graph = graph} {value} {held} same stands = subst (λ main. StandsFor main graph value held)
+    (sym same) stands
+
+-- and for a value of some graph that is shown
+pub value_still : {old new : Mutator} (graph : Graph) (value : Value) (held : Held) → new ≡ old → MainShows old graph
+    → StandsFor old graph value held → IsShownValue new held
+value_still graph value held same shows stands =
+    subst (λ main. IsShownValue main held) (sym same)
+    (record { graph = graph; value = value; shows = shows; stands = stands })

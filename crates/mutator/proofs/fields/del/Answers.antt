@@ -1,0 +1,53 @@
+-- The field is taken out, or there may not be as many paths.
+use Rattle.std.proofs.Common.{[], Ok, sym, subst}
+use Rattle.heap_command.specs.declared.command.Command.TheVariants.{Del}
+use Rattle.heap_command.specs.declared.command.FaultWord.TheVariants.{ShapesFull}
+use Rattle.mutator.specs.declared.stop.Stop.TheVariants.{Fault}
+use Rattle.mutator.specs.Carries.{Carries}
+use Rattle.mutator.proofs.FieldsTaken.{taking_known, del_carried, del_stopped}
+use Rattle.mutator.proofs.StoppedBy.{stopped_by}
+use Rattle.mutator.proofs.StillShown.{shows_still, stands_still, value_still}
+use Rattle.mutator.proofs.fields.del.Goals as goal
+
+pub plain-requires : goal.plain-requires
+plain-requires c =
+    let (graph, shows) = c.requires.shown in
+    let (value, is, stands) = c.in_ok-target.ensures.found graph shows in
+    value_still graph value c.in_ok-target.target c.bound.ensures.same shows stands
+
+pub delete-requires : goal.delete-requires
+delete-requires c =
+    let (graph, shows) = c.requires.shown in
+    let (value, is, stands) = c.in_ok-target.ensures.found graph shows in
+    let shown = shows_still c.bound.ensures.same shows in
+    let found = c.in_ok-found.ensures graph value shown (stands_still c.bound.ensures.same stands) in
+    record { graph = graph; plain = found.plain; shows = shown; is = found.stands }
+
+pub returns : goal.returns
+returns c = record {
+  carried = λ graph names shows.
+      let (target, is, stands) = c.in_ok-target.ensures.found graph shows in
+      let same = c.bound.ensures.same in
+      let shown = shows_still same shows in
+      let found = c.in_ok-found.ensures graph target shown (stands_still same stands) in
+      let taking = taking_known c.args.x target shown is found in
+      subst (λ main. Carries names main c.delete.new.main graph (Del c.args.x c.args.f) [] (Ok tt)) same
+      (del_carried names c.args.f taking (c.in_ok-delete.ensures graph taking.plain taking.shows taking.stands));
+}
+
+pub returns-in_err-delete : goal.returns-in_err-delete
+returns-in_err-delete c = record {
+  carried = λ graph names shows.
+      let (target, is, stands) = c.in_ok-target.ensures.found graph shows in
+      let same = c.bound.ensures.same in
+      let shown = shows_still same shows in
+      let found = c.in_ok-found.ensures graph target shown (stands_still same stands) in
+      let taking = taking_known c.args.x target shown is found in
+      let lacks = c.in_err-delete.ensures graph taking.plain taking.shows taking.stands in
+      let answer = c.from_residual-in_err-delete.result in
+      let stopped = stopped_by answer (Fault ShapesFull) c.from_residual-in_err-delete.ensures.1 in
+      subst (λ main. Carries names main c.delete.new.main graph (Del c.args.x c.args.f) [] answer) same
+      (subst (λ one. Carries names c.bound.new.main c.delete.new.main graph (Del c.args.x c.args.f) [] one)
+      (sym stopped)
+      (del_stopped names c.args.f taking lacks.0 lacks.1));
+}

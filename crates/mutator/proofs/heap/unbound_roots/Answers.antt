@@ -1,6 +1,0 @@
-use Rattle.std.proofs.Common.{[], arith}
-use Rattle.std.proofs.lemmas.Grind.{common_steps}
-use Rattle.mutator.proofs.heap.unbound_roots.Goals as goal
-
-pub loop-variable-preserved : goal.loop-variable-preserved
-loop-variable-preserved c = grind (arith, common_steps, c.unbound-unbound.ensures [])

@@ -1,0 +1,9 @@
+-- The cell of a plain object that was just made.
+use Rattle.std.specs.Prelude.{ℕ, List, ◌∷◌, replicate}
+use Rattle.tagged_word.specs.declared.header.Header.{Header}
+use Rattle.tagged_word.specs.Headers.{header_bits}
+use Rattle.heap_model.specs.Slots.{undefined_word, hole_word}
+
+-- the words of a plain cell with so many slots of its own: it has no property store, and its slots hold nothing
+abbrev pub empty_plain : Header → ℕ → List ℕ
+empty_plain header cap = header_bits header ∷ undefined_word ∷ replicate cap hole_word

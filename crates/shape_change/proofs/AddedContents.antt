@@ -1,0 +1,101 @@
+-- What the slot of a new field comes to hold shows the value, and names nothing but a box that was made.
+use Rattle.std.proofs.Common.{◌≡◌, ℕ, Bool, true, List, Contains, Some, IsTrue, refl, sym, ap, subst}
+use Rattle.std.specs.Prelude.{ℤ}
+use Rattle.tagged_word.specs.Words.{small}
+use Rattle.tagged_word.specs.declared.layout.Kind.TheVariants as kind
+use Rattle.object_graph.specs.declared.value.Value.{Value}
+use Rattle.object_graph.specs.declared.value.Value.TheVariants as value
+use Rattle.object_graph.specs.declared.value.Rep.{Rep}
+use Rattle.object_graph.specs.declared.value.Rep.TheVariants as rep
+use Rattle.object_graph.specs.Values.{rep_of, join}
+use Rattle.object_graph.specs.Invariants.{IsValue}
+use Rattle.cell_layout.specs.declared.cell.Cell.{Cell}
+use Rattle.handle_roots.specs.declared.held.Held.{Held}
+use Rattle.heap_model.specs.Heaps.{Heap}
+use Rattle.heap_model.specs.Slots.{small_word, raw_word, reference_word, IsPlace, RefersToBox, RefersToPlace}
+use Rattle.heap_model.specs.Showing.{ShowsValue, ShowsWide, ShowsField, ShowsHeld}
+use Rattle.heap_model.proofs.WordsStay.{PlacesStay}
+use Rattle.shape_change.specs.declared.content.Content.{Content}
+use Rattle.shape_change.specs.declared.content.Content.TheVariants as content
+use Rattle.shape_change.specs.Contents.{held_rep, content_of}
+use Rattle.shape_change.specs.Additions.{content_word}
+use Rattle.shape_change.specs.SlotChanges.{ComesFrom}
+use Rattle.shape_change.proofs.HeldContents.{HoldsValue, held_rep_is, value_held}
+use Rattle.shape_change.proofs.WrittenPlaces.{small_names_none, undefined_names_none, object_names_none}
+
+-- a value that joins the narrowest representation brings its own
+join-small : (one : Rep) → join rep.Small one ≡ one
+join-small rep.Small = refl
+join-small rep.Wide = refl
+join-small rep.Tagged = refl
+
+-- what the slot of a new field holds for a value
+pub new_value_held : {heap : Heap} (own : Bool) (known : Held) (what : Value) → ShowsHeld heap known (Some what)
+    → HoldsValue heap own rep.Small (rep_of what) what (content_of own (held_rep known) known)
+new_value_held {heap} own known what shows =
+    let holds = value_held own rep.Small (rep_of what) known what shows (join-small (rep_of what)) in
+    subst (λ one. HoldsValue heap own rep.Small (rep_of what) what (content_of own one known)) (sym (held_rep_is known what shows))
+    holds
+
+-- a small integer shows itself where the slot is not wide
+small_shows : {heap : Heap} {own : Bool} (one : Rep) (v : ℤ) → IsTrue (small v) → (one ≡ rep.Wide → ⊥)
+    → ShowsField heap own (small_word v) one (value.Int v)
+small_shows rep.Small v is apart = ShowsField.small_integer v is refl
+small_shows rep.Wide v is apart = absurd (apart refl)
+small_shows rep.Tagged v is apart = ShowsField.tagged (value.Int v) (ShowsValue.small_integer v is refl)
+
+-- the reference to an object's place, where places stay
+new_place : {old new : Heap} (at number : ℕ) → PlacesStay old new → IsPlace old number at
+    → RefersToPlace new (reference_word at) number
+new_place at number places place = record { at = at; refers = refl; place = places number at place }
+
+-- the word of the slot shows the value
+pub content_shows : {old new : Heap} {own : Bool} {one : Rep} {what : Value} {holds : Content} (count box : ℕ)
+    → HoldsValue old own rep.Small one what holds → PlacesStay old new → IsValue count what
+    → ((v : ℤ) → holds ≡ content.Boxed v → RefersToBox new (reference_word box) v)
+    → ShowsField new own (content_word holds box) one what
+content_shows count box (HoldsValue.small_integer one v is apart) places fits boxed = small_shows one v is apart
+content_shows {new = new} count box (HoldsValue.raw v own apart) places fits boxed =
+    ShowsField.wide v (subst (λ o. ShowsWide new o (raw_word v) v) (sym own) (refl, fits))
+content_shows {new = new} count box (HoldsValue.wide_box v beside apart small) places fits boxed =
+    ShowsField.wide v (subst (λ o. ShowsWide new o (reference_word box) v) (sym beside) (boxed v refl))
+content_shows count box (HoldsValue.tagged_box v wide was) places fits boxed =
+    ShowsField.tagged (value.Int v) (ShowsValue.boxed v wide (boxed v refl))
+content_shows count box HoldsValue.undefined places fits boxed = ShowsField.tagged value.Undefined (ShowsValue.undefined refl)
+content_shows count box (HoldsValue.object at number place) places fits boxed =
+    ShowsField.tagged (value.Ref number) (ShowsValue.object number (new_place at number places place))
+
+-- in the object there is no box
+pub own_holds_no_box : {heap : Heap} {one : Rep} {what : Value} {holds : Content} (v : ℤ)
+    → HoldsValue heap true rep.Small one what holds → holds ≡ content.Boxed v → ⊥
+own_holds_no_box v (HoldsValue.small_integer one w is apart) boxed = cc
+own_holds_no_box v (HoldsValue.raw w own apart) boxed = cc
+own_holds_no_box v (HoldsValue.wide_box w beside apart small) boxed = cc
+own_holds_no_box v (HoldsValue.tagged_box w wide was) boxed = cc
+own_holds_no_box v HoldsValue.undefined boxed = cc
+own_holds_no_box v (HoldsValue.object at number place) boxed = cc
+
+-- it is the reference to a box that was made
+pub record IsMadeBox (made : List Cell) (box : ℕ) : Type 0 where
+  pub cell : Cell
+  pub among : Contains made cell
+  pub of_kind : cell.layout.kind ≡ kind.Boxed
+  pub stands : cell.at ≡ box
+
+-- where the slot is not raw, its word names nothing, or the box that was made for it
+pub content_comes : {old new : Heap} {own : Bool} {one : Rep} {what : Value} {holds : Content} (cell : Cell) (slots : List ℕ)
+    (made : List Cell) (slot box : ℕ) → HoldsValue old own rep.Small one what holds → PlacesStay old new
+    → (own ≡ true → one ≡ rep.Wide → ⊥) → ((v : ℤ) → holds ≡ content.Boxed v → IsMadeBox made box)
+    → ComesFrom new cell slots made slot slot slot (content_word holds box)
+content_comes cell slots made slot box (HoldsValue.small_integer one v is apart) places tagged boxed =
+    ComesFrom.none (small_names_none v)
+content_comes cell slots made slot box (HoldsValue.raw v own apart) places tagged boxed = absurd (tagged own refl)
+content_comes cell slots made slot box (HoldsValue.wide_box v beside apart small) places tagged boxed =
+    let one = boxed v refl in
+    ComesFrom.of_made one.cell one.among one.of_kind (ap reference_word (sym one.stands)) refl
+content_comes cell slots made slot box (HoldsValue.tagged_box v wide was) places tagged boxed =
+    let one = boxed v refl in
+    ComesFrom.of_made one.cell one.among one.of_kind (ap reference_word (sym one.stands)) refl
+content_comes cell slots made slot box HoldsValue.undefined places tagged boxed = ComesFrom.none undefined_names_none
+content_comes cell slots made slot box (HoldsValue.object at number place) places tagged boxed =
+    ComesFrom.none (object_names_none (new_place at number places place))

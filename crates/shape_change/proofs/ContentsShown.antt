@@ -1,0 +1,123 @@
+-- What a slot comes to hold for a value shows the value, and names nothing but a box.
+use Rattle.std.proofs.Common.{◌≡◌, ℕ, Bool, true, false, List, Option, Some, None, IsTrue}
+use Rattle.std.proofs.Common.{refl, sym, ◌∙◌, ap}
+use Rattle.std.specs.Prelude.{ℤ, FitsSigned, if◌then◌else◌}
+use Rattle.std.specs.Int.{w64}
+use Rattle.std.proofs.lemmas.Bool.{false≢true, eqb-true}
+use Rattle.std.proofs.lemmas.Option.{none-some}
+use Rattle.tagged_word.specs.declared.word.Word.{Word}
+use Rattle.tagged_word.specs.declared.layout.Kind.TheVariants as kind
+use Rattle.tagged_word.specs.Readings.{reference_in}
+use Rattle.tagged_word.specs.Words.{small}
+use Rattle.tagged_word.specs.Shapes.{box_shape}
+use Rattle.tagged_word.proofs.Readings.{reference_from}
+use Rattle.object_graph.specs.declared.value.Value.{Value}
+use Rattle.object_graph.specs.declared.value.Value.TheVariants as value
+use Rattle.object_graph.specs.declared.value.Rep.{Rep}
+use Rattle.object_graph.specs.declared.value.Rep.TheVariants as rep
+use Rattle.object_graph.specs.Invariants.{IsValue}
+use Rattle.cell_layout.specs.declared.cell.Cell.{Cell}
+use Rattle.heap_model.specs.Heaps.{Heap}
+use Rattle.heap_model.specs.Slots.{small_word, raw_word, reference_word, IsSlotWord}
+use Rattle.heap_model.specs.Slots.{RefersTo, RefersToPlace, RefersToBox}
+use Rattle.heap_model.specs.Needs.{is_box_word, is_box_at, shape_at}
+use Rattle.heap_model.specs.Wholeness.{HasSizes}
+use Rattle.heap_model.specs.Showing.{ShowsValue, ShowsField}
+use Rattle.heap_model.proofs.WordsStay.{PlacesStay}
+use Rattle.shape_change.specs.declared.content.Content.TheVariants as content
+use Rattle.shape_change.specs.Contents.{box_in}
+use Rattle.shape_change.specs.SlotChanges.{NamesNone}
+use Rattle.shape_change.proofs.CellsRead.{shape_is_box}
+use Rattle.shape_change.proofs.WordsTold.{slot_target}
+use Rattle.shape_change.proofs.WrittenPlaces.{small_names_none, undefined_names_none, object_names_none}
+use Rattle.shape_change.proofs.SettingNeeds.{shape_read}
+use Rattle.shape_change.proofs.HeldContents.{HoldsValue}
+
+-- a small integer's word shows it in a slot that is not wide
+small_shows : {heap : Heap} {own : Bool} (one : Rep) (v : ℤ) → IsTrue (small v) → (one ≡ rep.Wide → ⊥)
+    → ShowsField heap own (small_word v) one (value.Int v)
+small_shows rep.Small v is apart = ShowsField.small_integer v is refl
+small_shows rep.Wide v is apart = absurd (apart refl)
+small_shows rep.Tagged v is apart = ShowsField.tagged (value.Int v) (ShowsValue.small_integer v is refl)
+
+-- where the places of objects stay, a tagged word shows its value, and names no store, table or box
+pub word_shows : {old new : Heap} {own : Bool} {was one : Rep} {what : Value} (word : Word) → PlacesStay old new
+    → HoldsValue old own was one what (content.Tagged word) → ShowsField new own word.0 one what × NamesNone new word.0
+word_shows word places (HoldsValue.small_integer one v is apart) = (small_shows one v is apart, small_names_none v)
+word_shows word places HoldsValue.undefined =
+    (ShowsField.tagged value.Undefined (ShowsValue.undefined refl), undefined_names_none)
+word_shows {new = new} word places (HoldsValue.object at number place) =
+    let refers : RefersToPlace new word.0 number = record { at = at; refers = refl; place = places number at place } in
+    (ShowsField.tagged (value.Ref number) (ShowsValue.object number refers), object_names_none refers)
+
+-- an integer's raw word shows it
+raw_word_shows : {heap : Heap} (own : Bool) (v : ℤ) → own ≡ true → FitsSigned w64 v
+    → ShowsField heap own (raw_word v) rep.Wide (value.Int v)
+raw_word_shows true v is fits = ShowsField.wide v (refl, fits)
+raw_word_shows false v is fits = absurd (false≢true is)
+
+-- a raw word shows its value, in the object itself and as a wide field
+pub raw_shows : {old new : Heap} {own : Bool} {was one : Rep} {what : Value} (word count : ℕ) → IsValue count what
+    → HoldsValue old own was one what (content.Raw word)
+    → ShowsField new own word one what × ((own ≡ true) × (one ≡ rep.Wide))
+raw_shows {own = own} word count fits (HoldsValue.raw v is apart) = (raw_word_shows own v is fits, (is, refl))
+
+-- a reference to a box of an integer shows it as a wide field of the property store
+wide_box_shows : {heap : Heap} (own : Bool) (word : ℕ) (v : ℤ) → own ≡ false → RefersToBox heap word v
+    → ShowsField heap own word rep.Wide (value.Int v)
+wide_box_shows true word v beside box = absurd (false≢true (sym beside))
+wide_box_shows false word v beside box = ShowsField.wide v box
+
+-- What a slot that comes to refer to a box shows, where the box holds the integer. It was and is no raw slot.
+pub record ShowsByBox (heap : Heap) (own : Bool) (was one : Rep) (what : Value) (v : ℤ) : Type 0 where
+  pub shows : (word : ℕ) → RefersToBox heap word v → ShowsField heap own word one what
+  pub was_not_raw : own ≡ true → was ≡ rep.Wide → ⊥
+  pub fits : (count : ℕ) → IsValue count what → FitsSigned w64 v
+
+-- so it shows it
+pub box_shows : {old new : Heap} {own : Bool} {was one : Rep} {what : Value} (v : ℤ)
+    → HoldsValue old own was one what (content.Boxed v) → ShowsByBox new own was one what v
+box_shows {own = own} v (HoldsValue.wide_box of beside apart small_stays) = record {
+  shows = λ word box. wide_box_shows own word v beside box;
+  was_not_raw = λ is wide. false≢true (sym beside ∙ is);
+  fits = λ count is. is;
+}
+box_shows v (HoldsValue.tagged_box of wide tagged) = record {
+  shows = λ word box. ShowsField.tagged (value.Int v) (ShowsValue.boxed v wide box);
+  was_not_raw = λ is was_wide.
+      let same : rep.Tagged ≡ rep.Wide = sym tagged ∙ was_wide in
+      cc;
+  fits = λ count is. is;
+}
+
+-- the box to which a word refers
+pub record IsBoxOf (heap : Heap) (word at : ℕ) : Type 0 where
+  pub cell : Cell
+  pub words : List ℕ
+  pub refers : RefersTo heap word cell words
+  pub box : cell.layout.kind ≡ kind.Boxed
+  pub stands : cell.at ≡ at
+
+-- what is chosen by a test is there where the test holds
+chosen : (test : Bool) (found : Option ℕ) (at : ℕ) → (if test then found else None) ≡ Some at
+    → (test ≡ true) × (found ≡ Some at)
+chosen true found at is = (refl, is)
+chosen false found at is = absurd (none-some at is)
+
+-- the box that is told of a slot's word is that
+pub box_of_word : {heap : Heap} (word at : ℕ) → HasSizes heap → IsSlotWord heap word → box_in heap word ≡ Some at
+    → IsBoxOf heap word at
+box_of_word {heap} word at sized slot is =
+    let parts = chosen (is_box_word heap word) (reference_in word) at is in
+    let refers = (reference_from word at parts.1).1 in
+    let there = slot_target word at slot refers in
+    let told : is_box_at heap (Some at) ≡ true = ap (is_box_at heap) (sym parts.1) ∙ parts.0 in
+    let shape : there.cell.header.shape ≡ box_shape =
+    sym (shape_read there.has) ∙ ap (shape_at heap) there.stands ∙ eqb-true (shape_at heap at) box_shape told in
+    record {
+      cell = there.cell;
+      words = there.words;
+      refers = record { refers = refers ∙ ap reference_word (sym there.stands); has = there.has };
+      box = shape_is_box sized there.has shape;
+      stands = there.stands;
+    }

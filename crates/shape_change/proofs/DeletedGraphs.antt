@@ -1,0 +1,143 @@
+-- A heap from which a field was taken out shows the graph in which its object lacks the field.
+use Rattle.std.proofs.Common.{◌≡◌, ℕ, false, List, [], ◌++◌, length, Some, slice_get}
+use Rattle.std.proofs.Common.{slice_set, refl, sym, ◌∙◌, ap, subst, arith, add-zero}
+use Rattle.std.specs.Prelude.{Result, Ok, Err}
+use Rattle.std.proofs.lemmas.List.{append-nil, set-get_or}
+use Rattle.std.proofs.lemmas.Option.{none-some, get_or_from_slice_get, slice_get_within}
+use Rattle.tagged_word.specs.declared.header.Header.{Header}
+use Rattle.object_graph.specs.declared.object.Object.{Object}
+use Rattle.object_graph.specs.declared.object.Object.TheVariants.{Plain}
+use Rattle.object_graph.specs.declared.path.Path.{Path}
+use Rattle.object_graph.specs.Objects.{without_field}
+use Rattle.object_graph.specs.Paths.{path_of, with_path, missing}
+use Rattle.object_graph.specs.Graphs.{Graph, PlainObject}
+use Rattle.object_graph.specs.Invariants.{HasItsPath}
+use Rattle.object_graph.specs.Limits.{paths_most}
+use Rattle.shape_tree.specs.declared.full.ShapesFull.{ShapesFull}
+use Rattle.shape_tree.specs.Shapes.{shape_path, has_name, without}
+use Rattle.shape_tree.proofs.GrownPaths.{missing-there}
+use Rattle.shape_tree.proofs.LedPaths.{with_path-added}
+use Rattle.cell_layout.specs.declared.cell.Cell.{Cell}
+use Rattle.nursery.specs.Young.{Young}
+use Rattle.heap_model.specs.Heaps.{words_of_cell}
+use Rattle.heap_model.specs.Showing.{ShowsPlain}
+use Rattle.heap_model.proofs.SlotWords.{All-slice_get}
+use Rattle.write_barrier.specs.Mains.{Mutator, heap_of, MainShows}
+use Rattle.shape_change.specs.CellsAt.{IsHeaderAt}
+use Rattle.shape_change.specs.FieldChanges.{IsPlainAt, ShowsRefilled, UsesMore, HasDeletedField, DeletesField}
+use Rattle.shape_change.specs.Deletions.{TakesOut, TakingOut}
+use Rattle.shape_change.proofs.FieldsFound.{no_value, value_found}
+use Rattle.shape_change.proofs.FieldsLess.{are_less, none_less}
+use Rattle.shape_change.proofs.PlainFields.{names_distinct}
+use Rattle.shape_change.proofs.NewFields.{rest_of_fields_are_new}
+use Rattle.shape_change.proofs.RefilledHeaps.{written_fields_show}
+use Rattle.shape_change.proofs.DeletedSlots.{Deleting}
+use Rattle.shape_change.proofs.DeletedCells.{others_of, deleted_writes}
+use Rattle.shape_change.proofs.DeletedHeaps.{deleted_refills}
+use Rattle.shape_change.proofs.ShownFields.{shown_cell, FieldFound}
+
+-- no word more is used
+uses_none : (old new : Mutator) → new.seat.space ≡ old.seat.space → new.young ≡ old.young → UsesMore old new 0
+uses_none old new space young =
+    let used : Young → ℕ → Young = λ one n. record one { used = n } in
+    record { space = space; young = young ∙ ap (used old.young) (sym (add-zero old.young.used)) }
+
+-- the path of the object without the field is the one that was looked for
+path_less : (main : Mutator) (graph : Graph) (object : ℕ) (plain : PlainObject) (header : Header) (slot name : ℕ)
+    → MainShows main graph → IsPlainAt main graph object plain → IsHeaderAt (heap_of main) object header
+    → FieldFound main object plain header slot name
+    → without (shape_path main.paths header.shape) slot ≡ path_of plain.cap (without_field plain.fields name)
+path_less main graph object plain header slot name shows is header_at found =
+    let shown = shown_cell main graph object plain header shows is header_at in
+    let distinct = names_distinct shows is in
+    let less = are_less plain.cap plain.fields slot found.field name distinct found.there found.named in
+    ap (λ s. without (shape_path main.paths s) slot) (sym (ap (λ (h : Header). h.shape) shown.header_is))
+    ∙ ap (λ (p : Path). without p slot) shown.shows.path ∙ less.path
+
+-- the heap shows the graph in which the object lacks the field
+field_less : (old new : Mutator) (graph : Graph) (object : ℕ) (plain : PlainObject) (header : Header) (slot name : ℕ)
+    → MainShows old graph → IsPlainAt old graph object plain → IsHeaderAt (heap_of old) object header
+    → FieldFound old object plain header slot name → TakesOut old new object header slot
+    → ShowsRefilled new graph plain (without_field plain.fields name)
+field_less old new graph object plain header slot name shows is header_at found taken =
+    let shown = shown_cell old graph object plain header shows is header_at in
+    let cell : Cell = shown.cell in
+    let words : List ℕ = words_of_cell (heap_of old) cell in
+    let taken_at : TakesOut old new cell.at cell.header slot =
+    subst (λ n. TakesOut old new n cell.header slot) (sym shown.at)
+    (subst (λ (h : Header). TakesOut old new object h slot) (sym shown.header_is) taken) in
+    let deleting : Deleting old new cell slot plain.fields = record {
+      whole = shows.shows.whole;
+      has = shown.has;
+      shows = subst (λ n. ShowsPlain (heap_of old) cell words n plain.fields) (sym shown.cap) shown.shows;
+      taken = taken_at;
+      there = slice_get_within plain.fields slot found.field found.there;
+    } in
+    let distinct = names_distinct shows is in
+    let less = are_less cell.layout.cap plain.fields slot found.field name distinct found.there found.named in
+    let added = ap (λ (paths : List Path). with_path (Some paths_most) paths
+    (path_of plain.cap (without_field plain.fields name))) (sym shows.shows.paths)
+    ∙ ap (with_path (Some paths_most) old.paths)
+    (sym (path_less old graph object plain header slot name shows is header_at found)) ∙ taken.leads.added in
+    let tied = ap (λ (young : Young). young.space) taken.young ∙ shows.tied ∙ sym taken.space in
+    written_fields_show old new graph plain cell taken_at.next (others_of deleting) [] (without_field plain.fields name)
+    shows is.object shown.carries shown.cap shown.shows
+    (rest_of_fields_are_new graph plain name shows.is_graph is.object is.reached) added tied (taken.phase ∙ shows.quiet)
+    (deleted_writes deleting) (deleted_refills name deleting less)
+
+-- a field that was found is taken out, or there are too many paths
+pub field_deleted : (old new : Mutator) (graph : Graph) (object : ℕ) (plain : PlainObject) (header : Header)
+    (slot name : ℕ) (result : Result Unit ShapesFull) → MainShows old graph → IsPlainAt old graph object plain
+    → IsHeaderAt (heap_of old) object header → FieldFound old object plain header slot name
+    → TakingOut old new object header slot result → DeletesField old new graph plain name result
+field_deleted old new graph object plain header slot name (Ok done) shows is header_at found taken =
+    let value = value_found plain.fields slot found.field name (names_distinct shows is) found.there found.named in
+    record {
+      none = λ none. absurd (none-some found.field.value (sym none ∙ value));
+      uses = uses_none old new taken.space taken.young;
+      shows = field_less old new graph object plain header slot name shows is header_at found taken;
+    }
+field_deleted old new graph object plain header slot name (Err full) shows is header_at found refused = (
+  ap (λ (paths : List Path). with_path (Some paths_most) paths (path_of plain.cap (without_field plain.fields name)))
+      (sym shows.shows.paths)
+      ∙ ap (with_path (Some paths_most) old.paths)
+      (sym (path_less old graph object plain header slot name shows is header_at found)) ∙ refused.0.refused,
+  refused.1,
+)
+
+-- an object that gets its own fields, whose path is there, is as it was
+refilled_alike : (main : Mutator) (graph : Graph) (plain : PlainObject) → MainShows main graph
+    → slice_get graph.objects plain.number ≡ Some (Plain plain.cap plain.fields)
+    → ShowsRefilled main graph plain plain.fields
+refilled_alike main graph plain shows there =
+    let what : Object = Plain plain.cap plain.fields in
+    let path : Path = path_of plain.cap plain.fields in
+    let shaped : HasItsPath graph.paths what =
+    All-slice_get (HasItsPath graph.paths) graph.objects plain.number what shows.is_graph.shaped there in
+    let none : missing graph.paths path ≡ [] = missing-there graph.paths path shows.is_graph.paths shaped in
+    let few = shows.shows.whole.sized.shapes.few in
+    let same : slice_set graph.objects plain.number what ≡ graph.objects =
+    ap (slice_set graph.objects plain.number) (sym (get_or_from_slice_get graph.objects plain.number what what there))
+    ∙ set-get_or graph.objects plain.number what in
+    record {
+      paths = graph.paths;
+      added = with_path-added graph.paths graph.paths path
+          (sym (append-nil graph.paths) ∙ ap (λ more. graph.paths ++ more) (sym none))
+          (omega (arith, few, ap length shows.shows.paths, ap length none));
+      shows = subst (λ objects. MainShows main (record graph { objects = objects })) (sym same) shows;
+    }
+
+-- where no field has the name, nothing happens
+pub none_deleted : (main : Mutator) (graph : Graph) (object : ℕ) (plain : PlainObject) (header : Header) (name : ℕ)
+    → MainShows main graph → IsPlainAt main graph object plain → IsHeaderAt (heap_of main) object header
+    → has_name (shape_path main.paths header.shape) name ≡ false → HasDeletedField main main graph plain name
+none_deleted main graph object plain header name shows is header_at none =
+    let shown = shown_cell main graph object plain header shows is header_at in
+    let path = ap (shape_path main.paths) (sym (ap (λ (h : Header). h.shape) shown.header_is)) ∙ shown.shows.path in
+    let value = no_value plain.cap plain.fields name (ap (λ (p : Path). has_name p name) (sym path) ∙ none) in
+    record {
+      none = λ _. refl;
+      uses = uses_none main main refl refl;
+      shows = subst (ShowsRefilled main graph plain) (sym (none_less plain.fields name value))
+          (refilled_alike main graph plain shows is.object);
+    }

@@ -1,0 +1,93 @@
+-- Once a field was taken out of the cells of a plain object, the heap shows the graph in which the object lacks it.
+use Rattle.std.proofs.Common.{◌≡◌, ℕ, ◌+◌, List, [], ◌++◌, Contains}
+use Rattle.std.proofs.Common.{inl, refl, sym, ◌∙◌, ap, subst, arith}
+use Rattle.std.proofs.lemmas.List.{append-nil}
+use Rattle.tagged_word.specs.declared.layout.Kind.TheVariants as kind
+use Rattle.tagged_word.specs.Cells.{store_slot}
+use Rattle.object_graph.specs.declared.object.Field.{Field}
+use Rattle.object_graph.specs.Objects.{without_field}
+use Rattle.cell_layout.specs.declared.cell.Cell.{Cell}
+use Rattle.heap_model.specs.Heaps.{Heap, words_of_cell}
+use Rattle.heap_model.specs.Slots.{is_object_kind, reference_word}
+use Rattle.heap_model.specs.Kinds.{HasWord, HasNoNumber, IsStoreCell, IsSoundOf}
+use Rattle.heap_model.specs.Wholeness.{IsOwnedKind, NamesFrom}
+use Rattle.heap_model.proofs.ObjectSlots.{store_slot_at}
+use Rattle.write_barrier.specs.Mains.{Mutator, heap_of}
+use Rattle.shape_change.specs.SlotChanges.{RefillsSlots}
+use Rattle.shape_change.proofs.FieldsLess.{origin_of, origins_apart, AreLess}
+use Rattle.shape_change.proofs.StoreCells.{is_store_cell}
+use Rattle.shape_change.proofs.DeletedSlots.{Deleting, count_is, room_is}
+use Rattle.shape_change.proofs.DeletedCells.{others_of}
+use Rattle.shape_change.proofs.DeletedCame.{slots_now}
+use Rattle.shape_change.proofs.DeletedFields.{path_now, slot_comes, slot_shows, rest_is_hole}
+
+-- the object names its store
+store_belongs : {old new : Mutator} {cell : Cell} {slot : ℕ} {fields : List Field}
+    (deleting : Deleting old new cell slot fields) (other : Cell) → Contains (others_of deleting) other
+    → (at : ℕ) × NamesFrom (heap_of old) cell at other.at
+store_belongs {old} {cell = cell} deleting other there =
+    let heap : Heap = heap_of old in
+    let are = deleting.shows.has in
+    let is = is_store_cell are.stands other there in (
+      cell.at + store_slot,
+      record {
+        words = words_of_cell heap cell;
+        has = deleting.has;
+        object = ap is_object_kind deleting.shows.of_kind;
+        word = are.store;
+        of_owner = store_slot_at are.store (ap is_object_kind deleting.shows.of_kind) are.slot;
+        cell = other;
+        others = words_of_cell heap other;
+        refers = is.refers;
+        owned = subst IsOwnedKind (sym is.of_kind) tt;
+        at = refl;
+      },
+    )
+
+-- its store has no number, and its slot refers to it
+store_told : {old new : Mutator} {cell : Cell} {slot : ℕ} {fields : List Field}
+    (deleting : Deleting old new cell slot fields) (other : Cell) → Contains (others_of deleting) other
+    → HasNoNumber other × (deleting.shows.has.store ≡ reference_word other.at)
+store_told {old} deleting other there =
+    let heap : Heap = heap_of old in
+    let is = is_store_cell deleting.shows.has.stands other there in
+    let words : List ℕ = words_of_cell heap other in
+    let sound : IsStoreCell heap other words =
+    subst (λ k. IsSoundOf k heap other words) is.of_kind (deleting.whole.sound other words is.refers.has) in
+    (sound.no_number, is.refers.refers)
+
+-- the fields of the object become those without the one, slot by slot
+pub deleted_refills : {old new : Mutator} {cell : Cell} {slot : ℕ} {fields : List Field} (name : ℕ)
+    (deleting : Deleting old new cell slot fields) → AreLess cell.layout.cap fields slot name
+    → RefillsSlots (heap_of old) (heap_of new) cell deleting.taken.next (others_of deleting) [] fields
+    (without_field fields name)
+deleted_refills {old} {new} {cell} {slot} {fields} name deleting less =
+    let shows = deleting.shows in
+    let now = slots_now deleting in
+    let among : (other : Cell) → Contains (others_of deleting ++ []) other → Contains (others_of deleting) other =
+    λ other there. subst (λ all. Contains all other) (append-nil (others_of deleting)) there in
+    record {
+      slots = shows.slots;
+      were = shows.has;
+      now = now.now;
+      are = now.are;
+      path = path_now name deleting less;
+      enough = omega (arith, less.count, count_is deleting, room_is deleting, now.count);
+      origin = origin_of slot;
+      apart = origins_apart slot;
+      one = 0;
+      each_slot = λ one word there tagged. slot_comes name one word deleting less there tagged;
+      each_field = λ one word field of_field there. slot_shows name one word field deleting less of_field there;
+      rest = λ one word from there. rest_is_hole name one word deleting less from there;
+      store = now.are.store;
+      has_store = now.are.slot;
+      store_comes = inl (subst (HasWord (words_of_cell (heap_of old) cell) store_slot) (sym now.store) shows.has.slot);
+      belong = λ other there. store_belongs deleting other there;
+      kinds = λ other there. absurd (omega (arith, there.1));
+      stores = λ other there store.
+          let told = store_told deleting other (among other there) in (told.0, now.store ∙ told.1);
+      boxes = λ other there boxed.
+          let is = is_store_cell shows.has.stands other (among other there) in
+          let kinds : kind.Boxed ≡ kind.Store = sym boxed ∙ is.of_kind in
+          cc;
+    }

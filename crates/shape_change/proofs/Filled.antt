@@ -1,0 +1,36 @@
+-- What filling a slot leaves of the mutator.
+use Rattle.std.proofs.Common.{◌≡◌, ℕ, refl, ap, ◌∙◌}
+use Rattle.heap_table.specs.Seats.{Seat}
+use Rattle.write_barrier.specs.Mains.{Mutator}
+use Rattle.write_barrier.specs.Opening.{ChangesWithin}
+use Rattle.shape_change.specs.declared.content.Filling.{Filling}
+use Rattle.shape_change.specs.declared.content.Filling.TheVariants as filling
+use Rattle.shape_change.specs.Contents.{filled, Allocates}
+use Rattle.shape_change.specs.Fillings.{with_paths}
+
+-- where words are used, the seat stays
+pub allocates_seat : (old new : Mutator) (filling : Filling) → Allocates old new filling → new.seat ≡ old.seat
+allocates_seat old new (filling.Tagged word) same = ap (λ (main : Mutator). main.seat) same
+allocates_seat old new (filling.Raw word) same = ap (λ (main : Mutator). main.seat) same
+allocates_seat old new (filling.NewBox at v) more = ap (λ (main : Mutator). main.seat) more.1
+allocates_seat old new (filling.OldBox at v) same = ap (λ (main : Mutator). main.seat) same
+
+-- and the paths stay
+pub allocates_paths : (old new : Mutator) (filling : Filling) → Allocates old new filling → new.paths ≡ old.paths
+allocates_paths old new (filling.Tagged word) same = ap (λ (main : Mutator). main.paths) same
+allocates_paths old new (filling.Raw word) same = ap (λ (main : Mutator). main.paths) same
+allocates_paths old new (filling.NewBox at v) more = ap (λ (main : Mutator). main.paths) more.1
+allocates_paths old new (filling.OldBox at v) same = ap (λ (main : Mutator). main.paths) same
+
+-- where a slot is filled, the regions stay
+pub filled_space : (main : Mutator) (at : ℕ) (filling : Filling) → (filled main at filling).seat.space ≡ main.seat.space
+filled_space main at (filling.Tagged word) = refl
+filled_space main at (filling.Raw word) = refl
+filled_space main at (filling.NewBox box v) = refl
+filled_space main at (filling.OldBox box v) = refl
+
+-- and so they do where paths are added in between
+pub laid_space : (old between laid : Mutator) (filling : Filling) (from to : ℕ) → Allocates old between filling
+    → ChangesWithin (with_paths between laid.paths) laid from to → laid.seat.space ≡ old.seat.space
+laid_space old between laid filling from to allocates changes =
+    changes.space ∙ ap (λ (seat : Seat). seat.space) (allocates_seat old between filling allocates)

@@ -1,0 +1,76 @@
+-- The place of a slot is the address of its number, and the word there is that of its field.
+use Rattle.std.proofs.Common.{◌≡◌, ℕ, ◌+◌, ◌-◌, ◌<◌, ◌≤◌, true, false, List, length, Some, nat_lt, cond, unwrap_or}
+use Rattle.std.proofs.Common.{refl, sym, ◌∙◌, ap, arith, length-drop}
+use Rattle.std.proofs.lemmas.Bool.Decides.{nat_tests}
+use Rattle.tagged_word.specs.declared.layout.Kind.TheVariants as kind
+use Rattle.tagged_word.specs.Cells.{plain_head, store_head, store_slot}
+use Rattle.tagged_word.specs.Readings.{reference_in}
+use Rattle.tagged_word.proofs.Readings.{reference_from}
+use Rattle.cell_layout.specs.declared.cell.Cell.{Cell}
+use Rattle.heap_model.specs.Heaps.{Heap, HasCell}
+use Rattle.heap_model.specs.Slots.{IsBeside}
+use Rattle.heap_model.specs.Kinds.{HasWord, HasSlots}
+use Rattle.heap_model.specs.Needs.{word_at, field_word, beside_by}
+use Rattle.heap_model.proofs.CellsApart.{IsOfCell}
+use Rattle.heap_model.proofs.CellWords.{words_are_size}
+use Rattle.heap_model.proofs.WordClasses.{same_reference}
+use Rattle.shape_change.specs.declared.place.Place.{Place}
+use Rattle.shape_change.specs.declared.place.Place.TheVariants.{InObject, Beside}
+use Rattle.shape_change.specs.Places.{place_at, IsPlaceOf}
+use Rattle.shape_change.proofs.CellsRead.{word_stands}
+use Rattle.shape_change.proofs.SlotPlaces.{behind_cap_below}
+use Rattle.shape_change.proofs.NumberedSlots.{IsNumbered}
+use Rattle.shape_change.proofs.SlotsNow.{plain_cell_size}
+
+-- the word of a cell at an offset is read there
+pub word_read : {heap : Heap} {cell : Cell} {words : List ℕ} (k word : ℕ) → HasCell heap cell words
+    → HasWord words k word
+    → word_at heap (cell.at + k) ≡ word
+word_read k word has there = ap (λ found. unwrap_or found 0) (word_stands k word has there)
+
+-- a place in the store is the address of its slot
+place_beside : {heap : Heap} {cell : Cell} {words : List ℕ} (word : ℕ) (slots : List ℕ) (slot store offset : ℕ)
+    → HasWord words store_slot word → IsBeside heap kind.Store word slots → cell.layout.cap ≤ slot
+    → slot - cell.layout.cap < length slots → reference_in word ≡ Some store
+    → offset ≡ store_head + (slot - cell.layout.cap) → IsNumbered heap cell words slot (store + offset)
+place_beside word slots slot store offset there IsBeside.none from below refers is = absurd (omega (arith, below))
+place_beside {cell = cell} word slots slot store offset there (IsBeside.store to other others target of_kind) from below
+    refers is =
+    let same : other.at ≡ store =
+    same_reference other.at store (sym target.refers ∙ (reference_from word store refers).1) in
+    let k : ℕ = slot - cell.layout.cap in
+    let of_cell : IsOfCell other (store + offset) = record {
+      from = omega (arith, same);
+      below = omega (arith, same, is, below, length-drop store_head others, words_are_size target.has);
+    } in
+    IsNumbered.beside word k other others there target of_kind (omega (arith, from)) (omega (arith, same, is)) of_cell
+
+-- the place of a slot is the address of its number
+pub place_numbered : {heap : Heap} {cell : Cell} {words slots : List ℕ} (slot : ℕ) (place : Place)
+    → HasCell heap cell words
+    → cell.layout.kind ≡ kind.Plain → HasSlots heap words slots → slot < length slots
+    → IsPlaceOf heap cell.at cell.layout.cap slot place → IsNumbered heap cell words slot (place_at cell.at place)
+place_numbered {cell = cell} slot (InObject offset) has plain are below is =
+    let of_cell : IsOfCell cell (cell.at + offset) =
+    record { from = omega arith; below = omega (arith, is.0, is.1, plain_cell_size has plain) } in
+    IsNumbered.own is.0 (ap (λ n. cell.at + n) is.1) of_cell
+place_numbered {cell = cell} slot (Beside store offset) has plain are below is =
+    let read = word_read store_slot are.store has are.slot in
+    place_beside are.store are.beside slot store offset are.slot are.stands is.0
+    (behind_cap_below slot cell.layout.cap has plain are refl is.0 below) (ap reference_in (sym read) ∙ is.1) is.2
+
+-- the word there is that of the field of this number
+pub field_word_at : (heap : Heap) (object cap slot : ℕ) (place : Place) → IsPlaceOf heap object cap slot place
+    → field_word heap object cap slot ≡ word_at heap (place_at object place)
+field_word_at heap object cap slot (InObject offset) is =
+    let test : nat_lt slot cap ≡ true = grind (arith, nat_tests, is.0) in
+    let other : ℕ = beside_by heap (reference_in (word_at heap (object + store_slot))) (slot - cap) in
+    let same : object + plain_head + slot ≡ object + offset = omega (arith, is.1) in
+    ap (λ t. cond t (word_at heap (object + plain_head + slot)) other) test ∙ ap (word_at heap) same
+field_word_at heap object cap slot (Beside store offset) is =
+    let test : nat_lt slot cap ≡ false = grind (arith, nat_tests, is.0) in
+    let own : ℕ = word_at heap (object + plain_head + slot) in
+    let found = reference_in (word_at heap (object + store_slot)) in
+    let same : store + store_head + (slot - cap) ≡ store + offset = omega (arith, is.2) in
+    ap (λ t. cond t own (beside_by heap found (slot - cap))) test
+    ∙ ap (λ to. beside_by heap to (slot - cap)) is.1 ∙ ap (word_at heap) same

@@ -1,0 +1,49 @@
+-- The layout words where paths were added, and those of the new ones are still to be put.
+use Rattle.std.proofs.Common.{◌≡◌, ℕ, zero, suc, ◌+◌, ◌≤◌, ◌<◌, List, ◌++◌, length, map, take, drop, Some}
+use Rattle.std.proofs.Common.{slice_get, unwrap_or, refl, sym, ◌∙◌, ap, arith, length-append, length-take}
+use Rattle.std.proofs.lemmas.List.{length-map, take-append-drop}
+use Rattle.std.proofs.lemmas.Option.{slice_get_past}
+use Rattle.tagged_word.specs.Layouts.{layout_bits}
+use Rattle.tagged_word.specs.Shapes.{shapes_most, first_path_shape, fixed_layout_words}
+use Rattle.page_space.specs.Extents.{layouts_start}
+use Rattle.object_graph.specs.declared.path.Path.{Path}
+use Rattle.shape_tree.specs.ShapeLayouts.{layout_of, layout_word, layout_words}
+use Rattle.shape_tree.proofs.PathLayouts.{layout_word-append}
+use Rattle.heap_table.specs.Seats.{heap_words}
+use Rattle.write_barrier.specs.Mains.{Mutator}
+use Rattle.write_barrier.specs.Opening.{LayoutsBelow}
+
+-- where paths are added, the layout word of each shape that was there stays, and that of shape 0
+layout_word_kept : (paths more : List Path) (shape : ℕ) → shape < first_path_shape + length paths
+    → layout_word (paths ++ more) shape ≡ layout_word paths shape
+layout_word_kept paths more zero below = refl
+layout_word_kept paths more (suc shape) below =
+    layout_word-append paths more (suc shape) (record { from = omega arith; below = below })
+
+-- the layout word of a shape that is not in use is 0
+layout_word_past : (paths : List Path) (shape : ℕ) → first_path_shape + length paths ≤ shape
+    → layout_word paths shape ≡ 0
+layout_word_past paths shape past =
+    let word : Path → ℕ = λ path. layout_bits (layout_of path) in
+    let eight : length fixed_layout_words ≡ first_path_shape = refl in
+    let long : length (layout_words paths) ≡ first_path_shape + length paths =
+    omega (arith, length-append fixed_layout_words (map word paths), length-map paths word) in
+    ap (λ found. unwrap_or found 0) (slice_get_past (layout_words paths) shape (omega (arith, long)))
+
+-- where the layout words are those of the first paths, those of the other paths are still to be put
+pub new_layouts_below : (main : Mutator) (before : ℕ) → before ≤ length main.paths
+    → ((shape : ℕ) → shape < shapes_most → slice_get (heap_words main.seat) (layouts_start main.seat.space + shape)
+    ≡ Some (layout_word (take before main.paths) shape))
+    → LayoutsBelow main (first_path_shape + before)
+new_layouts_below main before fewer were =
+    let first = take before main.paths in
+    let more = drop before main.paths in
+    let all : first ++ more ≡ main.paths = take-append-drop before main.paths in
+    let long : length first ≡ before = omega (arith, length-take before main.paths) in
+    record {
+      known = λ shape below few.
+          were shape few ∙ ap (λ word. Some word) (sym (layout_word_kept first more shape (omega (arith, long))))
+          ∙ ap (λ paths. Some (layout_word paths shape)) all;
+      rest = λ shape from few.
+          were shape few ∙ ap (λ word. Some word) (layout_word_past first shape (omega (arith, long)));
+    }

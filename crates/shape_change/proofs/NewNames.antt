@@ -1,0 +1,145 @@
+-- A name that is new to a plain object of a graph that is shown: what its shape tells, and when a field of it may come.
+use Rattle.std.proofs.Common.{◌≡◌, ℕ, ◌≤◌, ◌<◌, false, length, Some, None, refl, sym, ◌∙◌, ap, subst, arith}
+use Rattle.std.proofs.Common.{◌++◌}
+use Rattle.std.proofs.lemmas.List.{length-map}
+use Rattle.std.proofs.lemmas.Option.{none-some}
+use Rattle.tagged_word.specs.declared.header.Header.{Header}
+use Rattle.object_graph.specs.declared.value.Value.{Value}
+use Rattle.object_graph.specs.declared.object.Field.{Field}
+use Rattle.object_graph.specs.declared.path.Path.{Path}
+use Rattle.object_graph.specs.Objects.{field_value, with_field}
+use Rattle.object_graph.specs.Paths.{path_of, with_path, missing}
+use Rattle.object_graph.specs.Graphs.{Graph, PlainObject}
+use Rattle.object_graph.specs.Invariants.{IsValue, fields_most}
+use Rattle.object_graph.specs.Limits.{paths_most}
+use Rattle.shape_tree.specs.declared.full.ShapesFull.{ShapesFull}
+use Rattle.shape_tree.specs.Shapes.{IsPathShape, IsFullFor, shape_path, has_name, stepped}
+use Rattle.shape_tree.proofs.LedPaths.{with_path-added}
+use Rattle.handle_roots.specs.declared.held.Held.{Held}
+use Rattle.handle_roots.specs.Roots.{FitsHeld}
+use Rattle.heap_model.specs.Showing.{ShowsHeld}
+use Rattle.write_barrier.specs.Mains.{Mutator, heap_of, MainShows}
+use Rattle.shape_change.specs.FieldChanges.{IsPlainAt, IsShownSetting, LacksFields, LacksPaths}
+use Rattle.shape_change.specs.CellsAt.{IsHeaderAt}
+use Rattle.shape_change.specs.Contents.{held_rep}
+use Rattle.shape_change.specs.Additions.{IsShapeAt, CanAdd, MayAdd, added_path, count_of}
+use Rattle.shape_change.proofs.CellsRead.{cell_before_marks}
+use Rattle.shape_change.proofs.PlainFields.{plain_sound, plain_shown, shown_whole}
+use Rattle.shape_change.proofs.FullStores.{cap_is}
+use Rattle.shape_change.proofs.SlotsNow.{plain_cell_size}
+use Rattle.shape_change.proofs.HeldContents.{held_rep_is}
+use Rattle.shape_change.proofs.AddedFields.{new_field, with_field-new, path_of-push}
+
+-- The shape of a plain object of a graph that is shown is that of its path.
+pub record IsShownShape (old : Mutator) (plain : PlainObject) (shape : ℕ) : Type 0 where
+  pub is_shape : IsPathShape old.paths shape
+  pub path : shape_path old.paths shape ≡ path_of plain.cap plain.fields
+
+-- so it is with the shape of the header at its address
+pub shown_shape : {old : Mutator} {graph : Graph} {plain : PlainObject} (object shape : ℕ) → MainShows old graph
+    → IsPlainAt old graph object plain → IsShapeAt (heap_of old) object shape → IsShownShape old plain shape
+shown_shape {old} object shape shows is at =
+    let shown = plain_shown shows is in
+    let sound = plain_sound shows.shows.whole shown.has shown.shows.of_kind in
+    let same = at shown.cell shown.words shown.has shown.stands in
+    record {
+      is_shape = subst (IsPathShape old.paths) same sound.shape;
+      path = ap (shape_path old.paths) (sym same) ∙ shown.shows.path;
+    }
+
+-- its path has as many fields as the object
+pub shown_count : {old : Mutator} {plain : PlainObject} {shape : ℕ} → IsShownShape old plain shape
+    → count_of old.paths shape ≡ length plain.fields
+shown_count {plain = plain} known =
+    ap (λ (p : Path). length p.fields) known.path
+    ∙ length-map plain.fields (λ (f : Field). record { name = f.name; rep = f.rep })
+
+-- where it has as many as it may have, a field of a new name is refused
+pub lacks_fields : {old : Mutator} {plain : PlainObject} {shape : ℕ} (name : ℕ) → IsShownShape old plain shape
+    → field_value plain.fields name ≡ None → fields_most ≤ count_of old.paths shape → LacksFields plain name
+lacks_fields name known fresh full = record { fresh = fresh; full = omega (arith, full, shown_count known) }
+
+-- and where it has not, that is no reason
+pub lacks_no_field : {old : Mutator} {plain : PlainObject} {shape : ℕ} (name : ℕ) → IsShownShape old plain shape
+    → count_of old.paths shape < fields_most → LacksFields plain name → ⊥
+lacks_no_field name known few lacks = omega (arith, few, lacks.full, shown_count known)
+
+-- the path with the field is that of the object with it
+pub path_with : {old : Mutator} {plain : PlainObject} {shape : ℕ} {what : Value} (name : ℕ) (value : Held)
+    → IsShownShape old plain shape → ShowsHeld (heap_of old) value (Some what) → field_value plain.fields name ≡ None
+    → added_path old.paths shape name value ≡ path_of plain.cap (with_field plain.fields name what)
+path_with {plain = plain} {what = what} name value known shows fresh =
+    ap (λ (p : Path). stepped p name (held_rep value)) known.path
+    ∙ ap (stepped (path_of plain.cap plain.fields) name) (held_rep_is value what shows)
+    ∙ sym (path_of-push plain.cap plain.fields (new_field name what))
+    ∙ ap (path_of plain.cap) (sym (with_field-new plain.fields name what fresh))
+
+-- so where there may not be as many paths, there may not be as many as the object needs
+pub lacks_paths : {old : Mutator} {graph : Graph} {plain : PlainObject} {shape : ℕ} {what : Value} {full : ShapesFull}
+    (name : ℕ) (value : Held) → MainShows old graph → IsShownShape old plain shape
+    → ShowsHeld (heap_of old) value (Some what) → field_value plain.fields name ≡ None
+    → IsFullFor old.paths old.paths (added_path old.paths shape name value) full
+    → LacksPaths graph plain (with_field plain.fields name what)
+lacks_paths {old} {graph} {plain} {what = what} name value shows known held fresh full =
+    ap (λ paths. with_path (Some paths_most) paths (path_of plain.cap (with_field plain.fields name what)))
+    (sym shows.shows.paths)
+    ∙ ap (with_path (Some paths_most) old.paths) (sym (path_with name value known held fresh)) ∙ full.refused
+
+-- and where there may be as many, these are no reason
+pub lacks_no_path : {old : Mutator} {graph : Graph} {plain : PlainObject} {shape : ℕ} {what : Value} (name : ℕ)
+    (value : Held) → MainShows old graph → IsShownShape old plain shape → ShowsHeld (heap_of old) value (Some what)
+    → field_value plain.fields name ≡ None → MayAdd old.paths (added_path old.paths shape name value)
+    → LacksPaths graph plain (with_field plain.fields name what) → ⊥
+lacks_no_path {old} {graph} {plain} {shape} {what} name value shows known held fresh may lacks =
+    let path = added_path old.paths shape name value in
+    let refused : with_path (Some paths_most) old.paths path ≡ None =
+    ap (with_path (Some paths_most) old.paths) (path_with name value known held fresh)
+    ∙ ap (λ paths. with_path (Some paths_most) paths (path_of plain.cap (with_field plain.fields name what))) shows.shows.paths
+    ∙ lacks in
+    let added = with_path-added old.paths (old.paths ++ missing old.paths path) path refl may in
+    none-some (old.paths ++ missing old.paths path) (sym refused ∙ added)
+
+-- a value that is held is one of the graph
+pub held_is_value : {main : Mutator} {graph : Graph} (known : Held) (what : Value) → MainShows main graph → FitsHeld known
+    → ShowsHeld (heap_of main) known (Some what) → IsValue (length graph.objects) what
+held_is_value known what shows fits ShowsHeld.undefined = tt
+held_is_value known what shows fits (ShowsHeld.integer v) = fits
+held_is_value known what shows fits (ShowsHeld.object at number place) = shows.shows.made number at place
+
+-- so a field of a new name may come to the object
+pub can_add : {old : Mutator} {object shape name : ℕ} {header : Header} {value : Held} → IsShownSetting old object value
+    → IsShapeAt (heap_of old) object shape → IsHeaderAt (heap_of old) object header
+    → has_name (shape_path old.paths shape) name ≡ false → count_of old.paths shape < fields_most
+    → MayAdd old.paths (added_path old.paths shape name value) → CanAdd old object header name value
+can_add {old} {object} {shape} {name} {header} {value} setting at headed is_new few may =
+    let shown = plain_shown setting.shows setting.is in
+    let whole = setting.shows.shows.whole in
+    let sound = plain_sound whole shown.has shown.shows.of_kind in
+    let of_header = headed shown.cell shown.words shown.has shown.stands in
+    let same : shape ≡ header.shape =
+    sym (at shown.cell shown.words shown.has shown.stands) ∙ ap (λ (h : Header). h.shape) of_header in
+    let known = shown_shape object shape setting.shows setting.is at in
+    record {
+      tied = setting.shows.tied;
+      whole = shown_whole setting.shows;
+      there = record {
+        cell = shown.cell;
+        words = shown.words;
+        has = shown.has;
+        stands = shown.stands;
+        plain = shown.shows.of_kind;
+      };
+      headed = of_header;
+      shape = subst (IsPathShape old.paths) same known.is_shape;
+      within = omega (
+        arith,
+        cell_before_marks whole.sized shown.has,
+        plain_cell_size shown.has shown.shows.of_kind,
+        cap_is whole.sized shown.has sound.shape,
+        ap (λ (h : Header). (shape_path old.paths h.shape).cap) of_header,
+        shown.stands,
+      );
+      is_new = subst (λ s. has_name (shape_path old.paths s) name ≡ false) same is_new;
+      few = subst (λ s. count_of old.paths s < fields_most) same few;
+      may = subst (λ s. MayAdd old.paths (added_path old.paths s name value)) same may;
+    }

@@ -1,0 +1,238 @@
+-- What came of setting a field that is there.
+use Rattle.std.proofs.Common.{◌≡◌, ℕ, ◌+◌, List, ◌++◌, length, Some, slice_get, set}
+use Rattle.std.proofs.Common.{refl, sym, ◌∙◌, ap, subst, arith, inl, inr, not, ◌&&◌}
+use Rattle.std.proofs.lemmas.Option.{cond_some}
+use Rattle.tagged_word.specs.declared.header.Header.{Header}
+use Rattle.tagged_word.specs.Headers.{header_bits}
+use Rattle.object_graph.specs.declared.value.Value.{Value}
+use Rattle.object_graph.specs.declared.path.Path.{Path}
+use Rattle.object_graph.specs.declared.path.PathField.{PathField}
+use Rattle.object_graph.specs.Paths.{path_of, with_path, missing, may_have}
+use Rattle.object_graph.specs.Objects.{revalued}
+use Rattle.object_graph.specs.Graphs.{Graph, PlainObject}
+use Rattle.object_graph.specs.Limits.{paths_most}
+use Rattle.page_space.specs.Sizes.{AreWithin}
+use Rattle.page_space.specs.Extents.{Space}
+use Rattle.shape_tree.specs.Shapes.{shape_path, IsShapeOf}
+use Rattle.nursery.specs.Young.{Young, HasRoom}
+use Rattle.heap_table.specs.Seats.{heap_words}
+use Rattle.heap_model.specs.Heaps.{Heap, words_of_cell}
+use Rattle.heap_model.specs.Needs.{set_need_at, set_need_by, path_at, index_of, field_word, is_raw_after, box_need}
+use Rattle.heap_model.specs.Needs.{is_box_word}
+use Rattle.heap_model.proofs.CellsApart.{first_of_cell, has_is_cell}
+use Rattle.write_barrier.specs.Mains.{Mutator, heap_of, with_word}
+use Rattle.shape_change.specs.declared.content.Content.{Content}
+use Rattle.shape_change.specs.declared.content.Filling.{Filling}
+use Rattle.shape_change.specs.declared.content.Filling.TheVariants as filling
+use Rattle.shape_change.specs.declared.place.Place.{Place}
+use Rattle.shape_change.specs.FieldChanges.{is_wide, UsesMore, HasSetField}
+use Rattle.shape_change.specs.Contents.{box_in, next_at, filling_of, filling_at, filling_need, filled}
+use Rattle.shape_change.specs.Fillings.{FillsSlot, FillsWider}
+use Rattle.shape_change.specs.Places.{place_at, IsPlaceOf}
+use Rattle.shape_change.proofs.FieldWords.{path_field}
+use Rattle.shape_change.proofs.FieldsSet.{index_found, path_stays}
+use Rattle.shape_change.proofs.Filled.{allocates_paths, filled_space}
+use Rattle.shape_change.proofs.FilledFields.{next_head}
+use Rattle.shape_change.proofs.FoundPlaces.{field_word_at}
+use Rattle.shape_change.proofs.OneWord.{IsReady}
+use Rattle.shape_change.proofs.OwnCells.{cell_below_layouts}
+use Rattle.shape_change.proofs.PlainFields.{plain_sound, names_distinct}
+use Rattle.shape_change.proofs.ReadyHeaps.{ready_allocated, ready_laid}
+use Rattle.shape_change.proofs.Settings.{Setting, name_is_there, path_is_there}
+use Rattle.shape_change.proofs.SettingNeeds.{shape_read, need_there}
+use Rattle.shape_change.proofs.SetFields.{IsNextShape}
+use Rattle.shape_change.proofs.SetShown.{FillsAt, was_field_word, fill_shown}
+use Rattle.shape_change.proofs.UnusedWords.{cell_is_used, next_before_segments}
+use Rattle.shape_change.proofs.WordsPut.{HasHead}
+
+-- how many words it takes to set the field
+pub setting_need : {old : Mutator} {graph : Graph} {object slot : ℕ} {plain : PlainObject} {what : Value} {name : ℕ}
+    (place : Place) (word : ℕ) (content : Content) (s : Setting old graph object slot plain what name)
+    → AreWithin old.seat.space.sizes old.seat.space.variables
+    → IsPlaceOf (heap_of old) s.cell.at s.cell.layout.cap slot place → FillsAt s (place_at s.cell.at place) word content
+    → set_need_at (heap_of old) s.cell.at name (is_wide what)
+    ≡ filling_need (filling_at old (place_at s.cell.at place) content)
+setting_need {old} {slot = slot} {plain} {what} {name} place word content s within is fills =
+    let heap : Heap = heap_of old in
+    let at : ℕ = s.cell.at in
+    let wide = is_wide what in
+    let path : Path = path_of s.cell.layout.cap plain.fields in
+    let is_path : path_at heap at ≡ path = ap (shape_path heap.paths) (shape_read s.has) ∙ s.shown.path in
+    let by_path = ap (λ (p : Path). set_need_by heap at p (index_of p.fields name) wide) is_path in
+    let index = index_found s.cell.layout.cap plain.fields slot s.field name (names_distinct s.shows s.is) s.there
+    s.named in
+    let by_index = ap (λ found. set_need_by heap at path found wide) index in
+    let read : field_word heap at path.cap slot ≡ word = field_word_at heap at path.cap slot place is ∙ fills.reads in
+    let raw = is_raw_after path slot (slice_get path.fields slot) in
+    let by_word = ap (λ w. box_need (wide && not raw && not (is_box_word heap w))) read in
+    let field : PathField = record { name = s.field.name; rep = s.field.rep } in
+    let there : slice_get path.fields slot ≡ Some field =
+    path_field s.cell.layout.cap plain.fields slot s.field s.there in
+    let by_field = ap (λ found. box_need (wide && not (is_raw_after path slot found) && not (is_box_word heap word)))
+    there in
+    let need = need_there word (next_at old) s.shows.shows.whole.sized within fills.comes (was_field_word s fills) in
+    let by_filling = ap (λ w. filling_need (filling_of (box_in heap w) (next_at old) content)) (sym fills.reads) in
+    by_path ∙ by_index ∙ by_word ∙ by_field ∙ need ∙ by_filling
+
+-- where a slot is filled, what is used stays
+filled_young : (main : Mutator) (at : ℕ) (filling : Filling) → (filled main at filling).young ≡ main.young
+filled_young main at (filling.Tagged word) = refl
+filled_young main at (filling.Raw word) = refl
+filled_young main at (filling.NewBox box v) = refl
+filled_young main at (filling.OldBox box v) = refl
+
+-- and the paths stay
+filled_paths : (main : Mutator) (at : ℕ) (filling : Filling) → (filled main at filling).paths ≡ main.paths
+filled_paths main at (filling.Tagged word) = refl
+filled_paths main at (filling.Raw word) = refl
+filled_paths main at (filling.NewBox box v) = refl
+filled_paths main at (filling.OldBox box v) = refl
+
+-- where the header is put too, only words have changed
+head_rest : (before old new : Mutator) (object head : ℕ) → HasHead before old new object head
+    → (new.seat.space ≡ old.seat.space) × (new.young ≡ old.young) × (new.paths ≡ old.paths)
+head_rest before old new object head (inl is) = (
+  ap (λ (main : Mutator). main.seat.space) is.0,
+  ap (λ (main : Mutator). main.young) is.0,
+  ap (λ (main : Mutator). main.paths) is.0,
+)
+head_rest before old new object head (inr is) = (
+  ap (λ (main : Mutator). main.seat.space) is,
+  ap (λ (main : Mutator). main.young) is,
+  ap (λ (main : Mutator). main.paths) is,
+)
+
+-- so many words of eden more are used
+uses_more : {old mid new : Mutator} {need : ℕ} (object head at : ℕ) (filling : Filling) → IsReady old mid need
+    → HasHead mid (filled mid at filling) new object head → UsesMore old new need
+uses_more {mid = mid} {new} object head at filling ready put =
+    let rest = head_rest mid (filled mid at filling) new object head put in
+    record {
+      space = rest.0 ∙ filled_space mid at filling ∙ ready.space;
+      young = rest.1 ∙ filled_young mid at filling ∙ ready.young;
+    }
+
+-- the young generation has room for no word more
+room_for_none : {old : Mutator} {graph : Graph} {object slot : ℕ} {plain : PlainObject} {what : Value} {name : ℕ}
+    → Setting old graph object slot plain what name → HasRoom old.young 0
+room_for_none {old} s =
+    let young = ap (λ (space : Space). space.sizes.young) s.shows.tied in
+    omega (arith, s.shows.shows.whole.rows.few, young)
+
+-- the header of the object before
+head_was : {old mid : Mutator} {graph : Graph} {object slot : ℕ} {plain : PlainObject} {what : Value} {name need : ℕ}
+    (s : Setting old graph object slot plain what name) → IsReady old mid need
+    → slice_get (heap_words mid.seat) s.cell.at ≡ Some (next_head s s.cell.header.shape)
+head_was {old} {mid} {need = need} s ready =
+    let whole = s.shows.shows.whole in
+    let first = first_of_cell s.has in
+    let used : mid.young.used ≡ old.young.used + need = ap (λ (y : Young). y.used) ready.young in
+    ready.stay s.cell.at (cell_below_layouts whole s.has first) (λ is_new.
+    cell_is_used whole.rows s.has first is_new.from
+    (omega (arith, is_new.below, used, next_before_segments old need s.shows.tied ready.room)))
+    ∙ (has_is_cell s.has).reads.first
+
+-- the field has the value where its slot was filled, and the object's header is that of the shape
+pub has_set_field : {old mid new : Mutator} {graph : Graph} {object slot : ℕ} {plain : PlainObject} {what : Value}
+    {name : ℕ}
+    (place : Place) (word next : ℕ) (content : Content) (s : Setting old graph object slot plain what name)
+    → AreWithin old.seat.space.sizes old.seat.space.variables
+    → IsPlaceOf (heap_of old) s.cell.at s.cell.layout.cap slot place → FillsAt s (place_at s.cell.at place) word content
+    → IsReady old mid (filling_need (filling_at old (place_at s.cell.at place) content)) → IsNextShape old new s next
+    → HasHead mid (filled mid (place_at s.cell.at place) (filling_at old (place_at s.cell.at place) content)) new
+    s.cell.at (next_head s next)
+    → HasSetField old new graph object plain name what
+has_set_field {old} {new = new} {graph} {object} {plain = plain} {what} {name} place word next content s within is
+    fills ready shape head =
+    let at : ℕ = place_at s.cell.at place in
+    let need = setting_need place word content s within is fills in
+    let P : ℕ → Type 0 = λ n. HasRoom old.young n × UsesMore old new n in
+    let uses = uses_more s.cell.at (next_head s next) at (filling_at old at content) ready head in
+    let used = subst P (sym need) (ready.room, uses) in
+    let at_object = subst (λ a. P (set_need_at (heap_of old) a name (is_wide what))) s.stands used in
+    record {
+      few = λ lacks. name_is_there s lacks;
+      room = at_object.0;
+      uses = at_object.1;
+      shows = fill_shown at word next content s fills ready shape head;
+    }
+
+-- the paths are those from before it was filled
+filled_with_paths : (mid new : Mutator) (object head at : ℕ) (filling : Filling)
+    → HasHead mid (filled mid at filling) new object head → new.paths ≡ mid.paths
+filled_with_paths mid new object head at filling put =
+    (head_rest mid (filled mid at filling) new object head put).2 ∙ filled_paths mid at filling
+
+-- where the representation stays, the shape does
+same_shape : {old new : Mutator} {graph : Graph} {object slot : ℕ} {plain : PlainObject} {what : Value} {name : ℕ}
+    (s : Setting old graph object slot plain what name) → (revalued s.field what).rep ≡ s.field.rep
+    → new.paths ≡ old.paths
+    → IsNextShape old new s s.cell.header.shape
+same_shape {old} {new} {slot = slot} {plain} {what} s same paths =
+    let path : Path = path_of plain.cap (set plain.fields slot (revalued s.field what)) in
+    let stays : path ≡ path_of plain.cap plain.fields =
+    path_stays plain.cap plain.fields slot s.field (revalued s.field what) s.there refl same in
+    let sound = plain_sound s.shows.shows.whole s.has s.shown.of_kind in
+    let shape : IsShapeOf old.paths path s.cell.header.shape = record {
+      is_shape = sound.shape;
+      of_path = s.shown.path ∙ ap (λ n. path_of n plain.fields) s.cap ∙ sym stays;
+    } in
+    record {
+      is_shape = subst (λ all. IsShapeOf all path s.cell.header.shape) (sym paths) shape;
+      added = ap (with_path (Some paths_most) old.paths) stays ∙ path_is_there s ∙ ap Some (sym paths);
+    }
+
+-- so the field has the value where its slot was filled and its representation stays
+pub set_as_it_is : {old new : Mutator} {graph : Graph} {object slot : ℕ} {plain : PlainObject} {what : Value} {name : ℕ}
+    (place : Place) (word : ℕ) (content : Content) (s : Setting old graph object slot plain what name)
+    → AreWithin old.seat.space.sizes old.seat.space.variables
+    → IsPlaceOf (heap_of old) s.cell.at s.cell.layout.cap slot place → FillsAt s (place_at s.cell.at place) word content
+    → (revalued s.field what).rep ≡ s.field.rep → FillsSlot old new (place_at s.cell.at place) content
+    → HasSetField old new graph object plain name what
+set_as_it_is {old} {new} place word content s within is fills same filled_so =
+    let at : ℕ = place_at s.cell.at place in
+    let filling : Filling = filling_at old at content in
+    let between = filled_so.between in
+    let ready = ready_allocated old between filling s.shows.shows.whole.sized (room_for_none s) filled_so.allocates in
+    let head : HasHead between (filled between at filling) new s.cell.at (next_head s s.cell.header.shape) =
+    inl (filled_so.fills, head_was s ready) in
+    let paths = filled_with_paths between new s.cell.at (next_head s s.cell.header.shape) at filling head
+    ∙ allocates_paths old between filling filled_so.allocates in
+    has_set_field place word s.cell.header.shape content s within is fills ready (same_shape s same paths) head
+
+-- paths were added behind the others
+added_behind : (old new : List Path) (path : Path) → with_path (Some paths_most) old path ≡ Some new
+    → new ≡ old ++ missing old path
+added_behind old new path added =
+    let more = missing old path in
+    sym (cond_some (may_have (Some paths_most) (length old + length more)) (old ++ more) new added).1
+
+-- and it has the value where its representation became wider as well
+pub set_wider_has : {old new : Mutator} {graph : Graph} {object slot : ℕ} {plain : PlainObject} {what : Value}
+    {name : ℕ}
+    (place : Place) (word : ℕ) (path : Path) (content : Content) (s : Setting old graph object slot plain what name)
+    → AreWithin old.seat.space.sizes old.seat.space.variables
+    → IsPlaceOf (heap_of old) s.cell.at s.cell.layout.cap slot place → FillsAt s (place_at s.cell.at place) word content
+    → path_of plain.cap (set plain.fields slot (revalued s.field what)) ≡ path
+    → FillsWider old new s.cell.at (place_at s.cell.at place) path content
+    → HasSetField old new graph object plain name what
+set_wider_has {old} {new} {plain = plain} {what} place word path content s within is fills is_path wider =
+    let at : ℕ = place_at s.cell.at place in
+    let filling : Filling = filling_at old at content in
+    let laid = wider.laid in
+    let allocated =
+    ready_allocated old wider.between filling s.shows.shows.whole.sized (room_for_none s) wider.allocates in
+    let ready = ready_laid (filling_need filling) (missing old.paths path) allocated wider.changes wider.sized
+    (added_behind old.paths laid.paths path wider.leads.added) in
+    let header : header_bits (record wider.header { shape = wider.next }) ≡ next_head s wider.next =
+    ap (λ (h : Header). header_bits (record h { shape = wider.next }))
+    (sym (wider.is_header s.cell (words_of_cell (heap_of old) s.cell) s.has refl)) in
+    let head : HasHead laid (filled laid at filling) new s.cell.at (next_head s wider.next) =
+    inr (wider.fills ∙ ap (with_word (filled laid at filling) s.cell.at) header) in
+    let paths = filled_with_paths laid new s.cell.at (next_head s wider.next) at filling head in
+    let shape : IsNextShape old new s wider.next = record {
+      is_shape = subst (λ p. IsShapeOf new.paths p wider.next) (sym is_path)
+          (subst (λ all. IsShapeOf all path wider.next) (sym paths) wider.leads.shape_is);
+      added = ap (with_path (Some paths_most) old.paths) is_path ∙ wider.leads.added ∙ ap Some (sym paths);
+    } in
+    has_set_field place word wider.next content s within is fills ready shape head

@@ -1,0 +1,95 @@
+-- What comes of setting a field that is there, where it is refused too.
+use Rattle.std.proofs.Common.{◌≡◌, ℕ, Some, None, set, refl, sym, ◌∙◌, ap, subst}
+use Rattle.std.specs.Prelude.{Result, Ok, Err}
+use Rattle.std.proofs.lemmas.Option.{none-some}
+use Rattle.object_graph.specs.declared.value.Value.{Value}
+use Rattle.object_graph.specs.declared.path.Path.{Path}
+use Rattle.object_graph.specs.Paths.{path_of, with_path}
+use Rattle.object_graph.specs.Objects.{with_field, revalued}
+use Rattle.object_graph.specs.Graphs.{Graph, PlainObject}
+use Rattle.object_graph.specs.Limits.{paths_most}
+use Rattle.page_space.specs.Sizes.{AreWithin}
+use Rattle.nursery.specs.Young.{HasRoom}
+use Rattle.heap_model.specs.Needs.{set_need_at}
+use Rattle.write_barrier.specs.Mains.{Mutator, heap_of}
+use Rattle.write_barrier.specs.declared.room.NoRoom.{NoRoom}
+use Rattle.shape_change.specs.declared.content.Content.{Content}
+use Rattle.shape_change.specs.declared.content.Filling.{Filling}
+use Rattle.shape_change.specs.declared.content.Filling.TheVariants as filling
+use Rattle.shape_change.specs.declared.place.Place.{Place}
+use Rattle.shape_change.specs.declared.stop.FieldStop.{FieldStop}
+use Rattle.shape_change.specs.declared.stop.FieldStop.TheVariants as stop
+use Rattle.shape_change.specs.FieldChanges.{is_wide, SetsField}
+use Rattle.shape_change.specs.Contents.{filling_at, filling_need, LacksRoom}
+use Rattle.shape_change.specs.Fillings.{SetsWider}
+use Rattle.shape_change.specs.Places.{place_at, IsPlaceOf}
+use Rattle.shape_change.proofs.FieldsSet.{path_stays}
+use Rattle.shape_change.proofs.Settings.{Setting, fields_are, name_is_there, path_is_there}
+use Rattle.shape_change.proofs.SetOutcomes.{setting_need, set_wider_has}
+use Rattle.shape_change.proofs.SetShown.{FillsAt}
+
+-- whether paths are lacking is a question of the paths before and of the path of the fields with the one set
+paths_lack : {old : Mutator} {graph : Graph} {object slot : ℕ} {plain : PlainObject} {what : Value} {name : ℕ}
+    (path : Path)
+    (s : Setting old graph object slot plain what name)
+    → path_of plain.cap (set plain.fields slot (revalued s.field what)) ≡ path
+    → with_path (Some paths_most) graph.paths (path_of plain.cap (with_field plain.fields name what))
+    ≡ with_path (Some paths_most) old.paths path
+paths_lack {graph = graph} {plain = plain} path s is_path =
+    ap (λ fields. with_path (Some paths_most) graph.paths (path_of plain.cap fields)) (fields_are s)
+    ∙ ap (with_path (Some paths_most) graph.paths) is_path
+    ∙ ap (λ paths. with_path (Some paths_most) paths path) (sym s.shows.shows.paths)
+
+-- where there is no room, so many words were needed
+lacks_need : (main : Mutator) (filling : Filling) (full : NoRoom) → LacksRoom main filling full
+    → (full.need ≡ filling_need filling) × (HasRoom main.young full.need → ⊥)
+lacks_need main (filling.Tagged word) full lacks = absurd lacks
+lacks_need main (filling.Raw word) full lacks = absurd lacks
+lacks_need main (filling.NewBox at v) full lacks = (lacks.0, λ room. lacks.1 (subst (HasRoom main.young) lacks.0 room))
+lacks_need main (filling.OldBox at v) full lacks = absurd lacks
+
+-- there is no room for the words that the field needs, and nothing else is lacking
+pub refused_room : {old new : Mutator} {graph : Graph} {object slot : ℕ} {plain : PlainObject} {what : Value} {name : ℕ}
+    (place : Place) (word : ℕ) (path : Path) (content : Content) (full : NoRoom)
+    (s : Setting old graph object slot plain what name) → AreWithin old.seat.space.sizes old.seat.space.variables
+    → IsPlaceOf (heap_of old) s.cell.at s.cell.layout.cap slot place → FillsAt s (place_at s.cell.at place) word content
+    → path_of plain.cap (set plain.fields slot (revalued s.field what)) ≡ path
+    → (with_path (Some paths_most) old.paths path ≡ None → ⊥)
+    → LacksRoom old (filling_at old (place_at s.cell.at place) content) full → new ≡ old
+    → SetsField old new graph object plain name what (Err (stop.Full full))
+refused_room {old} {object = object} {what = what} {name} place word path content full s within is fills is_path enough
+    lacks same =
+    let need = setting_need place word content s within is fills in
+    let lack = lacks_need old (filling_at old (place_at s.cell.at place) content) full lacks in
+    let at_object = ap (λ a. set_need_at (heap_of old) a name (is_wide what)) (sym s.stands) in (
+      (λ lacks. name_is_there s lacks),
+      (λ none. enough (sym (paths_lack path s is_path) ∙ none)),
+      lack.0 ∙ sym need ∙ sym at_object,
+      lack.1,
+      same,
+    )
+
+-- where the representation stays there are paths enough
+pub paths_enough : {old : Mutator} {graph : Graph} {object slot : ℕ} {plain : PlainObject} {what : Value} {name : ℕ}
+    (s : Setting old graph object slot plain what name) → (revalued s.field what).rep ≡ s.field.rep
+    → with_path (Some paths_most) old.paths (path_of plain.cap (set plain.fields slot (revalued s.field what))) ≡ None
+    → ⊥
+paths_enough {old} {slot = slot} {plain} {what} s same none =
+    let stays = path_stays plain.cap plain.fields slot s.field (revalued s.field what) s.there refl same in
+    none-some old.paths (sym none ∙ ap (with_path (Some paths_most) old.paths) stays ∙ path_is_there s)
+
+-- what comes of setting a field to a wider representation
+pub wider_sets : {old : Mutator} {graph : Graph} {object slot : ℕ} {plain : PlainObject} {what : Value} {name : ℕ}
+    (new : Mutator) (place : Place) (word : ℕ) (path : Path) (content : Content) (result : Result Unit FieldStop)
+    (s : Setting old graph object slot plain what name) → AreWithin old.seat.space.sizes old.seat.space.variables
+    → IsPlaceOf (heap_of old) s.cell.at s.cell.layout.cap slot place → FillsAt s (place_at s.cell.at place) word content
+    → path_of plain.cap (set plain.fields slot (revalued s.field what)) ≡ path
+    → SetsWider old new s.cell.at (place_at s.cell.at place) path content result
+    → SetsField old new graph object plain name what result
+wider_sets new place word path content (Ok done) s within is fills is_path sets =
+    set_wider_has place word path content s within is fills is_path sets
+wider_sets new place word path content (Err stop.FieldsFull) s within is fills is_path sets = absurd sets
+wider_sets new place word path content (Err (stop.ShapesFull full)) s within is fills is_path sets =
+    ((λ lacks. name_is_there s lacks), paths_lack path s is_path ∙ sets.0, sets.1)
+wider_sets new place word path content (Err (stop.Full full)) s within is fills is_path sets =
+    refused_room place word path content full s within is fills is_path sets.0 sets.1 sets.2

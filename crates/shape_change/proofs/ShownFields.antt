@@ -1,0 +1,99 @@
+-- The cell of a plain object that a heap shows, and the field of a name that was found in its path.
+use Rattle.std.proofs.Common.{◌≡◌, ℕ, Some, slice_get}
+use Rattle.std.proofs.Common.{sym, ◌∙◌, ap, subst}
+use Rattle.std.specs.Prelude.{option_map}
+use Rattle.std.proofs.lemmas.Option.{slice_get_within}
+use Rattle.tagged_word.specs.declared.header.Header.{Header}
+use Rattle.tagged_word.specs.declared.layout.LayoutWord.{LayoutWord}
+use Rattle.object_graph.specs.declared.object.Field.{Field}
+use Rattle.object_graph.specs.declared.path.Path.{Path}
+use Rattle.object_graph.specs.declared.path.PathField.{PathField}
+use Rattle.object_graph.specs.Paths.{path_of}
+use Rattle.object_graph.specs.Graphs.{Graph, PlainObject}
+use Rattle.shape_tree.specs.Shapes.{IsPathShape, shape_path}
+use Rattle.cell_layout.specs.declared.cell.Cell.{Cell}
+use Rattle.heap_model.specs.Heaps.{Heap, HasCell, words_of_cell}
+use Rattle.heap_model.specs.Showing.{ShowsPlain}
+use Rattle.heap_model.proofs.PathLayouts.{layout_is}
+use Rattle.write_barrier.specs.Mains.{Mutator, heap_of, MainShows}
+use Rattle.shape_change.specs.CellsAt.{IsHeaderAt, HasField}
+use Rattle.shape_change.specs.FieldChanges.{IsPlainAt}
+use Rattle.shape_change.proofs.FieldsFound.{named_at, field_at}
+use Rattle.shape_change.proofs.PlainFields.{plain_sound, plain_shown}
+
+-- The plain object's cell shows it, has as many in-object slots, and the header that was read.
+pub record ShownCell (main : Mutator) (object : ℕ) (plain : PlainObject) (header : Header) : Type 0 where
+  pub cell : Cell
+  pub at : cell.at ≡ object
+  pub has : HasCell (heap_of main) cell (words_of_cell (heap_of main) cell)
+  pub carries : cell.header.object ≡ plain.number
+  pub cap : cell.layout.cap ≡ plain.cap
+  pub header_is : cell.header ≡ header
+  pub shows : ShowsPlain (heap_of main) cell (words_of_cell (heap_of main) cell) plain.cap plain.fields
+
+-- so it does where a graph with the object is shown
+pub shown_cell : (main : Mutator) (graph : Graph) (object : ℕ) (plain : PlainObject) (header : Header)
+    → MainShows main graph → IsPlainAt main graph object plain → IsHeaderAt (heap_of main) object header
+    → ShownCell main object plain header
+shown_cell main graph object plain header shows is header_at =
+    let heap : Heap = heap_of main in
+    let shown = plain_shown shows is in
+    let cell : Cell = shown.cell in
+    let has = subst (HasCell heap cell) (sym shown.has.words_are) shown.has in
+    let sound = plain_sound shows.shows.whole shown.has shown.shows.of_kind in
+    let laid = layout_is shows.shows.whole.sized shown.has sound.shape in
+    record {
+      cell = cell;
+      at = shown.stands;
+      has = has;
+      carries = shown.carries;
+      cap = ap (λ (layout : LayoutWord). layout.cap) laid ∙ ap (λ (p : Path). p.cap) shown.shows.path;
+      header_is = header_at cell shown.words shown.has shown.stands;
+      shows = subst (λ words. ShowsPlain heap cell words plain.cap plain.fields) (sym shown.has.words_are) shown.shows;
+    }
+
+-- its header has the shape of a path
+pub shown_shape : (main : Mutator) (graph : Graph) (object : ℕ) (plain : PlainObject) (header : Header)
+    → MainShows main graph → IsPlainAt main graph object plain → IsHeaderAt (heap_of main) object header
+    → IsPathShape main.paths header.shape
+shown_shape main graph object plain header shows is header_at =
+    let shown = shown_cell main graph object plain header shows is header_at in
+    let sound = plain_sound shows.shows.whole shown.has shown.shows.of_kind in
+    subst (IsPathShape main.paths) (ap (λ (h : Header). h.shape) shown.header_is) sound.shape
+
+-- The path's field of a name that was found is the object's, and has a slot.
+pub record FieldFound (main : Mutator) (object : ℕ) (plain : PlainObject) (header : Header) (slot name : ℕ)
+    : Type 0 where
+  pub has : HasField (heap_of main) object header.shape slot
+  pub field : Field
+  pub there : slice_get plain.fields slot ≡ Some field
+  pub named : field.name ≡ name
+
+-- so it is
+pub field_found : (main : Mutator) (graph : Graph) (object : ℕ) (plain : PlainObject) (header : Header) (slot name : ℕ)
+    → MainShows main graph → IsPlainAt main graph object plain → IsHeaderAt (heap_of main) object header
+    → option_map (λ (field : PathField). field.name) (slice_get (shape_path main.paths header.shape).fields slot)
+    ≡ Some name
+    → FieldFound main object plain header slot name
+field_found main graph object plain header slot name shows is header_at found =
+    let shown = shown_cell main graph object plain header shows is header_at in
+    let shape = ap (λ (h : Header). h.shape) shown.header_is in
+    let named = named_at (shape_path main.paths header.shape).fields slot name found in
+    let path : shape_path main.paths header.shape ≡ path_of plain.cap plain.fields =
+    ap (shape_path main.paths) (sym shape) ∙ shown.shows.path in
+    let at = field_at plain.cap plain.fields slot named.field
+    (ap (λ (p : Path). slice_get p.fields slot) (sym path) ∙ named.there) in
+    record {
+      has = record {
+        cell = shown.cell;
+        words = words_of_cell (heap_of main) shown.cell;
+        has = shown.has;
+        stands = shown.at;
+        plain = shown.shows.of_kind;
+        of_shape = shape;
+        below = slice_get_within (shape_path main.paths header.shape).fields slot named.field named.there;
+      };
+      field = at.field;
+      there = at.there;
+      named = ap (λ (f : PathField). f.name) at.same ∙ named.named;
+    }

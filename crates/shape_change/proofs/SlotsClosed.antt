@@ -1,0 +1,153 @@
+-- Slots of a plain object that moved down by one, in the object and in its store.
+use Rattle.std.proofs.Common.{◌≡◌, ◌≢◌, ℕ, suc, ◌+◌, ◌-◌, ◌<◌, ◌≤◌, ◌⊎◌, inl, inr, slice_get}
+use Rattle.std.proofs.Common.{length, sym, ◌∙◌, ap, arith, length-set}
+use Rattle.std.specs.Prelude.{slice_set}
+use Rattle.std.proofs.lemmas.Bool.{cases_lt}
+use Rattle.tagged_word.specs.Cells.{plain_head, store_head}
+use Rattle.heap_table.specs.Seats.{heap_words}
+use Rattle.heap_model.specs.Slots.{hole_word}
+use Rattle.write_barrier.specs.Mains.{Mutator, with_word}
+use Rattle.shape_change.specs.Shifts.{KeepsRest, ClosesGap, ClosesSlots, slot_at}
+use Rattle.shape_change.proofs.SlotAddresses.{slot_at-own, slot_at-beside}
+
+-- one word was put
+pub rest_put : (old new : Mutator) (a word : ℕ) → new ≡ with_word old a word
+    → heap_words new.seat ≡ slice_set (heap_words old.seat) a word → KeepsRest old new
+rest_put old new a word is heap = record {
+  space = ap (λ (main : Mutator). main.seat.space) is;
+  phase = ap (λ (main : Mutator). main.seat.phase) is;
+  paths = ap (λ (main : Mutator). main.paths) is;
+  young = ap (λ (main : Mutator). main.young) is;
+  count = ap length heap ∙ length-set (heap_words old.seat) a word;
+}
+
+-- words change after others
+pub rest_then : (old mid new : Mutator) → KeepsRest old mid → KeepsRest mid new → KeepsRest old new
+rest_then old mid new before then = record {
+  space = then.space ∙ before.space;
+  phase = then.phase ∙ before.phase;
+  paths = then.paths ∙ before.paths;
+  young = then.young ∙ before.young;
+  count = then.count ∙ before.count;
+}
+
+-- what is none of so many addresses is before or behind them
+outside : (at base first last : ℕ) → ((k : ℕ) → first ≤ k → k ≤ last → base + k ≢ at)
+    → (at < base + first) ⊎ (base + last + 1 ≤ at)
+outside at base first last out = elim (cases_lt at (base + first)) [
+  | inl before ↦ inl before
+  | inr from ↦ elim (cases_lt at (base + last + 1)) [
+    | inl among ↦ absurd (out (at - base) (omega arith) (omega arith) (omega arith))
+    | inr behind ↦ inr behind
+  ]
+]
+
+-- what is none of the slots that move is none of those in the object
+outside_own : (object cap store slot last end at : ℕ) → end < cap → end ≤ last
+    → ((one : ℕ) → slot ≤ one → one ≤ last → slot_at object cap store one ≢ at)
+    → (at < object + (plain_head + slot)) ⊎ (object + (plain_head + end) + 1 ≤ at)
+outside_own object cap store slot last end at own few out =
+    let base : ℕ = object + plain_head in
+    let apart : (k : ℕ) → slot ≤ k → k ≤ end → base + k ≢ at = λ k low high same.
+    out k low (omega arith) (slot_at-own object cap store k (omega arith) ∙ omega (arith, same)) in
+    elim (outside at base slot end apart) [ inl before ↦ inl (omega arith) | inr behind ↦ inr (omega arith) ]
+
+-- and none of those in the store
+outside_beside : (object cap store slot last first at : ℕ) → cap ≤ last → slot ≤ cap + first
+    → ((one : ℕ) → slot ≤ one → one ≤ last → slot_at object cap store one ≢ at)
+    → (at < store + (store_head + first)) ⊎ (store + (store_head + (last - cap)) + 1 ≤ at)
+outside_beside object cap store slot last first at some order out =
+    let base : ℕ = store + store_head in
+    let apart : (k : ℕ) → first ≤ k → k ≤ last - cap → base + k ≢ at = λ k low high same.
+    out (cap + k) (omega arith) (omega arith)
+    (slot_at-beside object cap store (cap + k) (omega arith) ∙ omega (arith, same)) in
+    elim (outside at base first (last - cap) apart) [ inl before ↦ inl (omega arith) | inr behind ↦ inr (omega arith) ]
+
+-- Where all slots that move stand in the object, they are closed once the gap between their words is.
+pub own_closed : (old new : Mutator) (object cap store slot last first : ℕ) → slot ≤ last → last < cap
+    → ClosesGap old new (object + (plain_head + slot)) (object + (plain_head + last)) hole_word
+    → ClosesSlots old new object cap store slot last first
+own_closed old new object cap store slot last first order own gap = record {
+  rest = gap.rest;
+  moved = λ one low high apart.
+      let next : object + (plain_head + one) + 1 ≡ object + (plain_head + suc one) = omega arith in
+      ap (slice_get (heap_words new.seat)) (slot_at-own object cap store one (omega arith))
+      ∙ gap.moved (object + (plain_head + one)) (omega arith) (omega arith)
+      ∙ ap (slice_get (heap_words old.seat)) (next ∙ sym (slot_at-own object cap store (suc one) (omega arith)));
+  drawn_in = λ one low high same. absurd (omega (arith, same));
+  hole = ap (slice_get (heap_words new.seat)) (slot_at-own object cap store last own) ∙ gap.filled;
+  beside = λ at out. gap.beside at (outside_own object cap store slot last last at own (omega arith) out);
+}
+
+-- where all of them stand in the store, likewise
+pub beside_closed : (old new : Mutator) (object cap store slot last first : ℕ) → cap ≤ slot → slot ≤ last
+    → ClosesGap old new (store + (store_head + (slot - cap))) (store + (store_head + (last - cap))) hole_word
+    → ClosesSlots old new object cap store slot last first
+beside_closed old new object cap store slot last first behind order gap = record {
+  rest = gap.rest;
+  moved = λ one low high apart.
+      let next : store + (store_head + (one - cap)) + 1 ≡ store + (store_head + (suc one - cap)) = omega arith in
+      ap (slice_get (heap_words new.seat)) (slot_at-beside object cap store one (omega arith))
+      ∙ gap.moved (store + (store_head + (one - cap))) (omega arith) (omega arith)
+      ∙ ap (slice_get (heap_words old.seat)) (next ∙ sym (slot_at-beside object cap store (suc one) (omega arith)));
+  drawn_in = λ one low high same. absurd (omega (arith, same));
+  hole = ap (slice_get (heap_words new.seat)) (slot_at-beside object cap store last (omega arith)) ∙ gap.filled;
+  beside = λ at out.
+      gap.beside at (outside_beside object cap store slot last (slot - cap) at (omega arith) (omega arith) out);
+}
+
+-- the words of the object and those of its store have no address in common
+abbrev pub AreApart : ℕ → ℕ → ℕ → ℕ → Type 0
+AreApart object cap store last =
+    (object + (plain_head + cap) ≤ store) ⊎ (store + (store_head + (last - cap)) < object)
+
+-- an in-object slot is none of the store
+own_is_not_beside : (object cap store last one : ℕ) → AreApart object cap store last → one < cap
+    → (object + (plain_head + one) < store + (store_head + 0))
+    ⊎ (store + (store_head + (last - cap)) + 1 ≤ object + (plain_head + one))
+own_is_not_beside object cap store last one (inl before) own = inl (omega arith)
+own_is_not_beside object cap store last one (inr behind) own = inr (omega arith)
+
+-- and a slot of the store none of the object
+beside_is_not_own : (object cap store last slot one : ℕ) → AreApart object cap store last → 0 < cap → one ≤ last - cap
+    → (store + (store_head + one) < object + (plain_head + slot))
+    ⊎ (object + (plain_head + (cap - 1)) + 1 ≤ store + (store_head + one))
+beside_is_not_own object cap store last slot one (inl before) some few = inr (omega arith)
+beside_is_not_own object cap store last slot one (inr behind) some few = inl (omega arith)
+
+-- Where some stand in the object and some in the store, both gaps are closed, and the first of the store comes into the
+-- object as this word.
+pub both_closed : (old mid new : Mutator) (object cap store slot last first : ℕ) → slot < cap → cap ≤ last
+    → AreApart object cap store last
+    → ClosesGap old mid (object + (plain_head + slot)) (object + (plain_head + (cap - 1))) first
+    → ClosesGap mid new (store + (store_head + 0)) (store + (store_head + (last - cap))) hole_word
+    → ClosesSlots old new object cap store slot last first
+both_closed old mid new object cap store slot last first own some apart gap then = record {
+  rest = rest_then old mid new gap.rest then.rest;
+  moved = λ one low high other. elim (cases_lt one cap) [
+    | inl below ↦
+        let next : object + (plain_head + one) + 1 ≡ object + (plain_head + suc one) = omega arith in
+        ap (slice_get (heap_words new.seat)) (slot_at-own object cap store one below)
+        ∙ then.beside (object + (plain_head + one)) (own_is_not_beside object cap store last one apart below)
+        ∙ gap.moved (object + (plain_head + one)) (omega arith) (omega arith)
+        ∙ ap (slice_get (heap_words old.seat)) (next ∙ sym (slot_at-own object cap store (suc one) (omega arith)))
+    | inr behind ↦
+        let next : store + (store_head + (one - cap)) + 1 ≡ store + (store_head + (suc one - cap)) = omega arith in
+        ap (slice_get (heap_words new.seat)) (slot_at-beside object cap store one behind)
+        ∙ then.moved (store + (store_head + (one - cap))) (omega arith) (omega arith)
+        ∙ ap (slice_get (heap_words mid.seat)) next
+        ∙ gap.beside (store + (store_head + (suc one - cap)))
+        (beside_is_not_own object cap store last slot (suc one - cap) apart (omega arith) (omega arith))
+        ∙ ap (slice_get (heap_words old.seat)) (sym (slot_at-beside object cap store (suc one) (omega arith)))
+  ];
+  drawn_in = λ one low high same.
+      let is : one ≡ cap - 1 = omega (arith, same) in
+      ap (slice_get (heap_words new.seat)) (slot_at-own object cap store one (omega (arith, same)))
+      ∙ then.beside (object + (plain_head + one))
+      (own_is_not_beside object cap store last one apart (omega (arith, same)))
+      ∙ ap (λ n. slice_get (heap_words mid.seat) (object + (plain_head + n))) is ∙ gap.filled;
+  hole = ap (slice_get (heap_words new.seat)) (slot_at-beside object cap store last some) ∙ then.filled;
+  beside = λ at out.
+      then.beside at (outside_beside object cap store slot last 0 at some (omega arith) out)
+      ∙ gap.beside at (outside_own object cap store slot last (cap - 1) at (omega arith) (omega arith) out);
+}

@@ -1,0 +1,205 @@
+-- A field that comes to a slot that the property store has is shown, in a box where it needs one.
+use Rattle.std.proofs.Common.{◌≡◌, ◌≢◌, ℕ, ◌+◌, ◌≤◌, ◌<◌, false, List, ◌∷◌, length, refl, sym, ◌∙◌, ap, subst}
+use Rattle.std.proofs.Common.{arith, inl, nat_lt, slice_get, Contains}
+use Rattle.std.specs.Prelude.{ℤ, slice_set}
+use Rattle.std.proofs.lemmas.Bool.{false≢true}
+use Rattle.std.proofs.lemmas.Bool.Decides.{nat_tests}
+use Rattle.std.proofs.lemmas.List.Elements.{Contains-append_right}
+use Rattle.tagged_word.specs.declared.header.Header.{Header}
+use Rattle.tagged_word.specs.Cells.{store_head}
+use Rattle.object_graph.specs.declared.value.Value.{Value}
+use Rattle.object_graph.specs.Values.{rep_of}
+use Rattle.object_graph.specs.Objects.{with_field}
+use Rattle.object_graph.specs.Graphs.{Graph, PlainObject}
+use Rattle.page_space.specs.Extents.{Space, eden_start, segments_start, marks_start}
+use Rattle.page_space.proofs.Starts.{roots_start_is, layouts_start_is, marks_start_is}
+use Rattle.shape_tree.specs.Shapes.{shape_path}
+use Rattle.cell_layout.specs.declared.cell.Cell.{Cell}
+use Rattle.handle_roots.specs.declared.held.Held.{Held}
+use Rattle.heap_table.specs.Seats.{heap_words}
+use Rattle.heap_model.specs.Heaps.{HasCell, words_of_cell}
+use Rattle.heap_model.specs.Showing.{ShowsField}
+use Rattle.heap_model.proofs.CellsApart.{IsOfCell, first_of_cell}
+use Rattle.write_barrier.specs.Mains.{Mutator, heap_of}
+use Rattle.shape_change.specs.declared.content.Content.TheVariants as content
+use Rattle.shape_change.specs.declared.stores.Store.{Store}
+use Rattle.shape_change.specs.CellWrites.{reshaped}
+use Rattle.shape_change.specs.FieldChanges.{ShowsRefilled}
+use Rattle.shape_change.specs.Contents.{next_at}
+use Rattle.shape_change.specs.Additions.{AddsToStore, IsStoreAt, added_path, count_of, behind_cap, content_need, content_word}
+use Rattle.shape_change.specs.Additions.{beside_content, with_content, with_shape}
+use Rattle.shape_change.proofs.FullStores.{length-slots}
+use Rattle.shape_change.proofs.NumberedSlots.{IsNumbered}
+use Rattle.shape_change.proofs.OwnCells.{cell_below_layouts, beside_not_header}
+use Rattle.shape_change.proofs.StoresRead.{StoredAt, stored_at}
+use Rattle.shape_change.proofs.WrittenPlaces.{written_places_stay}
+use Rattle.shape_change.proofs.UnusedWords.{next_before_segments, cell_is_used}
+use Rattle.shape_change.proofs.AddedContents.{new_value_held, content_shows, content_comes}
+use Rattle.shape_change.proofs.AddedFields.{new_field}
+use Rattle.shape_change.proofs.AddedWords.{PutsOver, over_last, over_sized, over_space, last_stays}
+use Rattle.shape_change.proofs.AddedShown.{Adding, added_shows}
+use Rattle.shape_change.proofs.MadeBoxes.{made_boxes, BoxStands, made_row, made_box, boxed_integer, refers_to_made, made_boxed}
+use Rattle.shape_change.proofs.MadeBoxes.{made_sound, length-with_content, with_content_stays, with_content_box}
+use Rattle.shape_change.proofs.NewBoxes.{box_cell}
+use Rattle.shape_change.proofs.OneAdded.{one_adds}
+use Rattle.shape_change.proofs.OneAdding.{OneAdding, one_adding}
+
+-- What is known where a field comes to a store that has room.
+pub record StoreAdding (old new : Mutator) (graph : Graph) (plain : PlainObject) (object : ℕ) (header : Header) (name : ℕ)
+    (value : Held) (what : Value) (store : Store) : Type 0 where
+  pub known : Adding old graph plain object header name value what
+  pub behind : (shape_path old.paths header.shape).cap ≤ count_of old.paths header.shape
+  pub is : IsStoreAt (heap_of old) object store
+  pub room : behind_cap old.paths header.shape < store.capacity
+  pub adds : AddsToStore old new object header name value store
+
+-- the address of the slot behind those of the fields, in the store
+abbrev store_place : Mutator → Header → Store → ℕ
+store_place old header store = store.at + (store_head + behind_cap old.paths header.shape)
+
+-- the words with the box made, if the field needs one
+abbrev boxed_words : Mutator → Mutator → Held → List ℕ
+boxed_words old mid value = with_content (heap_words mid.seat) (beside_content value) (next_at old)
+
+-- the word of the slot
+abbrev store_word : Mutator → Held → ℕ
+store_word old value = content_word (beside_content value) (next_at old)
+
+module _ {old new : Mutator} {graph : Graph} {plain : PlainObject} {object : ℕ} {header : Header} {name : ℕ} {value : Held}
+    {what : Value} {store : Store} (adding : StoreAdding old new graph plain object header name value what store) where
+  -- the store's cell
+  there : StoredAt (heap_of old) adding.known.sound.has.store adding.known.sound.has.beside store
+  there =
+      let known = adding.known in
+      stored_at object store adding.is known.has known.stands known.sound.has (omega (arith, adding.room))
+
+  -- the address is one of the store
+  of_store : IsOfCell there.found.cell (store_place old header store)
+  of_store = record { from = omega (arith, there.found.stands); below = omega (arith, there.found.stands, there.found.size, there.capacity, adding.room) }
+
+  -- it is that of the slot behind those of the fields
+  numbered : IsNumbered (heap_of old) adding.known.cell (words_of_cell (heap_of old) adding.known.cell) (length plain.fields)
+      (store_place old header store)
+  numbered =
+      let known = adding.known in
+      IsNumbered.beside known.sound.has.store (behind_cap old.paths header.shape) there.found.cell there.found.words known.sound.has.slot
+      there.found.refers there.found.of_kind (omega (arith, known.count, known.cap, adding.behind)) (omega (arith, there.found.stands)) of_store
+
+  -- the words that are put are one word, the header, and those of a box
+  pub over : PutsOver old adding.adds.mid new (added_path old.paths header.shape name value) adding.known.cell adding.adds.next
+      (store_place old header store) (store_word old value) (content_need (beside_content value))
+      (with_shape (slice_set (boxed_words old adding.adds.mid value) (store_place old header store) (store_word old value))
+      object header adding.adds.next)
+  over =
+      let known = adding.known in
+      let adds = adding.adds in
+      let whole = known.shows.shows.whole in
+      let words = heap_words adds.mid.seat in
+      over_last adds.next (store_place old header store) (store_word old value) (content_need (beside_content value)) object
+      (boxed_words old adds.mid value) known.can.tied adds.room adds.path adds.words
+      (length-with_content words (beside_content value) (next_at old))
+      (λ a not_new. with_content_stays words (beside_content value) (next_at old) a not_new) known.stands known.headed
+      (λ same. beside_not_header (store_place old header store) whole known.has known.shown.of_kind there.found.refers.has
+      (inl there.found.of_kind) of_store (sym same))
+      (cell_below_layouts whole known.has (first_of_cell known.has)) (cell_below_layouts whole there.found.refers.has of_store)
+
+  -- no address of a cell is one of the words that are reserved
+  apart_from_run : {cell : Cell} {words : List ℕ} (a b : ℕ) → HasCell (heap_of old) cell words → IsOfCell cell a
+      → next_at old ≤ b → b < next_at old + content_need (beside_content value) → b ≢ a
+  apart_from_run a b has of_cell from below same =
+      cell_is_used adding.known.shows.shows.whole.rows has of_cell (omega (arith, from, same))
+      (omega (
+        arith,
+        below,
+        same,
+        next_before_segments old (content_need (beside_content value)) adding.known.can.tied
+            adding.adds.room,
+      ))
+
+  -- a word of a box that is made stands in the new heap
+  run_word : (b : ℕ) → next_at old ≤ b → b < next_at old + content_need (beside_content value)
+      → slice_get (heap_words new.seat) b ≡ slice_get (boxed_words old adding.adds.mid value) b
+  run_word b from below =
+      let known = adding.known in
+      let adds = adding.adds in
+      ap (λ all. slice_get all b) adds.words.heap
+      ∙ last_stays (boxed_words old adds.mid value) (store_place old header store) (store_word old value) object header adds.next b
+      (λ same. apart_from_run known.cell.at b known.has (first_of_cell known.has) from below (same ∙ sym known.stands))
+      (apart_from_run (store_place old header store) b there.found.refers.has of_store from below)
+
+  -- the box stands there
+  box_stands : BoxStands (heap_of new) (beside_content value) (next_at old)
+  box_stands =
+      let adds = adding.adds in
+      let space : new.seat.space ≡ old.seat.space = over_space over in
+      let ends = next_before_segments old (content_need (beside_content value)) adding.known.can.tied adds.room in
+      let start = ap (λ (s : Space). eden_start s) space in
+      let segments = ap (λ (s : Space). segments_start s) space in
+      let count = adds.path.sized.words ∙ ap (λ (s : Space). marks_start s) adds.path.space in
+      let within : segments_start old.seat.space ≤ marks_start old.seat.space =
+      omega (arith, roots_start_is old.seat.space, layouts_start_is old.seat.space, marks_start_is old.seat.space) in
+      let words = λ (v : ℤ) (boxed : beside_content value ≡ content.Boxed v).
+      with_content_box (heap_words adds.mid.seat) (beside_content value) (next_at old) v boxed
+      (omega (arith, count, ends, within, ap content_need boxed)) in
+      record {
+        header = λ v boxed. run_word (next_at old) (omega arith) (omega (arith, ap content_need boxed)) ∙ (words v boxed).header;
+        raw = λ v boxed. run_word (next_at old + 1) (omega arith) (omega (arith, ap content_need boxed)) ∙ (words v boxed).raw;
+        from = λ v boxed. omega (arith, start);
+        below = λ v boxed. omega (arith, ends, segments, ap content_need boxed);
+      }
+
+  -- so the field is added
+  one : OneAdding (heap_of old) (heap_of new) adding.known.cell adding.adds.next (store_place old header store)
+      (store_word old value) (made_boxes (beside_content value) (next_at old)) plain.fields (new_field name what)
+  one =
+      let known = adding.known in
+      one_adding (made_boxes (beside_content value) (next_at old)) known over
+      (made_row (heap_of new) (beside_content value) (next_at old) (over_sized over) box_stands) numbered
+      (omega (
+        arith,
+        known.count,
+        known.cap,
+        adding.behind,
+        adding.room,
+        length-slots known.has known.shown.of_kind known.sound.has,
+        adding.is.slots known.cell (words_of_cell (heap_of old) known.cell) known.sound.slots known.has known.stands
+            known.sound.has,
+      ))
+
+  -- the box stands in the new heap
+  made_has : (cell : Cell) → Contains (made_boxes (beside_content value) (next_at old)) cell
+      → HasCell (heap_of new) cell (words_of_cell (heap_of new) cell)
+  made_has cell there =
+      let came = reshaped new.paths adding.known.cell adding.adds.next ∷ one.others in
+      one.adds.puts.cells.comes cell
+      (Contains-append_right came (made_boxes (beside_content value) (next_at old)) cell there)
+
+  -- and the graph is shown in which the object has the field
+  pub store_shown : ShowsRefilled new graph plain (with_field plain.fields name what)
+  store_shown =
+      let known = adding.known in
+      let count : ℕ = length graph.objects in
+      let slot : ℕ = length plain.fields in
+      let word : ℕ = store_word old value in
+      let holds_all = beside_content value in
+      let box : ℕ = next_at old in
+      let places = written_places_stay known.shows.shows.whole one.writes in
+      let holds = new_value_held false value what known.held.shows in
+      let from : known.cell.layout.cap ≤ slot = omega (arith, known.count, known.cap, adding.behind) in
+      let test : nat_lt slot known.cell.layout.cap ≡ false = grind (arith, nat_tests) in
+      let refers = λ (v : ℤ) (boxed : holds_all ≡ content.Boxed v).
+      refers_to_made holds_all box v boxed (boxed_integer count v holds known.fits boxed) box_stands
+      (made_has (box_cell box) (made_box holds_all box v boxed)) in
+      let shows : ShowsField (heap_of new) false word (rep_of what) what =
+      content_shows count box holds places known.fits refers in
+      added_shows (content_need holds_all) known over.adds over.puts one.writes
+      (one_adds one.adds (subst (λ o. ShowsField (heap_of new) o word (rep_of what) what) (sym test) shows)
+      (λ tagged. content_comes known.cell one.adds.sound.slots (made_boxes holds_all box) slot box holds places
+      (λ is_own wide. false≢true is_own) (λ v boxed. record {
+        cell = box_cell box;
+        among = made_box holds_all box v boxed;
+        of_kind = refl;
+        stands = refl;
+      }))
+      (made_boxed holds_all box)
+      (λ other there. made_sound count box other holds known.fits box_stands (made_has other there) there))

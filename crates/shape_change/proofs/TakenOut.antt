@@ -1,0 +1,134 @@
+-- A field is taken out of a plain object: its path is added, its slots are closed, and its header is put.
+use Rattle.std.proofs.Common.{◌≡◌, ◌≢◌, ℕ, suc, ◌+◌, ◌-◌, ◌<◌, ◌≤◌, inl, inr, List, length, Some, slice_get}
+use Rattle.std.proofs.Common.{sym, ◌∙◌, ap, subst, arith, length-append, length-take, length-drop, take, drop}
+use Rattle.std.specs.Prelude.{slice_set}
+use Rattle.std.proofs.lemmas.Bool.{cases_lt}
+use Rattle.tagged_word.specs.declared.header.Header.{Header}
+use Rattle.tagged_word.specs.Cells.{plain_head, store_head}
+use Rattle.page_space.specs.Extents.{Space, layouts_start, marks_start}
+use Rattle.page_space.proofs.Starts.{layouts_start_is, marks_start_is}
+use Rattle.object_graph.specs.declared.path.Path.{Path}
+use Rattle.object_graph.proofs.Lists.{slice_get-set_same, slice_get-set_other}
+use Rattle.shape_tree.specs.Shapes.{shape_path, without, Leads, AreShapes}
+use Rattle.shape_tree.specs.ShapeLayouts.{layout_word}
+use Rattle.heap_table.specs.Seats.{heap_words}
+use Rattle.heap_model.specs.Wholeness.{HasSizes}
+use Rattle.write_barrier.specs.Mains.{Mutator, heap_of, with_word}
+use Rattle.shape_change.specs.Shifts.{KeepsRest, ClosesSlots, slot_at}
+use Rattle.shape_change.specs.Deletions.{AddsPaths, HasBeside, shaped_bits, TakesOut}
+use Rattle.shape_change.proofs.SlotsClosed.{rest_put, rest_then}
+use Rattle.shape_change.proofs.SlotAddresses.{SlotsStand, slot_at-own, slot_at-beside}
+
+-- a path has one field fewer without one
+pub without_counted : (path : Path) (at : ℕ) → at < length path.fields
+    → suc (length (without path at).fields) ≡ length path.fields
+without_counted path at below =
+    omega (
+      arith,
+      length-append (take at path.fields) (drop (suc at) path.fields),
+      length-take at path.fields,
+      length-drop (suc at) path.fields,
+    )
+
+-- the slot of a field stands before the layout words, and not where the header does
+pub record SlotStands (main : Mutator) (object cap store one : ℕ) : Type 0 where
+  pub below : slot_at object cap store one < layouts_start main.seat.space
+  pub behind : object ≢ slot_at object cap store one
+
+-- so does that of each of so many
+pub slot_stands : (main : Mutator) (object cap store count one : ℕ) → SlotsStand (heap_of main) object cap store count
+    → one < count → SlotStands main object cap store one
+slot_stands main object cap store count one stand few = elim (cases_lt one cap) [
+  | inl own ↦
+      let at : slot_at object cap store one ≡ object + (plain_head + one) = slot_at-own object cap store one own in
+      record {
+        below = omega (arith, at, stand.own, own, layouts_start_is main.seat.space);
+        behind = λ same. omega (arith, at, same);
+      }
+  | inr beside ↦
+      let at : slot_at object cap store one ≡ store + (store_head + (one - cap)) =
+      slot_at-beside object cap store one beside in
+      let some : cap < count = omega (arith, beside, few) in
+      record {
+        below = omega (arith, at, stand.beside some, beside, few, layouts_start_is main.seat.space);
+        behind = λ same. elim (stand.apart some) [
+          | inl before ↦ omega (arith, at, same, before)
+          | inr behind ↦ omega (arith, at, same, behind, beside, few)
+        ];
+      }
+]
+
+-- the sizes stay where nothing changes from the layout words on
+sized_stays : (old new : Mutator) → HasSizes (heap_of old) → KeepsRest old new
+    → ((at : ℕ) → layouts_start old.seat.space ≤ at
+    → slice_get (heap_words new.seat) at ≡ slice_get (heap_words old.seat) at)
+    → HasSizes (heap_of new)
+sized_stays old new sized rest same = record {
+  words = rest.count ∙ sized.words ∙ ap marks_start (sym rest.space);
+  shapes = subst AreShapes (sym rest.paths) sized.shapes;
+  layouts = λ shape below.
+      ap (λ (space : Space). slice_get (heap_words new.seat) (layouts_start space + shape)) rest.space
+      ∙ same (layouts_start old.seat.space + shape) (omega arith) ∙ sized.layouts shape below
+      ∙ ap (λ (paths : List Path). Some (layout_word paths shape)) (sym rest.paths);
+}
+
+-- a field was taken out, once its header is put
+pub took_out : (old mid closed new : Mutator) (object : ℕ) (header : Header) (slot next cap last store first : ℕ)
+    → Leads old.paths mid.paths (without (shape_path old.paths header.shape) slot) next → HasSizes (heap_of mid)
+    → AddsPaths old mid → (shape_path old.paths header.shape).cap ≡ cap
+    → length (shape_path old.paths header.shape).fields ≡ suc last
+    → SlotsStand (heap_of old) object cap store (suc last)
+    → (cap ≤ last → HasBeside (heap_of old) object header.shape store first)
+    → ClosesSlots mid closed object cap store slot last first
+    → new ≡ with_word closed object (shaped_bits header next)
+    → heap_words new.seat ≡ slice_set (heap_words closed.seat) object (shaped_bits header next)
+    → TakesOut old new object header slot
+took_out old mid closed new object header slot next cap last store first leads sized adds caps counted stand has_beside
+    closes is heap =
+    let bits : ℕ = shaped_bits header next in
+    let space = old.seat.space in
+    let path : Path = without (shape_path old.paths header.shape) slot in
+    let before : object < layouts_start space = omega (arith, stand.own, layouts_start_is space) in
+    let rest : KeepsRest mid new = rest_then mid closed new closes.rest (rest_put closed new object bits is heap) in
+    let other : (at : ℕ) → object ≢ at → slice_get (heap_words new.seat) at ≡ slice_get (heap_words closed.seat) at =
+    λ at apart. ap (λ words. slice_get words at) heap
+    ∙ slice_get-set_other (heap_words closed.seat) object at bits (λ same. apart (sym same)) in
+    let stay : (at : ℕ) → object ≢ at
+    → ((one : ℕ) → slot ≤ one → one ≤ last → slot_at object cap store one ≢ at)
+    → slice_get (heap_words new.seat) at ≡ slice_get (heap_words mid.seat) at =
+    λ at apart out. other at apart ∙ closes.beside at out in
+    let stands : (one : ℕ) → one ≤ last → SlotStands old object cap store one =
+    λ one few. slot_stands old object cap store (suc last) one stand (omega (arith, few)) in
+    let long : length (heap_words closed.seat) ≡ marks_start space =
+    closes.rest.count ∙ sized.words ∙ ap marks_start adds.space in
+    record {
+      next = next;
+      leads = subst (λ (paths : List Path). Leads old.paths paths path next) (sym rest.paths) leads;
+      sized = sized_stays mid new sized rest (λ at from.
+          let behind : layouts_start space ≤ at =
+          omega (arith, from, ap (λ (s : Space). layouts_start s) adds.space) in
+          stay at (λ same. omega (arith, same, before, behind))
+          (λ one low high same. omega (arith, same, (stands one high).below, behind)));
+      space = rest.space ∙ adds.space;
+      phase = rest.phase ∙ adds.phase;
+      young = rest.young ∙ adds.young;
+      cap = cap;
+      caps = caps;
+      last = last;
+      counted = counted;
+      store = store;
+      first = first;
+      has_beside = has_beside;
+      moved = λ one low high apart.
+          other (slot_at object cap store one) (stands one (omega (arith, high))).behind
+          ∙ closes.moved one low high apart
+          ∙ adds.same (slot_at object cap store (suc one)) (stands (suc one) (omega (arith, high))).below;
+      drawn_in = λ one low high same.
+          other (slot_at object cap store one) (stands one (omega (arith, high))).behind
+          ∙ closes.drawn_in one low high same;
+      hole = other (slot_at object cap store last) (stands last (omega arith)).behind ∙ closes.hole;
+      headed = ap (λ words. slice_get words object) heap
+          ∙ slice_get-set_same (heap_words closed.seat) object bits
+          (omega (arith, long, before, marks_start_is space));
+      stay = λ at below apart out. stay at apart out ∙ adds.same at below;
+    }

@@ -1,0 +1,107 @@
+-- The words of a heap where some were put.
+use Rattle.std.proofs.Common.{◌≡◌, ◌≢◌, ℕ, ◌+◌, ◌<◌, ◌⊎◌, inl, inr, length, Some, slice_get, length-set}
+use Rattle.std.proofs.Common.{refl, sym, ◌∙◌, ap, subst, arith}
+use Rattle.std.specs.Prelude.{slice_set}
+use Rattle.std.proofs.Math.Seq.{take-set-lt}
+use Rattle.page_space.specs.Extents.{Space, layouts_start, marks_start}
+use Rattle.shape_tree.specs.Shapes.{AreShapes}
+use Rattle.shape_tree.specs.ShapeLayouts.{layout_word}
+use Rattle.object_graph.proofs.Lists.{slice_get-set_same, slice_get-set_other}
+use Rattle.heap_table.specs.Seats.{heap_words}
+use Rattle.heap_model.specs.Wholeness.{HasSizes}
+use Rattle.write_barrier.specs.Mains.{Mutator, heap_of, with_word}
+
+-- a word that is put before the marks is one of the heap's
+pub heap_with_word : (main : Mutator) (a word : ℕ) → a < marks_start main.seat.space
+    → heap_words (with_word main a word).seat ≡ slice_set (heap_words main.seat) a word
+heap_with_word main a word below = take-set-lt (marks_start main.seat.space) main.seat.table a word below
+
+-- Of the old mutator only words at two addresses have changed: that of an object's header, and one other.
+pub record PutsTwo (old new : Mutator) (object head at word : ℕ) : Type 0 where
+  pub space : new.seat.space ≡ old.seat.space
+  pub phase : new.seat.phase ≡ old.seat.phase
+  pub paths : new.paths ≡ old.paths
+  pub young : new.young ≡ old.young
+  pub count : length (heap_words new.seat) ≡ length (heap_words old.seat)
+  pub header : slice_get (heap_words new.seat) object ≡ Some head
+  pub put : slice_get (heap_words new.seat) at ≡ Some word
+  pub stay : (a : ℕ) → a ≢ object → a ≢ at → slice_get (heap_words new.seat) a ≡ slice_get (heap_words old.seat) a
+
+-- the header of the object was put at the end, or it was this before, and nothing was put at the end
+abbrev pub HasHead : Mutator → Mutator → Mutator → ℕ → ℕ → Type 0
+HasHead before old new object head =
+    ((new ≡ old) × (slice_get (heap_words before.seat) object ≡ Some head)) ⊎ (new ≡ with_word old object head)
+
+-- a word was put, and the header is there
+puts_one : (old : Mutator) (object head at word : ℕ) → at < marks_start old.seat.space
+    → length (heap_words old.seat) ≡ marks_start old.seat.space → object ≢ at
+    → slice_get (heap_words old.seat) object ≡ Some head
+    → PutsTwo old (with_word old at word) object head at word
+puts_one old object head at word below counted apart there =
+    let heap = heap_with_word old at word below in
+    record {
+      space = refl;
+      phase = refl;
+      paths = refl;
+      young = refl;
+      count = ap length heap ∙ length-set (heap_words old.seat) at word;
+      header = ap (λ words. slice_get words object) heap
+          ∙ slice_get-set_other (heap_words old.seat) at object word apart ∙ there;
+      put = ap (λ words. slice_get words at) heap
+          ∙ slice_get-set_same (heap_words old.seat) at word (omega (arith, counted));
+      stay = λ a not_object not_at. ap (λ words. slice_get words a) heap
+          ∙ slice_get-set_other (heap_words old.seat) at a word not_at;
+    }
+
+-- a word was put, and then the header
+puts_both : (old : Mutator) (object head at word : ℕ) → at < marks_start old.seat.space
+    → object < marks_start old.seat.space
+    → length (heap_words old.seat) ≡ marks_start old.seat.space → object ≢ at
+    → PutsTwo old (with_word (with_word old at word) object head) object head at word
+puts_both old object head at word below within counted apart =
+    let first = heap_with_word old at word below in
+    let words = slice_set (heap_words old.seat) at word in
+    let heap = heap_with_word (with_word old at word) object head within
+    ∙ ap (λ all. slice_set all object head) first in
+    let long : length words ≡ length (heap_words old.seat) = length-set (heap_words old.seat) at word in
+    record {
+      space = refl;
+      phase = refl;
+      paths = refl;
+      young = refl;
+      count = ap length heap ∙ length-set words object head ∙ long;
+      header = ap (λ all. slice_get all object) heap
+          ∙ slice_get-set_same words object head (omega (arith, long, counted));
+      put = ap (λ all. slice_get all at) heap
+          ∙ slice_get-set_other words object at head (λ same. apart (sym same))
+          ∙ slice_get-set_same (heap_words old.seat) at word (omega (arith, counted));
+      stay = λ a not_object not_at. ap (λ all. slice_get all a) heap
+          ∙ slice_get-set_other words object a head not_object
+          ∙ slice_get-set_other (heap_words old.seat) at a word not_at;
+    }
+
+-- so it is in both cases
+pub puts_two : (old new : Mutator) (object head at word : ℕ) → at < marks_start old.seat.space
+    → object < marks_start old.seat.space → length (heap_words old.seat) ≡ marks_start old.seat.space → object ≢ at
+    → HasHead old (with_word old at word) new object head → PutsTwo old new object head at word
+puts_two old new object head at word below within counted apart (inl is) =
+    subst (λ (main : Mutator). PutsTwo old main object head at word) (sym is.0)
+    (puts_one old object head at word below counted apart is.1)
+puts_two old new object head at word below within counted apart (inr is) =
+    subst (λ (main : Mutator). PutsTwo old main object head at word) (sym is)
+    (puts_both old object head at word below within counted apart)
+
+-- the sizes stay where words before the layout words are put
+pub sizes_put : (old new : Mutator) (object head at word : ℕ) → HasSizes (heap_of old)
+    → object < layouts_start old.seat.space → at < layouts_start old.seat.space → PutsTwo old new object head at word
+    → HasSizes (heap_of new)
+sizes_put old new object head at word sized object_below at_below puts =
+    let space : Space = old.seat.space in
+    record {
+      words = puts.count ∙ sized.words ∙ ap marks_start (sym puts.space);
+      shapes = subst AreShapes (sym puts.paths) sized.shapes;
+      layouts = λ shape below.
+          ap (λ (s : Space). slice_get (heap_words new.seat) (layouts_start s + shape)) puts.space
+          ∙ puts.stay (layouts_start space + shape) (λ same. omega (arith, same)) (λ same. omega (arith, same))
+          ∙ sized.layouts shape below ∙ ap (λ paths. Some (layout_word paths shape)) (sym puts.paths);
+    }

@@ -1,0 +1,17 @@
+-- The word behind the header of the box is read.
+use Rattle.std.proofs.Common.{◌≡◌, sym, ◌∙◌}
+use Rattle.std.proofs.lemmas.Option.{same_Some}
+use Rattle.tagged_word.proofs.Readings.{reference_to}
+use Rattle.heap_model.specs.Slots.{raw_word}
+use Rattle.shape_change.proofs.CellsRead.{word_is}
+use Rattle.shape_change.proofs.WordsTold.{cell_fits}
+use Rattle.shape_change.proofs.deleting.raw_in_box.Goals as goal
+
+pub returns : goal.returns
+returns c v refers =
+    let has = refers.target.has in
+    let fits = cell_fits c.requires.whole.whole.sized c.regions-regions.ensures.within has in
+    let at : refers.cell.at ≡ c.in-Some.at = same_Some refers.cell.at c.in-Some.at
+    (sym (reference_to c.args.word.0 refers.cell.at fits refers.target.refers) ∙ sym c.address.ensures
+    ∙ c.in-Some.is) in
+    word_is 1 (raw_word v) c.word.result c.in-Some.at has at refers.holds c.word.ensures.of_heap

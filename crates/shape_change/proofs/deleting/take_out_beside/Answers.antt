@@ -1,0 +1,55 @@
+-- Fields close the gap in the object and in the store.
+use Rattle.std.proofs.Common.{sym, ◌∙◌, ap, subst, arith}
+use Rattle.std.specs.Prelude.{Ok}
+use Rattle.page_space.specs.Extents.{marks_start}
+use Rattle.write_barrier.specs.Mains.{Mutator}
+use Rattle.shape_change.specs.Deletions.{FindsWithout}
+use Rattle.shape_change.proofs.StoresFound.{store_there, first_there}
+use Rattle.shape_change.proofs.TakenFields.{one_fewer, slots_within, beside_taken}
+use Rattle.shape_change.proofs.deleting.take_out_beside.Goals as goal
+
+pub store_of-store-requires-clause-there : goal.store_of-store-requires-clause-there
+store_of-store-requires-clause-there c = store_there c.requires.whole.whole c.requires.there c.requires.beside
+
+pub first_drawn_in-first-requires-clause-there : goal.first_drawn_in-first-requires-clause-there
+first_drawn_in-first-requires-clause-there c =
+    first_there c.requires.whole.whole c.requires.there c.requires.beside c.store_of-store.ensures
+
+pub blacken-requires-2-clause-within : goal.blacken-requires-2-clause-within
+blacken-requires-2-clause-within c =
+    let within = slots_within c.args.main.now c.shape_without.new.main c.args.object c.args.header.shape c.args.slot
+    c.in_ok-next.next c.store_of-store.result c.requires.whole.whole c.requires.there c.requires.beside
+    c.store_of-store.ensures c.in_ok-next.ensures in
+    let same = ap (λ (main : Mutator). marks_start main.seat.space) c.blacken.ensures.same in
+    omega (arith, within.beside, same)
+
+pub close_both-requires-clause-beside : goal.close_both-requires-clause-beside
+close_both-requires-clause-beside c =
+    let same = c.blacken-2.ensures.same ∙ c.blacken.ensures.same in
+    let found = subst
+    (λ (main : Mutator). FindsWithout c.args.main.now main c.args.header.shape c.args.slot (Ok c.in_ok-next.next))
+    (sym same) c.in_ok-next.ensures in
+    let fewer = one_fewer c.args.main.now c.blacken-2.new.self c.args.object c.args.header.shape c.args.slot
+    c.in_ok-next.next c.requires.there found in
+    omega (arith, fewer.cap, fewer.fields, c.requires.beside)
+
+pub close_both-requires-clause-within : goal.close_both-requires-clause-within
+close_both-requires-clause-within c =
+    let same = c.blacken-2.ensures.same ∙ c.blacken.ensures.same in
+    let found = subst
+    (λ (main : Mutator). FindsWithout c.args.main.now main c.args.header.shape c.args.slot (Ok c.in_ok-next.next))
+    (sym same) c.in_ok-next.ensures in
+    slots_within c.args.main.now c.blacken-2.new.self c.args.object c.args.header.shape c.args.slot
+    c.in_ok-next.next c.store_of-store.result c.requires.whole.whole c.requires.there c.requires.beside
+    c.store_of-store.ensures found
+
+pub returns : goal.returns
+returns c =
+    let same = c.blacken-2.ensures.same ∙ c.blacken.ensures.same in
+    let found = subst
+    (λ (main : Mutator). FindsWithout c.args.main.now main c.args.header.shape c.args.slot (Ok c.in_ok-next.next))
+    (sym same) c.in_ok-next.ensures in
+    beside_taken c.args.main.now c.blacken-2.new.self c.close_both.new.main c.put_shape.new.main c.args.object
+    c.args.header c.args.slot c.in_ok-next.next c.store_of-store.result c.first_drawn_in-first.result
+    c.requires.whole.whole c.requires.there c.store_of-store.ensures c.first_drawn_in-first.ensures found
+    c.close_both.ensures c.put_shape.ensures.put c.put_shape.ensures.heap

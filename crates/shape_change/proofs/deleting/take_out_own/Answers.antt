@@ -1,0 +1,46 @@
+-- Fields that stand in the object close the gap.
+use Rattle.std.proofs.Common.{sym, ap, subst, arith}
+use Rattle.std.specs.Prelude.{Ok}
+use Rattle.page_space.specs.Extents.{Space, marks_start}
+use Rattle.write_barrier.specs.Mains.{Mutator}
+use Rattle.shape_change.specs.Deletions.{FindsWithout}
+use Rattle.shape_change.proofs.TakenFields.{one_fewer, own_before_marks, own_taken}
+use Rattle.shape_change.proofs.deleting.take_out_own.Goals as goal
+
+pub blacken-requires-clause-within : goal.blacken-requires-clause-within
+blacken-requires-clause-within c =
+    omega (
+      arith,
+      own_before_marks c.args.main.now c.shape_without.new.main c.args.object c.args.header.shape c.args.slot
+          c.in_ok-next.next c.requires.whole.whole c.requires.there c.in_ok-next.ensures,
+    )
+
+pub close_own-requires-clause-within : goal.close_own-requires-clause-within
+close_own-requires-clause-within c =
+    let old = c.args.main.now in
+    let mid = c.blacken.new.self in
+    let found = subst (λ (main : Mutator). FindsWithout old main c.args.header.shape c.args.slot (Ok c.in_ok-next.next))
+    (sym c.blacken.ensures.same) c.in_ok-next.ensures in
+    let fewer = one_fewer old mid c.args.object c.args.header.shape c.args.slot c.in_ok-next.next c.requires.there
+    found in
+    let before = own_before_marks old mid c.args.object c.args.header.shape c.args.slot c.in_ok-next.next
+    c.requires.whole.whole c.requires.there found in
+    omega (arith, before, fewer.cap, fewer.fields, c.requires.own)
+
+pub put_shape-requires-clause-within : goal.put_shape-requires-clause-within
+put_shape-requires-clause-within c =
+    let before = own_before_marks c.args.main.now c.shape_without.new.main c.args.object c.args.header.shape c.args.slot
+    c.in_ok-next.next c.requires.whole.whole c.requires.there c.in_ok-next.ensures in
+    let same = ap (λ (main : Mutator). marks_start main.seat.space) c.blacken.ensures.same in
+    omega (arith, before, same, ap (λ (space : Space). marks_start space) c.close_own.ensures.rest.space)
+
+pub returns : goal.returns
+returns c =
+    let old = c.args.main.now in
+    let mid = c.blacken.new.self in
+    let found = subst (λ (main : Mutator). FindsWithout old main c.args.header.shape c.args.slot (Ok c.in_ok-next.next))
+    (sym c.blacken.ensures.same) c.in_ok-next.ensures in
+    own_taken old mid c.close_own.new.main c.put_shape.new.main c.args.object c.args.header c.args.slot
+    c.in_ok-next.next c.requires.whole.whole c.requires.there c.requires.own found c.close_own.ensures
+    c.put_shape.ensures.put
+    c.put_shape.ensures.heap

@@ -1,0 +1,39 @@
+-- The regions stay, and so what is before the marks.
+use Rattle.std.proofs.Common.{◌<◌, sym, ◌∙◌, ap, subst}
+use Rattle.page_space.specs.Extents.{Space, marks_start}
+use Rattle.write_barrier.specs.Mains.{Mutator}
+use Rattle.shape_change.specs.Places.{place_at}
+use Rattle.shape_change.specs.Contents.{IsBeforeMarks}
+use Rattle.shape_change.proofs.CellsRead.{cell_at_before_marks}
+use Rattle.shape_change.proofs.Filled.{laid_space, filled_space}
+use Rattle.shape_change.proofs.widening.set_wider.Goals as goal
+
+pub blacken_for-requires-clause-within : goal.blacken_for-requires-clause-within
+blacken_for-requires-clause-within c =
+    let there = c.requires.there in
+    let same = laid_space c.args.main.now c.filling_of.new.main c.changed_shape-shape.new.main c.in-Ok.filling _ _
+    c.in-Ok.ensures.allocates c.changed_shape-shape.ensures.changes in
+    subst (λ (space : Space). c.args.object < marks_start space) (sym same)
+    (subst (λ at. at < marks_start c.args.main.now.seat.space) there.stands
+    (cell_at_before_marks c.requires.whole.whole.sized there.has))
+
+pub fill-requires-clause-room : goal.fill-requires-clause-room
+fill-requires-clause-room c =
+    let filling = c.in-Ok.filling in
+    let same = ap (λ (main : Mutator). main.seat.space) c.blacken_for.ensures
+    ∙ laid_space c.args.main.now c.filling_of.new.main c.changed_shape-shape.new.main filling _ _
+    c.in-Ok.ensures.allocates c.changed_shape-shape.ensures.changes in
+    subst (λ (space : Space). IsBeforeMarks space filling) (sym same) c.in-Ok.ensures.before_marks
+
+pub set_header-requires-clause-within : goal.set_header-requires-clause-within
+set_header-requires-clause-within c =
+    let filling = c.in-Ok.filling in
+    let there = c.requires.there in
+    let same = ap (λ (main : Mutator). main.seat.space) c.fill.ensures
+    ∙ filled_space c.blacken_for.new.main (place_at c.args.object c.args.setting.place) filling
+    ∙ ap (λ (main : Mutator). main.seat.space) c.blacken_for.ensures
+    ∙ laid_space c.args.main.now c.filling_of.new.main c.changed_shape-shape.new.main filling _ _
+    c.in-Ok.ensures.allocates c.changed_shape-shape.ensures.changes in
+    subst (λ (space : Space). c.args.object < marks_start space) (sym same)
+    (subst (λ at. at < marks_start c.args.main.now.seat.space) there.stands
+    (cell_at_before_marks c.requires.whole.whole.sized there.has))

@@ -1,0 +1,67 @@
+-- Slots that move down by one, where a field before them is taken out of a plain object.
+use Rattle.std.specs.Prelude.{◌≡◌, ◌≢◌, ℕ, suc, ◌+◌, ◌-◌, ◌<◌, ◌≤◌, ◌⊎◌, Some, length, slice_get, nat_lt}
+use Rattle.std.specs.Prelude.{if◌then◌else◌}
+use Rattle.tagged_word.specs.Cells.{plain_head, store_head}
+use Rattle.page_space.specs.Extents.{marks_start}
+use Rattle.object_graph.specs.declared.path.Path.{Path}
+use Rattle.shape_tree.specs.Shapes.{shape_path}
+use Rattle.heap_table.specs.Seats.{heap_words}
+use Rattle.heap_model.specs.Slots.{hole_word}
+use Rattle.write_barrier.specs.Mains.{Mutator}
+
+-- of all that the mutator has, at most words before the marks have changed
+pub record KeepsRest (old new : Mutator) : Type 0 where
+  pub space : new.seat.space ≡ old.seat.space
+  pub phase : new.seat.phase ≡ old.seat.phase
+  pub paths : new.paths ≡ old.paths
+  pub young : new.young ≡ old.young
+  pub count : length (heap_words new.seat) ≡ length (heap_words old.seat)
+
+-- no word below an address has changed, and none from another on
+abbrev pub KeepsBeside : Mutator → Mutator → ℕ → ℕ → Type 0
+KeepsBeside old new from to =
+    (a : ℕ) → (a < from) ⊎ (to ≤ a) → slice_get (heap_words new.seat) a ≡ slice_get (heap_words old.seat) a
+
+-- the words from an address up to another became those one further, and nothing else changed
+pub record MovesDown (old new : Mutator) (from to : ℕ) : Type 0 where
+  pub rest : KeepsRest old new
+  pub moved : (a : ℕ) → from ≤ a → a < to → slice_get (heap_words new.seat) a ≡ slice_get (heap_words old.seat) (a + 1)
+  pub beside : KeepsBeside old new from to
+
+-- the same up to the last, which became this word
+pub record ClosesGap (old new : Mutator) (from last word : ℕ) : Type 0 where
+  pub rest : KeepsRest old new
+  pub moved : (a : ℕ) → from ≤ a → a < last
+      → slice_get (heap_words new.seat) a ≡ slice_get (heap_words old.seat) (a + 1)
+  pub filled : slice_get (heap_words new.seat) last ≡ Some word
+  pub beside : KeepsBeside old new from (last + 1)
+
+-- where the slot of this number stands, of a plain object with so many in-object slots and its store at this address
+abbrev pub slot_at : ℕ → ℕ → ℕ → ℕ → ℕ
+slot_at object cap store slot =
+    if nat_lt slot cap then object + (plain_head + slot) else store + (store_head + (slot - cap))
+
+-- The slots from one on became those one further, up to the last, which holds nothing; the one that comes into the
+-- object from the store is this word. Nothing else changed.
+pub record ClosesSlots (old new : Mutator) (object cap store slot last first : ℕ) : Type 0 where
+  pub rest : KeepsRest old new
+  pub moved : (one : ℕ) → slot ≤ one → one < last → suc one ≢ cap
+      → slice_get (heap_words new.seat) (slot_at object cap store one)
+      ≡ slice_get (heap_words old.seat) (slot_at object cap store (suc one))
+  pub drawn_in : (one : ℕ) → slot ≤ one → one < last → suc one ≡ cap
+      → slice_get (heap_words new.seat) (slot_at object cap store one) ≡ Some first
+  pub hole : slice_get (heap_words new.seat) (slot_at object cap store last) ≡ Some hole_word
+  pub beside : (at : ℕ) → ((one : ℕ) → slot ≤ one → one ≤ last → slot_at object cap store one ≢ at)
+      → slice_get (heap_words new.seat) at ≡ slice_get (heap_words old.seat) at
+
+-- how many fields of the path stand in the property store
+abbrev pub fields_beside : Path → ℕ
+fields_beside path = length path.fields - path.cap
+
+-- The in-object slots of a plain object, and the slots of the fields of a shape behind them in its store, stand before
+-- the marks, and have no word in common.
+pub record SlotsWithin (main : Mutator) (object store shape : ℕ) : Type 0 where
+  pub own : object + (plain_head + (shape_path main.paths shape).cap) ≤ marks_start main.seat.space
+  pub beside : store + (store_head + fields_beside (shape_path main.paths shape)) < marks_start main.seat.space
+  pub apart : (object + (plain_head + (shape_path main.paths shape).cap) ≤ store)
+      ⊎ (store + (store_head + fields_beside (shape_path main.paths shape)) < object)
