@@ -21,6 +21,10 @@ printf 'new x 0\nset x a 1\nset x b x\nrepeat 1000000\nset x a 7\nget y x b\nend
 printf 'new x 1\nset x a x\nset x b x\nset x b 5000000000\nrepeat 1000000\nset x b 5000000001\nget y x b\nend\n' |
   script boxed_fields 3000005
 printf 'new x 8\nset x a 1\nset x b 2\nset x c 3\nrepeat 500000\ndel x b\nset x b 2\nend\n' | script deletion 1500005
+# Lists: elements that are read and replaced, in a box too, and lists that grow until they are full.
+printf 'list l\npush l 1\npush l l\nrepeat 1000000\nput l 0 7\nat y l 1\nend\n' | script elements 3000004
+printf 'list l\npush l 5000000000\nrepeat 1000000\nput l 0 5000000001\nat y l 0\nend\n' | script boxed_elements 3000003
+printf 'repeat 30\nlist l\nrepeat 1000\npush l 1\nend\nend\n' | script pushes 60091 --young 65536
 printf 'repeat 13107\nnew x 3\nend\n' | script new 26215 --young 65536
 printf 'repeat 7000\nnew x 1\nset x a 1\nset x a 5000000000\nset x a x\nend\n' | script representations 35001 --young 65536
 printf '' | script empty 0

@@ -8,8 +8,6 @@ use Rattle.std.proofs.lemmas.Option.{slice_get_within, slice_get-get_or, none-so
 use Rattle.tagged_word.specs.declared.layout.Kind.TheVariants as kind
 use Rattle.tagged_word.specs.declared.layout.LayoutWord.{LayoutWord}
 use Rattle.tagged_word.specs.Shapes.{first_path_shape}
-use Rattle.tagged_word.specs.Cells.{store_slot}
-use Rattle.tagged_word.specs.Readings.{reference_in}
 use Rattle.object_graph.specs.declared.path.Path.{Path}
 use Rattle.object_graph.specs.declared.path.PathField.{PathField}
 use Rattle.object_graph.specs.declared.value.Rep.{Rep}
@@ -21,16 +19,14 @@ use Rattle.heap_model.specs.Changes.{written}
 use Rattle.heap_model.specs.Slots.{is_object_kind, IsFieldWord}
 use Rattle.heap_model.specs.Kinds.{HasWord, IsPlainCell, IsSoundOf}
 use Rattle.heap_model.specs.Wholeness.{Whole}
-use Rattle.heap_model.specs.Needs.{word_at, path_at, capacity_at, capacity_by, field_word}
+use Rattle.heap_model.specs.Needs.{path_at, field_word}
 use Rattle.heap_model.specs.Needs.{is_box_word, box_need, store_need}
 use Rattle.heap_model.specs.Needs.{index_of, is_tagged_rep, is_raw_after, set_need_by, set_need_at, field_need}
-use Rattle.heap_model.proofs.CellWords.{word_there}
 use Rattle.heap_model.proofs.PathLayouts.{layout_is}
-use Rattle.heap_model.proofs.SlotWords.{store_word, field_is_slot}
+use Rattle.heap_model.proofs.SlotWords.{field_is_slot}
 use Rattle.collector.proofs.CopiedCells.{Copying}
-use Rattle.collector.proofs.FieldWords.{is_box_read, two_words, slot_read, field_read}
-use Rattle.collector.proofs.NeedWords.{RefersToCells, word_of_cell, shape_is, shape_stays, slot_refers}
-use Rattle.collector.proofs.NeedWords.{store_refers, capacity_stays}
+use Rattle.collector.proofs.FieldWords.{is_box_read, field_read, capacity_at_stays}
+use Rattle.collector.proofs.NeedWords.{RefersToCells, shape_is, shape_stays, slot_refers}
 
 -- the path of no shape
 abbrev no_path : Path
@@ -124,15 +120,8 @@ set_stays : {heap : Heap} {words : List ℕ} {cell : Cell} {others : List ℕ} (
     → index_of path.fields name ≡ found
     → set_need_by (written heap words) cell.at path found wide ≡ set_need_by heap cell.at path found wide
 set_stays {heap} {words} {cell} path name wide None whole copying has object is found =
-    let store = word_there store_slot has (two_words has object) in
-    let refers = λ (at : ℕ) (read : reference_in (word_at heap (cell.at + store_slot)) ≡ Some at).
-    let is = word_of_cell store_slot store.0 has store.1 in
-    store_refers store.0 at (store_word store.0 whole has object store.1) (ap reference_in (sym is) ∙ read) in
-    let capacity : capacity_at (written heap words) cell.at ≡ capacity_at heap cell.at =
-    ap (λ word. capacity_by (written heap words) (reference_in word)) (slot_read copying has (two_words has object))
-    ∙ capacity_stays (reference_in (word_at heap (cell.at + store_slot))) copying refers in
     ap (λ many. if nat_lt (length path.fields) path.cap then 0
-    else store_need many (length path.fields - path.cap) + box_need wide) capacity
+    else store_need many (length path.fields - path.cap) + box_need wide) (capacity_at_stays whole copying has object)
 set_stays {heap} {cell = cell} {others} path name wide (Some field) whole copying has object is found =
     let within = index_within path.fields name field found in
     let known : PathField = get_or path.fields field (record { name = 0; rep = rep.Small }) in

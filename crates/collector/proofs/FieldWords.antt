@@ -15,14 +15,16 @@ use Rattle.heap_model.specs.Heaps.{Heap, HasCell}
 use Rattle.heap_model.specs.Changes.{written}
 use Rattle.heap_model.specs.Slots.{is_object_kind, IsBeside}
 use Rattle.heap_model.specs.Kinds.{HasWord, HasSlots}
-use Rattle.heap_model.specs.Needs.{word_at, beside_by, field_word}
+use Rattle.heap_model.specs.Wholeness.{Whole}
+use Rattle.heap_model.specs.Needs.{word_at, capacity_at, capacity_by, beside_by, field_word}
 use Rattle.heap_model.specs.Needs.{is_box_word}
 use Rattle.heap_model.proofs.WordClasses.{undefined_refers_not}
 use Rattle.heap_model.proofs.CellWords.{slice_get-drop, slice_get-append_left, slice_get-append_right, words_by_kind}
 use Rattle.heap_model.proofs.CellWords.{words_are_size, word_there, behind_head}
+use Rattle.heap_model.proofs.SlotWords.{store_word}
 use Rattle.collector.proofs.CopiedCells.{Copying}
 use Rattle.collector.proofs.NeedWords.{RefersToCells, word_of_cell, word_stays, address_is}
-use Rattle.collector.proofs.NeedWords.{zero_refers, box_stays}
+use Rattle.collector.proofs.NeedWords.{zero_refers, box_stays, store_refers, capacity_stays}
 
 -- the word of a field by address is the same in the image, and refers to nothing but cells
 pub record IsRead (heap : Heap) (words : List ℕ) (word : Heap → ℕ) : Type 0 where
@@ -36,7 +38,7 @@ is_box_read {heap} {words} word copying read =
     ap (is_box_word (written heap words)) read.same ∙ box_stays (word heap) copying read.refers
 
 -- a slot of the store to which the word of the slot refers
-beside_read : {heap : Heap} {words : List ℕ} (store : ℕ) (slots : List ℕ) (k : ℕ) (found : Option ℕ)
+pub beside_read : {heap : Heap} {words : List ℕ} (store : ℕ) (slots : List ℕ) (k : ℕ) (found : Option ℕ)
     → Copying heap words → IsBeside heap kind.Store store slots → k < length slots
     → ((word : ℕ) → HasWord slots k word → RefersToCells heap word) → reference_in store ≡ found
     → IsRead heap words (λ one. beside_by one found k)
@@ -84,6 +86,18 @@ pub slot_read : {heap : Heap} {words : List ℕ} {cell : Cell} {others : List �
     → word_at (written heap words) (cell.at + store_slot) ≡ word_at heap (cell.at + store_slot)
 slot_read {cell = cell} copying has two =
     word_stays (cell.at + store_slot) copying has record { from = omega arith; below = omega (arith, two) }
+
+-- an object's store or table has its capacity in the image
+pub capacity_at_stays : {heap : Heap} {words : List ℕ} {cell : Cell} {others : List ℕ} → Whole heap
+    → Copying heap words → HasCell heap cell others → IsTrue (is_object_kind cell.layout.kind)
+    → capacity_at (written heap words) cell.at ≡ capacity_at heap cell.at
+capacity_at_stays {heap} {words} {cell} whole copying has object =
+    let store = word_there store_slot has (two_words has object) in
+    let refers = λ (at : ℕ) (read : reference_in (word_at heap (cell.at + store_slot)) ≡ Some at).
+    let is = word_of_cell store_slot store.0 has store.1 in
+    store_refers store.0 at (store_word store.0 whole has object store.1) (ap reference_in (sym is) ∙ read) in
+    ap (λ word. capacity_by (written heap words) (reference_in word)) (slot_read copying has (two_words has object))
+    ∙ capacity_stays (reference_in (word_at heap (cell.at + store_slot))) copying refers
 
 -- the word of a field of a plain object
 pub field_read : {heap : Heap} {words : List ℕ} {cell : Cell} {others slots : List ℕ} (cap field : ℕ)

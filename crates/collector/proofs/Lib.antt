@@ -7,4 +7,6 @@ mod FilledWords
 mod NeedWords
 mod FieldWords
 mod FieldNeeds
+mod ElementNeeds
 pub mod ImageNeeds
+pub mod ImageStores

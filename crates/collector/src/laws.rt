@@ -1,10 +1,13 @@
 //! Laws of images.
-ghost use Rattle.collector.specs.ImageLaws.{ImagesShow, ImagesAreBlank, ImagesNeedAsMuch};
+ghost use Rattle.collector.specs.ImageLaws.{ImagesShow, ImagesAreBlank, ImagesKeepStores};
+ghost use Rattle.collector.specs.ImageLaws.{ImagesNeedAsMuch};
 
-/// An image shows each graph that the heap shows, and has no word but 0 where no cell stands. A
-/// command allocates as many words on it as on the heap.
+/// An image shows each graph that the heap shows, and has no word but 0 where no cell stands. Each
+/// object stands there where it stood, with a store of as many slots, and a command allocates as many
+/// words on it as on the heap.
 pub fn laws_of_images()
     ensures show { ImagesShow }
     ensures blank { ImagesAreBlank }
+    ensures stores { ImagesKeepStores }
     ensures need { ImagesNeedAsMuch }
 {}

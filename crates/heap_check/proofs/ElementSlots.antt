@@ -8,12 +8,11 @@ use Rattle.tagged_word.specs.declared.layout.Kind.TheVariants as kind
 use Rattle.tagged_word.specs.Cells.{store_slot}
 use Rattle.object_graph.specs.Meaning.{list_most}
 use Rattle.heap_model.specs.Heaps.{Heap}
-use Rattle.heap_model.specs.Slots.{IsBeside}
 use Rattle.heap_model.specs.Kinds.{HasWord, HoldValues, IsListCell, count_offset}
 use Rattle.heap_check.specs.declared.spans.Span.{Span}
 use Rattle.heap_check.specs.Spans.{EachWord, span_words, IsBesideAs}
 use Rattle.heap_check.specs.Elements.{IsElement}
-use Rattle.heap_check.proofs.SlotsBeside.{one_beside}
+use Rattle.heap_check.proofs.SlotsBeside.{beside_is_span}
 
 -- the slots hold elements, as many as they are, each in its place
 abbrev pub AreElements : Heap → ℕ → List ℕ → Type 0
@@ -64,9 +63,6 @@ pub list_to : (heap : Heap) (words : List ℕ) (store count : ℕ) (span : Span)
     → HasWord words count_offset count → IsBesideAs heap kind.Store store span → IsListCell heap words
     → HoldValues heap count (span_words heap span)
 list_to heap words store count span slot counted beside list =
-    let same_store : list.store ≡ store = same_Some _ _ (sym list.slot ∙ slot) in
     let same_count : list.count ≡ count = same_Some _ _ (sym list.counted ∙ counted) in
-    let stands : IsBeside heap kind.Store store list.beside =
-    subst (λ w. IsBeside heap kind.Store w list.beside) same_store list.stands in
-    let same : list.beside ≡ span_words heap span = one_beside stands beside.beside in
+    let same = beside_is_span words store_slot store list.store span slot list.slot beside list.stands in
     subst (HoldValues heap count) same (subst (λ n. HoldValues heap n list.beside) same_count list.hold)

@@ -1,18 +1,16 @@
 -- What the slots of a plain object hold, slot by slot.
 use Rattle.std.proofs.Common.{◌≡◌, ℕ, ◌≤◌, List, ◌++◌, length, drop, sym, ◌∙◌, ap, subst}
-use Rattle.std.proofs.lemmas.Option.{same_Some}
 use Rattle.tagged_word.specs.declared.layout.Kind.TheVariants as kind
 use Rattle.tagged_word.specs.Cells.{store_slot, plain_head}
 use Rattle.object_graph.specs.declared.path.Path.{Path}
 use Rattle.shape_tree.specs.Shapes.{IsPathShape, shape_path}
 use Rattle.cell_layout.specs.declared.cell.Cell.{Cell}
 use Rattle.heap_model.specs.Heaps.{Heap}
-use Rattle.heap_model.specs.Slots.{IsBeside}
-use Rattle.heap_model.specs.Kinds.{HasWord, HoldFields, IsPlainCell}
+use Rattle.heap_model.specs.Kinds.{HasWord, HasSlots, HoldFields, IsPlainCell}
 use Rattle.heap_check.specs.declared.spans.Span.{Span}
 use Rattle.heap_check.specs.Spans.{EachWord, span_words, IsBesideAs}
 use Rattle.heap_check.specs.PathSlots.{FitsSlot}
-use Rattle.heap_check.proofs.SlotsBeside.{one_beside}
+use Rattle.heap_check.proofs.SlotsBeside.{beside_is_span}
 
 -- where each slot holds what it may, the slots hold the fields
 pub hold_fields_from : (heap : Heap) (path : Path) (slots : List ℕ) → length path.fields ≤ length slots
@@ -48,18 +46,20 @@ plain_from heap cell words store own beside shape slot own_are stands hold = rec
   hold = hold;
 }
 
+-- the slots of an object are its own and those beside them
+pub slots_are : {heap : Heap} {words slots : List ℕ} (store : ℕ) (own beside : Span) → HasWord words store_slot store
+    → span_words heap own ≡ drop plain_head words → IsBesideAs heap kind.Store store beside → HasSlots heap words slots
+    → slots ≡ span_words heap own ++ span_words heap beside
+slots_are {heap} {words} store own beside slot own_are stands has =
+    let same = beside_is_span words store_slot store has.store beside slot has.slot stands has.stands in
+    has.are ∙ ap (λ all. drop plain_head words ++ all) same
+    ∙ ap (λ all. all ++ span_words heap beside) (sym own_are)
+
 -- and then these slots hold its fields
 pub plain_to : (heap : Heap) (cell : Cell) (words : List ℕ) (store : ℕ) (own beside : Span)
     → HasWord words store_slot store → span_words heap own ≡ drop plain_head words
     → IsBesideAs heap kind.Store store beside → IsPlainCell heap cell words
     → HoldFields heap (shape_path heap.paths cell.header.shape) (span_words heap own ++ span_words heap beside)
 plain_to heap cell words store own beside slot own_are stands plain =
-    let has = plain.has in
-    let same_store : has.store ≡ store = same_Some _ _ (sym has.slot ∙ slot) in
-    let stands_too : IsBeside heap kind.Store store has.beside =
-    subst (λ w. IsBeside heap kind.Store w has.beside) same_store has.stands in
-    let same : has.beside ≡ span_words heap beside = one_beside stands_too stands.beside in
-    let slots : plain.slots ≡ span_words heap own ++ span_words heap beside =
-    has.are ∙ ap (λ all. drop plain_head words ++ all) same
-    ∙ ap (λ all. all ++ span_words heap beside) (sym own_are) in
-    subst (HoldFields heap (shape_path heap.paths cell.header.shape)) slots plain.hold
+    subst (HoldFields heap (shape_path heap.paths cell.header.shape))
+    (slots_are store own beside slot own_are stands plain.has) plain.hold

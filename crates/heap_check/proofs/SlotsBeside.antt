@@ -1,11 +1,13 @@
 -- The store or weak table to which a word refers, and its slots.
 use Rattle.std.proofs.Common.{◌≡◌, ℕ, ◌≤◌, inl, inr, List, [], drop, refl, sym, ◌∙◌, ap, subst, arith}
+use Rattle.std.proofs.lemmas.Option.{same_Some}
 use Rattle.tagged_word.specs.declared.layout.Kind.{Kind}
 use Rattle.tagged_word.specs.declared.layout.Kind.TheVariants as kind
 use Rattle.tagged_word.specs.Cells.{store_head}
 use Rattle.cell_layout.specs.declared.cell.Cell.{Cell}
 use Rattle.heap_model.specs.Heaps.{Heap, words_of_cell}
 use Rattle.heap_model.specs.Slots.{undefined_word, is_object_kind, RefersTo, IsBeside}
+use Rattle.heap_model.specs.Kinds.{HasWord}
 use Rattle.heap_model.proofs.CellWords.{words_are_size, words_by_kind}
 use Rattle.heap_model.proofs.SlotWords.{same_target}
 use Rattle.heap_model.proofs.WordClasses.{undefined_refers_not}
@@ -64,6 +66,14 @@ one_beside_of {heap} (Beside.store cell refers is are) (Beside.store other refer
 pub one_beside : {heap : Heap} {of : Kind} {word : ℕ} {slots others : List ℕ} → IsBeside heap of word slots
     → IsBeside heap of word others → slots ≡ others
 one_beside beside other = one_beside_of (beside_is beside) (beside_is other)
+
+-- where a slot of words says it, they are those of the span that was found for it
+pub beside_is_span : {heap : Heap} {of : Kind} {slots : List ℕ} (words : List ℕ) (offset one other : ℕ) (span : Span)
+    → HasWord words offset one → HasWord words offset other → IsBesideAs heap of one span
+    → IsBeside heap of other slots → slots ≡ span_words heap span
+beside_is_span {heap} {of} {slots} words offset one other span slot slot_too stands beside =
+    let same : other ≡ one = same_Some _ _ (sym slot_too ∙ slot) in
+    one_beside (subst (λ w. IsBeside heap of w slots) same beside) stands.beside
 
 -- `undefined` says that there are none
 pub none_beside : (heap : Heap) (of : Kind) (word : ℕ) → word ≡ undefined_word

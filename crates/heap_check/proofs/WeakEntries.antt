@@ -25,13 +25,19 @@ weak_from heap words store count table slot counted has entries = record {
   counted = counted ∙ ap (λ n. Some n) entries.1;
 }
 
+-- the pairs of the table that a slot of words names are those of the span that was found for it
+pub table_is_span : {heap : Heap} {pairs : List Pair} (words : List ℕ) (offset store other : ℕ) (table : Span)
+    → HasWord words offset store → HasWord words offset other → IsTableAs heap store table → HasTable heap other pairs
+    → pairs ≡ table_pairs heap table
+table_is_span {heap} {pairs} words offset store other table slot slot_too has stands =
+    let same : other ≡ store = same_Some _ _ (sym slot_too ∙ slot) in
+    one_table (subst (λ w. HasTable heap w pairs) same stands) has.has
+
 -- and then these pairs hold its entries
 pub weak_to : (heap : Heap) (words : List ℕ) (store count : ℕ) (table : Span) → HasWord words store_slot store
     → HasWord words count_offset count → IsTableAs heap store table → IsWeakCell heap words
     → HasEntries heap (table_pairs heap table) count
 weak_to heap words store count table slot counted has weak =
-    let same_store : weak.store ≡ store = same_Some _ _ (sym weak.slot ∙ slot) in
-    let stands : HasTable heap store weak.pairs = subst (λ w. HasTable heap w weak.pairs) same_store weak.table in
-    let same : weak.pairs ≡ table_pairs heap table = one_table stands has.has in
+    let same = table_is_span words store_slot store weak.store table slot weak.slot has weak.table in
     let entries : HasEntries heap weak.pairs count = (weak.each, same_Some _ _ (sym counted ∙ weak.counted)) in
     subst (λ pairs. HasEntries heap pairs count) same entries

@@ -4,7 +4,8 @@
 //! whether one of the predicates of its `specs/Wholeness.antt` holds of it.
 //! Invariant: none. A judge that needs what another one found requires the predicate of that one;
 //! `has_frame` requires nothing.
-//! No judge takes memory: where one needs a cell again, it walks to it again.
+//! No judge takes memory: where one needs a cell again, it walks to it again. The parts of judges
+//! that are public too, as the walk and what a word stands for, are for judges above.
 #![tactic(auto)]
 
 mod blank;
@@ -38,9 +39,15 @@ mod whole;
 pub use blank::is_blank;
 pub use finding::find_cell;
 pub use frame::has_frame;
+pub use onward::next_from;
 pub use owners::has_owners;
-pub use roots::has_roots;
+pub use reads::word_at;
+pub use roots::{has_roots, is_object};
 pub use rows::has_rows;
 pub use sizes::has_sizes;
+pub use slots::{Sort, sort_of};
 pub use sound::has_sound_cells;
+pub use spans::{Span, behind_head, word_of};
+pub use stores::slots_beside;
+pub use tables::{KeyValue, is_free, is_undefined, pair_at, table_beside};
 pub use whole::is_whole;

@@ -16,7 +16,7 @@ use page_space::Region;
 
 /// The first cell of a heap that stands at an address or behind it, where no cell reaches over
 /// that. It goes on from there, so a walk through the heap takes as long as there are cells.
-pub(crate) fn next_from(image: &HeapImage, from: u32) -> Option<Cell>
+pub fn next_from(image: &HeapImage, from: u32) -> Option<Cell>
     requires sized { HasWords (image_heap image.now) }
     requires rows { HasRows (image_heap image.now) }
     requires boundary { IsBoundary (image_heap image.now) from }

@@ -10,7 +10,7 @@ use heap_model::HeapImage;
 use word_store::SliceWords;
 
 /// The word at an address; none behind the last.
-pub(crate) fn word_at(image: &HeapImage, a: u32) -> Option<u64>
+pub fn word_at(image: &HeapImage, a: u32) -> Option<u64>
     ensures { result ≡ slice_get image.now.words a }
 {
     image.words.as_slice().get(a as usize).copied()

@@ -104,7 +104,7 @@ pub(crate) fn is_object_at(image: &HeapImage, at: u32) -> bool
 }
 
 /// Whether a cell of the kind is an object's own.
-pub(crate) fn is_object(kind: Kind) -> bool
+pub fn is_object(kind: Kind) -> bool
     ensures { result ≡ is_object_kind kind }
 {
     match kind {

@@ -23,7 +23,7 @@ use tagged_word::{Class, Kind, Word, is_small, odd};
 
 /// What the word of a slot stands for.
 #[derive(Clone, Copy)]
-pub(crate) enum Sort {
+pub enum Sort {
     /// A small integer.
     Small,
     /// The value `undefined`.
@@ -97,7 +97,7 @@ impl Sort {
     }
 
     /// The number of the object that it is.
-    pub(crate) fn number(self) -> Option<u32>
+    pub fn number(self) -> Option<u32>
         ensures { result ≡ number_of self }
     {
         match self {
@@ -108,7 +108,7 @@ impl Sort {
 }
 
 /// What a word stands for.
-pub(crate) fn sort_of(image: &HeapImage, word: u64) -> Sort
+pub fn sort_of(image: &HeapImage, word: u64) -> Sort
     requires sized { HasWords (image_heap image.now) }
     requires rows { HasRows (image_heap image.now) }
     ensures { IsSort (image_heap image.now) word result }

@@ -15,13 +15,13 @@ const HEAD: u32 = 2;
 
 /// The words from an address to another.
 #[derive(Clone, Copy)]
-pub(crate) struct Span {
-    pub(crate) from: u32,
-    pub(crate) end: u32,
+pub struct Span {
+    pub from: u32,
+    pub end: u32,
 }
 
 /// The word of a cell at an offset.
-pub(crate) fn word_of(image: &HeapImage, cell: Cell, offset: u32) -> u64
+pub fn word_of(image: &HeapImage, cell: Cell, offset: u32) -> u64
     requires stands { StandsIn (image_heap image.now) cell }
     requires within { offset < cell.size }
     ensures { HasWord (words_of_cell (image_heap image.now) cell) offset result }
@@ -30,7 +30,7 @@ pub(crate) fn word_of(image: &HeapImage, cell: Cell, offset: u32) -> u64
 }
 
 /// The slots behind the head of a store, of a weak table or of a plain object.
-pub(crate) fn behind_head(image: &HeapImage, cell: Cell) -> Span
+pub fn behind_head(image: &HeapImage, cell: Cell) -> Span
     requires sized { HasWords (image_heap image.now) }
     requires stands { StandsIn (image_heap image.now) cell }
     requires long { store_head ≤ cell.size }

@@ -18,7 +18,7 @@ use tagged_word::Kind;
 
 /// The slots of the store or weak table of the kind to which a word refers, and no slots where the
 /// word says that there is none.
-pub(crate) fn slots_beside(image: &HeapImage, word: u64, kind: Kind) -> Option<Span>
+pub fn slots_beside(image: &HeapImage, word: u64, kind: Kind) -> Option<Span>
     requires sized { HasWords (image_heap image.now) }
     requires rows { HasRows (image_heap image.now) }
     requires of_stores { IsStoreKind kind }

@@ -17,14 +17,14 @@ use tagged_word::{Kind, Word, odd};
 
 /// The words of a pair of a weak table.
 #[derive(Clone, Copy)]
-pub(crate) struct KeyValue {
-    pub(crate) key: u64,
-    pub(crate) value: u64,
+pub struct KeyValue {
+    pub key: u64,
+    pub value: u64,
 }
 
 /// The slots of the weak table to which a word refers, which has a power of two pairs; no slots
 /// where the word says that there is none.
-pub(crate) fn table_beside(image: &HeapImage, word: u64) -> Option<Span>
+pub fn table_beside(image: &HeapImage, word: u64) -> Option<Span>
     requires sized { HasWords (image_heap image.now) }
     requires rows { HasRows (image_heap image.now) }
     ensures { let heap = image_heap image.now in MatchOption result (HasNoTable heap word)
@@ -46,7 +46,7 @@ pub(crate) fn table_beside(image: &HeapImage, word: u64) -> Option<Span>
 }
 
 /// Whether a word is `undefined`.
-fn is_undefined(word: u64) -> bool
+pub fn is_undefined(word: u64) -> bool
     ensures { IsTrue result ↔ (word ≡ undefined_word) }
 {
     word == Word::odd(odd::UNDEFINED).0
@@ -66,7 +66,7 @@ fn is_power_of_two(n: u32) -> bool
 }
 
 /// The pair at a place of a table.
-pub(crate) fn pair_at(image: &HeapImage, table: Span, at: u32) -> KeyValue
+pub fn pair_at(image: &HeapImage, table: Span, at: u32) -> KeyValue
     requires is { IsSpan (image_heap image.now) table }
     requires there { 2 * at + 1 < table.end - table.from }
     ensures { slice_get (table_pairs (image_heap image.now) table) at ≡ Some (pair_of result) }
@@ -79,7 +79,7 @@ pub(crate) fn pair_at(image: &HeapImage, table: Span, at: u32) -> KeyValue
 }
 
 /// Whether a pair holds nothing.
-pub(crate) fn is_free(pair: KeyValue) -> bool
+pub fn is_free(pair: KeyValue) -> bool
     ensures { result ≡ is_free_pair (pair_of pair) }
 {
     is_hole(pair.key) && is_hole(pair.value)

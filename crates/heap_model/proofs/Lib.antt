@@ -3,6 +3,7 @@ pub mod RowEnds
 pub mod CellsApart
 pub mod CellWords
 pub mod PathLayouts
+pub mod FixedShapes
 pub mod ObjectSlots
 pub mod SlotWords
 pub mod SlotsHold

@@ -1,11 +1,12 @@
 -- How many words a command allocates on a heap, in one run: its cell, or a store and then a box.
-use Rattle.std.specs.Prelude.{ℕ, suc, ◌+◌, ◌-◌, ◌*◌, max, Bool, true, false, not, ◌&&◌, ◌==◌, List, []}
+use Rattle.std.specs.Prelude.{ℕ, suc, ◌+◌, ◌-◌, ◌*◌, ◌/◌, max, min, Bool, true, false, not, ◌&&◌, ◌==◌, List, []}
+use Rattle.std.specs.Prelude.{ℤ, pos, negsuc}
 use Rattle.std.specs.Prelude.{◌∷◌, length, Option, Some, None, option_map, slice_get, unwrap_or, nat_lt}
 use Rattle.std.specs.Prelude.{if◌then◌else◌}
 use Rattle.tagged_word.specs.declared.word.Class.TheVariants.{Odd}
 use Rattle.tagged_word.specs.Words.{small, bits_of}
 use Rattle.tagged_word.specs.Odds.{wide_code}
-use Rattle.tagged_word.specs.Shapes.{box_shape}
+use Rattle.tagged_word.specs.Shapes.{list_shape, box_shape}
 use Rattle.tagged_word.specs.Cells.{plain_head, store_head, store_slot, length_offset}
 use Rattle.tagged_word.specs.Readings.{reference_in, header_at}
 use Rattle.heap_command.specs.declared.command.Command.{Command}
@@ -16,9 +17,11 @@ use Rattle.object_graph.specs.declared.path.Path.{Path}
 use Rattle.object_graph.specs.declared.path.PathField.{PathField}
 use Rattle.object_graph.specs.declared.value.Rep.{Rep}
 use Rattle.object_graph.specs.declared.value.Rep.TheVariants.{Small, Wide, Tagged}
+use Rattle.object_graph.specs.Meaning.{list_most}
 use Rattle.shape_tree.specs.Shapes.{shape_path}
 use Rattle.handle_roots.specs.Roots.{root_at}
 use Rattle.heap_model.specs.Heaps.{Heap}
+use Rattle.heap_model.specs.Kinds.{count_offset}
 
 -- the words of a box: its header, and a raw integer
 abbrev pub box_words : ℕ
@@ -130,11 +133,71 @@ abbrev pub set_need : Heap → Option ℕ → ℕ → Bool → ℕ
 set_need heap None name wide = 0
 set_need heap (Some at) name wide = set_need_at heap at name wide
 
+-- how many elements the list at an address has
+abbrev pub count_at : Heap → ℕ → ℕ
+count_at heap at = word_at heap (at + count_offset)
+
+-- the capacity of the store that takes the place of a list's that is full of so many elements: twice as many slots, but
+-- no more than a list may have elements
+abbrev pub grown_list : ℕ → ℕ
+grown_list count = min list_most (grown count)
+
+-- a new store, where that of so many slots is full of so many elements
+abbrev pub list_store_need : ℕ → ℕ → ℕ
+list_store_need capacity count = if count == capacity then store_head + grown_list count else 0
+
+-- `push` to the list at an address
+abbrev pub push_need_at : Heap → ℕ → Bool → ℕ
+push_need_at heap at wide = list_store_need (capacity_at heap at) (count_at heap at) + box_need wide
+
+-- the word of an element of the list at an address
+abbrev pub element_word : Heap → ℕ → ℕ → ℕ
+element_word heap at element = beside_by heap (reference_in (word_at heap (at + store_slot))) element
+
+-- `put` of an element of the list at an address: a box, where the value is wide and the element is in none
+abbrev pub put_need_at : Heap → ℕ → ℕ → Bool → ℕ
+put_need_at heap at element wide = box_need (wide && not (is_box_word heap (element_word heap at element)))
+
+-- whether a list stands at an address
+abbrev pub is_list_at : Heap → ℕ → Bool
+is_list_at heap at = shape_at heap at == list_shape
+
+-- `push` to what a root refers to, where that is a list
+abbrev pub push_need : Heap → Option ℕ → Bool → ℕ
+push_need heap None wide = 0
+push_need heap (Some at) wide = if is_list_at heap at then push_need_at heap at wide else 0
+
+-- `put` of an element of what a root refers to, where that is a list that has the element
+abbrev pub put_need : Heap → Option ℕ → ℕ → Bool → ℕ
+put_need heap None element wide = 0
+put_need heap (Some at) element wide =
+    if is_list_at heap at && nat_lt element (count_at heap at) then put_need_at heap at element wide else 0
+
+-- the number that an integer is, and 0 where it is below 0
+abbrev pub number_of : ℤ → ℕ
+number_of (pos n) = n
+number_of (negsuc n) = 0
+
+-- which element an operand stands for, where it is one of a list: then it is a small integer
+abbrev pub element_of : Heap → Operand → ℕ
+element_of heap (operand.Int v) = number_of v
+element_of heap operand.Undefined = 0
+element_of heap (operand.Var x) = word_at heap (root_at heap.space x) / 2
+
+-- the words of a list's own cell: its header, the slot for its store, and its length
+abbrev pub list_words : ℕ
+list_words = 3
+
 -- How many words a command allocates on a heap.
 abbrev pub need_of : Heap → Command → ℕ
 need_of heap (command.New x cap) = plain_head + cap
 need_of heap (command.Set x name v) =
     set_need heap (reference_in (word_at heap (root_at heap.space x))) name (is_wide_operand heap v)
+need_of heap (command.List x) = list_words
+need_of heap (command.Push x v) =
+    push_need heap (reference_in (word_at heap (root_at heap.space x))) (is_wide_operand heap v)
+need_of heap (command.Put x i v) =
+    put_need heap (reference_in (word_at heap (root_at heap.space x))) (element_of heap i) (is_wide_operand heap v)
 need_of heap _ = 0
 
 -- The heap has not so many words more: survivors, used words and these are over the words of the young generation.

@@ -22,7 +22,7 @@ use Rattle.heap_run.specs.declared.last_line.LastLine.{LastLine}
 use Rattle.heap_run.specs.declared.last_line.LastLine.TheVariants as last
 use Rattle.heap_run.specs.Texts.{last_bytes, status_of}
 use Rattle.heap_run.specs.Answers.{Input, ReadsAll, Answer, unopened, refusal_of, last_line_of}
-use Rattle.heap_run.specs.Answers.{Comes, Taken, Answers, Runs, IsOpened, KeepsGraph, AsksToRun}
+use Rattle.heap_run.specs.Answers.{Comes, Taken, Answers, Runs, IsKeptAt, KeepsGraph, AsksToRun}
 
 -- no last line has the status of a sink that failed
 pub status-apart : (line : LastLine) → status_of line ≢ 5
@@ -83,36 +83,36 @@ opened-refused bad.NoMemory line e = cc
 
 -- the status of an answer whose last line is written goes with the heap that is kept
 opened-line : (words : List (List ℕ)) (input : Input) (answer : Answer) → Comes words input answer → (line : LastLine)
-    → answer.last ≡ Some line → IsOpened (status_of line) answer.kept
+    → answer.last ≡ Some line → IsKeptAt (status_of line) answer.kept
 opened-line words input _ (Comes.bad_words refused unread steady) line e =
     let is : last.BadWords ≡ line = cc in
-    subst (λ l. IsOpened (status_of l) None) is (5, lit< tt, refl)
+    subst (λ l. IsKeptAt (status_of l) None) is (5, lit< tt, refl)
 opened-line words input _ (Comes.no_memory begins read) line e =
     let is : last.NoMemory ≡ line = cc in
-    subst (λ l. IsOpened (status_of l) None) is (4, lit< tt, refl)
+    subst (λ l. IsKeptAt (status_of l) None) is (4, lit< tt, refl)
 opened-line words input _ (Comes.read_fault sizes asks rose) line e =
     let is : last.ReadFault ≡ line = cc in
-    subst (λ l. IsOpened (status_of l) None) is (1, lit< tt, refl)
+    subst (λ l. IsKeptAt (status_of l) None) is (1, lit< tt, refl)
 opened-line words input _ (Comes.too_long sizes asks many) line e =
     let is : last.SourceTooLong ≡ line = cc in
-    subst (λ l. IsOpened (status_of l) None) is (3, lit< tt, refl)
+    subst (λ l. IsKeptAt (status_of l) None) is (3, lit< tt, refl)
 opened-line words input _ (Comes.no_script sizes bytes stop at asks reads is refusal) line e =
     let same : at ≡ line = cc in
-    subst (λ l. IsOpened (status_of l) None) same (opened-refused stop at refusal)
+    subst (λ l. IsKeptAt (status_of l) None) same (opened-refused stop at refusal)
 opened-line words input _ (Comes.ended sizes bytes script kept came asks reads is keeps comes need) line e =
     let same : last_line_of came kept.line ≡ line = cc in
-    subst (λ l. IsOpened (status_of l) (Some kept)) same (opened-ended came kept.line)
+    subst (λ l. IsKeptAt (status_of l) (Some kept)) same (opened-ended came kept.line)
 opened-line words input _ (Comes.cut_short sizes bytes script kept asks reads is keeps at need fills) line e = cc
 
 -- the status of a sink that failed goes with a heap and with none
-opened-failed : (kept : Option Kept) → IsOpened 5 kept
+opened-failed : (kept : Option Kept) → IsKeptAt 5 kept
 opened-failed None = (2, lit< tt, refl)
 opened-failed (Some kept) = (3, lit< tt, refl)
 
 -- the status goes with the heap that is kept
 pub opened-answer : (words : List (List ℕ)) (input : Input) (old new : List ℕ → Type 0) (faults_old faults_new : ℕ)
     (answer : Answer) (status : ℕ) → Comes words input answer → Taken old new faults_old faults_new answer status
-    → IsOpened status answer.kept
+    → IsKeptAt status answer.kept
 opened-answer words input old new faults_old faults_new _ _ comes (Taken.all told line kept appends steady) =
     opened-line words input _ comes line refl
 opened-answer words input old new faults_old faults_new _ _ comes (Taken.front answer some near rose) =
@@ -150,9 +150,9 @@ Answers-reads words input old new faults_old faults_new ended a =
     subst P a.kept (reads-comes words input a.answer a.comes)
 
 pub Answers-opened : (words : List (List ℕ)) (input : Input) (old new : List ℕ → Type 0) (faults_old faults_new : ℕ)
-    (ended : Ended) → Answers words input old new faults_old faults_new ended → IsOpened ended.status ended.kept
+    (ended : Ended) → Answers words input old new faults_old faults_new ended → IsKeptAt ended.status ended.kept
 Answers-opened words input old new faults_old faults_new ended a =
-    subst (IsOpened ended.status) a.kept
+    subst (IsKeptAt ended.status) a.kept
     (opened-answer words input old new faults_old faults_new a.answer ended.status a.comes a.taken)
 
 -- an answer before the opening

@@ -13,7 +13,7 @@ use Rattle.byte_ends.proofs.Appending.{Appends-append}
 use Rattle.heap_script.specs.declared.finished.How.{How}
 use Rattle.heap_script.specs.declared.finished.How.TheVariants.{End, Fault, HeapFull, SinkFault, LineLimit}
 use Rattle.heap_script.specs.declared.finished.Finished.{Finished}
-use Rattle.heap_script.specs.Runs.{Reached, ComesTo, Finishes, need_at, IsCut}
+use Rattle.heap_script.specs.Runs.{Reached, HasSpent, ComesTo, Finishes, need_at, IsCut}
 use Rattle.heap_script.proofs.Handing.{front-behind, front-longer}
 use Rattle.mutator.specs.declared.output.TheConstants.{OUTPUT_BYTES}
 use Rattle.heap_run.specs.declared.ended.Kept.{Kept}
@@ -46,19 +46,21 @@ pub record IsKeepable (sizes : Sizes) (script : ScriptText) (image : HeapImage) 
 
 -- what is kept of a run that has come so far
 abbrev pub keeps : {sizes : Sizes} {script : ScriptText} {image : HeapImage} (how : How) (line n : ℕ)
-    → IsKeepable sizes script image → Reached script (image_heap image) n → Keeps sizes script (kept_by image how line n)
-keeps how line n is reached = record { regions = is.regions; blank = is.blank; reached = reached }
+    → IsKeepable sizes script image → Reached script (image_heap image) n → HasSpent script (image_heap image) n
+    → Keeps sizes script (kept_by image how line n)
+keeps how line n is reached spent =
+    record { regions = is.regions; blank = is.blank; reached = reached; spent = spent }
 
 -- a run that came to an end, and its last line
 Runs-ended : (sizes : Sizes) (bytes : List ℕ) (script : ScriptText) (image : HeapImage) (how : How) (line n status : ℕ)
     (old mid new : List ℕ → Type 0) (faults_old faults_mid faults_new : ℕ) → reading bytes ≡ Ok script
     → IsKeepable sizes script image → (reached : Reached script (image_heap image) n)
-    → ComesTo script (image_heap image) n reached.so_far how line
+    → HasSpent script (image_heap image) n → ComesTo script (image_heap image) n reached.so_far how line
     → Appends old mid reached.so_far.bytes → faults_mid ≡ faults_old
     → Lasts how line mid new faults_mid faults_new status → (status ≡ 5) ⊎ (status ≢ 5)
     → Runs sizes bytes old new faults_old faults_new (ended_by image how line n status)
-Runs-ended sizes bytes script image how line n status old mid new faults_old faults_mid faults_new is keepable reached comes
-    told steady lasts (inl five) =
+Runs-ended sizes bytes script image how line n status old mid new faults_old faults_mid faults_new is keepable reached spent
+    comes told steady lasts (inl five) =
     let (some, rose) = lasts.failed five in
     let last = last_line_of how line in
     let (all, count) = front-behind reached.so_far.bytes (last_bytes last) told some in
@@ -70,18 +72,18 @@ Runs-ended sizes bytes script image how line n status old mid new faults_old fau
       answer = answer;
       kept = refl;
       comes = λ words input asks reads.
-          Comes.ended sizes bytes script kept how asks reads is (keeps how line n keepable reached) comes refl;
+          Comes.ended sizes bytes script kept how asks reads is (keeps how line n keepable reached spent) comes refl;
       taken = rw five (Taken.front answer all near (subst (λ f. Rose f faults_new) steady rose));
     }
-Runs-ended sizes bytes script image how line n status old mid new faults_old faults_mid faults_new is keepable reached comes
-    told steady lasts (inr other) =
+Runs-ended sizes bytes script image how line n status old mid new faults_old faults_mid faults_new is keepable reached spent
+    comes told steady lasts (inr other) =
     let (status-is, appends, same) = lasts.written other in
     let kept = kept_by image how line n in
     record {
       answer = record { told = reached.so_far.bytes; last = Some (last_line_of how line); kept = Some kept };
       kept = refl;
       comes = λ words input asks reads.
-          Comes.ended sizes bytes script kept how asks reads is (keeps how line n keepable reached) comes refl;
+          Comes.ended sizes bytes script kept how asks reads is (keeps how line n keepable reached spent) comes refl;
       taken = rw status-is
           (Taken.all reached.so_far.bytes (last_line_of how line) (Some kept) (Appends-append told appends) (same ∙ steady));
     }
@@ -96,7 +98,7 @@ Runs-cut sizes bytes script image need line n old new faults_old faults_new is k
     let (at, cut, rose) = f.writes in
     let told = f.reached.so_far.bytes in
     let kept = kept_by image (SinkFault need) line n in
-    let kept_is = keeps (SinkFault need) line n keepable f.reached in
+    let kept_is = keeps (SinkFault need) line n keepable f.reached f.spent in
     elim at [
       | inl (none, nothing, fills) ↦
           let (some, count) = front-longer told [] cut.some in
@@ -131,19 +133,19 @@ pub Runs-finished : (sizes : Sizes) (bytes : List ℕ) (script : ScriptText) (im
     → (¬ IsCut how → Lasts how line mid new faults_mid faults_new status) → (status ≡ 5) ⊎ (status ≢ 5)
     → Runs sizes bytes old new faults_old faults_new (ended_by image how line n status)
 Runs-finished sizes bytes script image End line n status old mid new fo fm fn is keepable f five cut lasts dec =
-    Runs-ended sizes bytes script image End line n status old mid new fo fm fn is keepable f.reached
+    Runs-ended sizes bytes script image End line n status old mid new fo fm fn is keepable f.reached f.spent
     f.writes.0 f.writes.1 f.writes.2
     (lasts (λ no. no)) dec
 Runs-finished sizes bytes script image (Fault word) line n status old mid new fo fm fn is keepable f five cut lasts dec =
-    Runs-ended sizes bytes script image (Fault word) line n status old mid new fo fm fn is keepable f.reached
+    Runs-ended sizes bytes script image (Fault word) line n status old mid new fo fm fn is keepable f.reached f.spent
     f.writes.0 f.writes.1 f.writes.2
     (lasts (λ no. no)) dec
 Runs-finished sizes bytes script image (HeapFull need) line n status old mid new fo fm fn is keepable f five cut lasts dec =
-    Runs-ended sizes bytes script image (HeapFull need) line n status old mid new fo fm fn is keepable f.reached
+    Runs-ended sizes bytes script image (HeapFull need) line n status old mid new fo fm fn is keepable f.reached f.spent
     f.writes.0 f.writes.1 f.writes.2 (lasts (λ no. no)) dec
 Runs-finished sizes bytes script image (SinkFault need) line n status old mid new fo fm fn is keepable f five cut lasts dec =
     rw (five tt) (Runs-cut sizes bytes script image need line n old new fo fn is keepable (cut tt))
 Runs-finished sizes bytes script image LineLimit line n status old mid new fo fm fn is keepable f five cut lasts dec =
-    Runs-ended sizes bytes script image LineLimit line n status old mid new fo fm fn is keepable f.reached
+    Runs-ended sizes bytes script image LineLimit line n status old mid new fo fm fn is keepable f.reached f.spent
     f.writes.0 f.writes.1 f.writes.2
     (lasts (λ no. no)) dec

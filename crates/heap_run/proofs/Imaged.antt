@@ -1,28 +1,26 @@
 -- What holds of a run on a heap holds of its image.
 use Rattle.std.proofs.Common.{◌≡◌, ℕ, ◌+◌, List, [], ◌∷◌, length, Option, Some, None, ap, ◌∙◌, sym, subst, inl, inr, IsTrue}
 use Rattle.std.proofs.Common.{nat_lt}
-use Rattle.std.specs.Prelude.{All}
 use Rattle.heap_command.specs.declared.command.Command.{Command}
 use Rattle.heap_command.specs.Executed.{Executed}
 use Rattle.page_space.specs.Extents.{Space}
 use Rattle.object_graph.specs.Graphs.{Graph}
-use Rattle.object_graph.specs.Run.{Told}
 use Rattle.script_text.specs.Scripts.{ScriptText}
 use Rattle.script_text.specs.Sound.{IsNumbered}
 use Rattle.heap_model.specs.Heaps.{Heap}
-use Rattle.heap_model.specs.Needs.{need_of, lacks_room}
 use Rattle.heap_model.specs.Wholeness.{Whole}
 use Rattle.collector.specs.Images.{IsImageOf}
-use Rattle.collector.specs.ImageLaws.{ImagesShow, ImagesNeedAsMuch}
+use Rattle.collector.specs.ImageLaws.{ImagesShow, ImagesKeepStores, ImagesNeedAsMuch}
 use Rattle.heap_script.specs.declared.finished.How.{How}
 use Rattle.heap_script.specs.declared.finished.How.TheVariants as how
 use Rattle.heap_script.specs.declared.finished.Finished.{Finished}
-use Rattle.heap_script.specs.Runs.{left_after, Reached, IsFull, IsFullFor, IsFullAt, FullAt, ComesTo, FailedAt, Writes, Finishes}
+use Rattle.heap_script.specs.Runs.{left_after, Reached, HasSpent, IsFull, IsFullFor, IsFullAt, ComesTo, FailedAt, Writes, Finishes}
 use Rattle.heap_run.proofs.ExecutedNames.{NamesBelow, AllBelow, left_below}
 
 -- the laws of images
 pub record Laws : Type 0 where
   pub show : ImagesShow
+  pub stores : ImagesKeepStores
   pub need : ImagesNeedAsMuch
 
 -- the run has come so far on the image too
@@ -35,6 +33,21 @@ reached_imaged {heap = heap} {image = image} laws is r = record {
   so_far = r.so_far;
   said = r.said;
   shown = laws.show heap image r.so_far.graph r.shown is;
+}
+
+-- as many words are used on the image, and stores have as many slots
+spent_imaged : {script : ScriptText} {heap image : Heap} {n : ℕ} → Laws → Whole heap → IsImageOf heap image
+    → HasSpent script heap n → HasSpent script image n
+spent_imaged {heap = heap} {image = image} laws whole is spent = record {
+  last = spent.last;
+  spends = spent.spends;
+  space = is.space ∙ spent.space;
+  used = is.used ∙ spent.used;
+  survivors = is.survivors ∙ spent.survivors;
+  stores = λ number at place.
+      let stood = spent.stores number at place in
+      let stays = laws.stores heap image number at whole is stood.0 in
+      (stays.0, stays.1 ∙ stood.1);
 }
 
 -- an image is as full as the heap
@@ -114,5 +127,6 @@ pub finishes_imaged : {script : ScriptText} {heap image : Heap} (finished : Fini
     → Finishes script image finished old new faults_old faults_new
 finishes_imaged finished old new fo fn laws numbered is f = record {
   reached = reached_imaged laws is f.reached;
+  spent = spent_imaged laws f.reached.shown.whole is f.spent;
   writes = writes_imaged finished.how finished old new fo fn laws numbered is f.reached f.writes;
 }

@@ -14,7 +14,7 @@ use Rattle.byte_ends.specs.Sink.{Appends, AppendsSome}
 use Rattle.heap_script.specs.declared.finished.How.{How}
 use Rattle.heap_script.specs.declared.finished.How.TheVariants as how
 use Rattle.mutator.specs.declared.output.TheConstants.{OUTPUT_BYTES}
-use Rattle.heap_script.specs.Runs.{Reached, ComesTo, need_at, FillsOutput}
+use Rattle.heap_script.specs.Runs.{Reached, HasSpent, ComesTo, need_at, FillsOutput}
 use Rattle.heap_model.specs.Images.{image_heap}
 use Rattle.heap_model.specs.Wholeness.{Blank}
 use Rattle.heap_run.specs.declared.ended.Kept.{Kept}
@@ -93,11 +93,13 @@ abbrev pub unopened : LastLine → Answer
 unopened line = record { told = []; last = Some line; kept = None }
 
 -- The kept heap of a script that was run with these sizes: its regions are those of the sizes and of the script's
--- variables, it shows the graph after the executed lines, and all words that no cell uses are 0.
+-- variables, it shows the graph after the executed lines, as many words are used as these lines needed, and all words that
+-- no cell uses are 0.
 pub record Keeps (sizes : Sizes) (script : ScriptText) (kept : Kept) : Type 0 where
   pub regions : kept.image.regions ≡ record { sizes = sizes; variables = length script.variables }
   pub blank : Blank (image_heap kept.image)
   pub reached : Reached script (image_heap kept.image) kept.executed
+  pub spent : HasSpent script (image_heap kept.image) kept.executed
 
 -- What a run comes to, by the words and the source.
 pub data Comes (words : List (List ℕ)) (input : Input) : Answer → Type 0 where
@@ -150,8 +152,8 @@ pub data Taken (old new : List ℕ → Type 0) (faults_old faults_new : ℕ) : A
       → Taken old new faults_old faults_new answer sink_fault_status
 
 -- a heap is kept at the statuses of a script that was run, and none at the others; the sink may fail before or after
-abbrev pub IsOpened : ℕ → Option Kept → Type 0
-IsOpened status kept =
+abbrev pub IsKeptAt : ℕ → Option Kept → Type 0
+IsKeptAt status kept =
     MatchOption kept (Contains (2 ∷ 4 ∷ 5 ∷ 6 ∷ 7 ∷ 64 ∷ []) status) (λ _. Contains (0 ∷ 1 ∷ 3 ∷ 5 ∷ 8 ∷ []) status)
 
 -- The source is a script, and the heap that is kept of its run with these sizes shows the graph after the executed lines.

@@ -4,13 +4,15 @@ ghost use Rattle.std.specs.Prelude.{Some, None, Ok, IfSome, IfOk};
 ghost use Rattle.object_graph.specs.Graphs.{start};
 ghost use Rattle.script_text.specs.Grammar.{reading};
 ghost use Rattle.page_space.specs.Sizes.{AreWithin};
+ghost use Rattle.write_barrier.specs.Mains.{IsOpened};
 ghost use Rattle.collector.specs.States.{HeapShows};
 ghost use Rattle.byte_ends.specs.Faults.{Rose};
 ghost use Rattle.byte_ends.specs.Source.{IsInput};
 ghost use Rattle.byte_ends.specs.Sink.{Appends, AppendsSome};
 ghost use Rattle.heap_script.specs.Runs.{AreBuilt, IsCut};
 ghost use Rattle.heap_run.specs.Texts.{last_bytes, status_of};
-ghost use Rattle.heap_run.specs.Answers.{Answers, Runs, KeepsGraph, AsksToRun, IsOpened, Taken, input_of, last_line_of, unopened};
+ghost use Rattle.heap_run.specs.Answers.{Answers, Runs, KeepsGraph, AsksToRun, IsKeptAt, Taken};
+ghost use Rattle.heap_run.specs.Answers.{input_of, last_line_of, unopened};
 
 use crate::ended::{Ended, Kept};
 use crate::last_line::{LastLine, SINK_FAULT};
@@ -51,7 +53,7 @@ pub fn run<S: Source, K: Sink, G: Gate, R: Threads + Sync>(
         × KeepsGraph sizes (reading input) kept) }
     ensures whole { IfSome result.kept (λ _.
         IfSome (S.left source.old) (λ _. S.left source.new ≡ Some [])) }
-    ensures opened { IsOpened result.status result.kept }
+    ensures opened { IsKeptAt result.status result.kept }
 {
     run_words(rt, alloc, words, source, sink, gate)
 }
@@ -136,7 +138,8 @@ fn run_source<K: Sink, G: Gate, R: Threads + Sync>(
 
 /// A heap over these regions, in which there is no object and no variable is bound.
 fn open_heap(alloc: Global, regions: Regions) -> Result<Heap, NoMemory>
-    ensures { IfOk result (λ heap. HeapShows heap start × (heap.main.seat.space ≡ regions)) }
+    ensures { IfOk result (λ heap. HeapShows heap start × IsOpened heap.main
+        × (heap.main.seat.space ≡ regions)) }
 {
     let seat = HeapTable::open(alloc, regions)?;
     Heap::open_new(alloc, seat, regions)
@@ -152,6 +155,7 @@ fn run_on_heap<K: Sink, G: Gate, R: Threads + Sync>(
     gate: &G,
 ) -> Ended
     requires shown { HeapShows heap start }
+    requires opened { IsOpened heap.main }
     requires variables { heap.main.seat.space.variables ≡ length script.now.variables }
     requires built { AreBuilt script.now.lines }
     requires empty { out ≡ [] }

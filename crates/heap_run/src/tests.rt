@@ -9,6 +9,7 @@ mod ends;
 mod fields;
 mod images;
 mod limits;
+mod lists;
 
 /// The heap of a run, as far as tests look at it.
 #[derive(Clone, Copy, Debug, PartialEq, Eq)]
@@ -129,7 +130,7 @@ fn scripts_write_their_values_and_their_last_line(rt: HostRuntime) -> Result<(),
             "bad script 4 count\n",
             2,
         ),
-        ("list x", "bad script 1 notbuilt\n", 2),
+        ("weak x", "bad script 1 notbuilt\n", 2),
         ("make x", "bad script 1 command\n", 2),
         ("print 007", "bad script 1 value\n", 2),
         ("new x 9", "bad script 1 integer\n", 2),
@@ -171,7 +172,7 @@ fn the_kept_heap_counts_executed_lines(rt: HostRuntime) -> Result<(), Fail> {
         ("new x 1\nset x a 5\nset y b 6", seen(2, 3, 0)),
         ("repeat 0\nprint 1\nend\nprint 2", seen(2, 0, 0)),
         ("repeat 6000\nnew x 8\nend", seen(1_639, 2, 10)),
-        ("list x", None),
+        ("weak x", None),
     ];
     for (script, wanted) in table {
         assert_eq!(rt;

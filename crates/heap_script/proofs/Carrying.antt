@@ -1,5 +1,5 @@
 -- What a call that carries a command out does to a heap, of which it lends the mutator's side.
-use Rattle.std.proofs.Common.{◌≡◌, ℕ, ◌≤◌, List, Result, Ok, Err, refl, sym, ap, subst}
+use Rattle.std.proofs.Common.{◌≡◌, ℕ, ◌≤◌, List, Err, sym, subst}
 use Rattle.tagged_word.specs.Cells.{cell_words_most}
 use Rattle.heap_command.specs.declared.command.Command.{Command}
 use Rattle.heap_command.specs.Commands.{IsWithin}

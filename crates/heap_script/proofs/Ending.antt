@@ -22,7 +22,7 @@ use Rattle.write_barrier.specs.Mains.{Mutator, heap_of, IsTied}
 use Rattle.page_space.specs.Extents.{Space}
 use Rattle.mutator.specs.Carries.{Carries}
 use Rattle.heap_script.specs.declared.finished.How.TheVariants as how
-use Rattle.heap_script.specs.Runs.{left_after, Reached, EndsAs, ComesTo, IsFullAt}
+use Rattle.heap_script.specs.Runs.{left_after, Reached, Spends, EndsAs, ComesTo, IsFullAt}
 use Rattle.heap_script.specs.Progress.{how_of, CarriesLine, Handed, Pauses}
 
 -- within the limit, a run ends by what stands at the lines that are left
@@ -135,10 +135,10 @@ same-line names main after graph (Some command) text stop carries = same-stopped
 -- a run that halts at a line whose command was not carried out
 pub Pauses-stopped : (script : ScriptText) (heap : Heap) (waiting : List ℕ) (n number : ℕ) (stop : Stop)
     (old new : List ℕ → Type 0) (faults_old faults_new : ℕ)
-    → (r : Reached script heap n) → ComesTo script heap n r.so_far (how_of stop) number
+    → (r : Reached script heap n) → Spends script heap n → ComesTo script heap n r.so_far (how_of stop) number
     → Handed old new waiting r.so_far.bytes → faults_new ≡ faults_old
     → Pauses script heap waiting (record { how = how_of stop; line = number; executed = n }) old new faults_old faults_new
-Pauses-stopped script heap waiting n number (Fault word) old new faults_old faults_new r comes handed steady =
-    record { reached = r; halts = (comes, handed, steady) }
-Pauses-stopped script heap waiting n number (NoRoom need) old new faults_old faults_new r comes handed steady =
-    record { reached = r; halts = (comes, handed, steady) }
+Pauses-stopped script heap waiting n number (Fault word) old new faults_old faults_new r spends comes handed steady =
+    record { reached = r; spends = spends; halts = (comes, handed, steady) }
+Pauses-stopped script heap waiting n number (NoRoom need) old new faults_old faults_new r spends comes handed steady =
+    record { reached = r; spends = spends; halts = (comes, handed, steady) }

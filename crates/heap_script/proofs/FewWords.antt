@@ -1,7 +1,7 @@
 -- A command allocates at most as many words as a cell may have.
-use Rattle.std.proofs.Common.{◌≡◌, ℕ, ◌+◌, ◌-◌, ◌*◌, ◌≤◌, ◌<◌, Bool, true, false, List, [], length, Option, Some, None, ◌&&◌, not}
-use Rattle.std.proofs.Common.{arith, refl, sym, ap, subst, inl, inr, cond, nat_lt, slice_get, max}
-use Rattle.std.proofs.Math.Nat.{max-le}
+use Rattle.std.proofs.Common.{◌≡◌, ℕ, ◌+◌, ◌-◌, ◌≤◌, Bool, true, false, List, [], length, Option, Some, None, ◌&&◌, not}
+use Rattle.std.proofs.Common.{arith, refl, sym, subst, inl, inr, cond, nat_lt, slice_get, ◌==◌}
+use Rattle.std.proofs.Math.Nat.{max-le, min-le_left}
 use Rattle.std.proofs.Math.ListN.{get_or-eq_default}
 use Rattle.std.proofs.lemmas.Bool.{cases_lt}
 use Rattle.std.proofs.lemmas.Bool.Decides.{nat_tests}
@@ -14,10 +14,13 @@ use Rattle.heap_command.specs.Commands.{IsWithin}
 use Rattle.object_graph.specs.declared.path.Path.{Path}
 use Rattle.object_graph.specs.Invariants.{IsPath, fields_most}
 use Rattle.shape_tree.specs.Shapes.{AreShapes, shape_path}
+use Rattle.object_graph.specs.Meaning.{list_most}
 use Rattle.heap_model.specs.Heaps.{Heap}
 use Rattle.handle_roots.specs.Roots.{root_at}
 use Rattle.tagged_word.specs.Readings.{reference_in}
 use Rattle.heap_model.specs.Needs.{box_need, grown, store_need, new_field_need, field_need, set_need_by, set_need, need_of}
+use Rattle.heap_model.specs.Needs.{capacity_at, count_at, grown_list, list_store_need, is_list_at, push_need}
+use Rattle.heap_model.specs.Needs.{element_word, element_of, put_need}
 use Rattle.heap_model.specs.Needs.{word_at, shape_at, path_at, index_of, is_wide_operand, is_raw_after, is_box_word, field_word}
 
 -- a box has two words
@@ -73,18 +76,53 @@ set_few heap at path None wide few = new_few heap at path wide few
 set_few heap at path (Some field) wide few = field_few heap at path field wide
 
 -- what `set` needs of what a root refers to
-put_few : (heap : Heap) (at : Option ℕ) (name : ℕ) (wide : Bool) → AreShapes heap.paths
+root_set_few : (heap : Heap) (at : Option ℕ) (name : ℕ) (wide : Bool) → AreShapes heap.paths
     → set_need heap at name wide ≤ 132
-put_few heap None name wide are = omega arith
-put_few heap (Some at) name wide are =
+root_set_few heap None name wide are = omega arith
+root_set_few heap (Some at) name wide are =
     let path : Path = path_at heap at in
     set_few heap at path (index_of path.fields name) wide (path_few heap.paths (shape_at heap at) are)
+
+-- a list's store is made with at most as many slots as a list may have elements
+list_made_few : (full : Bool) (count : ℕ) → cond full (store_head + grown_list count) 0 ≤ 1002
+list_made_few true count = omega (arith, min-le_left list_most (grown count))
+list_made_few false count = omega arith
+
+-- `push` to a list needs that and a box at most
+pushed_few : (is : Bool) (capacity count : ℕ) (wide : Bool)
+    → cond is (list_store_need capacity count + box_need wide) 0 ≤ 1004
+pushed_few true capacity count wide = omega (arith, list_made_few (count == capacity) count, box_few wide)
+pushed_few false capacity count wide = omega arith
+
+-- what `push` needs of what a root refers to
+push_few : (heap : Heap) (at : Option ℕ) (wide : Bool) → push_need heap at wide ≤ 1004
+push_few heap None wide = omega arith
+push_few heap (Some at) wide = pushed_few (is_list_at heap at) (capacity_at heap at) (count_at heap at) wide
+
+-- where there is such an element it needs a box at most
+replaced_few : (is : Bool) (wide : Bool) → cond is (box_need wide) 0 ≤ 2
+replaced_few true wide = box_few wide
+replaced_few false wide = omega arith
+
+-- what `put` needs of what a root refers to
+replace_few : (heap : Heap) (at : Option ℕ) (element : ℕ) (wide : Bool) → put_need heap at element wide ≤ 2
+replace_few heap None element wide = omega arith
+replace_few heap (Some at) element wide =
+    replaced_few (is_list_at heap at && nat_lt element (count_at heap at))
+    (wide && not (is_box_word heap (element_word heap at element)))
 
 -- each command needs few words
 pub need_few : (heap : Heap) (fields : ℕ) (command : Command) → AreShapes heap.paths
     → IsWithin heap.space.variables fields command → need_of heap command ≤ cell_words_most
 need_few heap fields (command.New x slots) are within = omega (arith, within.1)
 need_few heap fields (command.Set x name v) are within =
-    let few = put_few heap (reference_in (word_at heap (root_at heap.space x))) name (is_wide_operand heap v) are in
+    let few = root_set_few heap (reference_in (word_at heap (root_at heap.space x))) name (is_wide_operand heap v) are in
+    omega (arith, few)
+need_few heap fields (command.Push x v) are within =
+    let few = push_few heap (reference_in (word_at heap (root_at heap.space x))) (is_wide_operand heap v) in
+    omega (arith, few)
+need_few heap fields (command.Put x i v) are within =
+    let found = reference_in (word_at heap (root_at heap.space x)) in
+    let few = replace_few heap found (element_of heap i) (is_wide_operand heap v) in
     omega (arith, few)
 need_few heap fields _ are within = omega arith

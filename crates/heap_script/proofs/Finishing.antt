@@ -7,13 +7,24 @@ use Rattle.byte_ends.specs.Sink.{Appends}
 use Rattle.heap_script.specs.declared.finished.How.{How}
 use Rattle.heap_script.specs.declared.finished.How.TheVariants.{End, Fault, HeapFull, SinkFault, LineLimit}
 use Rattle.heap_script.specs.declared.finished.Finished.{Finished}
-use Rattle.heap_script.specs.Runs.{Finishes, need_at, ComesTo, CutsOff}
+use Rattle.heap_script.specs.Runs.{Finishes, Spends, HasSpent, need_at, ComesTo, CutsOff}
 use Rattle.heap_script.specs.Progress.{Pauses, Handed}
 use Rattle.heap_script.proofs.Handing.{Appends-handed, CutsOff-handed}
 
 -- how a run finished, by its parts
 abbrev finished_by : How → ℕ → ℕ → Finished
 finished_by how line executed = record { how = how; line = line; executed = executed }
+
+-- the heap to which the lines led has spent what they need
+spent_all : {script : ScriptText} {heap : Heap} {n : ℕ} → Spends script heap n → HasSpent script heap n
+spent_all {heap = heap} spends = record {
+  last = heap;
+  spends = spends;
+  space = refl;
+  used = refl;
+  survivors = refl;
+  stores = λ number at place. (place, refl);
+}
 
 -- the sink failed between two lines
 pub Finishes-cut : (script : ScriptText) (heap : Heap) (waiting : List ℕ) (how : How) (line n need : ℕ)
@@ -25,7 +36,7 @@ Finishes-cut script heap waiting (Fault word) line n need old new faults_old fau
 Finishes-cut script heap waiting (HeapFull words) line n need old new faults_old faults_new is p = absurd (cc)
 Finishes-cut script heap waiting (SinkFault none) line n need old new faults_old faults_new is p =
     let (between, some, rose) = p.halts in
-    record { reached = p.reached; writes = (inl between, some, rose) }
+    record { reached = p.reached; spent = spent_all p.spends; writes = (inl between, some, rose) }
 Finishes-cut script heap waiting LineLimit line n need old new faults_old faults_new is p = absurd (cc)
 
 -- a run that paused at an end: what it came to, what was handed on, and that no write failed
@@ -58,15 +69,15 @@ pub Finishes-written : (script : ScriptText) (heap : Heap) (waiting : List ℕ) 
     → Appends mid new waiting → faults_new ≡ faults_mid
     → Finishes script heap (finished_by how line n) old new faults_old faults_new
 Finishes-written script heap waiting End line n old mid new faults_old faults_mid faults_new other p wrote same =
-    record { reached = p.reached; writes = (p.halts.0, Appends-handed p.halts.1 wrote, same ∙ p.halts.2) }
+    record { reached = p.reached; spent = spent_all p.spends; writes = (p.halts.0, Appends-handed p.halts.1 wrote, same ∙ p.halts.2) }
 Finishes-written script heap waiting (Fault word) line n old mid new faults_old faults_mid faults_new other p wrote same =
-    record { reached = p.reached; writes = (p.halts.0, Appends-handed p.halts.1 wrote, same ∙ p.halts.2) }
+    record { reached = p.reached; spent = spent_all p.spends; writes = (p.halts.0, Appends-handed p.halts.1 wrote, same ∙ p.halts.2) }
 Finishes-written script heap waiting (HeapFull need) line n old mid new faults_old faults_mid faults_new other p wrote same =
-    record { reached = p.reached; writes = (p.halts.0, Appends-handed p.halts.1 wrote, same ∙ p.halts.2) }
+    record { reached = p.reached; spent = spent_all p.spends; writes = (p.halts.0, Appends-handed p.halts.1 wrote, same ∙ p.halts.2) }
 Finishes-written script heap waiting (SinkFault need) line n old mid new faults_old faults_mid faults_new other p wrote same =
     absurd (other need refl)
 Finishes-written script heap waiting LineLimit line n old mid new faults_old faults_mid faults_new other p wrote same =
-    record { reached = p.reached; writes = (p.halts.0, Appends-handed p.halts.1 wrote, same ∙ p.halts.2) }
+    record { reached = p.reached; spent = spent_all p.spends; writes = (p.halts.0, Appends-handed p.halts.1 wrote, same ∙ p.halts.2) }
 
 -- writing what waited failed
 pub Finishes-failed : (script : ScriptText) (heap : Heap) (waiting : List ℕ) (how : How) (line n : ℕ)
@@ -78,6 +89,7 @@ Finishes-failed script heap waiting how line n old mid new faults_old faults_mid
     let at = paused_at script heap waiting how line n old mid faults_old faults_mid other p in
     record {
       reached = p.reached;
+      spent = spent_all p.spends;
       writes = (
         inr (how, at.comes, refl),
         CutsOff-handed at.handed wrote,

@@ -1,7 +1,10 @@
 -- What holds of a run between two of its lines, and how a line carries it on.
 use Rattle.std.proofs.Common.{◌≡◌, ℕ, suc, zero, ◌+◌, ◌<◌, List, [], ◌∷◌, ◌++◌, length, take, drop, Option, Some, ◌≤◌}
 use Rattle.std.proofs.Common.{None, Ok, refl, sym, ap, subst, ◌∙◌, add-one, add-zero, append-nil, arith}
-use Rattle.std.specs.Prelude.{option_and_then}
+use Rattle.std.proofs.Common.{false, inl, inr}
+use Rattle.std.proofs.lemmas.Bool.{cases_lt}
+use Rattle.std.proofs.lemmas.Bool.Decides.{nat_tests}
+use Rattle.std.specs.Prelude.{option_and_then, slice_get}
 use Rattle.heap_command.specs.declared.command.Command.{Command}
 use Rattle.heap_command.specs.Executed.{Executed}
 use Rattle.object_graph.specs.Graphs.{Graph, start}
@@ -15,19 +18,24 @@ use Rattle.script_text.proofs.Left.{begins}
 use Rattle.object_graph.specs.Limits.{ideal_limits}
 use Rattle.page_space.specs.Extents.{Space, marks_start}
 use Rattle.heap_model.specs.declared.image.HeapImage.{HeapImage}
-use Rattle.write_barrier.specs.Mains.{Mutator, heap_of, MainShows}
+use Rattle.heap_model.specs.Needs.{need_of, lacks_room}
+use Rattle.nursery.specs.Young.{Young, HasRoom}
+use Rattle.write_barrier.specs.Mains.{Mutator, heap_of, MainShows, IsTied, IsOpened}
+use Rattle.object_cells.specs.Uses.{UsesMore}
 use Rattle.collector.specs.States.{HeapState, HeapShows}
+use Rattle.mutator.specs.Capacities.{KeepsStores}
 use Rattle.mutator.specs.Carries.{Carries}
-use Rattle.heap_script.specs.Runs.{left_after, Reached}
+use Rattle.heap_script.specs.Runs.{left_after, Reached, Spends, Allocates}
 use Rattle.heap_script.specs.Progress.{objects_made, made_by, CarriesLine, Handed}
 use Rattle.heap_script.proofs.Counts.{length-does, makes_one}
 use Rattle.heap_script.proofs.Handing.{Handed-none, Handed-more, Handed-told}
 
 -- Between two lines: the lines that are left are those from this place on with these turns left, what was told was
--- handed on or waits, and the objects are counted.
+-- handed on or waits, the objects are counted, and the words that are used are those that the lines need.
 pub record Running (script : ScriptText) (heap : HeapState) (objects : ℕ) (waiting : List ℕ)
     (old new : List ℕ → Type 0) (at : ℕ) (ts : List ℕ) (executed : ℕ) : Type 0 where
   pub reached : Reached script (heap_of heap.main) executed
+  pub spends : Spends script (heap_of heap.main) executed
   pub shown : HeapShows heap reached.so_far.graph
   pub left : IsLeft script.lines at ts (left_after script executed)
   pub handed : Handed old new waiting reached.so_far.bytes
@@ -63,25 +71,57 @@ next-drop (first ∷ xs) zero x rest e =
     record { within = omega arith; taken = ap (λ y. y ∷ []) same; dropped = others }
 next-drop (first ∷ xs) (suc n) x rest e = next_after first xs n x rest (next-drop xs n x rest e)
 
+-- and it is at the place behind them
+next_at : {A : Type 0} (xs : List A) (n : ℕ) (x : A) (rest : List A) → drop n xs ≡ x ∷ rest → slice_get xs n ≡ Some x
+next_at [] n x rest e = absurd (nil_cons n x rest e)
+next_at (first ∷ xs) zero x rest e = cc
+next_at (first ∷ xs) (suc n) x rest e = next_at xs n x rest e
+
+-- where the young generation has room for so many words, the heap does not lack it
+not_lacking : (main : Mutator) (need : ℕ) → IsTied main → HasRoom main.young need
+    → lacks_room (heap_of main) need ≡ false
+not_lacking main need tied room =
+    let same : main.young.space.sizes.young ≡ main.seat.space.sizes.young =
+    ap (λ (space : Space). space.sizes.young) tied in
+    elim (cases_lt main.seat.space.sizes.young (main.young.survivors + main.young.used + need)) [
+      | inl over ↦ absurd (omega (arith, same, over, room))
+      | inr within ↦ grind (arith, nat_tests)
+    ]
+
+-- a command that has used its words allocates them
+allocates : {old new : Mutator} (command : Command) → IsTied old → HasRoom old.young (need_of (heap_of old) command)
+    → UsesMore old new (need_of (heap_of old) command) → KeepsStores (heap_of old) (heap_of new) command
+    → Allocates (heap_of old) (heap_of new) command
+allocates {old} {new} command tied room uses stores = record {
+  space = uses.space;
+  room = not_lacking old (need_of (heap_of old) command) tied room;
+  used = ap (λ (young : Young). young.used) uses.young;
+  survivors = ap (λ (young : Young). young.survivors) uses.young;
+  stores = stores;
+}
+
 -- a script begins
 pub Running-start : (script : ScriptText) (heap : HeapState) (old : List ℕ → Type 0) → IsPlaced 0 script.lines
-    → HeapShows heap start → heap.main.seat.space.variables ≡ length script.variables
+    → HeapShows heap start → IsOpened heap.main → heap.main.seat.space.variables ≡ length script.variables
     → Running script heap 0 [] old old 0 [] 0
-Running-start script heap old placed shown variables = record {
-  reached = record {
-    within = omega arith;
-    few = omega arith;
-    variables = variables;
-    so_far = untold;
-    said = refl;
-    shown = shown.main.shows;
-  };
-  shown = shown;
-  left = begins script.lines placed;
-  handed = Handed-none old;
-  made = refl;
-  few = omega arith;
-}
+Running-start script heap old placed shown opened variables =
+    let reached : Reached script (heap_of heap.main) 0 = record {
+      within = omega arith;
+      few = omega arith;
+      variables = variables;
+      so_far = untold;
+      said = refl;
+      shown = shown.main.shows;
+    } in
+    record {
+      reached = reached;
+      spends = Spends.none (heap_of heap.main) opened.used opened.survivors reached;
+      shown = shown;
+      left = begins script.lines placed;
+      handed = Handed-none old;
+      made = refl;
+      few = omega arith;
+    }
 
 -- what waits is handed on
 pub Running-handed : (script : ScriptText) (heap : HeapState) (objects : ℕ) (waiting rest : List ℕ)
@@ -90,6 +130,7 @@ pub Running-handed : (script : ScriptText) (heap : HeapState) (objects : ℕ) (w
     → Running script heap objects rest old new at ts n
 Running-handed script heap objects waiting rest old mid new at ts n r h = record {
   reached = r.reached;
+  spends = r.spends;
   shown = r.shown;
   left = r.left;
   handed = Handed-more r.handed h;
@@ -124,16 +165,20 @@ pub Running-passed : (script : ScriptText) (heap : HeapState) (objects : ℕ) (w
     → Running script heap objects waiting old new at' ts' (n + 1)
 Running-passed script heap objects waiting old new at at' ts ts' n number r below goes =
     let so_far = r.reached.so_far in
-    let next = next-drop (executed_lines script.lines) n (executed number None) goes.rest goes.is in
+    let line = executed number None in
+    let next = next-drop (executed_lines script.lines) n line goes.rest goes.is in
+    let reached : Reached script (heap_of heap.main) (n + 1) = record {
+      within = omega (arith, next.within);
+      few = omega (arith, below);
+      variables = r.reached.variables;
+      so_far = so_far;
+      said = said-next script n so_far so_far line goes.rest next r.reached.said refl;
+      shown = r.reached.shown;
+    } in
     record {
-      reached = record {
-        within = omega (arith, next.within);
-        few = omega (arith, below);
-        variables = r.reached.variables;
-        so_far = so_far;
-        said = said-next script n so_far so_far (executed number None) goes.rest next r.reached.said refl;
-        shown = r.reached.shown;
-      };
+      reached = reached;
+      spends = Spends.one_more (heap_of heap.main) (heap_of heap.main) n line r.spends
+          (next_at (executed_lines script.lines) n line goes.rest goes.is) refl reached;
       shown = r.shown;
       left = subst (IsLeft script.lines at' ts') (sym (dropped-next script n next)) goes.left;
       handed = r.handed;
@@ -166,20 +211,24 @@ pub Running-carried : (script : ScriptText) (heap after : HeapState) (objects : 
     → Carries script.fields heap.main after.main r.reached.so_far.graph command text (Ok tt)
     → Running script after (objects + objects_made command) (waiting ++ text) old new at' ts' (n + 1)
 Running-carried script heap after objects waiting old new at at' ts ts' n number command text r below goes spare carries =
-    let (graph, does-is, shown, room, uses) = carries in
+    let (graph, does-is, shown, room, uses, stores) = carries in
     let so_far = r.reached.so_far in
     let later : Told = record { graph = graph; bytes = so_far.bytes ++ text } in
     let line = executed number (Some command) in
     let next = next-drop (executed_lines script.lines) n line goes.rest goes.is in
+    let reached : Reached script (heap_of after.main) (n + 1) = record {
+      within = omega (arith, next.within);
+      few = omega (arith, below);
+      variables = ap (λ (space : Space). space.variables) uses.space ∙ r.reached.variables;
+      so_far = later;
+      said = said-next script n so_far later line goes.rest next r.reached.said (ap (told_with so_far) does-is);
+      shown = shown.shows;
+    } in
     record {
-      reached = record {
-        within = omega (arith, next.within);
-        few = omega (arith, below);
-        variables = ap (λ (space : Space). space.variables) uses.space ∙ r.reached.variables;
-        so_far = later;
-        said = said-next script n so_far later line goes.rest next r.reached.said (ap (told_with so_far) does-is);
-        shown = shown.shows;
-      };
+      reached = reached;
+      spends = Spends.one_more (heap_of heap.main) (heap_of after.main) n line r.spends
+          (next_at (executed_lines script.lines) n line goes.rest goes.is)
+          (allocates command r.shown.main.tied room uses stores) reached;
       shown = still_shows heap after graph r.shown spare uses.space shown;
       left = subst (IsLeft script.lines at' ts') (sym (dropped-next script n next)) goes.left;
       handed = Handed-told text r.handed;
@@ -192,7 +241,7 @@ Running-carried script heap after objects waiting old new at at' ts ts' n number
 pub same_space : (heap after : HeapState) (graph : Graph) (command : Option Command) (names : List (List ℕ)) (text : List ℕ)
     → CarriesLine names heap.main after.main graph command text (Ok tt) → after.main.seat.space ≡ heap.main.seat.space
 same_space heap after graph None names text (same, nothing, is) = ap (λ (m : Mutator). m.seat.space) same
-same_space heap after graph (Some command) names text (next, does-is, shown, room, uses) = uses.space
+same_space heap after graph (Some command) names text (next, does-is, shown, room, uses, stores) = uses.space
 
 -- a line was executed
 pub Running-line : (script : ScriptText) (heap after : HeapState) (objects : ℕ) (waiting : List ℕ)

@@ -17,7 +17,7 @@ use Rattle.byte_ends.specs.Sink.{Appends}
 use Rattle.heap_script.specs.declared.finished.How.{How}
 use Rattle.heap_script.specs.declared.finished.How.TheVariants.{Fault, HeapFull, SinkFault}
 use Rattle.heap_script.specs.declared.finished.Finished.{Finished}
-use Rattle.heap_script.specs.Runs.{Reached, ComesTo, FillsOutput, CutsOff}
+use Rattle.heap_script.specs.Runs.{Reached, Spends, ComesTo, FillsOutput, CutsOff}
 
 -- how many objects a command makes
 abbrev pub objects_made : Command → ℕ
@@ -64,8 +64,9 @@ Halts script heap waiting finished so_far old new faults_old faults_new came =
     ComesTo script heap finished.executed so_far came finished.line
     × Handed old new waiting so_far.bytes × (faults_new ≡ faults_old)
 
--- the run before its last bytes are handed on: how far it came, and how it halted
+-- the run before its last bytes are handed on: how far it came, what it spent, and how it halted
 pub record Pauses (script : ScriptText) (heap : Heap) (waiting : List ℕ) (finished : Finished)
     (old new : List ℕ → Type 0) (faults_old faults_new : ℕ) : Type 0 where
   pub reached : Reached script heap finished.executed
+  pub spends : Spends script heap finished.executed
   pub halts : Halts script heap waiting finished reached.so_far old new faults_old faults_new finished.how

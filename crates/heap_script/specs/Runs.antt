@@ -1,5 +1,6 @@
 -- How far a script was run on a heap, and how the run ended.
 use Rattle.std.specs.Prelude.{◌≡◌, ◌⊎◌, ℕ, ◌+◌, ◌<◌, ◌≤◌, List, ◌∷◌, length, take, drop, All, Option, Some, None, IsTrue}
+use Rattle.std.specs.Prelude.{false, slice_get}
 use Rattle.heap_command.specs.declared.command.Command.{Command}
 use Rattle.heap_command.specs.Executed.{Executed}
 use Rattle.object_graph.specs.Graphs.{Graph}
@@ -11,8 +12,10 @@ use Rattle.script_text.specs.declared.script.Line.{Line}
 use Rattle.script_text.specs.Sound.{IsBuilt}
 use Rattle.script_text.specs.Unrolled.{executed_lines}
 use Rattle.heap_model.specs.Heaps.{Heap}
-use Rattle.heap_model.specs.Needs.{need_of, lacks_room}
+use Rattle.heap_model.specs.Slots.{IsPlace}
+use Rattle.heap_model.specs.Needs.{capacity_at, need_of, lacks_room}
 use Rattle.heap_model.specs.Showing.{Shows}
+use Rattle.mutator.specs.Capacities.{KeepsStores}
 use Rattle.mutator.specs.declared.output.TheConstants.{OUTPUT_BYTES, ROOM}
 use Rattle.byte_ends.specs.Faults.{Rose}
 use Rattle.byte_ends.specs.Sink.{Appends, AppendsSome}
@@ -42,6 +45,39 @@ pub record Reached (script : ScriptText) (heap : Heap) (executed : ℕ) : Type 0
   pub so_far : Told
   pub said : told ideal_limits script.fields (take executed (executed_lines script.lines)) ≡ Some so_far
   pub shown : Shows heap so_far.graph
+
+-- A command allocates on the heap: there was room for the words that it needs, and exactly so many more of eden are used.
+-- The regions stay, and no survivor comes or goes. Property stores have the slots that the command gives them.
+pub record Allocates (old new : Heap) (command : Command) : Type 0 where
+  pub space : new.space ≡ old.space
+  pub room : lacks_room old (need_of old command) ≡ false
+  pub used : new.used ≡ old.used + need_of old command
+  pub survivors : new.survivors ≡ old.survivors
+  pub stores : KeepsStores old new command
+
+-- what a line allocates; one that runs no command leaves the heap as it is
+abbrev pub LineAllocates : Heap → Heap → Option Command → Type 0
+LineAllocates old new None = new ≡ old
+LineAllocates old new (Some command) = Allocates old new command
+
+-- The words that the executed lines of a script spend, one line after another, up to this heap. No word is used before
+-- the first line, and each line uses what its command needs on the heap that the lines before it left.
+pub data Spends (script : ScriptText) : Heap → ℕ → Type 0 where
+  none : (heap : Heap) → heap.used ≡ 0 → heap.survivors ≡ 0 → Reached script heap 0 → Spends script heap 0
+  one_more : (old new : Heap) (executed : ℕ) (line : Executed) → Spends script old executed
+      → slice_get (executed_lines script.lines) executed ≡ Some line → LineAllocates old new line.command
+      → Reached script new (executed + 1) → Spends script new (executed + 1)
+
+-- The heap has the regions of the one to which the lines led that spent words, and as many words are used and have
+-- survived. Each object stands where it stands there, with a store of as many slots.
+pub record HasSpent (script : ScriptText) (heap : Heap) (executed : ℕ) : Type 0 where
+  pub last : Heap
+  pub space : heap.space ≡ last.space
+  pub spends : Spends script last executed
+  pub used : heap.used ≡ last.used
+  pub survivors : heap.survivors ≡ last.survivors
+  pub stores : (number at : ℕ) → IsPlace last number at
+      → IsPlace heap number at × (capacity_at heap at ≡ capacity_at last at)
 
 -- the run of the script ends after so many lines, with this told, in this way
 abbrev pub EndsAs : ScriptText → ℕ → Told → Ending → Type 0
@@ -110,9 +146,10 @@ Writes script heap finished so_far old new faults_old faults_new came =
     ComesTo script heap finished.executed so_far came finished.line
     × Appends old new so_far.bytes × (faults_new ≡ faults_old)
 
--- The run of a script: how far it came, how it ended, and what the sink took, which may have taken these bytes before
+-- The run of a script: how far it came, what it spent, how it ended, and what the sink took, which may have taken these bytes before
 -- and after, with so many faults.
 pub record Finishes (script : ScriptText) (heap : Heap) (finished : Finished)
     (old new : List ℕ → Type 0) (faults_old faults_new : ℕ) : Type 0 where
   pub reached : Reached script heap finished.executed
+  pub spent : HasSpent script heap finished.executed
   pub writes : Writes script heap finished reached.so_far old new faults_old faults_new finished.how

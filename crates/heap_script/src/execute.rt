@@ -1,5 +1,5 @@
 //! One command of a script on the heap. Which line comes next stands in `interpreter` and `turns`.
-ghost use Rattle.std.specs.Prelude.{◌≡◌, ◌+◌, ◌<◌, ◌≤◌, ℕ, List, [], ◌++◌, length, is_ok, if◌then◌else◌, OnOk, false};
+ghost use Rattle.std.specs.Prelude.{◌≡◌, ◌+◌, ◌<◌, ◌≤◌, ℕ, List, ◌++◌, length, is_ok, if◌then◌else◌, OnOk, false};
 ghost use Rattle.object_graph.specs.Graphs.{Graph};
 ghost use Rattle.object_graph.specs.Run.{lines_most};
 ghost use Rattle.heap_command.specs.Commands.{IsWithin};
@@ -18,6 +18,7 @@ use script_text::{Script, What};
 use write_barrier::Main;
 
 /// Carries the command of a line out, if it runs one. `objects` counts the objects made so far.
+#[inline(always)]
 pub(crate) fn execute_line(
     heap: &mut Heap,
     script: &Script<'_>,
@@ -46,6 +47,7 @@ pub(crate) fn execute_line(
 
 /// Carries a command out. Where there is no room for it, the heap is to make some, and then it is
 /// tried again.
+#[inline(always)]
 fn carry_out(
     heap: &mut Heap,
     script: &Script<'_>,
@@ -76,6 +78,7 @@ fn carry_out(
 }
 
 /// Carries a command out, if there is room for it. `objects` counts the objects made so far.
+#[inline(always)]
 fn execute(
     main: &mut Main,
     script: &Script<'_>,
@@ -97,13 +100,17 @@ fn execute(
     ensures uncounted { is_ok result ≡ false → objects.new ≡ objects.old }
 {
     match *command {
-        Command::New { x, cap } => make(main, objects, x, cap),
+        Command::New { x, cap } => counted(mutator::new_plain(main, x, *objects, cap), objects),
+        Command::List { x } => counted(mutator::list(main, x, *objects), objects),
         Command::LetValue { x, v } => mutator::let_value(main, x, v),
         Command::DropVar { x } => mutator::drop_var(main, x),
         Command::Add { x, v } => mutator::add(main, x, v),
         Command::Set { x, f, v } => mutator::set(main, x, f, v),
         Command::Get { y, x, f } => mutator::get(main, y, x, f),
         Command::Del { x, f } => mutator::del(main, x, f),
+        Command::Push { x, v } => mutator::push(main, x, v),
+        Command::Put { x, i, v } => mutator::put(main, x, i, v),
+        Command::At { y, x, i } => mutator::at(main, y, x, i),
         Command::Print { v } => mutator::print(main, v, out),
         Command::Same { a, b } => mutator::same(main, a, b, out),
         Command::Alike { x, y } => mutator::alike(main, x, y, out),
@@ -112,18 +119,14 @@ fn execute(
     }
 }
 
-/// Makes a plain object and counts it.
-fn make(main: &mut Main, objects: &mut u32, x: u32, cap: u32) -> Result<(), Stop>
-    requires shown { (graph : Graph) × MainShows main.old graph × (objects.old ≡ length graph.objects) }
-    requires within { IsWithin main.old.seat.space.variables field_numbers (Command.New x cap) }
+/// Counts an object more, if it was made.
+#[inline(always)]
+fn counted(made: Result<(), Stop>, objects: &mut u32) -> Result<(), Stop>
     requires few { objects.old < lines_most }
-    ensures carried { (graph : Graph) (names : List (List ℕ)) → MainShows main.old graph →
-        objects.old ≡ length graph.objects →
-        Carries names main.old main.new graph (Command.New x cap) [] result }
+    ensures same { result ≡ made }
     ensures counted { OnOk result (objects.new ≡ objects.old + 1) }
     ensures uncounted { is_ok result ≡ false → objects.new ≡ objects.old }
 {
-    let made = mutator::new_plain(main, x, *objects, cap);
     if made.is_ok() {
         *objects += 1;
     }

@@ -2,7 +2,7 @@
 ghost use Rattle.std.specs.Prelude.{◌≡◌, ◌≢◌, ◌+◌, ◌≤◌, false, [], length, OnOk, OnErr};
 ghost use Rattle.object_graph.specs.Graphs.{Graph, start};
 ghost use Rattle.mutator.specs.Carries.{field_numbers};
-ghost use Rattle.write_barrier.specs.Mains.{heap_of};
+ghost use Rattle.write_barrier.specs.Mains.{heap_of, IsOpened};
 ghost use Rattle.collector.specs.States.{HeapShows};
 ghost use Rattle.byte_ends.specs.Faults.{Rose};
 ghost use Rattle.script_text.specs.Sound.{AreShort};
@@ -35,6 +35,7 @@ pub fn run_script<K: Sink, G: Gate, R: Threads + Sync>(
     _gate: &G,
 ) -> Finished
     requires shown { HeapShows heap.old start }
+    requires opened { IsOpened heap.old.main }
     requires variables { heap.old.main.seat.space.variables ≡ length script.now.variables }
     requires built { AreBuilt script.now.lines }
     requires empty { out.old ≡ [] }
@@ -68,6 +69,7 @@ fn run_lines<K: Sink>(
     sink: &mut K,
 ) -> Finished
     requires shown { HeapShows heap.old start }
+    requires opened { IsOpened heap.old.main }
     requires variables { heap.old.main.seat.space.variables ≡ length script.now.variables }
     requires fields { length script.now.fields ≤ field_numbers }
     requires short { AreShort script.now.fields }

@@ -4,3 +4,4 @@ mod SamePaths
 mod PathLists
 mod Bindings
 mod Holders
+pub mod BoundFrom

@@ -4,6 +4,7 @@ ghost use Rattle.object_graph.specs.Graphs.{start};
 ghost use Rattle.ideal_graph.specs.Steps.{Steps};
 
 mod bindings;
+mod lending;
 mod lists;
 mod lookups;
 mod printing;

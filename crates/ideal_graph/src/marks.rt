@@ -7,7 +7,7 @@ ghost use Rattle.object_graph.specs.Marks.{MarksAlso};
 use object_graph::{Entry, Field, Object, Value};
 
 /// Whether the object of this number is marked.
-pub(crate) fn is_marked(marks: &[bool], number: u32) -> bool
+pub fn is_marked(marks: &[bool], number: u32) -> bool
     ensures { result ≡ is_marked marks.now number }
 {
     marks.get(number as usize).copied().unwrap_or(false)

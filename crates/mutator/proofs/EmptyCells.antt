@@ -1,25 +1,28 @@
 -- The cell of a plain object that was just made: its words, and what it is.
-use Rattle.std.proofs.Common.{◌≡◌, ℕ, zero, suc, ◌+◌, ◌-◌, List, [], length, replicate}
-use Rattle.std.proofs.Common.{Some, slice_get, refl, sym, ◌∙◌, ap, subst, arith}
+use Rattle.std.proofs.Common.{◌≡◌, ℕ, zero, suc, ◌+◌, List, [], length, replicate}
+use Rattle.std.proofs.Common.{◌≤◌, Some, slice_get, refl, sym, ◌∙◌, ap, subst, arith}
 use Rattle.std.proofs.Math.Seq.{take-nil}
 use Rattle.std.proofs.lemmas.List.{append-nil, length-replicate}
 use Rattle.std.proofs.lemmas.Option.{none-some, same_Some}
+use Rattle.std.proofs.lemmas.Bool.Decides.{nat_tests}
 use Rattle.tagged_word.specs.declared.header.Header.{Header}
 use Rattle.tagged_word.specs.declared.layout.Kind.TheVariants as kind
 use Rattle.tagged_word.specs.declared.layout.LayoutWord.{LayoutWord}
-use Rattle.tagged_word.proofs.Members.{one_in}
+use Rattle.tagged_word.specs.Headers.{IsHeader}
+use Rattle.tagged_word.specs.Layouts.{layout_bits}
+use Rattle.tagged_word.specs.Cells.{cell_size}
 use Rattle.object_graph.specs.declared.path.Path.{Path}
 use Rattle.object_graph.specs.declared.path.PathField.{PathField}
 use Rattle.shape_tree.specs.Shapes.{IsShapeOf}
-use Rattle.shape_tree.specs.ShapeLayouts.{raw_mask, layout_of}
-use Rattle.cell_layout.specs.declared.cell.Cell.{Cell}
+use Rattle.object_graph.specs.Invariants.{cap_most}
+use Rattle.shape_tree.specs.ShapeLayouts.{raw_mask, layout_of, layout_word}
+use Rattle.shape_tree.proofs.PathLayouts.{layout_word-path}
 use Rattle.heap_model.specs.Heaps.{Heap, words_of_cell}
 use Rattle.heap_model.specs.Slots.{undefined_word, hole_word, IsBeside}
 use Rattle.heap_model.specs.Kinds.{HasSlots, HoldFields, IsPlainCell}
 use Rattle.heap_model.specs.Showing.{ShowsPlain}
-use Rattle.heap_model.specs.Laws.{RefersToNothing}
-use Rattle.heap_model.proofs.WordClasses.{undefined_refers_not}
 use Rattle.mutator.specs.Making.{empty_plain}
+use Rattle.mutator.proofs.NewCells.{NewCell, cell_of, IsFresh}
 
 -- the path of no field
 abbrev pub no_fields : ℕ → Path
@@ -30,7 +33,7 @@ abbrev pub empty_layout : ℕ → LayoutWord
 empty_layout cap = record { kind = kind.Plain; cap = cap; used = 0; raw = 0 }
 
 -- it is that of the path of no field
-pub layout_of-no_fields : (cap : ℕ) → layout_of (no_fields cap) ≡ empty_layout cap
+layout_of-no_fields : (cap : ℕ) → layout_of (no_fields cap) ≡ empty_layout cap
 layout_of-no_fields cap =
     ap (λ (fields : List PathField). record {
       kind = kind.Plain;
@@ -41,13 +44,13 @@ layout_of-no_fields cap =
     })
     (take-nil cap)
 
--- the cell of such an object, of a header
-abbrev pub empty_cell : ℕ → Header → ℕ → Cell
-empty_cell at header cap =
-    record { at = at; header = header; layout = empty_layout cap; length = 0; size = 2 + cap }
+-- what the cell of such an object is made of
+abbrev pub plain_cell : Header → ℕ → NewCell
+plain_cell header cap =
+    record { header = header; layout = empty_layout cap; size = 2 + cap; words = empty_plain header cap }
 
 -- it has so many words
-pub length-empty_plain : (header : Header) (cap : ℕ) → length (empty_plain header cap) ≡ 2 + cap
+length-empty_plain : (header : Header) (cap : ℕ) → length (empty_plain header cap) ≡ 2 + cap
 length-empty_plain header cap = omega (arith, length-replicate cap hole_word)
 
 -- an element of a list of the same ones is this one
@@ -59,11 +62,11 @@ slice_get-replicate (suc count) word (suc k) found there = slice_get-replicate c
 -- where a cell of a plain object without fields stands in a heap
 pub record IsEmptyCell (heap : Heap) (at : ℕ) (header : Header) (cap : ℕ) : Type 0 where
   pub shaped : IsShapeOf heap.paths (no_fields cap) header.shape
-  pub words : words_of_cell heap (empty_cell at header cap) ≡ empty_plain header cap
+  pub words : words_of_cell heap (cell_of at (plain_cell header cap)) ≡ empty_plain header cap
 
 -- its slots are holes
 empty_slots : {heap : Heap} {at : ℕ} {header : Header} {cap : ℕ} → IsEmptyCell heap at header cap
-    → HasSlots heap (words_of_cell heap (empty_cell at header cap)) (replicate cap hole_word)
+    → HasSlots heap (words_of_cell heap (cell_of at (plain_cell header cap))) (replicate cap hole_word)
 empty_slots {heap} {cap = cap} is =
     subst (λ words. HasSlots heap words (replicate cap hole_word)) (sym is.words) (record {
       store = undefined_word;
@@ -75,7 +78,7 @@ empty_slots {heap} {cap = cap} is =
 
 -- so it is sound
 pub empty_is_sound : {heap : Heap} {at : ℕ} {header : Header} {cap : ℕ} → IsEmptyCell heap at header cap
-    → IsPlainCell heap (empty_cell at header cap) (words_of_cell heap (empty_cell at header cap))
+    → IsPlainCell heap (cell_of at (plain_cell header cap)) (words_of_cell heap (cell_of at (plain_cell header cap)))
 empty_is_sound {heap} {at} {header} {cap} is =
     let hold : HoldFields heap (no_fields cap) (replicate cap hole_word) = record {
       room = omega arith;
@@ -91,7 +94,7 @@ empty_is_sound {heap} {at} {header} {cap} is =
 
 -- it shows a plain object without fields
 pub empty_shows : {heap : Heap} {at : ℕ} {header : Header} {cap : ℕ} → IsEmptyCell heap at header cap
-    → ShowsPlain heap (empty_cell at header cap) (words_of_cell heap (empty_cell at header cap)) cap []
+    → ShowsPlain heap (cell_of at (plain_cell header cap)) (words_of_cell heap (cell_of at (plain_cell header cap))) cap []
 empty_shows {cap = cap} is = record {
   of_kind = refl;
   path = is.shaped.of_path;
@@ -100,13 +103,26 @@ empty_shows {cap = cap} is = record {
   each = λ k field word there stands. absurd (none-some field there);
 }
 
--- and refers to nothing
-pub empty_refers_not : {heap : Heap} {at : ℕ} {header : Header} {cap : ℕ} → IsEmptyCell heap at header cap
-    → RefersToNothing (empty_cell at header cap) (words_of_cell heap (empty_cell at header cap))
-empty_refers_not {heap} {at} {header} {cap} is offset word to there stands refers =
-    let one : 1 ≡ offset = one_in 1 offset there in
-    let word_is : undefined_word ≡ word =
-    same_Some undefined_word word
-    (ap (λ k. slice_get (empty_plain header cap) k) one ∙ ap (λ words. slice_get words offset) (sym is.words)
-    ∙ stands) in
-    undefined_refers_not to (word_is ∙ refers)
+-- the size of the cell is that of its layout
+size_is : (cap : ℕ) → cap ≤ cap_most → cell_size (empty_layout cap) 0 ≡ Some (2 + cap)
+size_is cap few = grind (arith, nat_tests)
+
+-- it is that of an object without a store
+pub plain_fresh : (header : Header) (cap : ℕ) → IsHeader header → cap ≤ cap_most → IsFresh (plain_cell header cap)
+plain_fresh header cap is_header few = record {
+  long = length-empty_plain header cap;
+  is_header = is_header;
+  first = refl;
+  is_layout = record { cap = few; used = omega arith; raw = omega arith };
+  no_length = refl;
+  sized = size_is cap few;
+  offsets = refl;
+  slot = refl;
+}
+
+-- the layout word of its shape is that of its layout
+pub plain_laid : {paths : List Path} {shape : ℕ} (cap : ℕ) → IsShapeOf paths (no_fields cap) shape
+    → layout_word paths shape ≡ layout_bits (empty_layout cap)
+plain_laid {paths} {shape} cap shaped =
+    layout_word-path paths shape shaped.is_shape
+    ∙ ap (λ (path : Path). layout_bits (layout_of path)) shaped.of_path ∙ ap layout_bits (layout_of-no_fields cap)

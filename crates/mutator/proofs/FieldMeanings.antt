@@ -17,7 +17,7 @@ use Rattle.object_graph.specs.Graphs.{Graph, PlainObject, value_of, plain_at}
 use Rattle.object_graph.specs.Meaning.{done, fault, given, unless, no_room_for, refill, reshape, reshape_if, does}
 use Rattle.object_graph.specs.Invariants.{fields_most}
 use Rattle.object_graph.specs.Limits.{ideal_limits, paths_most}
-use Rattle.shape_change.specs.FieldChanges.{LacksFields, LacksPaths}
+use Rattle.object_cells.specs.PlainObjects.{LacksFields, LacksPaths}
 
 -- what the variables of a command on a field and its object are
 pub record IsKnown (graph : Graph) (x : ℕ) (target : Value) (plain : PlainObject) : Type 0 where

@@ -1,4 +1,4 @@
--- `set` and `del` are carried out as the calls on fields say.
+-- `set` is carried out as the call on fields says.
 use Rattle.std.proofs.Common.{◌≡◌, ℕ, ◌<◌, List, [], Ok, Err, Some, sym, ◌∙◌, ap, subst}
 use Rattle.std.specs.FinMap.{get}
 use Rattle.heap_command.specs.declared.command.Operand.{Operand}
@@ -15,7 +15,10 @@ use Rattle.nursery.specs.Young.{HasRoom}
 use Rattle.handle_roots.specs.declared.held.Held.{Held}
 use Rattle.heap_model.specs.Needs.{need_of, set_need_at}
 use Rattle.write_barrier.specs.Mains.{Mutator, heap_of, MainShows}
-use Rattle.shape_change.specs.FieldChanges.{IsPlainAt, IsValueHeld, IsShownSetting, UsesMore, is_wide, HasSetField}
+use Rattle.object_cells.specs.PlainObjects.{IsPlainAt}
+use Rattle.object_cells.specs.HeldValues.{IsValueHeld, is_wide}
+use Rattle.object_cells.specs.Uses.{UsesMore}
+use Rattle.shape_change.specs.FieldChanges.{IsShownSetting, HasSetField}
 use Rattle.shape_change.specs.FieldChanges.{SetsField}
 use Rattle.shape_change.specs.declared.stop.FieldStop.{FieldStop}
 use Rattle.shape_change.specs.declared.stop.FieldStop.TheVariants.{FieldsFull, ShapesFull, Full}
@@ -24,7 +27,8 @@ use Rattle.mutator.specs.declared.reading.Found.{Found}
 use Rattle.mutator.specs.Carries.{Carries}
 use Rattle.mutator.specs.Reading.{StandForBoth, IsFound}
 use Rattle.mutator.proofs.FieldMeanings.{IsKnown, reshape_done, reshape_full, paths_there, set_room, set_full}
-use Rattle.mutator.proofs.SetNeeds.{set_need_is}
+use Rattle.mutator.proofs.KeptStores.{keeps_set}
+use Rattle.mutator.proofs.SetNeeds.{root_refers, set_need_is}
 use Rattle.mutator.proofs.StillShown.{shows_still, stands_still}
 
 -- what is known once the variables of a `set` and its object were found
@@ -95,6 +99,9 @@ set_carried {main} {new} {graph} {x} {at} {v} names f setting sets =
       sets.shows.shows,
       subst (HasRoom main.young) need sets.room,
       subst (UsesMore main new) need sets.uses,
+      keeps_set x f at v
+          (root_refers x at setting.plain.number setting.shows setting.below setting.known.bound setting.stands.place
+          setting.stands.reached) sets.stores,
     )
 
 -- and one that was not
@@ -110,7 +117,7 @@ set_stopped {graph = graph} {x} {v = v} new names f FieldsFull setting sets = (
 set_stopped {graph = graph} {x} {v = v} new names f (ShapesFull full) setting sets = (
   set_room names graph x f v (Ref setting.plain.number) setting.value setting.plain setting.known setting.value_is
       sets.0
-      ∙ reshape_full graph setting.plain (with_field setting.plain.fields f setting.value) sets.1,
+      ∙ reshape_full graph setting.plain (with_field setting.plain.fields f setting.value) sets.1.refused,
   sets.2,
 )
 set_stopped {graph = graph} {x} {v = v} new names f (Full room) setting sets =

@@ -1,5 +1,5 @@
 -- `del` is carried out as the call on fields says.
-use Rattle.std.proofs.Common.{◌≡◌, ℕ, ◌+◌, ◌==◌, true, false, cond, List, [], ◌∷◌, ◌++◌, length, Option, Ok, Err}
+use Rattle.std.proofs.Common.{◌≡◌, ℕ, ◌==◌, true, false, cond, List, [], ◌∷◌, ◌++◌, length, Option, Ok, Err}
 use Rattle.std.proofs.Common.{Some, None}
 use Rattle.std.proofs.Common.{refl, sym, ◌∙◌, ap, subst, arith}
 use Rattle.std.specs.Prelude.{Bool, Contains}
@@ -22,12 +22,14 @@ use Rattle.shape_tree.proofs.GrownPaths.{missing-there}
 use Rattle.shape_tree.proofs.LedPaths.{with_path-added}
 use Rattle.heap_model.proofs.SlotWords.{All-slice_get}
 use Rattle.write_barrier.specs.Mains.{Mutator, MainShows}
-use Rattle.shape_change.specs.FieldChanges.{IsPlainAt, HasDeletedField, LacksPaths}
+use Rattle.object_cells.specs.PlainObjects.{IsPlainAt, LacksPaths}
+use Rattle.shape_change.specs.FieldChanges.{HasDeletedField}
 use Rattle.mutator.specs.declared.stop.Stop.TheVariants.{Fault}
 use Rattle.mutator.specs.declared.reading.Found.{Found}
 use Rattle.mutator.specs.Carries.{Carries}
 use Rattle.mutator.specs.Reading.{IsFound}
 use Rattle.mutator.proofs.FieldMeanings.{IsKnown, reshape_done, reshape_full, del_known}
+use Rattle.mutator.proofs.KeptStores.{keeps_as_many}
 use Rattle.mutator.proofs.Rebinding.{room_for_none}
 use Rattle.mutator.proofs.StillShown.{shows_still}
 
@@ -84,8 +86,8 @@ taking_known {graph = graph} x target shows is found = record {
 -- what `del` comes to by whether the field is there
 taken_by : {main new : Mutator} {graph : Graph} {x at : ℕ} (names : List (List ℕ)) (f : ℕ) (found : Option Value)
     → (taking : IsTaking main graph x at) → field_value taking.plain.fields f ≡ found
-    → HasDeletedField main new graph taking.plain f → Carries names main new graph (Del x f) [] (Ok tt)
-taken_by {main} {new} {graph} {x} names f None taking is taken =
+    → HasDeletedField main new graph at taking.plain f → Carries names main new graph (Del x f) [] (Ok tt)
+taken_by {main} {new} {graph} {x} {at} names f None taking is taken =
     let plain = taking.plain in
     let fields = without_field plain.fields f in (
       graph,
@@ -94,8 +96,9 @@ taken_by {main} {new} {graph} {x} names f None taking is taken =
       shows_still (taken.none is) taking.shows,
       room_for_none taking.shows,
       taken.uses,
+      keeps_as_many (Del x f) at (λ other. refl) taken.stores,
     )
-taken_by {main} {new} {graph} {x} names f (Some value) taking is taken =
+taken_by {main} {new} {graph} {x} {at} names f (Some value) taking is taken =
     let plain = taking.plain in
     let fields = without_field plain.fields f in (
       refill graph plain fields taken.shows.paths,
@@ -105,11 +108,12 @@ taken_by {main} {new} {graph} {x} names f (Some value) taking is taken =
       taken.shows.shows,
       room_for_none taking.shows,
       taken.uses,
+      keeps_as_many (Del x f) at (λ other. refl) taken.stores,
     )
 
 -- a field that was taken out, or was not there
 pub del_carried : {main new : Mutator} {graph : Graph} {x at : ℕ} (names : List (List ℕ)) (f : ℕ)
-    → (taking : IsTaking main graph x at) → HasDeletedField main new graph taking.plain f
+    → (taking : IsTaking main graph x at) → HasDeletedField main new graph at taking.plain f
     → Carries names main new graph (Del x f) [] (Ok tt)
 del_carried names f taking taken = taken_by names f (field_value taking.plain.fields f) taking refl taken
 

@@ -20,7 +20,7 @@ use Rattle.heap_model.specs.Heaps.{Heap}
 use Rattle.heap_model.specs.Slots.{IsPlace}
 use Rattle.heap_model.specs.Showing.{ShowsHeld}
 use Rattle.write_barrier.specs.Mains.{Mutator, heap_of, MainShows}
-use Rattle.shape_change.specs.FieldChanges.{IsReachedValue}
+use Rattle.object_cells.specs.HeldValues.{IsReachedValue}
 use Rattle.mutator.specs.Reading.{StandsFor}
 
 -- what is held shows the value, kind by kind

@@ -1,10 +1,12 @@
 -- What a call leaves, however it ends.
-use Rattle.std.proofs.Common.{◌≡◌, ℕ, ◌+◌, List, [], ◌∷◌, length, Result, Ok, Err, sym, ap, subst, arith, length-append}
+use Rattle.std.proofs.Common.{◌≡◌, ℕ, ◌+◌, List, [], ◌∷◌, length, Result, Ok, Err, refl, sym, ◌∙◌, ap, subst, arith, length-append}
 use Rattle.heap_command.specs.declared.command.Command.{Command}
-use Rattle.heap_command.specs.declared.command.Command.TheVariants.{New}
-use Rattle.object_graph.specs.declared.object.Object.TheVariants.{Plain}
+use Rattle.heap_command.specs.declared.command.Command.TheVariants.{New, List as NewList}
+use Rattle.object_graph.specs.declared.object.Object.{Object}
+use Rattle.object_graph.specs.declared.object.Object.TheVariants.{Plain, List as ListOf}
 use Rattle.object_graph.specs.Graphs.{Graph, make}
-use Rattle.object_graph.specs.Meaning.{Outcome, done, fault}
+use Rattle.object_graph.specs.Meaning.{Outcome, done, fault, does}
+use Rattle.object_graph.specs.Limits.{ideal_limits}
 use Rattle.write_barrier.specs.Mains.{Mutator, MainShows}
 use Rattle.mutator.specs.declared.stop.Stop.{Stop}
 use Rattle.mutator.specs.declared.stop.Stop.TheVariants.{Fault, NoRoom}
@@ -45,21 +47,34 @@ graph_in : Graph → Outcome → Graph
 graph_in other (done graph text) = graph
 graph_in other (fault word) = other
 
--- `new` leaves one with an object more
-pub makes : (old new : Mutator) (graph : Graph) (x cap count : ℕ) (result : Unit {0}) → count ≡ length graph.objects
-    → Carries [] old new graph (New x cap) [] (Ok result) → Makes old new (count + 1)
+-- a command that makes an object leaves one with an object more
+makes_one : (old new : Mutator) (graph : Graph) (command : Command) (x count : ℕ) (what : Object) (result : Unit {0})
+    → does ideal_limits [] graph command ≡ done (make graph x what) [] → count ≡ length graph.objects
+    → Carries [] old new graph command [] (Ok result) → Makes old new (count + 1)
 unfolding graph_in
-makes old new graph x cap count result counted carries =
-    let same : make graph x (Plain cap []) ≡ carries.0 = ap (graph_in graph) carries.1 in
+makes_one old new graph command x count what result is counted carries =
+    let same : make graph x what ≡ carries.0 = ap (graph_in graph) (sym is ∙ carries.1) in
     record {
       graph = carries.0;
       shows = carries.2;
       counted = omega (
         arith,
         counted,
-        length-append graph.objects (Plain cap [] ∷ []),
+        length-append graph.objects (what ∷ []),
         ap
             (λ g. length g.objects) same,
       );
       variables = ap (λ space. space.variables) carries.4.space;
     }
+
+-- so does `new`
+pub makes : (old new : Mutator) (graph : Graph) (x cap count : ℕ) (result : Unit {0}) → count ≡ length graph.objects
+    → Carries [] old new graph (New x cap) [] (Ok result) → Makes old new (count + 1)
+makes old new graph x cap count result counted carries =
+    makes_one old new graph (New x cap) x count (Plain cap []) result refl counted carries
+
+-- and `list`
+pub makes_list : (old new : Mutator) (graph : Graph) (x count : ℕ) (result : Unit {0}) → count ≡ length graph.objects
+    → Carries [] old new graph (NewList x) [] (Ok result) → Makes old new (count + 1)
+makes_list old new graph x count result counted carries =
+    makes_one old new graph (NewList x) x count (ListOf []) result refl counted carries

@@ -9,7 +9,9 @@ pub mod ValueTexts
 pub mod Writings
 pub mod SameHeld
 pub mod PutWords
+pub mod NewCells
 pub mod EmptyCells
+pub mod EmptyLists
 pub mod PutCells
 pub mod MadeObjects
 pub mod FieldMeanings
@@ -20,3 +22,8 @@ pub mod FieldsTaken
 pub mod SameShapes
 pub mod ShapeTexts
 pub mod Leaves
+pub mod ListsAt
+pub mod ListMeanings
+pub mod ListNeeds
+pub mod ElementsSet
+mod KeptStores

@@ -1,12 +1,18 @@
--- A heap in which a plain object was made and bound shows the graph in which it is.
-use Rattle.std.proofs.Common.{◌≡◌, ℕ, ◌+◌, ◌<◌, ◌^◌, List, [], length, Ok, refl, sym, ◌∙◌, ap, subst}
+-- A heap in which an object was made and bound shows the graph in which it is.
+use Rattle.std.proofs.Common.{◌≡◌, ℕ, ◌+◌, ◌<◌, ◌≤◌, ◌^◌, List, [], length, Ok, refl, sym, ◌∙◌, ap, subst}
 use Rattle.std.proofs.Common.{arith, inl, inr}
-use Rattle.heap_command.specs.declared.command.Command.TheVariants.{New}
+use Rattle.heap_command.specs.declared.command.Command.{Command}
 use Rattle.tagged_word.specs.declared.header.Header.{Header}
-use Rattle.object_graph.specs.declared.object.Object.TheVariants.{Plain, Weak}
+use Rattle.tagged_word.specs.Headers.{IsHeader}
+use Rattle.tagged_word.specs.Shapes.{list_shape}
+use Rattle.object_graph.specs.declared.object.Object.{Object}
+use Rattle.object_graph.specs.declared.object.Object.TheVariants.{Plain, Weak, List as ListOf}
 use Rattle.object_graph.specs.Graphs.{Graph, make}
+use Rattle.object_graph.specs.Meaning.{done, does}
+use Rattle.object_graph.specs.Reach.{reach}
 use Rattle.object_graph.specs.Limits.{ideal_limits}
-use Rattle.object_graph.specs.Invariants.{IsGraph, IsObject, IsEntry}
+use Rattle.object_graph.specs.Invariants.{IsGraph, IsObject, IsEntry, cap_most}
+use Rattle.graph_laws.specs.GraphLaws.{FitsCommand}
 use Rattle.graph_laws.proofs.FieldLimits.{ideal_field_limit}
 use Rattle.graph_laws.proofs.GraphsStay.{graphs_stay}
 use Rattle.graph_laws.proofs.NothingNew.{only_made_is_new}
@@ -15,18 +21,26 @@ use Rattle.nursery.specs.Young.{HasRoom}
 use Rattle.handle_roots.specs.declared.held.Held.TheVariants as held
 use Rattle.heap_table.specs.declared.phase.Phase.TheVariants.{Quiet}
 use Rattle.heap_table.specs.Seats.{heap_words}
-use Rattle.heap_model.specs.Heaps.{Heap}
-use Rattle.heap_model.specs.Showing.{Shows}
+use Rattle.shape_tree.specs.Shapes.{IsShapeOf}
+use Rattle.shape_tree.specs.ShapeLayouts.{layout_word}
+use Rattle.heap_model.specs.Heaps.{Heap, words_of_cell}
+use Rattle.heap_model.specs.Needs.{need_of}
+use Rattle.heap_model.specs.Wholeness.{HasSizes}
+use Rattle.heap_model.specs.Showing.{Shows, ShowsObject}
 use Rattle.heap_model.specs.Laws.{IsNoEntryKey, ReachesOneMore, bound}
 use Rattle.heap_model.proofs.SlotWords.{All-slice_get}
 use Rattle.heap_model.proofs.NewObjects.{new_objects_show}
 use Rattle.write_barrier.specs.Mains.{Mutator, heap_of, IsTied, MainShows, reserved, with_table, with_variable}
 use Rattle.write_barrier.specs.Values.{with_range}
-use Rattle.shape_change.specs.FieldChanges.{UsesMore}
+use Rattle.object_cells.specs.Uses.{UsesMore}
+use Rattle.mutator.specs.Capacities.{KeepsStores}
 use Rattle.mutator.specs.Carries.{Carries}
-use Rattle.mutator.specs.Making.{empty_plain}
-use Rattle.mutator.proofs.EmptyCells.{empty_cell, empty_shows}
-use Rattle.mutator.proofs.PutCells.{next_at, with_cell, HasRoomFor, with_cell_put}
+use Rattle.mutator.proofs.NewCells.{NewCell, cell_of}
+use Rattle.mutator.proofs.EmptyCells.{no_fields, plain_cell, plain_fresh, plain_laid, IsEmptyCell, empty_is_sound}
+use Rattle.mutator.proofs.EmptyCells.{empty_shows}
+use Rattle.mutator.proofs.EmptyLists.{list_cell, list_fresh, list_is_sound, list_shows}
+use Rattle.mutator.proofs.KeptStores.{KeepsCapacities, keeps_made}
+use Rattle.mutator.proofs.PutCells.{next_at, with_cell, with_cell_words, HasRoomFor, IsSoundThere, with_cell_put}
 use Rattle.mutator.proofs.Rebinding.{HoldsAnew, heap_bound}
 
 -- no entry has the object that comes next as its key
@@ -38,39 +52,43 @@ no_entry_key graph is holder at entries entry there stands same =
     let one : IsEntry count entry = All-slice_get (IsEntry count) entries at entry object.keys_and_values stands in
     omega (arith, one.key, same)
 
+-- what a command is that makes an object: it needs the words of its cell, and changes no store
+pub record IsMaking (heap : Heap) (graph : Graph) (command : Command) (x size : ℕ) (what : Object) : Type 0 where
+  pub fits : FitsCommand command
+  pub done : (names : List (List ℕ)) → does ideal_limits names graph command ≡ done (make graph x what) []
+  pub need : need_of heap command ≡ size
+  pub keeps : KeepsCapacities heap command
+
 -- a new object is the only one that can be reached and could not be before
-reaches_one_more : (graph : Graph) (x cap : ℕ) → IsGraph graph
-    → ReachesOneMore graph (make graph x (Plain cap [])) (length graph.objects)
-reaches_one_more graph x cap is number marked apart =
-    elim (only_made_is_new ideal_limits [] graph (New x cap) (make graph x (Plain cap [])) [] number is refl marked) [
+reaches_one_more : {heap : Heap} {graph : Graph} {command : Command} {x size : ℕ} {what : Object} → IsGraph graph
+    → IsMaking heap graph command x size what → ReachesOneMore graph (make graph x what) (length graph.objects)
+reaches_one_more {graph = graph} {command} {x} {what = what} is making number marked apart =
+    elim (only_made_is_new ideal_limits [] graph command (make graph x what) [] number is (making.done []) marked) [
       | inl before ↦ before
       | inr made ↦ absurd (apart made.1)
     ]
 
--- How a plain object is made: words are reserved, the cell is put there, and the variable holds it.
-pub record MakesPlain (old mid filled new : Mutator) (x at : ℕ) (header : Header) (cap : ℕ) : Type 0 where
+-- How an object is made: words are reserved, the cell is put there, and the variable holds it.
+pub record MakesObject (old mid filled new : Mutator) (x at : ℕ) (one : NewCell) : Type 0 where
   pub run : at ≡ eden_start old.young.space + old.young.used
-  pub taken : mid ≡ reserved old (2 + cap)
-  pub put : filled ≡ with_table mid (with_range mid.seat.table at (empty_plain header cap))
-  pub heap : heap_words filled.seat ≡ with_range (heap_words mid.seat) at (empty_plain header cap)
+  pub taken : mid ≡ reserved old one.size
+  pub put : filled ≡ with_table mid (with_range mid.seat.table at one.words)
+  pub heap : heap_words filled.seat ≡ with_range (heap_words mid.seat) at one.words
   pub holds : HoldsAnew filled new x (held.Ref at)
 
 -- the mutator with the words of a cell in the table
-abbrev filled_from : Mutator → ℕ → Header → ℕ → Mutator
-filled_from old at header cap =
-    with_table (reserved old (2 + cap)) (with_range old.seat.table at (empty_plain header cap))
+abbrev filled_from : Mutator → ℕ → NewCell → Mutator
+filled_from old at one = with_table (reserved old one.size) (with_range old.seat.table at one.words)
 
 -- that is the one in which the cell was put
-filled_is : {old mid filled new : Mutator} {x at : ℕ} {header : Header} {cap : ℕ}
-    → MakesPlain old mid filled new x at header cap → filled ≡ filled_from old at header cap
-filled_is {at = at} {header} {cap} makes =
-    makes.put
-    ∙ ap (λ (main : Mutator). with_table main (with_range main.seat.table at (empty_plain header cap))) makes.taken
+filled_is : {old mid filled new : Mutator} {x at : ℕ} {one : NewCell} → MakesObject old mid filled new x at one
+    → filled ≡ filled_from old at one
+filled_is {at = at} {one} makes =
+    makes.put ∙ ap (λ (main : Mutator). with_table main (with_range main.seat.table at one.words)) makes.taken
 
 -- and all in all
-made_is : {old mid filled new : Mutator} {x at : ℕ} {header : Header} {cap : ℕ}
-    → MakesPlain old mid filled new x at header cap
-    → new ≡ with_variable (filled_from old at header cap) x (held.Ref at)
+made_is : {old mid filled new : Mutator} {x at : ℕ} {one : NewCell} → MakesObject old mid filled new x at one
+    → new ≡ with_variable (filled_from old at one) x (held.Ref at)
 made_is {x = x} {at} makes =
     makes.holds.held ∙ ap (λ (main : Mutator). with_variable main x (held.Ref at)) (filled_is makes)
 
@@ -80,56 +98,115 @@ run_is_next : (old : Mutator) {at : ℕ} → IsTied old → at ≡ eden_start ol
 run_is_next old tied run = run ∙ ap (λ (space : Space). eden_start space + old.young.used) tied
 
 -- the heap of the mutator is then the one with the cell
-filled_heap : {old mid filled new : Mutator} {x at : ℕ} {header : Header} {cap : ℕ} → IsTied old
-    → MakesPlain old mid filled new x at header cap → heap_of filled ≡ with_cell (heap_of old) header cap
-filled_heap {old} {mid} {filled} {at = at} {header} {cap} tied makes =
-    let cell : List ℕ = empty_plain header cap in
-    let words : heap_words filled.seat ≡ with_range (heap_words old.seat) (next_at (heap_of old)) cell =
-    makes.heap ∙ ap (λ (main : Mutator). with_range (heap_words main.seat) at cell) makes.taken
-    ∙ ap (λ from. with_range (heap_words old.seat) from cell) (run_is_next old tied makes.run) in
-    let same : heap_words (filled_from old at header cap).seat ≡ heap_words filled.seat =
+filled_heap : {old mid filled new : Mutator} {x at : ℕ} {one : NewCell} → IsTied old
+    → MakesObject old mid filled new x at one → heap_of filled ≡ with_cell (heap_of old) one
+filled_heap {old} {mid} {filled} {at = at} {one} tied makes =
+    let words : heap_words filled.seat ≡ with_range (heap_words old.seat) (next_at (heap_of old)) one.words =
+    makes.heap ∙ ap (λ (main : Mutator). with_range (heap_words main.seat) at one.words) makes.taken
+    ∙ ap (λ from. with_range (heap_words old.seat) from one.words) (run_is_next old tied makes.run) in
+    let same : heap_words (filled_from old at one).seat ≡ heap_words filled.seat =
     ap (λ (main : Mutator). heap_words main.seat) (sym (filled_is makes)) in
     ap heap_of (filled_is makes)
-    ∙ ap (λ (all : List ℕ). record (heap_of old) { used = old.young.used + (2 + cap); words = all }) (same ∙ words)
+    ∙ ap (λ (all : List ℕ). record (heap_of old) { used = old.young.used + one.size; words = all }) (same ∙ words)
+
+-- and that of the new one has the variable bound to it
+bound_heap : {old mid filled new : Mutator} {x at : ℕ} {one : NewCell} → IsTied old
+    → MakesObject old mid filled new x at one
+    → heap_of new ≡ bound (with_cell (heap_of old) one) x (held.Ref (next_at (heap_of old)))
+bound_heap {old} {x = x} {at} {one} tied makes =
+    heap_bound x (held.Ref at) makes.holds ∙ ap (λ h. bound h x (held.Ref at)) (filled_heap tied makes)
+    ∙ ap (λ a. bound (with_cell (heap_of old) one) x (held.Ref a)) (run_is_next old tied makes.run)
+
+-- what the cell is in the heap in which it was put: sound, and one that shows the object
+pub record IsMade (heap : Heap) (graph : Graph) (x : ℕ) (one : NewCell) (what : Object) : Type 0 where
+  pub fits : HasRoomFor heap one
+  pub sound : IsSoundThere heap one
+  pub shows : let cell = cell_of (next_at heap) one in
+      ShowsObject (with_cell heap one) (reach (make graph x what)) cell (words_of_cell (with_cell heap one) cell) what
+  pub carries : one.header.object ≡ length graph.objects
 
 -- so it shows the graph in which the object is made
-made_shows : {old mid filled new : Mutator} {graph : Graph} {x at : ℕ} {header : Header} {cap : ℕ} → MainShows old graph
-    → MakesPlain old mid filled new x at header cap → HasRoomFor (heap_of old) header cap → at < 2 ^ 32
-    → x < old.seat.space.variables → header.object ≡ length graph.objects
-    → Shows (heap_of new) (make graph x (Plain cap []))
-made_shows {old} {mid} {filled} {new} {graph} {x} {at} {header} {cap} shows makes fits small below carries =
+made_shows : {old mid filled new : Mutator} {graph : Graph} {command : Command} {x at : ℕ} {one : NewCell} {what : Object}
+    → MainShows old graph → IsMaking (heap_of old) graph command x one.size what
+    → MakesObject old mid filled new x at one → IsMade (heap_of old) graph x one what → at < 2 ^ 32
+    → x < old.seat.space.variables → Shows (heap_of new) (make graph x what)
+made_shows {old} {mid} {filled} {new} {graph} {command} {x} {at} {one} {what} shows making makes made small below =
     let heap : Heap = heap_of old in
-    let now : Heap = with_cell heap header cap in
-    let cell = empty_cell (next_at heap) header cap in
-    let put = with_cell_put shows.shows.whole fits in
+    let now : Heap = with_cell heap one in
+    let cell = cell_of (next_at heap) one in
+    let put = with_cell_put shows.shows.whole made.fits made.sound in
     let next = run_is_next old shows.tied makes.run in
-    let shown = new_objects_show heap now graph x cell (Plain cap [])
+    let shown = new_objects_show heap now graph x cell what
     below shows.shows put.whole shows.shows.paths put.cells
-    put.own (subst (λ a. a < 2 ^ 32) next small) carries (empty_shows put.is) (no_entry_key graph shows.is_graph)
-    (reaches_one_more graph x cap shows.is_graph) in
-    let same : heap_of new ≡ bound now x (held.Ref (next_at heap)) =
-    heap_bound x (held.Ref at) makes.holds ∙ ap (λ h. bound h x (held.Ref at)) (filled_heap shows.tied makes)
-    ∙ ap (λ a. bound now x (held.Ref a)) next in
-    subst (λ h. Shows h (make graph x (Plain cap []))) (sym same) shown
+    put.own (subst (λ a. a < 2 ^ 32) next small) made.carries made.shows (no_entry_key graph shows.is_graph)
+    (reaches_one_more shows.is_graph making) in
+    subst (λ h. Shows h (make graph x what)) (sym (bound_heap shows.tied makes)) shown
 
 -- and the command is carried out
-pub new_carried : {old mid filled new : Mutator} {graph : Graph} {x at : ℕ} {header : Header} {cap : ℕ}
-    (names : List (List ℕ)) → MainShows old graph → MakesPlain old mid filled new x at header cap
-    → HasRoomFor (heap_of old) header cap → at < 2 ^ 32 → x < old.seat.space.variables
-    → header.object ≡ length graph.objects → HasRoom old.young (2 + cap)
-    → Carries names old new graph (New x cap) [] (Ok tt)
-new_carried {old} {new = new} {graph} {x} {at} {header} {cap} names shows makes fits small below carries room =
-    let after : Graph = make graph x (Plain cap []) in
-    let made = made_is makes in
+pub making_carried : {old mid filled new : Mutator} {graph : Graph} {command : Command} {x at : ℕ} {one : NewCell}
+    {what : Object} (names : List (List ℕ)) → MainShows old graph
+    → IsMaking (heap_of old) graph command x one.size what → MakesObject old mid filled new x at one
+    → IsMade (heap_of old) graph x one what → at < 2 ^ 32 → x < old.seat.space.variables → HasRoom old.young one.size
+    → Carries names old new graph command [] (Ok tt)
+making_carried {old} {new = new} {graph} {command} {x} {at} {one} {what} names shows making makes made small below room =
+    let after : Graph = make graph x what in
+    let whole = made_is makes in
     let main : MainShows new after = record {
-      tied = subst IsTied (sym made) shows.tied;
-      is_graph = graphs_stay ideal_limits names graph (New x cap)
-          after [] ideal_field_limit fits.few refl shows.is_graph;
-      quiet = subst (λ (now : Mutator). now.seat.phase ≡ Quiet) (sym made) shows.quiet;
-      shows = made_shows shows makes fits small below carries;
+      tied = subst IsTied (sym whole) shows.tied;
+      is_graph = graphs_stay ideal_limits names graph command
+          after [] ideal_field_limit making.fits (making.done names) shows.is_graph;
+      quiet = subst (λ (now : Mutator). now.seat.phase ≡ Quiet) (sym whole) shows.quiet;
+      shows = made_shows shows making makes made small below;
     } in
-    let uses : UsesMore old new (2 + cap) = record {
-      space = ap (λ (now : Mutator). now.seat.space) made;
-      young = ap (λ (now : Mutator). now.young) made;
+    let uses : UsesMore old new one.size = record {
+      space = ap (λ (now : Mutator). now.seat.space) whole;
+      young = ap (λ (now : Mutator). now.young) whole;
     } in
-    (after, refl, main, room, uses)
+    let put = with_cell_put shows.shows.whole made.fits made.sound in
+    let keeps = subst (λ heap. KeepsStores (heap_of old) heap command) (sym (bound_heap shows.tied makes))
+    (keeps_made command x (held.Ref (next_at (heap_of old))) shows.shows.whole made.fits.fresh put below
+    making.keeps) in (
+      after,
+      making.done names,
+      main,
+      subst (HasRoom old.young) (sym making.need) room,
+      subst (UsesMore old new) (sym making.need) uses,
+      keeps,
+    )
+
+-- the layout word of a shape of paths is that of plain cells, so the cell of a plain object without fields is made
+pub plain_made : {heap : Heap} {graph : Graph} {header : Header} {cap : ℕ} (x : ℕ) → HasSizes heap → IsHeader header
+    → cap ≤ cap_most → IsShapeOf heap.paths (no_fields cap) header.shape
+    → heap.survivors + heap.used + (2 + cap) ≤ heap.space.sizes.young → header.object ≡ length graph.objects
+    → IsMade heap graph x (plain_cell header cap) (Plain cap [])
+plain_made {heap} {header = header} {cap} x sized is_header few shaped room carries =
+    let fits : HasRoomFor heap (plain_cell header cap) = record {
+      sized = sized;
+      fresh = plain_fresh header cap is_header few;
+      known = omega (arith, shaped.is_shape.below, sized.shapes.few);
+      laid = plain_laid cap shaped;
+      room = room;
+    } in
+    let is : IsEmptyCell (with_cell heap (plain_cell header cap)) (next_at heap) header cap =
+    record { shaped = shaped; words = with_cell_words fits } in
+    record { fits = fits; sound = empty_is_sound is; shows = empty_shows is; carries = carries }
+
+-- and so is that of a list without elements
+pub list_made : {heap : Heap} {graph : Graph} {header : Header} (x : ℕ) → HasSizes heap → IsHeader header
+    → header.shape ≡ list_shape → heap.survivors + heap.used + 3 ≤ heap.space.sizes.young
+    → header.object ≡ length graph.objects → IsMade heap graph x (list_cell header) (ListOf [])
+list_made {heap} {header = header} x sized is_header shape room carries =
+    let fits : HasRoomFor heap (list_cell header) = record {
+      sized = sized;
+      fresh = list_fresh header is_header;
+      known = omega (arith, shape);
+      laid = ap (layout_word heap.paths) shape;
+      room = room;
+    } in
+    let words = with_cell_words fits in
+    record {
+      fits = fits;
+      sound = list_is_sound (next_at heap) header words;
+      shows = list_shows (next_at heap) header words;
+      carries = carries;
+    }

@@ -22,8 +22,8 @@ use Rattle.heap_model.specs.Slots.{IsPlace}
 use Rattle.heap_model.specs.Wholeness.{HasSizes, Whole}
 use Rattle.heap_model.specs.Showing.{ShowsObject}
 use Rattle.write_barrier.specs.Mains.{Mutator, heap_of, MainShows}
-use Rattle.shape_change.specs.FieldChanges.{IsReachedValue}
-use Rattle.shape_change.proofs.PlainFields.{plain_sound}
+use Rattle.object_cells.specs.HeldValues.{IsReachedValue}
+use Rattle.object_cells.proofs.PlainFields.{plain_sound}
 use Rattle.mutator.specs.Kinds.{noun_by_shape}
 use Rattle.mutator.specs.Reading.{StandsFor, IsFound}
 use Rattle.mutator.proofs.HeldValues.{holds_object}

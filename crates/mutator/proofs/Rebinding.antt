@@ -23,8 +23,10 @@ use Rattle.heap_model.specs.Showing.{ShowsHeld, Shows}
 use Rattle.heap_model.specs.Laws.{ReachesNoMore, BindsAnew, bound}
 use Rattle.heap_model.proofs.BoundGraphs.{bindings_show}
 use Rattle.write_barrier.specs.Mains.{Mutator, heap_of, IsTied, MainShows, with_variable}
-use Rattle.shape_change.specs.FieldChanges.{UsesMore}
+use Rattle.object_cells.specs.Uses.{UsesMore}
+use Rattle.mutator.specs.Capacities.{KeepsStores}
 use Rattle.mutator.specs.Carries.{Carries}
+use Rattle.mutator.proofs.KeptStores.{KeepsCapacities, keeps_bound}
 
 -- a variable was made to hold a value, and only its root words changed
 pub record HoldsAnew (old new : Mutator) (x : ℕ) (one : Held) : Type 0 where
@@ -90,12 +92,15 @@ pub binding_carried : {old new : Mutator} {graph : Graph} (after : Graph) (names
     (one : Held) → MainShows old graph → does ideal_limits names graph command ≡ done after []
     → made_for command ≡ None → FitsCommand command → BindsAnew graph after x → x < old.seat.space.variables
     → FitsHeld one → ShowsHeld (heap_of old) one (get after.bindings x) → HoldsAnew old new x one
-    → need_of (heap_of old) command ≡ 0 → Carries names old new graph command [] (Ok tt)
+    → need_of (heap_of old) command ≡ 0 → KeepsCapacities (heap_of old) command
+    → Carries names old new graph command [] (Ok tt)
 binding_carried {old} {new} after names command x one shows carried none fits anew below held_fits shown holds no_need
-    = (
+    keeps = (
       after,
       carried,
       rebound_shows names command [] x one shows carried none fits anew below held_fits shown holds,
       subst (HasRoom old.young) (sym no_need) (room_for_none shows),
       subst (UsesMore old new) (sym no_need) (uses_none x one holds),
+      subst (λ heap. KeepsStores (heap_of old) heap command) (sym (heap_bound x one holds))
+          (keeps_bound command x one below shows.shows.whole keeps),
     )

@@ -3,7 +3,7 @@ use Rattle.std.proofs.Common.{◌≡◌, ℕ, ◌==◌, Bool, true, false, Some,
 use Rattle.std.specs.Ordering.{int_eq}
 use Rattle.std.proofs.lemmas.Bool.Decides.{Decides-eqb, Decides-like, same_from_decides}
 use Rattle.object_graph.specs.declared.value.Value.{Value}
-use Rattle.object_graph.specs.declared.value.Value.TheVariants.{Int, Undefined, Ref}
+use Rattle.object_graph.specs.declared.value.Value.TheVariants.{Ref}
 use Rattle.object_graph.specs.Graphs.{Graph}
 use Rattle.object_graph.specs.Meaning.{same_value}
 use Rattle.cell_layout.specs.declared.cell.Cell.{Cell}
@@ -15,7 +15,7 @@ use Rattle.heap_model.specs.Slots.{IsPlace}
 use Rattle.heap_model.specs.Showing.{ShowsHeld}
 use Rattle.heap_model.proofs.CellsApart.{one_at}
 use Rattle.write_barrier.specs.Mains.{Mutator, heap_of, MainShows}
-use Rattle.shape_change.specs.FieldChanges.{IsReachedValue}
+use Rattle.object_cells.specs.HeldValues.{IsReachedValue}
 use Rattle.mutator.specs.Reading.{StandsFor}
 use Rattle.mutator.proofs.ObjectsAt.{object_at}
 

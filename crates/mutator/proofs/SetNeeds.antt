@@ -1,7 +1,7 @@
--- How many words `set` needs is told by the roots, as by the object and the value that they show.
+-- What a command needs is told by the roots, as by the object and the values that they show: that of `set`.
 use Rattle.std.proofs.Common.{◌≡◌, ℕ, ◌<◌, ◌==◌, Bool, true, false, not, Some, refl, ◌∙◌, ap}
 use Rattle.std.proofs.Common.{subst, arith}
-use Rattle.std.specs.Prelude.{Option, ℤ, pos, negsuc, unwrap_or}
+use Rattle.std.specs.Prelude.{Option, IsTrue, ℤ, pos, negsuc, unwrap_or}
 use Rattle.std.specs.FinMap.{get}
 use Rattle.std.proofs.lemmas.Bool.{eqb-true, false_from_ne_true}
 use Rattle.std.proofs.lemmas.Option.{same_Some}
@@ -17,6 +17,7 @@ use Rattle.tagged_word.proofs.Readings.{reference_to}
 use Rattle.object_graph.specs.declared.value.Value.{Value}
 use Rattle.object_graph.specs.declared.value.Value.TheVariants.{Int, Undefined, Ref}
 use Rattle.object_graph.specs.Graphs.{Graph, PlainObject, value_of}
+use Rattle.object_graph.specs.Reach.{is_marked, reach}
 use Rattle.handle_roots.specs.declared.held.Held.{Held}
 use Rattle.handle_roots.specs.declared.held.Held.TheVariants as held
 use Rattle.handle_roots.specs.Roots.{root_at, FitsHeld, first_of, first_word}
@@ -25,12 +26,13 @@ use Rattle.heap_model.specs.Slots.{IsPlace}
 use Rattle.heap_model.specs.Needs.{word_at, is_wide_operand, set_need, set_need_at, need_of}
 use Rattle.heap_model.specs.Showing.{ShowsHeld, ShowsBinding}
 use Rattle.write_barrier.specs.Mains.{Mutator, heap_of, MainShows}
-use Rattle.shape_change.specs.FieldChanges.{IsPlainAt, is_wide}
+use Rattle.object_cells.specs.PlainObjects.{IsPlainAt}
+use Rattle.object_cells.specs.HeldValues.{is_wide}
 use Rattle.mutator.proofs.HeldValues.{ShowsByKind, shows_by_kind}
 use Rattle.mutator.proofs.SameHeld.{one_address}
 
 -- what the first root word of a variable is
-root_word : {heap : Heap} {graph : Graph} {x : ℕ} → (binding : ShowsBinding heap graph x)
+pub root_word : {heap : Heap} {graph : Graph} {x : ℕ} → (binding : ShowsBinding heap graph x)
     → word_at heap (root_at heap.space x) ≡ first_word binding.held
 root_word binding = ap (λ (found : Option ℕ). unwrap_or found 0) binding.holds.first
 
@@ -47,18 +49,18 @@ address_by_kind heap held.Undefined number is = absurd is
 address_by_kind heap (held.Int v) number is = absurd is
 address_by_kind heap (held.Ref at) number is = record { at = at; is = refl; place = is }
 
--- the root word of a variable that is bound to a plain object refers to its place
-root_refers : {main : Mutator} {graph : Graph} (x at : ℕ) (plain : PlainObject) → MainShows main graph
-    → x < main.seat.space.variables → get graph.bindings x ≡ Some (Ref plain.number) → IsPlainAt main graph at plain
+-- the root word of a variable that is bound to an object refers to its place
+pub root_refers : {main : Mutator} {graph : Graph} (x at number : ℕ) → MainShows main graph
+    → x < main.seat.space.variables → get graph.bindings x ≡ Some (Ref number) → IsPlace (heap_of main) number at
+    → IsTrue (is_marked (reach graph) number)
     → reference_in (word_at (heap_of main) (root_at main.seat.space x)) ≡ Some at
-root_refers {main} {graph} x at plain shows known bound is =
+root_refers {main} {graph} x at number shows known bound place reached =
     let heap : Heap = heap_of main in
     let binding = shows.shows.bindings x known in
     let shown = subst (ShowsHeld heap binding.held) bound binding.shows in
-    let address = address_by_kind heap binding.held plain.number
-    (shows_by_kind binding.held (Some (Ref plain.number)) shown) in
+    let address = address_by_kind heap binding.held number (shows_by_kind binding.held (Some (Ref number)) shown) in
     let same : address.at ≡ at =
-    one_address plain.number plain.number address.at at shows is.reached address.place is.place refl in
+    one_address number number address.at at shows reached address.place place refl in
     let fits : FitsHeld (held.Ref address.at) = subst FitsHeld address.is binding.holds.fits in
     reference_to (word_at heap (root_at main.seat.space x)) address.at fits
     (root_word binding ∙ ap first_word address.is)
@@ -96,7 +98,7 @@ wide_by_kind heap (held.Ref at) (Ref number) is =
     reference_is_not_wide at same = omega arith
 
 -- whether an operand is wide is whether its value is
-wide_operand : {main : Mutator} {graph : Graph} (v : Operand) (value : Value) → MainShows main graph
+pub wide_operand : {main : Mutator} {graph : Graph} (v : Operand) (value : Value) → MainShows main graph
     → NamesBelow main.seat.space.variables v → value_of graph v ≡ Some value
     → is_wide_operand (heap_of main) v ≡ is_wide value
 wide_operand (operand.Int v) value shows known is = ap is_wide (same_Some (Int v) value is)
@@ -115,5 +117,5 @@ pub set_need_is : {main : Mutator} {graph : Graph} (x f at : ℕ) (v : Operand) 
     → need_of (heap_of main) (Set x f v) ≡ set_need_at (heap_of main) at f (is_wide value)
 set_need_is {main} x f at v value plain shows known below bound is stands =
     ap (λ (found : Option ℕ). set_need (heap_of main) found f (is_wide_operand (heap_of main) v))
-    (root_refers x at plain shows known bound stands)
+    (root_refers x at plain.number shows known bound stands.place stands.reached)
     ∙ ap (set_need_at (heap_of main) at f) (wide_operand v value shows below is)

@@ -7,8 +7,9 @@ use Rattle.object_graph.specs.Limits.{ideal_limits}
 use Rattle.nursery.specs.Young.{HasRoom}
 use Rattle.heap_model.specs.Needs.{need_of}
 use Rattle.write_barrier.specs.Mains.{Mutator, heap_of, MainShows}
-use Rattle.shape_change.specs.FieldChanges.{UsesMore}
+use Rattle.object_cells.specs.Uses.{UsesMore}
 use Rattle.mutator.specs.Carries.{Carries}
+use Rattle.mutator.proofs.KeptStores.{KeepsCapacities, keeps_still}
 use Rattle.mutator.proofs.Rebinding.{room_for_none}
 use Rattle.mutator.proofs.StillShown.{shows_still}
 
@@ -23,11 +24,13 @@ uses_none_still {old} same = record {
 -- so it is carried out, if it needs no words
 pub writing_carried : {old new : Mutator} {graph : Graph} (names : List (List ℕ)) (command : Command) (text : List ℕ)
     → new ≡ old → MainShows old graph → does ideal_limits names graph command ≡ done graph text
-    → need_of (heap_of old) command ≡ 0 → Carries names old new graph command text (Ok tt)
-writing_carried {old} {new} {graph} names command text same shows carried no_need = (
+    → need_of (heap_of old) command ≡ 0 → KeepsCapacities (heap_of old) command
+    → Carries names old new graph command text (Ok tt)
+writing_carried {old} {new} {graph} names command text same shows carried no_need keeps = (
   graph,
   carried,
   shows_still same shows,
   subst (HasRoom old.young) (sym no_need) (room_for_none shows),
   subst (UsesMore old new) (sym no_need) (uses_none_still same),
+  keeps_still command same keeps,
 )

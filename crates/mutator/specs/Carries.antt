@@ -7,7 +7,8 @@ use Rattle.object_graph.specs.Limits.{ideal_limits}
 use Rattle.nursery.specs.Young.{HasRoom}
 use Rattle.heap_model.specs.Needs.{need_of}
 use Rattle.write_barrier.specs.Mains.{Mutator, heap_of, MainShows}
-use Rattle.shape_change.specs.FieldChanges.{UsesMore}
+use Rattle.object_cells.specs.Uses.{UsesMore}
+use Rattle.mutator.specs.Capacities.{KeepsStores}
 use Rattle.mutator.specs.declared.stop.Stop.{Stop}
 use Rattle.mutator.specs.declared.stop.Stop.TheVariants.{Fault, NoRoom}
 
@@ -16,12 +17,14 @@ abbrev pub field_numbers : ℕ
 field_numbers = 2 ^ 32
 
 -- The call carried the command out, and wrote the text: the heap then shows what the command means, and as many words
--- more are used as the command needs, for which there was room. It stops exactly where the meaning is a fault, or where
--- there is none and eden has not the words; both change nothing.
+-- more are used as the command needs, for which there was room; property stores are made anew where the command needs
+-- that alone. It stops exactly where the meaning is a fault, or where there is none and eden has not the words; both change
+-- nothing.
 abbrev pub Carries : List (List ℕ) → Mutator → Mutator → Graph → Command → List ℕ → Result Unit Stop → Type 0
 Carries names old new graph command text (Ok _) =
     (after : Graph) × (does ideal_limits names graph command ≡ done after text) × MainShows new after
     × HasRoom old.young (need_of (heap_of old) command) × UsesMore old new (need_of (heap_of old) command)
+    × KeepsStores (heap_of old) (heap_of new) command
 Carries names old new graph command text (Err (Fault word)) =
     (does ideal_limits names graph command ≡ fault word) × (new ≡ old)
 Carries names old new graph command text (Err (NoRoom need)) =

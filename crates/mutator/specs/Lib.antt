@@ -3,4 +3,5 @@ pub mod Reading
 pub mod Kinds
 pub mod Written
 pub mod Making
+pub mod Capacities
 pub mod Stops

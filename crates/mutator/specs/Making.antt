@@ -1,5 +1,5 @@
--- The cell of a plain object that was just made.
-use Rattle.std.specs.Prelude.{ℕ, List, ◌∷◌, replicate}
+-- The cells of objects that were just made.
+use Rattle.std.specs.Prelude.{ℕ, List, [], ◌∷◌, replicate}
 use Rattle.tagged_word.specs.declared.header.Header.{Header}
 use Rattle.tagged_word.specs.Headers.{header_bits}
 use Rattle.heap_model.specs.Slots.{undefined_word, hole_word}
@@ -7,3 +7,7 @@ use Rattle.heap_model.specs.Slots.{undefined_word, hole_word}
 -- the words of a plain cell with so many slots of its own: it has no property store, and its slots hold nothing
 abbrev pub empty_plain : Header → ℕ → List ℕ
 empty_plain header cap = header_bits header ∷ undefined_word ∷ replicate cap hole_word
+
+-- the words of a list's own cell: it has no store, and its length is 0
+abbrev pub empty_list : Header → List ℕ
+empty_list header = header_bits header ∷ undefined_word ∷ 0 ∷ []

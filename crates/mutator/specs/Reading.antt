@@ -1,17 +1,19 @@
 -- What is read from a heap that shows a graph: what is held of the values that are sought, and the objects that it
 -- refers to.
-use Rattle.std.specs.Prelude.{◌≡◌, ℤ, ◌⊎◌, Option, Some, None, Result, Ok, Err}
+use Rattle.std.specs.Prelude.{◌≡◌, ℕ, ℤ, ◌⊎◌, Option, Some, None, Result, Ok, Err}
 use Rattle.heap_command.specs.declared.command.FaultWord.{FaultWord}
-use Rattle.heap_command.specs.declared.command.FaultWord.TheVariants.{Unbound, NotObject, NotInt}
+use Rattle.heap_command.specs.declared.command.FaultWord.TheVariants.{Unbound, NotObject, NotList, NotInt}
 use Rattle.object_graph.specs.declared.value.Value.{Value}
 use Rattle.object_graph.specs.declared.value.Value.TheVariants.{Ref}
 use Rattle.object_graph.specs.Paths.{path_of}
-use Rattle.object_graph.specs.Graphs.{Graph, PlainObject, integer_in, plain_at}
+use Rattle.object_graph.specs.Graphs.{Graph, PlainObject, ListObject, integer_in, plain_at, list_at}
 use Rattle.shape_tree.specs.Shapes.{IsShapeOf}
 use Rattle.handle_roots.specs.declared.held.Held.{Held}
 use Rattle.handle_roots.specs.Roots.{FitsHeld}
 use Rattle.write_barrier.specs.Mains.{Mutator, MainShows}
-use Rattle.shape_change.specs.FieldChanges.{IsValueHeld, IsPlainAt}
+use Rattle.object_cells.specs.PlainObjects.{IsPlainAt}
+use Rattle.object_cells.specs.ListObjects.{IsListAt}
+use Rattle.object_cells.specs.HeldValues.{IsValueHeld}
 use Rattle.mutator.specs.declared.reading.Found.{Found}
 
 -- what is held stands for the value: it shows it, and a variable may hold it
@@ -57,6 +59,18 @@ pub record IsFound (main : Mutator) (graph : Graph) (value : Value) (found : Fou
 abbrev pub FindsPlain : Mutator → Graph → Value → Result Found FaultWord → Type 0
 FindsPlain main graph value (Ok found) = IsFound main graph value found
 FindsPlain main graph value (Err word) = (plain_at graph.objects value ≡ None) × (word ≡ NotObject)
+
+-- the list to which the value refers stands where it was found
+pub record IsFoundList (main : Mutator) (graph : Graph) (value : Value) (at : ℕ) : Type 0 where
+  pub list : ListObject
+  pub is : value ≡ Ref list.number
+  pub refers : list_at graph.objects value ≡ Some list
+  pub stands : IsListAt main graph at list
+
+-- the list to which the value refers was found; where it refers to none, the word is `notlist`
+abbrev pub FindsList : Mutator → Graph → Value → Result ℕ FaultWord → Type 0
+FindsList main graph value (Ok at) = IsFoundList main graph value at
+FindsList main graph value (Err word) = (list_at graph.objects value ≡ None) × (word ≡ NotList)
 
 -- the integer is the value; where it is none, the word is `notint`
 abbrev pub FindsInteger : Value → Result ℤ FaultWord → Type 0

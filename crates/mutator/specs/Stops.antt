@@ -1,7 +1,11 @@
--- Why a command stops where a field is not set.
+-- Why a command stops where a field or an element is not set.
 use Rattle.heap_command.specs.declared.command.FaultWord.TheVariants as word
 use Rattle.shape_change.specs.declared.stop.FieldStop.{FieldStop}
 use Rattle.shape_change.specs.declared.stop.FieldStop.TheVariants.{FieldsFull, ShapesFull, Full}
+use Rattle.list_store.specs.declared.stop.PushStop.{PushStop}
+use Rattle.list_store.specs.declared.stop.PushStop.TheVariants as push
+use Rattle.list_store.specs.declared.stop.PutStop.{PutStop}
+use Rattle.list_store.specs.declared.stop.PutStop.TheVariants as put
 use Rattle.mutator.specs.declared.stop.Stop.{Stop}
 use Rattle.mutator.specs.declared.stop.Stop.TheVariants.{Fault, NoRoom}
 
@@ -10,3 +14,13 @@ abbrev pub stop_of : FieldStop → Stop
 stop_of FieldsFull = Fault word.FieldsFull
 stop_of (ShapesFull full) = Fault word.ShapesFull
 stop_of (Full room) = NoRoom room.need
+
+-- too many elements are a fault, and what is wanted of room is told
+abbrev pub stop_of_push : PushStop → Stop
+stop_of_push push.ListFull = Fault word.ListFull
+stop_of_push (push.Full room) = NoRoom room.need
+
+-- an index that names no element is a fault, and what is wanted of room is told
+abbrev pub stop_of_put : PutStop → Stop
+stop_of_put put.Range = Fault word.Range
+stop_of_put (put.Full room) = NoRoom room.need

@@ -17,6 +17,7 @@ use write_barrier::Main;
 /// Stops with `unbound`, `notobject`, `fieldsfull` where the name is new and the object has 64
 /// fields, `shapesfull` where there may not be as many field paths, or for want of room for a new
 /// property store or box.
+#[inline(always)]
 pub fn set(main: &mut Main, x: u32, f: u32, v: Operand) -> Result<(), Stop>
     requires shown { (graph : Graph) × MainShows main.old graph }
     requires within { IsWithin main.old.seat.space.variables field_numbers (Command.Set x f v) }
@@ -33,6 +34,7 @@ pub fn set(main: &mut Main, x: u32, f: u32, v: Operand) -> Result<(), Stop>
 /// Binds `y` to the field `f` of the plain object `x`, or to `undefined` where there is none.
 ///
 /// Stops with `unbound` or `notobject`.
+#[inline(always)]
 pub fn get(main: &mut Main, y: u32, x: u32, f: u32) -> Result<(), Stop>
     requires shown { (graph : Graph) × MainShows main.old graph }
     requires within { IsWithin main.old.seat.space.variables field_numbers (Command.Get y x f) }
@@ -50,6 +52,7 @@ pub fn get(main: &mut Main, y: u32, x: u32, f: u32) -> Result<(), Stop>
 /// where there is none.
 ///
 /// Stops with `unbound`, `notobject`, or `shapesfull` where there may not be as many field paths.
+#[inline(never)]
 pub fn del(main: &mut Main, x: u32, f: u32) -> Result<(), Stop>
     requires shown { (graph : Graph) × MainShows main.old graph }
     requires within { IsWithin main.old.seat.space.variables field_numbers (Command.Del x f) }

@@ -8,6 +8,7 @@
 #![tactic(auto)]
 
 mod fields;
+mod lists;
 mod making;
 mod output;
 mod reading;
@@ -19,6 +20,7 @@ mod variables;
 mod writing;
 
 pub use fields::{del, get, set};
+pub use lists::{at, list, push, put};
 pub use making::new_plain;
 pub use output::{OUTPUT_BYTES, Output, ROOM};
 pub use shapes::{alike, shape};

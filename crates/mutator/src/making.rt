@@ -27,6 +27,7 @@ const STORE_SLOT: u32 = 1;
 /// of objects made so far, and becomes the new one's number.
 ///
 /// Stops with `NoRoom` where eden has not the cell's words: two and one for each slot.
+#[inline(never)]
 pub fn new_plain(main: &mut Main, x: u32, object: u32, cap: u32) -> Result<(), Stop>
     requires shown { (graph : Graph) × MainShows main.old graph × (object ≡ length graph.objects) }
     requires within { IsWithin main.old.seat.space.variables field_numbers (Command.New x cap) }
@@ -60,4 +61,5 @@ fn fill_plain(main: &mut Main, at: u32, header: Header, cap: u32)
     main.set_header(at, header);
     main.write(at + STORE_SLOT, Word::odd(odd::UNDEFINED).0);
     main.fill_holes(at + PLAIN_HEAD, cap);
+    main.made(at);
 }

@@ -5,14 +5,14 @@ ghost use Rattle.std.specs.FinMap.{get};
 ghost use Rattle.heap_command.specs.Commands.{NamesBelow};
 ghost use Rattle.object_graph.specs.Graphs.{Graph, value_of};
 ghost use Rattle.object_graph.specs.declared.value.Value.{Value};
-ghost use Rattle.write_barrier.specs.Mains.{Mutator, heap_of, MainShows};
-ghost use Rattle.shape_change.specs.CellsAt.{IsWhole, HasCellAt, IsHeaderAt};
+ghost use Rattle.write_barrier.specs.Mains.{Mutator, MainShows};
 ghost use Rattle.mutator.specs.Reading.{StandsFor, Finds, FindsBoth, IsShownValue, FindsPlain};
-ghost use Rattle.mutator.specs.Reading.{FindsInteger};
+ghost use Rattle.mutator.specs.Reading.{FindsInteger, FindsList};
 
 use handle_roots::Held;
 use heap_command::{FaultWord, Operand};
-use tagged_word::{Header, Word, shape};
+use shape_change::header_at;
+use tagged_word::shape;
 use write_barrier::Main;
 
 /// A plain object: where its cell stands, and its shape.
@@ -23,6 +23,7 @@ pub(crate) struct Found {
 }
 
 /// What the variable is bound to.
+#[inline(always)]
 pub(crate) fn bound(main: &mut Main, x: u32) -> Result<Held, FaultWord>
     requires shown { (graph : Graph) × MainShows main.old graph }
     requires within { x < main.old.seat.space.variables }
@@ -37,6 +38,7 @@ pub(crate) fn bound(main: &mut Main, x: u32) -> Result<Held, FaultWord>
 }
 
 /// The value that the operand stands for.
+#[inline(always)]
 pub(crate) fn operand(main: &mut Main, v: Operand) -> Result<Held, FaultWord>
     requires shown { (graph : Graph) × MainShows main.old graph }
     requires within { NamesBelow main.old.seat.space.variables v }
@@ -53,6 +55,7 @@ pub(crate) fn operand(main: &mut Main, v: Operand) -> Result<Held, FaultWord>
 
 /// The values that two operands stand for. Both are read before either is judged: `unbound` comes
 /// before all other faults.
+#[inline(always)]
 pub(crate) fn operands(main: &mut Main, a: Operand, b: Operand) -> Result<(Held, Held), FaultWord>
     requires shown { (graph : Graph) × MainShows main.old graph }
     requires first { NamesBelow main.old.seat.space.variables a }
@@ -67,6 +70,7 @@ pub(crate) fn operands(main: &mut Main, a: Operand, b: Operand) -> Result<(Held,
 }
 
 /// The plain object that the value refers to.
+#[inline(always)]
 pub(crate) fn plain(main: &Main, held: Held) -> Result<Found, FaultWord>
     requires { IsShownValue main.now held }
     ensures { (graph : Graph) (value : Value) → MainShows main.now graph →
@@ -79,6 +83,7 @@ pub(crate) fn plain(main: &Main, held: Held) -> Result<Found, FaultWord>
 }
 
 // The plain object whose cell stands at an address.
+#[inline(always)]
 fn plain_at(main: &Main, at: u32) -> Result<Found, FaultWord>
     requires { IsShownValue main.now (Held.Ref at) }
     ensures { (graph : Graph) (value : Value) → MainShows main.now graph →
@@ -92,7 +97,34 @@ fn plain_at(main: &Main, at: u32) -> Result<Found, FaultWord>
     Ok(Found { at, shape })
 }
 
+/// Where the cell of the list stands that the value refers to.
+#[inline(always)]
+pub(crate) fn list_found(main: &Main, held: Held) -> Result<u32, FaultWord>
+    requires { IsShownValue main.now held }
+    ensures { (graph : Graph) (value : Value) → MainShows main.now graph →
+        StandsFor main.now graph value held → FindsList main.now graph value result }
+{
+    match held {
+        Held::Ref(at) => list_found_at(main, at),
+        Held::Unbound | Held::Undefined | Held::Int(_) => Err(FaultWord::NotList),
+    }
+}
+
+// The address, where the cell of a list stands there.
+#[inline(always)]
+fn list_found_at(main: &Main, at: u32) -> Result<u32, FaultWord>
+    requires { IsShownValue main.now (Held.Ref at) }
+    ensures { (graph : Graph) (value : Value) → MainShows main.now graph →
+        StandsFor main.now graph value (Held.Ref at) → FindsList main.now graph value result }
+{
+    if header_at(main, at).shape != shape::LIST {
+        return Err(FaultWord::NotList);
+    }
+    Ok(at)
+}
+
 /// The integer that the value is.
+#[inline(always)]
 pub(crate) fn integer(held: Held) -> Result<i64, FaultWord>
     ensures { (main : Mutator) (graph : Graph) (value : Value) → StandsFor main graph value held →
         FindsInteger value result }
@@ -100,17 +132,5 @@ pub(crate) fn integer(held: Held) -> Result<i64, FaultWord>
     match held {
         Held::Int(v) => Ok(v),
         Held::Unbound | Held::Undefined | Held::Ref(_) => Err(FaultWord::NotInt),
-    }
-}
-
-/// The header of the cell at an address.
-pub(crate) fn header_at(main: &Main, at: u32) -> Header
-    requires whole { IsWhole main.now }
-    requires there { HasCellAt (heap_of main.now) at }
-    ensures { IsHeaderAt (heap_of main.now) at result }
-{
-    match Header::parse(Word(main.word(at))) {
-        Some(header) => header,
-        None => unreachable!(),
     }
 }

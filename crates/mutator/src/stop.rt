@@ -2,6 +2,7 @@
 ghost use Rattle.std.specs.Prelude.{◌≡◌};
 
 use heap_command::FaultWord;
+use list_store::{PushStop, PutStop, Range};
 use shape_change::FieldStop;
 use shape_tree::ShapesFull;
 
@@ -46,5 +47,42 @@ impl From<ShapesFull> for Stop {
 
     fn from(_full: ShapesFull) -> Stop {
         Stop::Fault(FaultWord::ShapesFull)
+    }
+}
+
+impl From<PushStop> for Stop {
+    ghost use Rattle.mutator.specs.Stops.{stop_of_push};
+
+    ghost from_gives = { λ pushing stop. stop ≡ stop_of_push pushing };
+
+    fn from(stop: PushStop) -> Stop {
+        match stop {
+            PushStop::ListFull => Stop::Fault(FaultWord::ListFull),
+            PushStop::Full(room) => Stop::NoRoom { need: room.need },
+        }
+    }
+}
+
+impl From<PutStop> for Stop {
+    ghost use Rattle.mutator.specs.Stops.{stop_of_put};
+
+    ghost from_gives = { λ putting stop. stop ≡ stop_of_put putting };
+
+    fn from(stop: PutStop) -> Stop {
+        match stop {
+            PutStop::Range => Stop::Fault(FaultWord::Range),
+            PutStop::Full(room) => Stop::NoRoom { need: room.need },
+        }
+    }
+}
+
+impl From<Range> for Stop {
+    ghost use Rattle.heap_command.specs.declared.command.FaultWord.TheVariants as word;
+    ghost use Rattle.mutator.specs.declared.stop.Stop.TheVariants.{Fault};
+
+    ghost from_gives = { λ _ stop. stop ≡ Fault word.Range };
+
+    fn from(_range: Range) -> Stop {
+        Stop::Fault(FaultWord::Range)
     }
 }

@@ -1,160 +1,16 @@
 //! What the calls write and how they end, by values from the language's description.
-ghost use Rattle.std.specs.Prelude.{◌≡◌, ◌+◌, ◌≤◌, length, IsTrue, IfOk};
-ghost use Rattle.heap_command.specs.Commands.{IsWithin, NamesBelow};
-ghost use Rattle.object_graph.specs.Graphs.{Graph, start};
-ghost use Rattle.write_barrier.specs.Mains.{MainShows};
-ghost use Rattle.mutator.specs.Carries.{field_numbers};
-ghost use Rattle.script_text.specs.Sound.{AreShort};
 
-use super::{
-    OUTPUT_BYTES, Output, ROOM, Stop, add, alike, del, drop_var, get, let_value, new_plain, print,
-    same, set, shape,
-};
+use super::{Output, Stop, new_plain};
 use heap_command::Command::{
     self, Add, Alike, Del, DropVar, Get, LetValue, Print, Same, Set, Shape,
 };
 use heap_command::FaultWord::{self, NotInt, NotObject, Overflow, Unbound};
 use heap_command::Operand::{self, Int, Undefined, Var};
-use heap_table::HeapTable;
-use page_space::{Regions, Sizes};
-use script_text::Script;
-use std::alloc::Global;
-use std::process::Abort;
+use heaps::{A, B, N, W, X, Y, Z, check_rows, opened, said};
 use std::test::Fail;
-use write_barrier::Main;
 
-const X: u32 = 0;
-
-const Y: u32 = 1;
-
-const Z: u32 = 2;
-
-/// Bound to nothing at first.
-const N: u32 = 3;
-
-/// Never bound.
-const W: u32 = 4;
-
-const VARIABLES: u32 = 5;
-
-/// The fields of `SOURCE`.
-const A: u32 = 0;
-
-const B: u32 = 1;
-
-/// A script that names the fields `a` and `b`.
-const SOURCE: &[u8] = b"set x a 1\nset x b 1\n";
-
-/// Whether the operand names none but the five variables.
-fn is_known(v: Operand) -> bool
-    ensures { IsTrue result → NamesBelow VARIABLES v }
-{
-    match v {
-        Int(_) | Undefined => true,
-        Var(x) => x < VARIABLES,
-    }
-}
-
-/// Whether the command is one that `carry_out` knows, on the five variables.
-fn is_within(command: Command) -> bool
-    ensures { IsTrue result → IsWithin VARIABLES field_numbers command }
-{
-    match command {
-        LetValue { x, v } | Add { x, v } | Set { x, f: _, v } => x < VARIABLES && is_known(v),
-        Get { y, x, f: _ } => y < VARIABLES && x < VARIABLES,
-        DropVar { x } | Del { x, f: _ } | Shape { x } => x < VARIABLES,
-        Print { v } => is_known(v),
-        Same { a, b } => is_known(a) && is_known(b),
-        Alike { x, y } => x < VARIABLES && y < VARIABLES,
-        _ => false,
-    }
-}
-
-/// A heap of one page and 64 young words, with five variables that are bound to nothing.
-fn opened(rt: &impl Abort, alloc: Global) -> Result<Main, Fail>
-    ensures shown { IfOk result (λ main. MainShows main start) }
-    ensures variables { IfOk result (λ main. main.seat.space.variables ≡ VARIABLES) }
-{
-    let sizes = Sizes {
-        pages: 1,
-        young: 64,
-        helpers: 0,
-    };
-    assert!(rt; sizes.are_within(VARIABLES));
-    let regions = Regions::new(sizes, VARIABLES);
-    let Ok(seat) = HeapTable::open(alloc, regions) else {
-        return Err(Fail::from("memory was refused"));
-    };
-    let Ok(main) = Main::open(alloc, seat, regions) else {
-        return Err(Fail::from("memory was refused"));
-    };
-    assert!(rt; main.regions().variables() == VARIABLES);
-    Ok(main)
-}
-
-/// The heap with `x` and `y` bound to objects of cap 0, and `z` to one of cap 1.
-fn prepared(rt: &impl Abort, alloc: Global) -> Result<Main, Fail>
-    ensures shown { IfOk result (λ main. (graph : Graph) × MainShows main graph) }
-    ensures variables { IfOk result (λ main. main.seat.space.variables ≡ VARIABLES) }
-{
-    let mut main = opened(rt, alloc)?;
-    new_plain(&mut main, X, 0, 0)?;
-    new_plain(&mut main, Y, 1, 0)?;
-    new_plain(&mut main, Z, 2, 1)?;
-    Ok(main)
-}
-
-/// Carries the command out. One that `is_within` refuses does nothing.
-fn carry_out(
-    main: &mut Main,
-    script: &Script<'_>,
-    command: Command,
-    out: &mut Output,
-) -> Result<(), Stop>
-    requires shown { (graph : Graph) × MainShows main.old graph }
-    requires within { IsWithin main.old.seat.space.variables field_numbers command }
-    requires short { AreShort script.now.fields }
-    requires room { length out.old + ROOM ≤ OUTPUT_BYTES }
-    ensures shown { (graph : Graph) × MainShows main.new graph }
-    ensures variables { main.new.seat.space.variables ≡ main.old.seat.space.variables }
-{
-    match command {
-        LetValue { x, v } => let_value(main, x, v),
-        DropVar { x } => drop_var(main, x),
-        Add { x, v } => add(main, x, v),
-        Set { x, f, v } => set(main, x, f, v),
-        Get { y, x, f } => get(main, y, x, f),
-        Del { x, f } => del(main, x, f),
-        Print { v } => print(main, v, out),
-        Same { a, b } => same(main, a, b, out),
-        Alike { x, y } => alike(main, x, y, out),
-        Shape { x } => shape(main, script, x, out),
-        _ => Ok(()),
-    }
-}
-
-/// Why the commands stop on the prepared heap, if they do, and what they write.
-fn said(
-    rt: &impl Abort,
-    alloc: Global,
-    commands: &[Command],
-) -> Result<(Option<Stop>, Output), Fail> {
-    let Ok(script) = script_text::parse(alloc, SOURCE) else {
-        return Err(Fail::from("memory was refused"));
-    };
-    // Tells that the names of fields are short.
-    let _fields = script.fields();
-    let mut main = prepared(rt, alloc)?;
-    let mut out = Output::new(alloc)?;
-    for command in commands {
-        assert!(rt; is_within(*command));
-        assert!(rt; out.room() >= ROOM);
-        if let Err(stop) = carry_out(&mut main, &script, *command, &mut out) {
-            return Ok((Some(stop), out));
-        }
-    }
-    Ok((None, out))
-}
+mod heaps;
+mod lists;
 
 fn let_to(x: u32, v: Operand) -> Command {
     LetValue { x, v }
@@ -174,16 +30,6 @@ fn print_of(x: u32) -> Command {
 
 fn same_as(a: Operand, b: Operand) -> Command {
     Same { a, b }
-}
-
-/// Checks what each list of commands writes.
-fn check_rows(rt: &impl Abort, alloc: Global, rows: &[(&[Command], &str)]) -> Result<(), Fail> {
-    for (commands, text) in rows {
-        let (stop, out) = said(rt, alloc, commands)?;
-        assert_eq!(rt; stop, None, "{text}");
-        assert_eq!(rt; out.bytes(), text.as_bytes());
-    }
-    Ok(())
 }
 
 #[test]
@@ -348,6 +194,26 @@ fn an_object_has_two_words_and_one_for_each_slot(rt: HostRuntime) -> Result<(), 
     let mut main = opened(&rt, rt.alloc())?;
     new_plain(&mut main, X, 0, 8)?;
     assert_eq!(rt; main.used(), 10);
+    Ok(())
+}
+
+/// Commands that give `x` twelve wide fields: with its stores and boxes it comes to 68 words.
+fn twelve_wide_fields() -> [Command; 12] {
+    let mut commands = [set_to(X, A, Int(5_000_000_000)); 12];
+    for f in 0..12u32 {
+        commands[f as usize] = set_to(X, f, Int(5_000_000_000));
+    }
+    commands
+}
+
+#[test]
+fn a_field_is_refused_where_its_words_do_not_fit(rt: HostRuntime) -> Result<(), Fail> {
+    let mut commands = twelve_wide_fields();
+    let (stop, _out) = said(&rt, rt.alloc(), &commands)?;
+    assert_eq!(rt; stop, Some(Stop::NoRoom { need: 2 }));
+    commands[11] = set_to(X, 11, Int(1));
+    let (stop, _out) = said(&rt, rt.alloc(), &commands)?;
+    assert_eq!(rt; stop, None);
     Ok(())
 }
 

@@ -15,6 +15,7 @@ use write_barrier::Main;
 /// Binds `x` to the value.
 ///
 /// Stops with `unbound`.
+#[inline(always)]
 pub fn let_value(main: &mut Main, x: u32, v: Operand) -> Result<(), Stop>
     requires shown { (graph : Graph) × MainShows main.old graph }
     requires within { IsWithin main.old.seat.space.variables field_numbers (Command.LetValue x v) }
@@ -29,6 +30,7 @@ pub fn let_value(main: &mut Main, x: u32, v: Operand) -> Result<(), Stop>
 /// Unbinds `x`. The words of what it was bound to stay used.
 ///
 /// Stops with `unbound` where it is bound to nothing.
+#[inline(always)]
 pub fn drop_var(main: &mut Main, x: u32) -> Result<(), Stop>
     requires shown { (graph : Graph) × MainShows main.old graph }
     requires within { IsWithin main.old.seat.space.variables field_numbers (Command.DropVar x) }
@@ -44,6 +46,7 @@ pub fn drop_var(main: &mut Main, x: u32) -> Result<(), Stop>
 /// Binds `x` to the sum of its integer and the value.
 ///
 /// Stops with `unbound`, `notint`, or `overflow` where the sum is outside 64 bits.
+#[inline(always)]
 pub fn add(main: &mut Main, x: u32, v: Operand) -> Result<(), Stop>
     requires shown { (graph : Graph) × MainShows main.old graph }
     requires within { IsWithin main.old.seat.space.variables field_numbers (Command.Add x v) }

@@ -11,11 +11,12 @@ ghost use Rattle.mutator.specs.Kinds.{noun_by_shape};
 ghost use Rattle.mutator.specs.Reading.{IsShownValue, StandsFor};
 
 use crate::output::{OUTPUT_BYTES, Output, ROOM};
-use crate::reading::{header_at, operand, operands};
+use crate::reading::{operand, operands};
 use crate::stop::Stop;
 use handle_roots::Held;
 use heap_command::{Command, Operand};
 use itoa::Buffer;
+use shape_change::header_at;
 use tagged_word::shape;
 use write_barrier::Main;
 
@@ -23,6 +24,7 @@ use write_barrier::Main;
 /// `weak` with the object's number. The output has room for `ROOM` bytes.
 ///
 /// Stops with `unbound`.
+#[inline(never)]
 pub fn print(main: &mut Main, v: Operand, out: &mut Output) -> Result<(), Stop>
     requires shown { (graph : Graph) × MainShows main.old graph }
     requires within { IsWithin main.old.seat.space.variables field_numbers (Command.Print v) }
@@ -42,6 +44,7 @@ pub fn print(main: &mut Main, v: Operand, out: &mut Output) -> Result<(), Stop>
 /// same object, and else `false` and a line feed. The output has room for `ROOM` bytes.
 ///
 /// Stops with `unbound`.
+#[inline(never)]
 pub fn same(main: &mut Main, a: Operand, b: Operand, out: &mut Output) -> Result<(), Stop>
     requires shown { (graph : Graph) × MainShows main.old graph }
     requires within { IsWithin main.old.seat.space.variables field_numbers (Command.Same a b) }

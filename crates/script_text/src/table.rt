@@ -56,11 +56,7 @@ pub(crate) const PLACES_MOST: usize = 3;
 
 /// The commands that are not built.
 pub(crate) const UNBUILT_TODAY: &[Keyword] = &[
-    Keyword::List,
     Keyword::Weak,
-    Keyword::Push,
-    Keyword::Put,
-    Keyword::At,
     Keyword::Shift,
     Keyword::Trunc,
     Keyword::WPut,

@@ -36,8 +36,8 @@ fn is_within(words: &[u64], at: u32, bound: u32, size: u32) -> bool
     end <= bound as u64 && end <= words.len() as u64
 }
 
-// The layout of a shape by its layout word; none for a shape that there is not.
-fn layout_of(layouts: &[u64], number: u32) -> Option<LayoutWord>
+/// The layout of a shape by its layout word; none for a shape that there is not.
+pub fn layout_of(layouts: &[u64], number: u32) -> Option<LayoutWord>
     ensures { result ≡ shape_layout layouts.now number }
 {
     if number < shape::COUNT {

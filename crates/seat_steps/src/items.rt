@@ -1,5 +1,5 @@
 //! The list type of worlds.
-ghost use Rattle.std.specs.Prelude.{◌≡◌, ◌<◌, [], ◌∷◌, ◌++◌, length, slice_get, slice_set};
+ghost use Rattle.std.specs.Prelude.{◌≡◌, ◌<◌, ◌≤◌, [], ◌∷◌, ◌++◌, length, take, drop, slice_get, slice_set};
 ghost use Rattle.std.specs.Prelude.{IfOk, OnOk, OnErr};
 
 use std::alloc::Global;
@@ -86,6 +86,17 @@ impl<T: Copy> Items<T> {
         Ok(())
     }
 
+    /// Puts a value before the element of a number, or behind the last. Without memory the list stays
+    /// as it was.
+    pub fn insert(&mut self, i: usize, value: T) -> Result<(), NoMemory>
+        requires { i ≤ length self.old }
+        ensures ok { OnOk result (self.new ≡ take i self.old ++ value ∷ drop i self.old) }
+        ensures err { OnErr result (self.new ≡ self.old) }
+    {
+        self.list.insert(i, value)?;
+        Ok(())
+    }
+
     /// The same list in memory of its own.
     pub fn copied(&self, alloc: Global) -> Result<Items<T>, NoMemory>
         ensures { IfOk result (λ copy. copy ≡ self.now) }
@@ -113,6 +124,17 @@ mod tests {
         assert_eq!(rt; items.as_slice(), [9, 7].as_slice());
         assert_eq!(rt; items.get(1), Some(7));
         assert_eq!(rt; items.get(2), None);
+        Ok(())
+    }
+
+    #[test]
+    fn a_value_is_put_between_others(rt: HostRuntime) -> Result<(), Fail> {
+        let mut items = Items::from_vec([3u32, 5].to_vec(rt.alloc())?);
+        assert_eq!(rt; items.count(), 2);
+        items.insert(1, 4)?;
+        assert_eq!(rt; items.count(), 3);
+        items.insert(3, 6)?;
+        assert_eq!(rt; items.as_slice(), [3, 4, 5, 6].as_slice());
         Ok(())
     }
 

@@ -15,7 +15,7 @@ mod note;
 mod stop;
 
 pub use board::{empty_board, give, laws_of_boards, take};
-pub use cell::read_cell;
+pub use cell::{layout_of, read_cell};
 pub use items::Items;
 pub use list::{join, laws_of_lists, leave};
 pub use note::Note;

@@ -15,27 +15,13 @@ use Rattle.heap_model.specs.Heaps.{Heap}
 use Rattle.heap_model.specs.Slots.{small_word, raw_word, reference_word, IsPlace, RefersToBox, RefersToPlace}
 use Rattle.heap_model.specs.Showing.{ShowsValue, ShowsWide, ShowsField, ShowsHeld}
 use Rattle.heap_model.proofs.WordsStay.{PlacesStay}
-use Rattle.shape_change.specs.declared.content.Content.{Content}
-use Rattle.shape_change.specs.declared.content.Content.TheVariants as content
-use Rattle.shape_change.specs.Contents.{held_rep, content_of}
-use Rattle.shape_change.specs.Additions.{content_word}
-use Rattle.shape_change.specs.SlotChanges.{ComesFrom}
-use Rattle.shape_change.proofs.HeldContents.{HoldsValue, held_rep_is, value_held}
-use Rattle.shape_change.proofs.WrittenPlaces.{small_names_none, undefined_names_none, object_names_none}
-
--- a value that joins the narrowest representation brings its own
-join-small : (one : Rep) → join rep.Small one ≡ one
-join-small rep.Small = refl
-join-small rep.Wide = refl
-join-small rep.Tagged = refl
-
--- what the slot of a new field holds for a value
-pub new_value_held : {heap : Heap} (own : Bool) (known : Held) (what : Value) → ShowsHeld heap known (Some what)
-    → HoldsValue heap own rep.Small (rep_of what) what (content_of own (held_rep known) known)
-new_value_held {heap} own known what shows =
-    let holds = value_held own rep.Small (rep_of what) known what shows (join-small (rep_of what)) in
-    subst (λ one. HoldsValue heap own rep.Small (rep_of what) what (content_of own one known)) (sym (held_rep_is known what shows))
-    holds
+use Rattle.object_cells.specs.declared.content.Content.{Content}
+use Rattle.object_cells.specs.declared.content.Content.TheVariants as content
+use Rattle.object_cells.specs.Contents.{held_rep, content_of}
+use Rattle.object_cells.specs.Made.{content_word}
+use Rattle.object_cells.specs.SlotChanges.{ComesFrom}
+use Rattle.object_cells.proofs.HeldContents.{HoldsValue, held_rep_is, value_held}
+use Rattle.object_cells.proofs.WrittenPlaces.{small_names_none, undefined_names_none, object_names_none}
 
 -- a small integer shows itself where the slot is not wide
 small_shows : {heap : Heap} {own : Bool} (one : Rep) (v : ℤ) → IsTrue (small v) → (one ≡ rep.Wide → ⊥)
@@ -61,7 +47,8 @@ content_shows {new = new} count box (HoldsValue.wide_box v beside apart small) p
     ShowsField.wide v (subst (λ o. ShowsWide new o (reference_word box) v) (sym beside) (boxed v refl))
 content_shows count box (HoldsValue.tagged_box v wide was) places fits boxed =
     ShowsField.tagged (value.Int v) (ShowsValue.boxed v wide (boxed v refl))
-content_shows count box HoldsValue.undefined places fits boxed = ShowsField.tagged value.Undefined (ShowsValue.undefined refl)
+content_shows count box HoldsValue.undefined places fits boxed = ShowsField.tagged value.Undefined
+    (ShowsValue.undefined refl)
 content_shows count box (HoldsValue.object at number place) places fits boxed =
     ShowsField.tagged (value.Ref number) (ShowsValue.object number (new_place at number places place))
 
@@ -83,7 +70,8 @@ pub record IsMadeBox (made : List Cell) (box : ℕ) : Type 0 where
   pub stands : cell.at ≡ box
 
 -- where the slot is not raw, its word names nothing, or the box that was made for it
-pub content_comes : {old new : Heap} {own : Bool} {one : Rep} {what : Value} {holds : Content} (cell : Cell) (slots : List ℕ)
+pub content_comes : {old new : Heap} {own : Bool} {one : Rep} {what : Value} {holds : Content} (cell : Cell)
+    (slots : List ℕ)
     (made : List Cell) (slot box : ℕ) → HoldsValue old own rep.Small one what holds → PlacesStay old new
     → (own ≡ true → one ≡ rep.Wide → ⊥) → ((v : ℤ) → holds ≡ content.Boxed v → IsMadeBox made box)
     → ComesFrom new cell slots made slot slot slot (content_word holds box)

@@ -20,22 +20,24 @@ use Rattle.heap_model.specs.Kinds.{IsPlainCell}
 use Rattle.heap_model.specs.Showing.{ShowsPlain}
 use Rattle.heap_model.proofs.CellsApart.{one_at}
 use Rattle.write_barrier.specs.Mains.{Mutator, heap_of, IsTied, MainShows, reserved}
-use Rattle.shape_change.specs.FieldChanges.{IsPlainAt, IsValueHeld, LacksFields, ShowsRefilled}
-use Rattle.shape_change.specs.Refills.{AreNewFields}
-use Rattle.shape_change.specs.CellWrites.{WritesCells}
-use Rattle.shape_change.specs.Contents.{held_rep}
-use Rattle.shape_change.specs.Additions.{CanAdd, AddsPath, PutsWords, added_path, count_of}
-use Rattle.shape_change.proofs.PlainFields.{plain_sound, plain_shown}
-use Rattle.shape_change.proofs.NewFields.{written_fields_are_new}
+use Rattle.object_cells.specs.PlainObjects.{IsPlainAt, LacksFields, ShowsRefilled}
+use Rattle.object_cells.specs.HeldValues.{IsValueHeld}
+use Rattle.object_cells.specs.Refills.{AreNewFields}
+use Rattle.object_cells.specs.CellWrites.{WritesCells}
+use Rattle.object_cells.specs.Contents.{held_rep}
+use Rattle.shape_change.specs.Additions.{CanAdd, AddsPath, added_path, count_of}
+use Rattle.object_cells.specs.Made.{PutsWords}
+use Rattle.object_cells.proofs.PlainFields.{plain_sound, plain_shown}
+use Rattle.object_cells.proofs.NewFields.{written_fields_are_new}
 use Rattle.shape_change.proofs.FullStores.{cap_is}
-use Rattle.shape_change.proofs.OwnPlaces.{has_own_words}
-use Rattle.shape_change.proofs.HeldContents.{held_rep_is}
+use Rattle.object_cells.proofs.OwnPlaces.{has_own_words}
+use Rattle.object_cells.proofs.HeldContents.{held_rep_is}
 use Rattle.shape_change.proofs.AddedFields.{new_field, with_field-new, path_of-push}
 use Rattle.shape_change.proofs.AddedSlots.{AddsSlot, added_refills}
-use Rattle.shape_change.proofs.RefilledHeaps.{written_fields_show}
+use Rattle.object_cells.proofs.RefilledHeaps.{written_fields_show}
 
--- What is known of a plain object of a graph to which a field of a new name may come: its cell, its fields, their path, and
--- that with the field.
+-- What is known of a plain object of a graph to which a field of a new name may come: its cell, its fields, their
+-- path, and that with the field.
 pub record Adding (old : Mutator) (graph : Graph) (plain : PlainObject) (object : ℕ) (header : Header) (name : ℕ)
     (value : Held) (what : Value) : Type 0 where
   pub can : CanAdd old object header name value
@@ -59,8 +61,9 @@ pub record Adding (old : Mutator) (graph : Graph) (plain : PlainObject) (object 
       ≡ path_of cell.layout.cap (plain.fields ++ new_field name what ∷ [])
 
 -- so it is known
-pub adding : {old : Mutator} {graph : Graph} {plain : PlainObject} {object : ℕ} {header : Header} {name : ℕ} {value : Held}
-    {what : Value} → CanAdd old object header name value → MainShows old graph → IsPlainAt old graph object plain
+pub adding : {old : Mutator} {graph : Graph} {plain : PlainObject} {object : ℕ} {header : Header} {name : ℕ}
+    {value : Held} {what : Value} → CanAdd old object header name value → MainShows old graph
+    → IsPlainAt old graph object plain
     → IsValueHeld old graph value what → IsValue (length graph.objects) what → field_value plain.fields name ≡ None
     → Adding old graph plain object header name value what
 adding {old} {plain = plain} {object} {header} {name} {value} {what} can shows is held fits fresh =
@@ -105,19 +108,20 @@ adding {old} {plain = plain} {object} {header} {name} {value} {what} can shows i
     }
 
 -- the object has not as many fields as it may have
-pub lacks_none : {old : Mutator} {graph : Graph} {plain : PlainObject} {object : ℕ} {header : Header} {name : ℕ} {value : Held}
-    {what : Value} → Adding old graph plain object header name value what → LacksFields plain name → ⊥
+pub lacks_none : {old : Mutator} {graph : Graph} {plain : PlainObject} {object : ℕ} {header : Header} {name : ℕ}
+    {value : Held} {what : Value} → Adding old graph plain object header name value what → LacksFields plain name → ⊥
 lacks_none adds lacks = omega (arith, adds.can.few, adds.count, lacks.full)
 
 -- a heap in which its slots hold the fields with this one shows the graph in which it has these
-pub added_shows : {old mid new : Mutator} {graph : Graph} {plain : PlainObject} {object : ℕ} {header : Header} {name : ℕ}
-    {value : Held} {what : Value} {next : ℕ} {words : List ℕ} {others made : List Cell} (need : ℕ)
+pub added_shows : {old mid new : Mutator} {graph : Graph} {plain : PlainObject} {object : ℕ} {header : Header}
+    {name : ℕ} {value : Held} {what : Value} {next : ℕ} {words : List ℕ} {others made : List Cell} (need : ℕ)
     (known : Adding old graph plain object header name value what)
     → AddsPath (reserved old need) mid (added_path old.paths header.shape name value) next → PutsWords mid new words
     → WritesCells (heap_of old) (heap_of new) known.cell next others made
     → AddsSlot (heap_of old) (heap_of new) known.cell next others made plain.fields (new_field name what)
     → ShowsRefilled new graph plain (with_field plain.fields name what)
-added_shows {old} {mid} {new} {graph} {plain} {header = header} {name} {value} {what} {next} {others = others} {made} need known
+added_shows {old} {mid} {new} {graph} {plain} {header = header} {name} {value} {what} {next} {others = others} {made}
+    need known
     path puts writes adds =
     let fields : List Field = plain.fields ++ new_field name what ∷ [] in
     let with : with_field plain.fields name what ≡ fields = with_field-new plain.fields name what known.fresh in
@@ -127,10 +131,13 @@ added_shows {old} {mid} {new} {graph} {plain} {header = header} {name} {value} {
     ap (λ c. path_of c fields) (sym known.caps) ∙ sym known.path in
     let added : with_path (Some paths_most) graph.paths (path_of plain.cap fields) ≡ Some new.paths =
     ap (λ paths. with_path (Some paths_most) paths (path_of plain.cap fields)) (sym known.shows.shows.paths)
-    ∙ ap (with_path (Some paths_most) old.paths) of_path ∙ path.leads.added ∙ ap (λ paths. Some paths) (sym puts.paths) in
+    ∙ ap (with_path (Some paths_most) old.paths) of_path ∙ path.leads.added
+    ∙ ap (λ paths. Some paths) (sym puts.paths) in
     let tied : IsTied new =
     ap (λ (y : Young). y.space) (puts.young ∙ path.young) ∙ known.shows.tied ∙ sym (puts.space ∙ path.space) in
     subst (ShowsRefilled new graph plain) (sym with)
-    (written_fields_show old new graph plain known.cell next others made fields known.shows known.is.object known.carries
-    known.caps known.shown (subst (AreNewFields graph) with are) added tied (puts.phase ∙ path.phase ∙ known.shows.quiet)
+    (written_fields_show old new graph plain known.cell next others made fields known.shows known.is.object
+    known.carries
+    known.caps known.shown (subst (AreNewFields graph) with are) added tied
+    (puts.phase ∙ path.phase ∙ known.shows.quiet)
     writes (added_refills adds))

@@ -14,16 +14,16 @@ use Rattle.heap_model.specs.Slots.{hole_word, reference_word}
 use Rattle.heap_model.specs.Kinds.{HasWord, HasSlots, IsPlainCell, HasNoNumber, IsBoxCell}
 use Rattle.heap_model.specs.Wholeness.{Whole, NamesFrom}
 use Rattle.heap_model.specs.Showing.{ShowsField}
-use Rattle.shape_change.specs.CellWrites.{reshaped}
-use Rattle.shape_change.specs.SlotChanges.{IsTaggedSlot, ComesFrom, ShowsSlot, StoreComes, RefillsSlots}
-use Rattle.shape_change.specs.SlotChanges.{NamesNone}
+use Rattle.object_cells.specs.CellWrites.{reshaped}
+use Rattle.object_cells.specs.SlotChanges.{IsTaggedSlot, ComesFrom, ShowsSlot, StoreComes, RefillsSlots}
+use Rattle.object_cells.specs.SlotChanges.{NamesNone}
 use Rattle.shape_change.proofs.AddedFields.{path_of-push, push_cases}
 use Rattle.shape_change.proofs.FullStores.{cap_is}
 use Rattle.shape_change.proofs.TaggedBefore.{tagged_before}
-use Rattle.shape_change.proofs.WrittenPlaces.{hole_names_none}
+use Rattle.object_cells.proofs.WrittenPlaces.{hole_names_none}
 
--- What a slot holds after a word was put in one of number `slot`: that word, what it held before, or, behind the slots
--- from before, nothing.
+-- What a slot holds after a word was put in one of number `slot`: that word, what it held before, or, behind the
+-- slots from before, nothing.
 pub data SlotIs (slots : List ℕ) (slot word k x : ℕ) : Type 0 where
   put : k ≡ slot → x ≡ word → SlotIs slots slot word k x
   kept : k ≢ slot → HasWord slots k x → SlotIs slots slot word k x
@@ -68,7 +68,8 @@ pub as_many : {old new : Heap} {cell : Cell} {next : ℕ} {others made : List Ce
     → AddsSlot old new cell next others made fields field
     → length (shape_path old.paths cell.header.shape).fields ≡ length fields
 as_many {fields = fields} adds =
-    ap (λ (p : Path). length p.fields) adds.was ∙ length-map fields (λ (f : Field). record { name = f.name; rep = f.rep })
+    ap (λ (p : Path). length p.fields) adds.was
+    ∙ length-map fields (λ (f : Field). record { name = f.name; rep = f.rep })
 
 -- the layout after is that of the path with a step
 laid_after : {old new : Heap} {cell : Cell} {next : ℕ} {others made : List Cell} {fields : List Field} {field : Field}
@@ -92,7 +93,8 @@ slot_comes {new = new} {cell} {next} {made = made} {fields} k x adds (SlotIs.put
     (adds.comes tagged_at))
 slot_comes {new = new} {cell} {next} {field = field} k x adds (SlotIs.kept apart there) tagged =
     let one : Cell = reshaped new.paths cell next in
-    ComesFrom.moved there (tagged_before one field.name field.rep k adds.whole.sized adds.has adds.plain adds.sound.shape
+    ComesFrom.moved there (tagged_before one field.name field.rep k adds.whole.sized adds.has
+    adds.plain adds.sound.shape
     (cap_is adds.whole.sized adds.has adds.sound.shape) (laid_after adds) (λ same. apart (same ∙ as_many adds)) tagged)
 slot_comes {new = new} k x adds (SlotIs.more apart behind is) tagged =
     ComesFrom.none (subst (NamesNone new) (sym is) hole_names_none)
@@ -130,9 +132,11 @@ slot_shows {new = new} {cell} {fields = fields} {field} k x one adds is there =
       | inl old ↦ kept_shows k x one adds old.1 (old_slot k x adds old.0 is)
       | inr last ↦
           let word : x ≡ adds.word = last_slot k x last.0 is in
-          let shows = subst (λ n. ShowsField new (nat_lt n cell.layout.cap) adds.word field.rep field.value) (sym last.0)
+          let shows = subst (λ n. ShowsField new (nat_lt n cell.layout.cap) adds.word field.rep field.value)
+          (sym last.0)
           adds.shows in
-          let of_one = subst (λ (f : Field). ShowsField new (nat_lt k cell.layout.cap) adds.word f.rep f.value) last.1 shows in
+          let of_one = subst (λ (f : Field). ShowsField new (nat_lt k cell.layout.cap) adds.word f.rep f.value) last.1
+          shows in
           ShowsSlot.fresh (subst (λ n. ShowsField new (nat_lt k cell.layout.cap) n one.rep one.value) (sym word) of_one)
     ]
 
@@ -147,8 +151,8 @@ slot_rest {fields = fields} {field} k x adds behind (SlotIs.kept apart there) =
 slot_rest k x adds behind (SlotIs.more apart past is) = is
 
 -- so its slots refill the object
-pub added_refills : {old new : Heap} {cell : Cell} {next : ℕ} {others made : List Cell} {fields : List Field} {field : Field}
-    → AddsSlot old new cell next others made fields field
+pub added_refills : {old new : Heap} {cell : Cell} {next : ℕ} {others made : List Cell} {fields : List Field}
+    {field : Field} → AddsSlot old new cell next others made fields field
     → RefillsSlots old new cell next others made fields (fields ++ field ∷ [])
 added_refills {fields = fields} {field} adds = record {
   slots = adds.sound.slots;

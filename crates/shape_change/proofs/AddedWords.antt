@@ -20,10 +20,11 @@ use Rattle.cell_layout.specs.Cells.{IsRow}
 use Rattle.heap_table.specs.Seats.{heap_words}
 use Rattle.heap_model.specs.Wholeness.{HasSizes}
 use Rattle.write_barrier.specs.Mains.{Mutator, heap_of, IsTied, reserved}
-use Rattle.shape_change.specs.Contents.{next_at}
-use Rattle.shape_change.specs.Additions.{AddsPath, PutsWords, with_shape}
-use Rattle.shape_change.proofs.OneWord.{WritesOne}
-use Rattle.shape_change.proofs.UnusedWords.{next_before_segments}
+use Rattle.object_cells.specs.Contents.{next_at}
+use Rattle.shape_change.specs.Additions.{AddsPath, with_shape}
+use Rattle.object_cells.specs.Made.{PutsWords}
+use Rattle.object_cells.proofs.OneWord.{WritesOne}
+use Rattle.object_cells.proofs.UnusedWords.{next_before_segments}
 
 -- A path was added once so many words were reserved, and then words were put: the header of the cell at an address, one
 -- other word, and else words that are newly used.
@@ -76,7 +77,8 @@ over_sized {old} {mid} {new} over =
 
 -- how many words of eden are used afterwards
 pub over_young : {old mid new : Mutator} {path : Path} {cell : Cell} {shape at word need : ℕ} {words : List ℕ}
-    → PutsOver old mid new path cell shape at word need words → new.young ≡ record old.young { used = old.young.used + need }
+    → PutsOver old mid new path cell shape at word need words
+    → new.young ≡ record old.young { used = old.young.used + need }
 over_young over = over.puts.young ∙ over.adds.young
 
 -- the regions are those from before
@@ -109,7 +111,8 @@ over_writes_one {old} {mid} {new} {path} {cell} {shape} {at} {word} {need} made 
       made_stand = subst (λ end. IsRow new.seat.space (heap_words new.seat) (next_at old) end made) ends row;
       stay = λ a below not_cell not_at not_new.
           ap (λ all. slice_get all a) over.puts.heap
-          ∙ over.stay a not_cell not_at (λ from before. not_new (record { from = from; below = omega (arith, before, used) }))
+          ∙ over.stay a not_cell not_at
+          (λ from before. not_new (record { from = from; below = omega (arith, before, used) }))
           ∙ over.adds.stay a below;
     }
 
@@ -128,7 +131,8 @@ pub over_last : {old mid new : Mutator} {path : Path} {cell : Cell} {header : He
     → cell.at ≡ object → cell.header ≡ header → cell.at ≢ place → cell.at < layouts_start old.seat.space
     → place < layouts_start old.seat.space
     → PutsOver old mid new path cell shape place word need (with_shape (slice_set words place word) object header shape)
-over_last {old} {mid} {cell = cell} {header} shape place word need object words tied room adds puts long stay stands headed apart
+over_last {old} {mid} {cell = cell} {header} shape place word need object words tied room adds puts long stay stands
+    headed apart
     cell_below at_below =
     let put = slice_set words place word in
     let bits = header_bits (record header { shape = shape }) in

@@ -8,7 +8,7 @@ use Rattle.tagged_word.specs.Headers.{header_bits}
 use Rattle.tagged_word.proofs.Members.{one_in, first_in}
 use Rattle.object_graph.specs.declared.value.Value.{Value}
 use Rattle.object_graph.specs.declared.path.Path.{Path}
-use Rattle.object_graph.specs.Objects.{with_field, revalued}
+use Rattle.object_graph.specs.Objects.{revalued}
 use Rattle.object_graph.specs.Graphs.{Graph, PlainObject}
 use Rattle.page_space.specs.Extents.{Space, eden_start, segments_start, layouts_start, marks_start}
 use Rattle.page_space.proofs.Starts.{roots_start_is, layouts_start_is, marks_start_is}
@@ -21,29 +21,29 @@ use Rattle.heap_model.specs.Needs.{box_words}
 use Rattle.heap_model.proofs.CellsApart.{IsOfCell, first_of_cell}
 use Rattle.write_barrier.specs.Mains.{Mutator, heap_of, with_word}
 use Rattle.write_barrier.specs.Values.{box_header}
-use Rattle.shape_change.specs.declared.content.Content.TheVariants as content
-use Rattle.shape_change.specs.FieldChanges.{ShowsRefilled}
-use Rattle.shape_change.specs.Contents.{next_at, with_box}
-use Rattle.shape_change.specs.CellWrites.{reshaped}
-use Rattle.shape_change.specs.SlotChanges.{IsTaggedSlot, ComesFrom}
-use Rattle.shape_change.proofs.ContentsShown.{ShowsByBox, box_shows, IsBoxOf}
-use Rattle.shape_change.proofs.FieldWords.{path_field, field_is_tagged}
+use Rattle.object_cells.specs.declared.content.Content.TheVariants as content
+use Rattle.object_cells.specs.Contents.{next_at, with_box}
+use Rattle.object_cells.specs.CellWrites.{reshaped}
+use Rattle.object_cells.specs.SlotChanges.{IsTaggedSlot, ComesFrom}
+use Rattle.shape_change.proofs.ContentsShown.{ShowsByBox, box_shows}
+use Rattle.object_cells.proofs.SlotBoxes.{IsBoxOf}
+use Rattle.object_cells.proofs.FieldWords.{path_field, field_is_tagged}
 use Rattle.shape_change.proofs.FilledFields.{next_head, before_marks, slot_apart, slot_puts, slot_shown, no_row}
 use Rattle.shape_change.proofs.FilledSlots.{RefersToOld, fills_box}
-use Rattle.shape_change.proofs.HeldContents.{HoldsValue}
-use Rattle.shape_change.proofs.NewBoxes.{box_cell, box_is_cell, row_of_box}
-use Rattle.shape_change.proofs.NumberedSlots.{IsNumbered}
-use Rattle.shape_change.proofs.OneWord.{IsReady}
-use Rattle.shape_change.proofs.OwnPlaces.{box_size, box_place, store_not_in_box}
-use Rattle.shape_change.proofs.OwnCells.{cell_below_layouts, beside_not_header}
-use Rattle.shape_change.proofs.PlainFields.{plain_sound}
+use Rattle.object_cells.proofs.HeldContents.{HoldsValue}
+use Rattle.object_cells.proofs.NewBoxes.{box_cell, box_is_cell, row_of_box}
+use Rattle.object_cells.proofs.NumberedSlots.{IsNumbered}
+use Rattle.object_cells.proofs.OneWord.{IsReady}
+use Rattle.object_cells.proofs.OwnPlaces.{box_size, box_place, store_not_in_box}
+use Rattle.object_cells.proofs.OwnCells.{cell_below_layouts, beside_not_header}
+use Rattle.object_cells.proofs.PlainFields.{plain_sound}
 use Rattle.shape_change.proofs.ReadyHeaps.{ready_boxed, puts_box}
 use Rattle.shape_change.proofs.Settings.{Setting}
-use Rattle.shape_change.proofs.SetFields.{IsNextShape, sets_one, field_shown}
-use Rattle.shape_change.proofs.SlotPlaces.{one_slots}
-use Rattle.shape_change.proofs.SlotsNow.{numbered_address, word_at_offset}
-use Rattle.shape_change.proofs.UnusedWords.{cell_is_used, next_before_segments}
-use Rattle.shape_change.proofs.WordsPut.{PutsTwo, HasHead, puts_two, sizes_put}
+use Rattle.shape_change.proofs.SetFields.{IsNextShape, ShowsSet, sets_one, field_shown}
+use Rattle.object_cells.proofs.SlotPlaces.{one_slots}
+use Rattle.object_cells.proofs.SlotsNow.{numbered_address, word_at_offset}
+use Rattle.object_cells.proofs.UnusedWords.{cell_is_used, next_before_segments}
+use Rattle.object_cells.proofs.WordsPut.{PutsTwo, HasHead, puts_two, sizes_put}
 
 -- no address of a cell is among the words that are made a box
 used_apart : {old : Mutator} {graph : Graph} {object slot : ℕ} {plain : PlainObject} {what : Value} {name : ℕ}
@@ -125,7 +125,7 @@ pub new_box_shown : {old mid new : Mutator} {graph : Graph} {object slot : ℕ} 
     (next_head s next)
     → HoldsValue (heap_of old) (nat_lt slot s.cell.layout.cap) s.field.rep (revalued s.field what).rep what
     (content.Boxed v)
-    → ShowsRefilled new graph plain (with_field plain.fields name what)
+    → ShowsSet s new
 new_box_shown {old} {mid} {new} {graph} {slot = slot} {plain} {what} at next v s numbered ready shape head holds =
     let space : Space = old.seat.space in
     let box : ℕ = next_at old in
@@ -195,7 +195,7 @@ pub old_box_shown : {old mid new : Mutator} {graph : Graph} {object slot : ℕ} 
     → HasHead mid (with_word mid (box + 1) (raw_word v)) new s.cell.at (next_head s next)
     → HoldsValue (heap_of old) (nat_lt slot s.cell.layout.cap) s.field.rep (revalued s.field what).rep what
     (content.Boxed v)
-    → ShowsRefilled new graph plain (with_field plain.fields name what)
+    → ShowsSet s new
 old_box_shown {old} {mid} {new} {graph} {slot = slot} {plain} {what} next word box v s there is ready shape head holds =
     let whole = s.shows.shows.whole in
     let one : Cell = is.cell in

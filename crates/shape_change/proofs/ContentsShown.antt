@@ -24,14 +24,13 @@ use Rattle.heap_model.specs.Needs.{is_box_word, is_box_at, shape_at}
 use Rattle.heap_model.specs.Wholeness.{HasSizes}
 use Rattle.heap_model.specs.Showing.{ShowsValue, ShowsField}
 use Rattle.heap_model.proofs.WordsStay.{PlacesStay}
-use Rattle.shape_change.specs.declared.content.Content.TheVariants as content
-use Rattle.shape_change.specs.Contents.{box_in}
-use Rattle.shape_change.specs.SlotChanges.{NamesNone}
-use Rattle.shape_change.proofs.CellsRead.{shape_is_box}
-use Rattle.shape_change.proofs.WordsTold.{slot_target}
-use Rattle.shape_change.proofs.WrittenPlaces.{small_names_none, undefined_names_none, object_names_none}
-use Rattle.shape_change.proofs.SettingNeeds.{shape_read}
-use Rattle.shape_change.proofs.HeldContents.{HoldsValue}
+use Rattle.object_cells.specs.declared.content.Content.TheVariants as content
+use Rattle.object_cells.specs.Contents.{box_in}
+use Rattle.object_cells.specs.SlotChanges.{NamesNone}
+use Rattle.object_cells.proofs.CellsRead.{shape_is_box}
+use Rattle.object_cells.proofs.WordsTold.{slot_target}
+use Rattle.object_cells.proofs.WrittenPlaces.{small_names_none, undefined_names_none, object_names_none}
+use Rattle.object_cells.proofs.HeldContents.{HoldsValue}
 
 -- a small integer's word shows it in a slot that is not wide
 small_shows : {heap : Heap} {own : Bool} (one : Rep) (v : ℤ) → IsTrue (small v) → (one ≡ rep.Wide → ⊥)
@@ -89,35 +88,3 @@ box_shows v (HoldsValue.tagged_box of wide tagged) = record {
       cc;
   fits = λ count is. is;
 }
-
--- the box to which a word refers
-pub record IsBoxOf (heap : Heap) (word at : ℕ) : Type 0 where
-  pub cell : Cell
-  pub words : List ℕ
-  pub refers : RefersTo heap word cell words
-  pub box : cell.layout.kind ≡ kind.Boxed
-  pub stands : cell.at ≡ at
-
--- what is chosen by a test is there where the test holds
-chosen : (test : Bool) (found : Option ℕ) (at : ℕ) → (if test then found else None) ≡ Some at
-    → (test ≡ true) × (found ≡ Some at)
-chosen true found at is = (refl, is)
-chosen false found at is = absurd (none-some at is)
-
--- the box that is told of a slot's word is that
-pub box_of_word : {heap : Heap} (word at : ℕ) → HasSizes heap → IsSlotWord heap word → box_in heap word ≡ Some at
-    → IsBoxOf heap word at
-box_of_word {heap} word at sized slot is =
-    let parts = chosen (is_box_word heap word) (reference_in word) at is in
-    let refers = (reference_from word at parts.1).1 in
-    let there = slot_target word at slot refers in
-    let told : is_box_at heap (Some at) ≡ true = ap (is_box_at heap) (sym parts.1) ∙ parts.0 in
-    let shape : there.cell.header.shape ≡ box_shape =
-    sym (shape_read there.has) ∙ ap (shape_at heap) there.stands ∙ eqb-true (shape_at heap at) box_shape told in
-    record {
-      cell = there.cell;
-      words = there.words;
-      refers = record { refers = refers ∙ ap reference_word (sym there.stands); has = there.has };
-      box = shape_is_box sized there.has shape;
-      stands = there.stands;
-    }

@@ -16,11 +16,11 @@ use Rattle.heap_model.specs.Slots.{RefersTo, IsBeside}
 use Rattle.heap_model.specs.Kinds.{HasWord, HasSlots}
 use Rattle.heap_model.proofs.CellWords.{words_by_kind, words_are_size, word_there}
 use Rattle.write_barrier.specs.Mains.{Mutator, heap_of}
-use Rattle.shape_change.specs.CellWrites.{reshaped}
+use Rattle.object_cells.specs.CellWrites.{reshaped}
 use Rattle.shape_change.specs.Shifts.{slot_at}
-use Rattle.shape_change.proofs.CellsRead.{word_stands}
-use Rattle.shape_change.proofs.CellWrites.{writes_keep_cells}
-use Rattle.shape_change.proofs.StoreCells.{store_cells, store_at, slots_counted}
+use Rattle.object_cells.proofs.CellsRead.{word_stands}
+use Rattle.object_cells.proofs.CellWrites.{writes_keep_cells}
+use Rattle.object_cells.proofs.StoreCells.{store_cells, store_at, slots_counted}
 use Rattle.shape_change.proofs.SlotAddresses.{slot_at-own, slot_at-beside}
 use Rattle.shape_change.proofs.SlotAddresses.{SlotsStand, slot_read}
 use Rattle.shape_change.proofs.DeletedSlots.{Deleting, room_is, all_stand, address, address_is, NowHolds, now_holds}
@@ -90,11 +90,11 @@ store_slot_apart heap object cap store count one stand below same = elim (cases_
       ]
 ]
 
--- the slot for the store holds what it held
-store_stays : {old new : Mutator} {cell : Cell} {slot : ℕ} {fields : List Field}
+-- the slot for the store stays
+pub slot_stays : {old new : Mutator} {cell : Cell} {slot : ℕ} {fields : List Field}
     (deleting : Deleting old new cell slot fields)
-    → slice_get (heap_words new.seat) (cell.at + store_slot) ≡ Some deleting.shows.has.store
-store_stays {old} {new} {cell} deleting =
+    → slice_get (heap_words new.seat) (cell.at + store_slot) ≡ slice_get (heap_words old.seat) (cell.at + store_slot)
+slot_stays {old} {cell = cell} deleting =
     let are = deleting.shows.has in
     let stand = all_stand deleting in
     let count : ℕ = length deleting.shows.slots in
@@ -102,7 +102,14 @@ store_stays {old} {new} {cell} deleting =
     (λ same. omega (arith, same))
     (λ one low high same. store_slot_apart (heap_of old) cell.at cell.layout.cap (store_at are.stands) count one stand
     (omega (arith, room_is deleting, high)) (sym (address_is one deleting high) ∙ same))
-    ∙ word_stands store_slot are.store deleting.has are.slot
+
+-- and holds what it held
+store_stays : {old new : Mutator} {cell : Cell} {slot : ℕ} {fields : List Field}
+    (deleting : Deleting old new cell slot fields)
+    → slice_get (heap_words new.seat) (cell.at + store_slot) ≡ Some deleting.shows.has.store
+store_stays deleting =
+    slot_stays deleting
+    ∙ word_stands store_slot deleting.shows.has.store deleting.has deleting.shows.has.slot
 
 -- What the object's cell has as its slots in the new heap: as many, at the same addresses.
 pub record SlotsNow (old new : Mutator) (cell : Cell) (slot : ℕ) (fields : List Field)

@@ -16,8 +16,8 @@ use Rattle.heap_model.proofs.CellsApart.{first_of_cell}
 use Rattle.nursery.specs.Young.{Young}
 use Rattle.heap_table.specs.Seats.{heap_words}
 use Rattle.write_barrier.specs.Mains.{Mutator, heap_of}
-use Rattle.shape_change.specs.CellWrites.{IsInCell, IsWrittenBeside, WritesCells}
-use Rattle.shape_change.proofs.StoreCells.{store_cells, is_store_cell}
+use Rattle.object_cells.specs.CellWrites.{IsInCell, IsWrittenBeside, WritesCells}
+use Rattle.object_cells.proofs.StoreCells.{store_cells, is_store_cell}
 use Rattle.shape_change.proofs.SlotAddresses.{head_is_apart}
 use Rattle.shape_change.proofs.SlotAddresses.{IsOfObject, slot_is_of_object}
 use Rattle.shape_change.proofs.DeletedSlots.{Deleting, cap_is, room_is, address, address_is}

@@ -17,11 +17,11 @@ use Rattle.heap_model.specs.Slots.{hole_word}
 use Rattle.heap_model.specs.Kinds.{HasWord}
 use Rattle.heap_model.specs.Showing.{ShowsField}
 use Rattle.write_barrier.specs.Mains.{Mutator, heap_of}
-use Rattle.shape_change.specs.SlotChanges.{IsTaggedSlot, NamesNone, ComesFrom, ShowsSlot}
+use Rattle.object_cells.specs.SlotChanges.{IsTaggedSlot, NamesNone, ComesFrom, ShowsSlot}
 use Rattle.shape_change.proofs.FieldsLess.{origin_of, origin_of-behind, origins_few, AreLess}
-use Rattle.shape_change.proofs.PlainFields.{plain_sound}
-use Rattle.shape_change.proofs.FieldWords.{path_field, field_is_tagged, tagged_is_field}
-use Rattle.shape_change.proofs.WrittenPlaces.{written_places_stay, written_box_stays, hole_names_none}
+use Rattle.object_cells.proofs.PlainFields.{plain_sound}
+use Rattle.object_cells.proofs.FieldWords.{path_field, field_is_tagged, tagged_is_field}
+use Rattle.object_cells.proofs.WrittenPlaces.{written_places_stay, written_box_stays, hole_names_none}
 use Rattle.shape_change.proofs.DeletedSlots.{Deleting, count_is, NowHolds}
 use Rattle.shape_change.proofs.DeletedCells.{others_of, deleted_writes}
 use Rattle.shape_change.proofs.DeletedCame.{one_of, slots_now, now_read}

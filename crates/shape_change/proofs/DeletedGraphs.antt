@@ -20,18 +20,26 @@ use Rattle.shape_tree.proofs.LedPaths.{with_path-added}
 use Rattle.cell_layout.specs.declared.cell.Cell.{Cell}
 use Rattle.nursery.specs.Young.{Young}
 use Rattle.heap_model.specs.Heaps.{words_of_cell}
+use Rattle.heap_model.specs.Needs.{capacity_at}
 use Rattle.heap_model.specs.Showing.{ShowsPlain}
+use Rattle.heap_model.proofs.BoundHeaps.{none_in}
 use Rattle.heap_model.proofs.SlotWords.{All-slice_get}
 use Rattle.write_barrier.specs.Mains.{Mutator, heap_of, MainShows}
-use Rattle.shape_change.specs.CellsAt.{IsHeaderAt}
-use Rattle.shape_change.specs.FieldChanges.{IsPlainAt, ShowsRefilled, UsesMore, HasDeletedField, DeletesField}
+use Rattle.object_cells.specs.CellsAt.{IsHeaderAt}
+use Rattle.object_cells.specs.PlainObjects.{IsPlainAt, ShowsRefilled}
+use Rattle.object_cells.specs.Uses.{UsesMore}
+use Rattle.object_cells.specs.Capacities.{CapacitiesBecome}
+use Rattle.shape_change.specs.FieldChanges.{HasDeletedField, DeletesField}
 use Rattle.shape_change.specs.Deletions.{TakesOut, TakingOut}
-use Rattle.shape_change.proofs.FieldsFound.{no_value, value_found}
+use Rattle.object_cells.proofs.FieldsFound.{no_value, value_found}
 use Rattle.shape_change.proofs.FieldsLess.{are_less, none_less}
-use Rattle.shape_change.proofs.PlainFields.{names_distinct}
-use Rattle.shape_change.proofs.NewFields.{rest_of_fields_are_new}
-use Rattle.shape_change.proofs.RefilledHeaps.{written_fields_show}
+use Rattle.object_cells.proofs.PlainFields.{names_distinct}
+use Rattle.object_cells.proofs.NewFields.{rest_of_fields_are_new}
+use Rattle.object_cells.proofs.RefilledHeaps.{written_fields_show}
+use Rattle.object_cells.proofs.KeptCapacities.{capacities_stay}
+use Rattle.shape_change.proofs.FullPaths.{full_of_paths}
 use Rattle.shape_change.proofs.DeletedSlots.{Deleting}
+use Rattle.shape_change.proofs.DeletedCame.{slot_stays}
 use Rattle.shape_change.proofs.DeletedCells.{others_of, deleted_writes}
 use Rattle.shape_change.proofs.DeletedHeaps.{deleted_refills}
 use Rattle.shape_change.proofs.ShownFields.{shown_cell, FieldFound}
@@ -54,6 +62,40 @@ path_less main graph object plain header slot name shows is header_at found =
     ap (λ s. without (shape_path main.paths s) slot) (sym (ap (λ (h : Header). h.shape) shown.header_is))
     ∙ ap (λ (p : Path). without p slot) shown.shows.path ∙ less.path
 
+-- what is known of the object's cell where the field was taken out
+deleting_of : (old new : Mutator) (graph : Graph) (object : ℕ) (plain : PlainObject) (header : Header) (slot name : ℕ)
+    (shows : MainShows old graph) (is : IsPlainAt old graph object plain)
+    (header_at : IsHeaderAt (heap_of old) object header)
+    → FieldFound old object plain header slot name → TakesOut old new object header slot
+    → Deleting old new (shown_cell old graph object plain header shows is header_at).cell slot plain.fields
+deleting_of old new graph object plain header slot name shows is header_at found taken =
+    let shown = shown_cell old graph object plain header shows is header_at in
+    let cell : Cell = shown.cell in
+    let words : List ℕ = words_of_cell (heap_of old) cell in
+    record {
+      whole = shows.shows.whole;
+      has = shown.has;
+      shows = subst (λ n. ShowsPlain (heap_of old) cell words n plain.fields) (sym shown.cap) shown.shows;
+      taken = subst (λ n. TakesOut old new n cell.header slot) (sym shown.at)
+          (subst (λ (h : Header). TakesOut old new object h slot) (sym shown.header_is) taken);
+      there = slice_get_within plain.fields slot found.field found.there;
+    }
+
+-- each property store has as many slots as before
+stores_stay : (old new : Mutator) (graph : Graph) (object : ℕ) (plain : PlainObject) (header : Header) (slot name : ℕ)
+    → MainShows old graph → IsPlainAt old graph object plain → IsHeaderAt (heap_of old) object header
+    → FieldFound old object plain header slot name → TakesOut old new object header slot
+    → CapacitiesBecome (heap_of old) (heap_of new) object (capacity_at (heap_of old) object)
+stores_stay old new graph object plain header slot name shows is header_at found taken =
+    let shown = shown_cell old graph object plain header shows is header_at in
+    let deleting = deleting_of old new graph object plain header slot name shows is header_at found taken in
+    subst (λ n. CapacitiesBecome (heap_of old) (heap_of new) n (capacity_at (heap_of old) n)) shown.at
+    (capacities_stay (heap_of old) (heap_of new) shown.cell deleting.taken.next (others_of deleting) [] (record {
+      whole = deleting.whole;
+      writes = deleted_writes deleting;
+      kinds = λ other there. absurd (none_in other there);
+    }) (slot_stays deleting))
+
 -- the heap shows the graph in which the object lacks the field
 field_less : (old new : Mutator) (graph : Graph) (object : ℕ) (plain : PlainObject) (header : Header) (slot name : ℕ)
     → MainShows old graph → IsPlainAt old graph object plain → IsHeaderAt (heap_of old) object header
@@ -62,17 +104,7 @@ field_less : (old new : Mutator) (graph : Graph) (object : ℕ) (plain : PlainOb
 field_less old new graph object plain header slot name shows is header_at found taken =
     let shown = shown_cell old graph object plain header shows is header_at in
     let cell : Cell = shown.cell in
-    let words : List ℕ = words_of_cell (heap_of old) cell in
-    let taken_at : TakesOut old new cell.at cell.header slot =
-    subst (λ n. TakesOut old new n cell.header slot) (sym shown.at)
-    (subst (λ (h : Header). TakesOut old new object h slot) (sym shown.header_is) taken) in
-    let deleting : Deleting old new cell slot plain.fields = record {
-      whole = shows.shows.whole;
-      has = shown.has;
-      shows = subst (λ n. ShowsPlain (heap_of old) cell words n plain.fields) (sym shown.cap) shown.shows;
-      taken = taken_at;
-      there = slice_get_within plain.fields slot found.field found.there;
-    } in
+    let deleting = deleting_of old new graph object plain header slot name shows is header_at found taken in
     let distinct = names_distinct shows is in
     let less = are_less cell.layout.cap plain.fields slot found.field name distinct found.there found.named in
     let added = ap (λ (paths : List Path). with_path (Some paths_most) paths
@@ -80,7 +112,7 @@ field_less old new graph object plain header slot name shows is header_at found 
     ∙ ap (with_path (Some paths_most) old.paths)
     (sym (path_less old graph object plain header slot name shows is header_at found)) ∙ taken.leads.added in
     let tied = ap (λ (young : Young). young.space) taken.young ∙ shows.tied ∙ sym taken.space in
-    written_fields_show old new graph plain cell taken_at.next (others_of deleting) [] (without_field plain.fields name)
+    written_fields_show old new graph plain cell deleting.taken.next (others_of deleting) [] (without_field plain.fields name)
     shows is.object shown.carries shown.cap shown.shows
     (rest_of_fields_are_new graph plain name shows.is_graph is.object is.reached) added tied (taken.phase ∙ shows.quiet)
     (deleted_writes deleting) (deleted_refills name deleting less)
@@ -89,19 +121,18 @@ field_less old new graph object plain header slot name shows is header_at found 
 pub field_deleted : (old new : Mutator) (graph : Graph) (object : ℕ) (plain : PlainObject) (header : Header)
     (slot name : ℕ) (result : Result Unit ShapesFull) → MainShows old graph → IsPlainAt old graph object plain
     → IsHeaderAt (heap_of old) object header → FieldFound old object plain header slot name
-    → TakingOut old new object header slot result → DeletesField old new graph plain name result
+    → TakingOut old new object header slot result → DeletesField old new graph object plain name result
 field_deleted old new graph object plain header slot name (Ok done) shows is header_at found taken =
     let value = value_found plain.fields slot found.field name (names_distinct shows is) found.there found.named in
     record {
       none = λ none. absurd (none-some found.field.value (sym none ∙ value));
       uses = uses_none old new taken.space taken.young;
+      stores = stores_stay old new graph object plain header slot name shows is header_at found taken;
       shows = field_less old new graph object plain header slot name shows is header_at found taken;
     }
 field_deleted old new graph object plain header slot name (Err full) shows is header_at found refused = (
-  ap (λ (paths : List Path). with_path (Some paths_most) paths (path_of plain.cap (without_field plain.fields name)))
-      (sym shows.shows.paths)
-      ∙ ap (with_path (Some paths_most) old.paths)
-      (sym (path_less old graph object plain header slot name shows is header_at found)) ∙ refused.0.refused,
+  full_of_paths plain (without_field plain.fields name) (without (shape_path old.paths header.shape) slot)
+      new.paths shows (path_less old graph object plain header slot name shows is header_at found) refused.0,
   refused.1,
 )
 
@@ -130,7 +161,8 @@ refilled_alike main graph plain shows there =
 -- where no field has the name, nothing happens
 pub none_deleted : (main : Mutator) (graph : Graph) (object : ℕ) (plain : PlainObject) (header : Header) (name : ℕ)
     → MainShows main graph → IsPlainAt main graph object plain → IsHeaderAt (heap_of main) object header
-    → has_name (shape_path main.paths header.shape) name ≡ false → HasDeletedField main main graph plain name
+    → has_name (shape_path main.paths header.shape) name ≡ false
+    → HasDeletedField main main graph object plain name
 none_deleted main graph object plain header name shows is header_at none =
     let shown = shown_cell main graph object plain header shows is header_at in
     let path = ap (shape_path main.paths) (sym (ap (λ (h : Header). h.shape) shown.header_is)) ∙ shown.shows.path in
@@ -138,6 +170,12 @@ none_deleted main graph object plain header name shows is header_at none =
     record {
       none = λ _. refl;
       uses = uses_none main main refl refl;
+      stores = record {
+        own = refl;
+        others = λ number other place apart. refl;
+        stays = λ number other place. place;
+        none_made = λ number other place. place;
+      };
       shows = subst (ShowsRefilled main graph plain) (sym (none_less plain.fields name value))
           (refilled_alike main graph plain shows is.object);
     }

@@ -13,9 +13,9 @@ use Rattle.heap_model.specs.Kinds.{HasWord, HasNoNumber, IsStoreCell, IsSoundOf}
 use Rattle.heap_model.specs.Wholeness.{IsOwnedKind, NamesFrom}
 use Rattle.heap_model.proofs.ObjectSlots.{store_slot_at}
 use Rattle.write_barrier.specs.Mains.{Mutator, heap_of}
-use Rattle.shape_change.specs.SlotChanges.{RefillsSlots}
+use Rattle.object_cells.specs.SlotChanges.{RefillsSlots}
 use Rattle.shape_change.proofs.FieldsLess.{origin_of, origins_apart, AreLess}
-use Rattle.shape_change.proofs.StoreCells.{is_store_cell}
+use Rattle.object_cells.proofs.StoreCells.{is_store_cell}
 use Rattle.shape_change.proofs.DeletedSlots.{Deleting, count_is, room_is}
 use Rattle.shape_change.proofs.DeletedCells.{others_of}
 use Rattle.shape_change.proofs.DeletedCame.{slots_now}

@@ -19,9 +19,9 @@ use Rattle.write_barrier.specs.Mains.{Mutator, heap_of}
 use Rattle.shape_change.specs.Shifts.{slot_at}
 use Rattle.shape_change.specs.Deletions.{TakesOut}
 use Rattle.shape_change.proofs.FieldsLess.{origin_of, origin_of-before, origin_of-behind}
-use Rattle.shape_change.proofs.PlainFields.{plain_sound}
-use Rattle.shape_change.proofs.SlotPlaces.{one_slots}
-use Rattle.shape_change.proofs.StoreCells.{store_at, slots_counted}
+use Rattle.object_cells.proofs.PlainFields.{plain_sound}
+use Rattle.object_cells.proofs.SlotPlaces.{one_slots}
+use Rattle.object_cells.proofs.StoreCells.{store_at, slots_counted}
 use Rattle.shape_change.proofs.SlotAddresses.{slot_at-own, SlotsStand, slots_stand}
 use Rattle.shape_change.proofs.SlotAddresses.{slots_are_apart, slot_read}
 use Rattle.shape_change.proofs.StoresFound.{store_is_there}

@@ -18,11 +18,11 @@ use Rattle.heap_model.specs.Kinds.{HasWord}
 use Rattle.heap_model.specs.Showing.{ShowsField}
 use Rattle.heap_model.proofs.WordsStay.{PlacesStay, BoxStays, shown_value}
 use Rattle.write_barrier.specs.Mains.{Mutator, heap_of}
-use Rattle.shape_change.specs.SlotChanges.{IsNoBoxOf}
+use Rattle.object_cells.specs.SlotChanges.{IsNoBoxOf}
 use Rattle.shape_change.specs.Shifts.{slot_at}
 use Rattle.shape_change.specs.Deletions.{IsDrawnIn}
-use Rattle.shape_change.proofs.FieldWords.{path_field}
-use Rattle.shape_change.proofs.StoreCells.{is_store_cell}
+use Rattle.object_cells.proofs.FieldWords.{path_field}
+use Rattle.object_cells.proofs.StoreCells.{is_store_cell}
 use Rattle.shape_change.proofs.SlotAddresses.{slot_at-beside, slot_read}
 use Rattle.shape_change.proofs.DeletedSlots.{Deleting, cap_is, room_is, address_is}
 use Rattle.shape_change.proofs.DeletedCells.{others_of}

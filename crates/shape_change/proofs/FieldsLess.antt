@@ -14,7 +14,7 @@ use Rattle.object_graph.specs.declared.path.PathField.{PathField}
 use Rattle.object_graph.specs.Objects.{field_value, without_field}
 use Rattle.object_graph.specs.Paths.{path_of}
 use Rattle.shape_tree.specs.Shapes.{without}
-use Rattle.shape_change.proofs.FieldsFound.{apart_at}
+use Rattle.object_cells.proofs.FieldsFound.{apart_at}
 
 -- from which place an element comes, where the one at a place is taken out
 abbrev pub origin_of : ℕ → ℕ → ℕ

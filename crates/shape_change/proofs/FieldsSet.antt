@@ -13,7 +13,7 @@ use Rattle.object_graph.specs.Objects.{with_field, revalued}
 use Rattle.object_graph.specs.Paths.{path_of}
 use Rattle.shape_tree.specs.Shapes.{changed, changed_fields}
 use Rattle.heap_model.specs.Needs.{index_of}
-use Rattle.shape_change.proofs.FieldsFound.{apart_at}
+use Rattle.object_cells.proofs.FieldsFound.{apart_at}
 
 -- the name of a later field is not that of the first
 later_apart : (first : Field) (fields : List Field) (k : ℕ) (field : Field) (name : ℕ)

@@ -3,9 +3,9 @@ use Rattle.std.proofs.Common.{◌≡◌, ℕ, refl, ap, ◌∙◌}
 use Rattle.heap_table.specs.Seats.{Seat}
 use Rattle.write_barrier.specs.Mains.{Mutator}
 use Rattle.write_barrier.specs.Opening.{ChangesWithin}
-use Rattle.shape_change.specs.declared.content.Filling.{Filling}
-use Rattle.shape_change.specs.declared.content.Filling.TheVariants as filling
-use Rattle.shape_change.specs.Contents.{filled, Allocates}
+use Rattle.object_cells.specs.declared.content.Filling.{Filling}
+use Rattle.object_cells.specs.declared.content.Filling.TheVariants as filling
+use Rattle.object_cells.specs.Contents.{filled, Allocates}
 use Rattle.shape_change.specs.Fillings.{with_paths}
 
 -- where words are used, the seat stays

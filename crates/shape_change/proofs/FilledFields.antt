@@ -11,7 +11,7 @@ use Rattle.object_graph.specs.declared.value.Rep.TheVariants as rep
 use Rattle.object_graph.specs.declared.object.Field.{Field}
 use Rattle.object_graph.specs.declared.path.Path.{Path}
 use Rattle.object_graph.specs.declared.path.PathField.{PathField}
-use Rattle.object_graph.specs.Objects.{with_field, revalued}
+use Rattle.object_graph.specs.Objects.{revalued}
 use Rattle.object_graph.specs.Graphs.{Graph, PlainObject}
 use Rattle.object_graph.proofs.Lists.{slice_get-set_same}
 use Rattle.page_space.specs.Extents.{Space, layouts_start, marks_start}
@@ -25,25 +25,24 @@ use Rattle.heap_model.specs.Showing.{ShowsField}
 use Rattle.heap_model.proofs.BoundHeaps.{none_in}
 use Rattle.heap_model.proofs.CellsApart.{first_of_cell}
 use Rattle.write_barrier.specs.Mains.{Mutator, heap_of, with_word}
-use Rattle.shape_change.specs.declared.content.Content.TheVariants as content
-use Rattle.shape_change.specs.FieldChanges.{ShowsRefilled}
-use Rattle.shape_change.specs.Contents.{next_at}
-use Rattle.shape_change.specs.CellWrites.{reshaped}
-use Rattle.shape_change.specs.SlotChanges.{IsTaggedSlot, ComesFrom}
+use Rattle.object_cells.specs.declared.content.Content.TheVariants as content
+use Rattle.object_cells.specs.Contents.{next_at}
+use Rattle.object_cells.specs.CellWrites.{reshaped}
+use Rattle.object_cells.specs.SlotChanges.{IsTaggedSlot, ComesFrom}
 use Rattle.shape_change.proofs.ContentsShown.{word_shows, raw_shows}
-use Rattle.shape_change.proofs.FieldWords.{path_field, tagged_is_field}
+use Rattle.object_cells.proofs.FieldWords.{path_field, tagged_is_field}
 use Rattle.shape_change.proofs.FilledSlots.{AreBoxes, fills_slot}
-use Rattle.shape_change.proofs.HeldContents.{HoldsValue}
-use Rattle.shape_change.proofs.NumberedSlots.{IsNumbered, number_is_not_store}
-use Rattle.shape_change.proofs.OneWord.{IsReady}
-use Rattle.shape_change.proofs.OneField.{SetsOne}
-use Rattle.shape_change.proofs.OwnPlaces.{IsSlotPlace, slot_place}
-use Rattle.shape_change.proofs.OwnCells.{cell_below_layouts}
+use Rattle.object_cells.proofs.HeldContents.{HoldsValue}
+use Rattle.object_cells.proofs.NumberedSlots.{IsNumbered, number_is_not_store}
+use Rattle.object_cells.proofs.OneWord.{IsReady}
+use Rattle.object_cells.proofs.OneField.{SetsOne}
+use Rattle.object_cells.proofs.OwnPlaces.{IsSlotPlace, plain_is_object, slot_place}
+use Rattle.object_cells.proofs.OwnCells.{cell_below_layouts}
 use Rattle.shape_change.proofs.Settings.{Setting}
-use Rattle.shape_change.proofs.SetFields.{IsNextShape, sets_one, field_shown}
-use Rattle.shape_change.proofs.SlotsNow.{numbered_address}
-use Rattle.shape_change.proofs.WordsPut.{PutsTwo, HasHead, puts_two}
-use Rattle.shape_change.proofs.WrittenPlaces.{written_places_stay}
+use Rattle.shape_change.proofs.SetFields.{IsNextShape, ShowsSet, sets_one, field_shown}
+use Rattle.object_cells.proofs.SlotsNow.{numbered_address}
+use Rattle.object_cells.proofs.WordsPut.{PutsTwo, HasHead, puts_two}
+use Rattle.object_cells.proofs.WrittenPlaces.{written_places_stay}
 
 -- the header of the object of another shape
 abbrev pub next_head : {old : Mutator} {graph : Graph} {object slot : ℕ} {plain : PlainObject} {what : Value} {name : ℕ}
@@ -70,7 +69,8 @@ slot_apart {slot = slot} at s numbered =
       below = cell_below_layouts whole address.has address.of_cell;
       head_below = cell_below_layouts whole s.has (first_of_cell s.has);
       not_head = λ same. address.not_header (sym same);
-      not_store = λ same. number_is_not_store slot at whole.rows s.has s.shown.of_kind numbered (sym same);
+      not_store = λ same. number_is_not_store slot at whole.rows s.has (plain_is_object s.shown.of_kind) numbered
+          (sym same);
     }
 
 -- an address before the layout words is before the marks
@@ -111,7 +111,7 @@ pub slot_shown : {old mid new : Mutator} {graph : Graph} {object slot : ℕ} {pl
     (sets : SetsOne (heap_of old) (heap_of new) s.cell next at word slot others made plain.fields
     (revalued s.field what))
     → ShowsPut sets)
-    → ShowsRefilled new graph plain (with_field plain.fields name what)
+    → ShowsSet s new
 slot_shown {old} {mid} {new} {slot = slot} at word need next made s numbered ready shape head row owed =
     let whole = s.shows.shows.whole in
     let apart = slot_apart at s numbered in
@@ -137,7 +137,7 @@ pub tagged_shown : {old mid new : Mutator} {graph : Graph} {object slot : ℕ} {
     → IsNextShape old new s next → HasHead mid (with_word mid at word.0) new s.cell.at (next_head s next)
     → HoldsValue (heap_of old) (nat_lt slot s.cell.layout.cap) s.field.rep (revalued s.field what).rep what
     (content.Tagged word)
-    → ShowsRefilled new graph plain (with_field plain.fields name what)
+    → ShowsSet s new
 tagged_shown {old} {new = new} at next word s numbered ready shape head holds =
     slot_shown at word.0 0 next [] s numbered ready shape head (no_row old new) (λ others sets.
     let shown = word_shows word (written_places_stay sets.puts.whole sets.puts.writes) holds in
@@ -169,7 +169,7 @@ pub raw_shown : {old mid new : Mutator} {graph : Graph} {object slot : ℕ} {pla
     → IsNextShape old new s next → HasHead mid (with_word mid at word) new s.cell.at (next_head s next)
     → HoldsValue (heap_of old) (nat_lt slot s.cell.layout.cap) s.field.rep (revalued s.field what).rep what
     (content.Raw word)
-    → ShowsRefilled new graph plain (with_field plain.fields name what)
+    → ShowsSet s new
 raw_shown {old} {new = new} {graph} at next word s numbered ready shape head holds =
     slot_shown at word 0 next [] s numbered ready shape head (no_row old new) (λ others sets.
     let shown = raw_shows word (length graph.objects) s.value holds in

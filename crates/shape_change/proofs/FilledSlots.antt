@@ -16,12 +16,13 @@ use Rattle.heap_model.specs.Kinds.{HasWord, HasNoNumber, IsBoxCell, IsSoundOf}
 use Rattle.heap_model.specs.Wholeness.{NamesFrom}
 use Rattle.heap_model.specs.Showing.{ShowsField}
 use Rattle.heap_model.proofs.BoundHeaps.{none_in}
-use Rattle.shape_change.specs.CellWrites.{reshaped}
-use Rattle.shape_change.specs.SlotChanges.{IsTaggedSlot, ComesFrom}
-use Rattle.shape_change.proofs.NumberedSlots.{IsNumbered, one_address, one_number}
-use Rattle.shape_change.proofs.SlotsNow.{PutsOwn, slot_now, word_at_offset}
-use Rattle.shape_change.proofs.OwnPlaces.{IsSlotPlace, box_size, names_box, no_other_names_box, slot_not_in_box}
-use Rattle.shape_change.proofs.OneField.{SetsOne, FillsOne}
+use Rattle.object_cells.specs.CellWrites.{reshaped}
+use Rattle.object_cells.specs.SlotChanges.{IsTaggedSlot, ComesFrom}
+use Rattle.object_cells.proofs.NumberedSlots.{IsNumbered, one_address, one_number}
+use Rattle.object_cells.proofs.SlotsNow.{PutsOwn, slot_now, word_at_offset}
+use Rattle.object_cells.proofs.OwnPlaces.{IsSlotPlace, plain_is_object, box_size, names_box, no_other_names_box}
+use Rattle.object_cells.proofs.OwnPlaces.{slot_not_in_box}
+use Rattle.object_cells.proofs.OneField.{SetsOne, FillsOne}
 
 -- these are boxes
 abbrev pub AreBoxes : Heap → List Cell → Type 0
@@ -53,7 +54,8 @@ pub fills_slot : {old new : Heap} {cell : Cell} {shape at word slot : ℕ} {othe
 fills_slot {old} {new} {cell} {shape} {at} {word} {slot} {others} {made} {field = field} sets numbered place boxes
     comes shows =
     record {
-      apart = λ k a is apart same. apart (one_number k slot at sets.puts.whole.rows sets.puts.has sets.puts.plain
+      apart = λ k a is apart same. apart (one_number k slot at sets.puts.whole.rows sets.puts.has
+          (plain_is_object sets.puts.plain)
           (subst (IsNumbered old cell (words_of_cell old cell) k) same is) numbered);
       no_box = λ k holds apart there tagged other among box.
           absurd (store_is_no_box (place.stores other among).of_kind box);
@@ -105,10 +107,11 @@ fills_box {old} {new} {cell} {box} {shape} {slot} {field = field} v sets to_box 
     let now = box_now v puts to_box.of_kind in
     let kept = λ (holds : ℕ) (there : HasWord sets.after.now slot holds).
     let slot_is = slot_now slot holds puts sets.shown.has sets.after.are there in
-    slot_is.kept (slot_not_in_box slot slot_is.a puts.whole puts.has puts.plain has_box to_box.of_kind
-    slot_is.numbered) in
+    slot_is.kept (slot_not_in_box slot slot_is.a puts.whole puts.has (plain_is_object puts.plain) has_box
+    to_box.of_kind slot_is.numbered) in
     record {
-      apart = λ k a is apart. slot_not_in_box k a puts.whole puts.has puts.plain has_box to_box.of_kind is;
+      apart = λ k a is apart. slot_not_in_box k a puts.whole puts.has (plain_is_object puts.plain) has_box
+          to_box.of_kind is;
       no_box = λ k holds apart there tagged. no_other_names_box slot to_box.word k holds puts.whole puts.has puts.plain
           sets.shown.has to_box.holds to_box.tagged to_box.refers to_box.of_kind apart there tagged;
       comes = λ holds there tagged. ComesFrom.moved (kept holds there) to_box.tagged;

@@ -17,10 +17,10 @@ use Rattle.heap_model.proofs.WordClasses.{same_reference}
 use Rattle.shape_change.specs.declared.place.Place.{Place}
 use Rattle.shape_change.specs.declared.place.Place.TheVariants.{InObject, Beside}
 use Rattle.shape_change.specs.Places.{place_at, IsPlaceOf}
-use Rattle.shape_change.proofs.CellsRead.{word_stands}
-use Rattle.shape_change.proofs.SlotPlaces.{behind_cap_below}
-use Rattle.shape_change.proofs.NumberedSlots.{IsNumbered}
-use Rattle.shape_change.proofs.SlotsNow.{plain_cell_size}
+use Rattle.object_cells.proofs.CellsRead.{word_stands}
+use Rattle.object_cells.proofs.SlotPlaces.{behind_cap_below}
+use Rattle.object_cells.proofs.NumberedSlots.{IsNumbered}
+use Rattle.object_cells.proofs.SlotsNow.{plain_cell_size}
 
 -- the word of a cell at an offset is read there
 pub word_read : {heap : Heap} {cell : Cell} {words : List ℕ} (k word : ℕ) → HasCell heap cell words

@@ -13,9 +13,10 @@ use Rattle.heap_model.specs.Wholeness.{HasSizes}
 use Rattle.heap_model.proofs.CellWords.{words_by_kind}
 use Rattle.heap_model.proofs.PathLayouts.{layout_is}
 use Rattle.write_barrier.specs.Mains.{Mutator, heap_of}
-use Rattle.shape_change.specs.declared.stores.Store.{Store}
-use Rattle.shape_change.specs.Additions.{CanAdd, IsStoreAt, count_of, behind_cap}
-use Rattle.shape_change.proofs.PlainFields.{plain_sound}
+use Rattle.object_cells.specs.declared.stores.Store.{Store}
+use Rattle.shape_change.specs.Additions.{CanAdd, count_of, behind_cap}
+use Rattle.object_cells.specs.Made.{IsStoreAt}
+use Rattle.object_cells.proofs.PlainFields.{plain_sound}
 
 -- the layout of a plain object has the cap of its path
 pub cap_is : {heap : Heap} {cell : Cell} {words : List ℕ} → HasSizes heap → HasCell heap cell words
@@ -49,7 +50,8 @@ store_is_full main object header name value store can is behind none =
       sound.hold.room,
       length-slots there.has there.plain sound.has,
       cap_is can.whole.whole.sized there.has sound.shape,
-      is.slots there.cell there.words sound.slots there.has there.stands sound.has,
+      is.slots there.cell there.words sound.has.beside sound.has.store there.has there.stands sound.has.slot
+          sound.has.stands,
       ap (λ n. (shape_path main.paths n).cap) shape,
       ap (λ n. length (shape_path main.paths n).fields) shape,
     )

@@ -11,41 +11,51 @@ use Rattle.object_graph.specs.declared.value.Value.{Value}
 use Rattle.object_graph.specs.Values.{rep_of}
 use Rattle.object_graph.specs.Objects.{with_field}
 use Rattle.object_graph.specs.Graphs.{Graph, PlainObject}
+use Rattle.page_space.specs.Sizes.{AreWithin}
 use Rattle.cell_layout.specs.declared.cell.Cell.{Cell}
 use Rattle.handle_roots.specs.declared.held.Held.{Held}
 use Rattle.heap_model.specs.Heaps.{words_of_cell}
 use Rattle.heap_model.specs.Slots.{reference_word}
 use Rattle.heap_model.specs.Kinds.{HasNoNumber, IsBoxCell}
+use Rattle.heap_model.specs.Needs.{grown}
 use Rattle.heap_model.specs.Showing.{ShowsField}
 use Rattle.heap_model.proofs.BoundHeaps.{none_in}
 use Rattle.heap_model.proofs.WordsStay.{PlacesStay}
 use Rattle.write_barrier.specs.Mains.{Mutator, heap_of}
-use Rattle.shape_change.specs.declared.content.Content.TheVariants as content
-use Rattle.shape_change.specs.declared.stores.Store.{Store}
-use Rattle.shape_change.specs.SlotChanges.{ComesFrom}
-use Rattle.shape_change.specs.FieldChanges.{ShowsRefilled}
-use Rattle.shape_change.specs.Additions.{beside_content}
-use Rattle.shape_change.proofs.WrittenPlaces.{written_places_stay}
-use Rattle.shape_change.proofs.AddedContents.{new_value_held, content_shows, content_comes}
+use Rattle.object_cells.specs.declared.content.Content.TheVariants as content
+use Rattle.object_cells.specs.declared.stores.Store.{Store}
+use Rattle.object_cells.specs.SlotChanges.{ComesFrom}
+use Rattle.object_cells.specs.PlainObjects.{ShowsRefilled}
+use Rattle.object_cells.specs.Made.{beside_content}
+use Rattle.object_cells.specs.Capacities.{CapacitiesBecome}
+use Rattle.object_cells.specs.Contents.{next_at}
+use Rattle.object_cells.proofs.CellsRead.{fits_address}
+use Rattle.object_cells.proofs.KeptCapacities.{capacities_grow}
+use Rattle.object_cells.proofs.UnusedWords.{next_before_marks}
+use Rattle.object_cells.proofs.WrittenPlaces.{written_places_stay}
+use Rattle.object_cells.proofs.HeldNeeds.{new_value_held}
+use Rattle.shape_change.proofs.AddedContents.{content_shows, content_comes}
 use Rattle.shape_change.proofs.AddedFields.{new_field}
 use Rattle.shape_change.proofs.AddedSlots.{AddsSlot}
 use Rattle.shape_change.proofs.AddedShown.{added_shows}
 use Rattle.shape_change.proofs.OneAdding.{path_after}
-use Rattle.shape_change.proofs.MadeBoxes.{made_boxes, made_box, boxed_integer, refers_to_made, made_boxed, made_sound}
-use Rattle.shape_change.proofs.NewBoxes.{box_cell}
+use Rattle.object_cells.proofs.MadeBoxes.{made_boxes, made_box, boxed_integer, refers_to_made, made_boxed, made_sound}
+use Rattle.object_cells.proofs.NewBoxes.{box_cell}
 use Rattle.shape_change.proofs.GrownWords.{StoreGrowing, run_words, box_at, slot_word, over}
 use Rattle.shape_change.proofs.GrownStores.{box_stands}
 use Rattle.shape_change.proofs.GrownSlots.{made_cells, new_store, now, writes, made_has, slots_now, slots_now_store}
-use Rattle.shape_change.proofs.GrownSlots.{fields_full, puts, now_long, made_kind}
+use Rattle.shape_change.proofs.GrownSlots.{refers_new, fields_full, puts, now_long, made_kind}
 
-module _ {old new : Mutator} {graph : Graph} {plain : PlainObject} {object : ℕ} {header : Header} {name : ℕ} {value : Held}
-    {what : Value} {store : Store} (growing : StoreGrowing old new graph plain object header name value what store) where
+module _ {old new : Mutator} {graph : Graph} {plain : PlainObject} {object : ℕ} {header : Header} {name : ℕ}
+    {value : Held} {what : Value}
+    {store : Store} (growing : StoreGrowing old new graph plain object header name value what store) where
   -- the places of objects stay
   places : PlacesStay (heap_of old) (heap_of new)
   places = written_places_stay growing.known.shows.shows.whole (writes growing)
 
   -- the word of the new slot shows the value
-  shows : ShowsField (heap_of new) (nat_lt (length plain.fields) growing.known.cell.layout.cap) (slot_word old value store)
+  shows : ShowsField (heap_of new) (nat_lt (length plain.fields) growing.known.cell.layout.cap)
+      (slot_word old value store)
       (rep_of what) what
   shows =
       let known = growing.known in
@@ -56,8 +66,10 @@ module _ {old new : Mutator} {graph : Graph} {plain : PlainObject} {object : ℕ
       let from : known.cell.layout.cap ≤ length plain.fields = omega (arith, fields_full growing) in
       grind (arith, nat_tests) in
       let refers = λ (v : ℤ) (boxed : beside_content value ≡ content.Boxed v).
-      refers_to_made (beside_content value) box v boxed (boxed_integer count v holds known.fits boxed) (box_stands growing)
-      (made_has growing (box_cell box) (rest_in (new_store growing) (made_boxes (beside_content value) box) (box_cell box)
+      refers_to_made (beside_content value) box v boxed (boxed_integer count v holds known.fits boxed)
+      (box_stands growing)
+      (made_has growing (box_cell box)
+      (rest_in (new_store growing) (made_boxes (beside_content value) box) (box_cell box)
       (made_box (beside_content value) box v boxed))) in
       subst (λ o. ShowsField (heap_of new) o (slot_word old value store) (rep_of what) what) (sym test)
       (content_shows count box holds places known.fits refers)
@@ -87,7 +99,8 @@ module _ {old new : Mutator} {graph : Graph} {plain : PlainObject} {object : ℕ
       slots_now_store growing ∙ ap (λ (c : Cell). reference_word c.at) same,
     )
     | inr box ↦
-        let apart : kind.Store ≡ kind.Boxed = sym is_store ∙ made_boxed (beside_content value) (box_at old store) other box in
+        let apart : kind.Store ≡ kind.Boxed = sym is_store
+        ∙ made_boxed (beside_content value) (box_at old store) other box in
         cc
   ]
 
@@ -99,7 +112,8 @@ module _ {old new : Mutator} {graph : Graph} {plain : PlainObject} {object : ℕ
         let apart : kind.Store ≡ kind.Boxed = ap (λ (c : Cell). c.layout.kind) same ∙ is_box in
         cc
     | inr box ↦
-        made_sound (length graph.objects) (box_at old store) other (new_value_held false value what growing.known.held.shows)
+        made_sound (length graph.objects) (box_at old store) other
+        (new_value_held false value what growing.known.held.shows)
         growing.known.fits (box_stands growing) (made_has growing other there) box
   ]
 
@@ -137,4 +151,18 @@ module _ {old new : Mutator} {graph : Graph} {plain : PlainObject} {object : ℕ
   -- and the graph is shown in which the object has the field
   pub grown_shown : ShowsRefilled new graph plain (with_field plain.fields name what)
   grown_shown =
-      added_shows (run_words value store) growing.known (over growing).adds (over growing).puts (writes growing) adds_slot
+      added_shows (run_words value store) growing.known (over growing).adds (over growing).puts (writes growing)
+      adds_slot
+
+  -- the object's property store has as many slots as the new one
+  pub grown_becomes : AreWithin old.seat.space.sizes old.seat.space.variables
+      → CapacitiesBecome (heap_of old) (heap_of new) growing.known.cell.at (grown store.capacity)
+  grown_becomes within =
+      let known = growing.known in
+      let boxes = made_boxes (beside_content value) (box_at old store) in
+      let ends = next_before_marks old (run_words value store) known.can.tied growing.adds.room in
+      let fits = fits_address {space = old.seat.space} {at = next_at old} (omega (arith, ends)) within in
+      capacities_grow (heap_of old) (heap_of new) known.cell growing.adds.next [] (made_cells old value store)
+      (new_store growing)
+      (record { whole = known.shows.shows.whole; writes = writes growing; kinds = adds_slot.kinds })
+      (first_in (new_store growing) boxes) refl (omega (arith, fits)) (refers_new growing)

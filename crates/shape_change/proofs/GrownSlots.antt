@@ -20,24 +20,24 @@ use Rattle.heap_model.specs.Needs.{grown}
 use Rattle.heap_model.specs.Changes.{CellsChange}
 use Rattle.heap_model.proofs.BoundHeaps.{none_in}
 use Rattle.write_barrier.specs.Mains.{Mutator, heap_of}
-use Rattle.shape_change.specs.declared.stores.Store.{Store}
-use Rattle.shape_change.specs.CellWrites.{reshaped, WritesCells}
-use Rattle.shape_change.specs.Contents.{next_at}
-use Rattle.shape_change.specs.Additions.{beside_content}
-use Rattle.shape_change.proofs.CellWrites.{writes_keep_cells}
-use Rattle.shape_change.proofs.OwnCells.{IsOwnWord, writes_cells, word_stays}
-use Rattle.shape_change.proofs.SlotPlaces.{own_slot, behind_cap}
-use Rattle.shape_change.proofs.SlotsNow.{word_at_offset, plain_cell_size}
+use Rattle.object_cells.specs.declared.stores.Store.{Store}
+use Rattle.object_cells.specs.CellWrites.{reshaped, WritesCells}
+use Rattle.object_cells.specs.Contents.{next_at}
+use Rattle.object_cells.specs.Made.{beside_content}
+use Rattle.object_cells.proofs.CellWrites.{writes_keep_cells}
+use Rattle.object_cells.proofs.OwnCells.{IsOwnWord, writes_cells, word_stays}
+use Rattle.object_cells.proofs.SlotPlaces.{own_slot, behind_cap}
+use Rattle.object_cells.proofs.SlotsNow.{word_at_offset, plain_cell_size}
 use Rattle.heap_model.proofs.CellsApart.{IsOfCell}
 use Rattle.heap_model.proofs.CellWords.{slice_get-drop, behind_head, behind_head_few, words_by_kind}
-use Rattle.shape_change.proofs.CellsRead.{word_stands}
-use Rattle.shape_change.proofs.StoresRead.{stored_at}
+use Rattle.object_cells.proofs.CellsRead.{word_stands}
+use Rattle.object_cells.proofs.StoresRead.{stored_at}
 use Rattle.shape_change.proofs.FullStores.{length-slots}
 use Rattle.shape_change.proofs.AddedWords.{over_writes_one}
 use Rattle.shape_change.proofs.AddedSlots.{SlotIs, PutsOne}
 use Rattle.shape_change.proofs.OneAdding.{path_after, shape_after}
-use Rattle.shape_change.proofs.MadeBoxes.{made_boxes}
-use Rattle.shape_change.proofs.NewStores.{store_cell}
+use Rattle.object_cells.proofs.MadeBoxes.{made_boxes}
+use Rattle.object_cells.proofs.NewStores.{store_cell}
 use Rattle.shape_change.proofs.GrownWords.{StoreGrowing, box_at, slot_at, slot_word, slot_of_cell, over}
 use Rattle.shape_change.proofs.GrownStores.{slot_copied, slot_put, slot_hole, new_row}
 
@@ -46,18 +46,22 @@ abbrev pub made_cells : Mutator → Held → Store → List Cell
 made_cells old value store =
     store_cell (next_at old) (grown store.capacity) ∷ made_boxes (beside_content value) (box_at old store)
 
-module _ {old new : Mutator} {graph : Graph} {plain : PlainObject} {object : ℕ} {header : Header} {name : ℕ} {value : Held}
-    {what : Value} {store : Store} (growing : StoreGrowing old new graph plain object header name value what store) where
-  -- the object's cell in the new heap, the new store, and the slots of both
+module _ {old new : Mutator} {graph : Graph} {plain : PlainObject} {object : ℕ} {header : Header} {name : ℕ}
+    {value : Held} {what : Value}
+    {store : Store} (growing : StoreGrowing old new graph plain object header name value what store) where
+  -- the object's cell in the new heap
   abbrev pub object_cell : Cell
   object_cell = reshaped new.paths growing.known.cell growing.adds.next
 
+  -- the store that is made
   abbrev pub new_store : Cell
   new_store = store_cell (next_at old) (grown store.capacity)
 
+  -- the slots of both
   abbrev pub now : List ℕ
   now =
-      drop plain_head (words_of_cell (heap_of new) object_cell) ++ drop store_head (words_of_cell (heap_of new) new_store)
+      drop plain_head (words_of_cell (heap_of new) object_cell) ++ drop store_head
+      (words_of_cell (heap_of new) new_store)
 
   -- only words of the object's own cell are put
   own_word : IsOwnWord (heap_of old) growing.known.cell [] (object + store_slot)
@@ -69,7 +73,8 @@ module _ {old new : Mutator} {graph : Graph} {plain : PlainObject} {object : ℕ
       }
 
   -- so cells are written
-  pub writes : WritesCells (heap_of old) (heap_of new) growing.known.cell growing.adds.next [] (made_cells old value store)
+  pub writes : WritesCells (heap_of old) (heap_of new) growing.known.cell growing.adds.next []
+      (made_cells old value store)
   writes =
       let known = growing.known in
       writes_cells known.cell growing.adds.next (object + store_slot) (reference_word (next_at old)) []
@@ -77,34 +82,43 @@ module _ {old new : Mutator} {graph : Graph} {plain : PlainObject} {object : ℕ
       (ap (λ (p : Path). p.cap) (path_after known (over growing))) own_word
       (over_writes_one (made_cells old value store) (over growing) (new_row growing))
 
-  -- and stand in the new heap
+  -- so the object's cell stands in the new heap with its shape, and those that are made
   came : CellsChange (heap_of old) (heap_of new) (growing.known.cell ∷ [])
       (object_cell ∷ []) (made_cells old value store)
   came =
-      (writes_keep_cells (heap_of old) (heap_of new) growing.known.cell growing.adds.next [] (made_cells old value store)
+      (writes_keep_cells (heap_of old) (heap_of new) growing.known.cell growing.adds.next []
+      (made_cells old value store)
       growing.known.shows.shows.whole writes).1
 
+  -- each that is made stands there
   pub made_has : (cell : Cell) → Contains (made_cells old value store) cell
       → HasCell (heap_of new) cell (words_of_cell (heap_of new) cell)
   made_has cell there =
       came.comes cell
       (rest_in object_cell (made_cells old value store) cell there)
 
+  -- and so does the object's
   object_has : HasCell (heap_of new) object_cell
       (words_of_cell (heap_of new) object_cell)
   object_has =
       came.comes object_cell
       (first_in object_cell (made_cells old value store))
 
-  -- the slot for the store refers to the new one
+  -- the word of the slot for the store refers to the new one
+  pub refers_new : slice_get (heap_words new.seat) (growing.known.cell.at + store_slot)
+      ≡ Some (reference_word (next_at old))
+  refers_new =
+      let puts = over growing in
+      ap (λ n. slice_get (heap_words new.seat) (n + store_slot)) growing.known.stands
+      ∙ ap (λ all. slice_get all (object + store_slot)) puts.puts.heap ∙ puts.put
+
+  -- so it stands in the object
   names_new : HasWord (words_of_cell (heap_of new) object_cell) store_slot
       (reference_word (next_at old))
   names_new =
       let known = growing.known in
-      let puts = over growing in
       word_at_offset store_slot object_has (omega (arith, plain_cell_size known.has known.shown.of_kind))
-      ∙ ap (λ n. slice_get (heap_words new.seat) (n + store_slot)) known.stands
-      ∙ ap (λ all. slice_get all (object + store_slot)) puts.puts.heap ∙ puts.put
+      ∙ refers_new
 
   -- the slots are the object's own and those of the new store
   pub slots_now : HasSlots (heap_of new) (words_of_cell (heap_of new) object_cell)
@@ -168,7 +182,8 @@ module _ {old new : Mutator} {graph : Graph} {plain : PlainObject} {object : ℕ
   old_slot k j x is below there =
       let known = growing.known in
       let cap : ℕ = known.cell.layout.cap in
-      let stored = stored_at object store growing.is known.has known.stands known.sound.has (omega (arith, below)) in
+      let stored = stored_at object known.sound.has.store known.sound.has.beside store growing.is known.has known.stands
+      known.sound.has.slot known.sound.has.stands (omega (arith, below)) in
       let found = stored.found in
       let place : k - cap ≡ j = omega (arith, is) in
       sym (behind_cap k cap known.has known.shown.of_kind known.sound.has refl (omega (arith, is)))
@@ -177,18 +192,19 @@ module _ {old new : Mutator} {graph : Graph} {plain : PlainObject} {object : ℕ
       ∙ word_at_offset (store_head + j) found.refers.has (omega (arith, found.size, stored.capacity, below))
       ∙ ap (λ n. slice_get (heap_words old.seat) (n + (store_head + j))) found.stands ∙ there
 
-  -- as many slots as the cap and the capacity, all of them with a field
+  -- the object has as many fields as the cap and the capacity
   pub fields_full : length plain.fields ≡ growing.known.cell.layout.cap + store.capacity
   fields_full = omega (arith, growing.known.count, growing.known.cap, growing.behind, growing.full)
 
+  -- and as many slots
   slots_long : length growing.known.sound.slots ≡ growing.known.cell.layout.cap + store.capacity
   slots_long =
       let known = growing.known in
       omega (
         arith,
         length-slots known.has known.shown.of_kind known.sound.has,
-        growing.is.slots known.cell (words_of_cell (heap_of old) known.cell) known.sound.slots known.has known.stands
-            known.sound.has,
+        growing.is.slots known.cell (words_of_cell (heap_of old) known.cell) known.sound.has.beside
+            known.sound.has.store known.has known.stands known.sound.has.slot known.sound.has.stands,
       )
 
   -- a slot of the store holds what one of the other held, the word that was put, or nothing

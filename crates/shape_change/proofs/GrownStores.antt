@@ -18,21 +18,23 @@ use Rattle.heap_model.specs.Needs.{grown}
 use Rattle.heap_model.proofs.CellsApart.{IsOfCell, first_of_cell}
 use Rattle.write_barrier.specs.Mains.{Mutator, heap_of}
 use Rattle.write_barrier.specs.Values.{empty_store}
-use Rattle.shape_change.specs.declared.content.Content.TheVariants as content
-use Rattle.shape_change.specs.declared.stores.Store.{Store}
-use Rattle.shape_change.specs.Contents.{next_at}
-use Rattle.shape_change.specs.Additions.{content_need, beside_content}
-use Rattle.shape_change.proofs.OwnCells.{cell_below_layouts}
-use Rattle.shape_change.proofs.StoresRead.{stored_at}
+use Rattle.object_cells.specs.declared.content.Content.TheVariants as content
+use Rattle.object_cells.specs.declared.stores.Store.{Store}
+use Rattle.object_cells.specs.Contents.{next_at}
+use Rattle.object_cells.specs.Made.{content_need, beside_content}
+use Rattle.object_cells.proofs.OwnCells.{cell_below_layouts}
+use Rattle.object_cells.proofs.StoresRead.{stored_at}
 use Rattle.shape_change.proofs.AddedWords.{over_sized, over_space, last_stays}
-use Rattle.shape_change.proofs.MadeBoxes.{made_boxes, made_row, BoxStands, length-with_content, with_content_box}
-use Rattle.shape_change.proofs.NewStores.{store_cell, store_is_cell}
-use Rattle.shape_change.proofs.StoreWords.{empty_store_hole, length-with_store, with_store_word, with_store_copied}
+use Rattle.object_cells.proofs.MadeBoxes.{made_boxes, made_row, BoxStands, length-with_content, with_content_box}
+use Rattle.object_cells.proofs.NewStores.{store_cell, store_is_cell}
+use Rattle.object_cells.proofs.StoreWords.{empty_store_hole, length-with_store, with_store_word, with_store_copied}
 use Rattle.shape_change.proofs.GrownWords.{StoreGrowing, run_words, box_at, slot_at, slot_word, stored, boxed}
-use Rattle.shape_change.proofs.GrownWords.{few, run_ends, counted, eden_below, apart_from_run, makes, headed_stays, over}
+use Rattle.shape_change.proofs.GrownWords.{few, run_ends, counted, eden_below, apart_from_run, makes, headed_stays}
+use Rattle.shape_change.proofs.GrownWords.{over}
 
-module _ {old new : Mutator} {graph : Graph} {plain : PlainObject} {object : ℕ} {header : Header} {name : ℕ} {value : Held}
-    {what : Value} {store : Store} (growing : StoreGrowing old new graph plain object header name value what store) where
+module _ {old new : Mutator} {graph : Graph} {plain : PlainObject} {object : ℕ} {header : Header} {name : ℕ}
+    {value : Held} {what : Value}
+    {store : Store} (growing : StoreGrowing old new graph plain object header name value what store) where
   -- no word that was reserved is the header of the object
   not_header : (b : ℕ) → next_at old ≤ b → b < next_at old + run_words value store → b ≢ object
   not_header b from below same =
@@ -55,14 +57,16 @@ module _ {old new : Mutator} {graph : Graph} {plain : PlainObject} {object : ℕ
   slot_copied k below =
       let known = growing.known in
       let adds = growing.adds in
-      let there = stored_at object store growing.is known.has known.stands known.sound.has (omega (arith, below)) in
+      let there = stored_at object known.sound.has.store known.sound.has.beside store growing.is known.has known.stands
+      known.sound.has.slot known.sound.has.stands (omega (arith, below)) in
       let of_store : IsOfCell there.found.cell (store.at + (store_head + k)) = record {
         from = omega (arith, there.found.stands);
         below = omega (arith, there.found.stands, there.found.size, there.capacity, below);
       } in
       store_word_is (store_head + k) (omega (arith, below)) (λ same. omega (arith, same, below))
-      ∙ with_store_copied (heap_words adds.mid.seat) object store (next_at old) (makes growing) k below
-      ∙ adds.path.stay (store.at + (store_head + k)) (cell_below_layouts known.shows.shows.whole there.found.refers.has of_store)
+      ∙ with_store_copied (heap_words adds.mid.seat) object store (grown store.capacity) (next_at old) (makes growing) k below
+      ∙ adds.path.stay (store.at + (store_head + k))
+      (cell_below_layouts known.shows.shows.whole there.found.refers.has of_store)
 
   -- the slot behind these holds the word of the field
   pub slot_put : slice_get (heap_words new.seat) (slot_at old store) ≡ Some (slot_word old value store)
@@ -70,7 +74,7 @@ module _ {old new : Mutator} {graph : Graph} {plain : PlainObject} {object : ℕ
       let adds = growing.adds in
       let words = boxed old adds.mid object value store in
       let long = length-with_content (stored old adds.mid object store) (beside_content value) (box_at old store)
-      ∙ length-with_store (heap_words adds.mid.seat) object store (next_at old) (makes growing) ∙ counted growing in
+      ∙ length-with_store (heap_words adds.mid.seat) object store (grown store.capacity) (next_at old) (makes growing) ∙ counted growing in
       let put = slice_set words (slot_at old store) (slot_word old value store) in
       ap (λ all. slice_get all (slot_at old store)) adds.words.heap
       ∙ slice_get-set_other put object (slot_at old store) (header_bits (record header { shape = adds.next }))
@@ -83,7 +87,7 @@ module _ {old new : Mutator} {graph : Graph} {plain : PlainObject} {object : ℕ
       → slice_get (heap_words new.seat) (next_at old + (store_head + k)) ≡ Some hole_word
   slot_hole k from below =
       store_word_is (store_head + k) (omega (arith, below)) (λ same. omega (arith, same, from))
-      ∙ with_store_word (heap_words growing.adds.mid.seat) object store (next_at old) (makes growing) (store_head + k)
+      ∙ with_store_word (heap_words growing.adds.mid.seat) object store (grown store.capacity) (next_at old) (makes growing) (store_head + k)
       (omega (arith, below)) (inr (omega (arith, from)))
       ∙ empty_store_hole (grown store.capacity) k below
 
@@ -92,7 +96,8 @@ module _ {old new : Mutator} {graph : Graph} {plain : PlainObject} {object : ℕ
       → slice_get (heap_words new.seat) (next_at old + k) ≡ slice_get (empty_store (grown store.capacity)) k
   head_word k below =
       store_word_is k (omega (arith, below)) (λ same. omega (arith, same, below))
-      ∙ with_store_word (heap_words growing.adds.mid.seat) object store (next_at old) (makes growing) k (omega (arith, below))
+      ∙ with_store_word (heap_words growing.adds.mid.seat) object store (grown store.capacity) (next_at old) (makes growing) k
+      (omega (arith, below))
       (inl below)
 
   -- so the store is a cell
@@ -121,14 +126,17 @@ module _ {old new : Mutator} {graph : Graph} {plain : PlainObject} {object : ℕ
       let space = over_space (over growing) in
       let start = ap (λ (s : Space). eden_start s) space in
       let segments = ap (λ (s : Space). segments_start s) space in
-      let long = length-with_store (heap_words adds.mid.seat) object store (next_at old) (makes growing) ∙ counted growing in
+      let long = length-with_store (heap_words adds.mid.seat) object store (grown store.capacity) (next_at old) (makes growing)
+      ∙ counted growing in
       let behind = marks_start_is old.seat.space in
       let words = λ (v : ℤ) (is : beside_content value ≡ content.Boxed v).
       with_content_box (stored old adds.mid object store) (beside_content value) (box_at old store) v is
       (omega (arith, long, run_ends growing, eden_below growing, behind, ap content_need is)) in
       record {
-        header = λ v is. box_word_is (box_at old store) (omega arith) (omega (arith, ap content_need is)) ∙ (words v is).header;
-        raw = λ v is. box_word_is (box_at old store + 1) (omega arith) (omega (arith, ap content_need is)) ∙ (words v is).raw;
+        header = λ v is. box_word_is (box_at old store) (omega arith) (omega (arith, ap content_need is))
+            ∙ (words v is).header;
+        raw = λ v is. box_word_is (box_at old store + 1) (omega arith) (omega (arith, ap content_need is))
+            ∙ (words v is).raw;
         from = λ v is. omega (arith, start);
         below = λ v is. omega (arith, run_ends growing, segments, ap content_need is);
       }
@@ -140,7 +148,8 @@ module _ {old new : Mutator} {graph : Graph} {plain : PlainObject} {object : ℕ
       let boxes = made_boxes (beside_content value) (box_at old store) in
       let end : ℕ = box_at old store + content_need (beside_content value) in
       let ends : end ≡ next_at old + run_words value store = omega arith in
-      let row = made_row (heap_of new) (beside_content value) (box_at old store) (over_sized (over growing)) box_stands in
+      let row =
+      made_row (heap_of new) (beside_content value) (box_at old store) (over_sized (over growing)) box_stands in
       subst (λ to. IsRow new.seat.space (heap_words new.seat) (next_at old) to
       (store_cell (next_at old) (grown store.capacity) ∷ boxes)) ends
       (next (store_cell (next_at old) (grown store.capacity)) end boxes new_store_is_cell row)

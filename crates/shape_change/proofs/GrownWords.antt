@@ -19,21 +19,24 @@ use Rattle.heap_model.specs.Slots.{reference_word}
 use Rattle.heap_model.specs.Needs.{grown}
 use Rattle.heap_model.proofs.CellsApart.{IsOfCell, first_of_cell}
 use Rattle.write_barrier.specs.Mains.{Mutator, heap_of}
-use Rattle.shape_change.specs.declared.stores.Store.{Store}
-use Rattle.shape_change.specs.Contents.{next_at}
-use Rattle.shape_change.specs.Additions.{AddsToNewStore, IsStoreAt, added_path, count_of, behind_cap, content_need, content_word}
-use Rattle.shape_change.specs.Additions.{beside_content, with_content, with_shape, with_store}
-use Rattle.shape_change.proofs.OwnCells.{cell_below_layouts}
-use Rattle.shape_change.proofs.SlotsNow.{plain_cell_size}
-use Rattle.shape_change.proofs.UnusedWords.{next_before_segments, cell_is_used}
+use Rattle.object_cells.specs.declared.stores.Store.{Store}
+use Rattle.object_cells.specs.Contents.{next_at}
+use Rattle.shape_change.specs.Additions.{AddsToNewStore, added_path, count_of, behind_cap}
+use Rattle.object_cells.specs.Made.{IsStoreAt, content_need}
+use Rattle.object_cells.specs.Made.{content_word}
+use Rattle.shape_change.specs.Additions.{with_shape}
+use Rattle.object_cells.specs.Made.{beside_content, with_content, with_store}
+use Rattle.object_cells.proofs.OwnCells.{cell_below_layouts}
+use Rattle.object_cells.proofs.SlotsNow.{plain_cell_size}
+use Rattle.object_cells.proofs.UnusedWords.{next_before_segments, cell_is_used}
 use Rattle.shape_change.proofs.AddedWords.{PutsOver, last_stays}
 use Rattle.shape_change.proofs.AddedShown.{Adding}
-use Rattle.shape_change.proofs.MadeBoxes.{length-with_content, with_content_stays}
-use Rattle.shape_change.proofs.StoreWords.{MakesStore, length-with_store, with_store_named, with_store_stays}
+use Rattle.object_cells.proofs.MadeBoxes.{length-with_content, with_content_stays}
+use Rattle.object_cells.proofs.StoreWords.{MakesStore, length-with_store, with_store_named, with_store_stays}
 
 -- What is known where a field comes to a store that is made.
-pub record StoreGrowing (old new : Mutator) (graph : Graph) (plain : PlainObject) (object : ℕ) (header : Header) (name : ℕ)
-    (value : Held) (what : Value) (store : Store) : Type 0 where
+pub record StoreGrowing (old new : Mutator) (graph : Graph) (plain : PlainObject) (object : ℕ) (header : Header)
+    (name : ℕ) (value : Held) (what : Value) (store : Store) : Type 0 where
   pub known : Adding old graph plain object header name value what
   pub behind : (shape_path old.paths header.shape).cap ≤ count_of old.paths header.shape
   pub is : IsStoreAt (heap_of old) object store
@@ -44,10 +47,11 @@ pub record StoreGrowing (old new : Mutator) (graph : Graph) (plain : PlainObject
 abbrev pub run_words : Held → Store → ℕ
 run_words value store = store_head + grown store.capacity + content_need (beside_content value)
 
--- the address of the box, and of the slot that the field comes to
+-- the address of the box
 abbrev pub box_at : Mutator → Store → ℕ
 box_at old store = next_at old + (store_head + grown store.capacity)
 
+-- the address of the slot that the field comes to
 abbrev pub slot_at : Mutator → Store → ℕ
 slot_at old store = next_at old + (store_head + store.capacity)
 
@@ -55,19 +59,23 @@ slot_at old store = next_at old + (store_head + store.capacity)
 abbrev pub slot_word : Mutator → Held → Store → ℕ
 slot_word old value store = content_word (beside_content value) (box_at old store)
 
--- the words with the store, with the box, and with the word of the slot and the header
+-- the words with the store
 abbrev pub stored : Mutator → Mutator → ℕ → Store → List ℕ
-stored old mid object store = with_store (heap_words mid.seat) object store (next_at old)
+stored old mid object store = with_store (heap_words mid.seat) object store (grown store.capacity) (next_at old)
 
+-- with the box too
 abbrev pub boxed : Mutator → Mutator → ℕ → Held → Store → List ℕ
 boxed old mid object value store = with_content (stored old mid object store) (beside_content value) (box_at old store)
 
+-- and with the word of the slot and the header
 abbrev pub headed : Mutator → Mutator → ℕ → Header → Held → Store → ℕ → List ℕ
 headed old mid object header value store next =
-    with_shape (slice_set (boxed old mid object value store) (slot_at old store) (slot_word old value store)) object header next
+    with_shape (slice_set (boxed old mid object value store) (slot_at old store) (slot_word old value store)) object
+    header next
 
-module _ {old new : Mutator} {graph : Graph} {plain : PlainObject} {object : ℕ} {header : Header} {name : ℕ} {value : Held}
-    {what : Value} {store : Store} (growing : StoreGrowing old new graph plain object header name value what store) where
+module _ {old new : Mutator} {graph : Graph} {plain : PlainObject} {object : ℕ} {header : Header} {name : ℕ}
+    {value : Held} {what : Value}
+    {store : Store} (growing : StoreGrowing old new graph plain object header name value what store) where
   -- so few slots has the store that is full
   pub few : store.capacity < 64
   few = omega (arith, growing.full, growing.known.can.few)
@@ -76,10 +84,11 @@ module _ {old new : Mutator} {graph : Graph} {plain : PlainObject} {object : ℕ
   pub run_ends : next_at old + run_words value store ≤ segments_start old.seat.space
   run_ends = next_before_segments old (run_words value store) growing.known.can.tied growing.adds.room
 
-  -- there are as many words as before the marks, and the layout words stand behind eden
+  -- there are as many words as stand before the marks
   pub counted : length (heap_words growing.adds.mid.seat) ≡ marks_start old.seat.space
   counted = growing.adds.path.sized.words ∙ ap (λ (s : Space). marks_start s) growing.adds.path.space
 
+  -- the layout words stand behind eden
   pub eden_below : segments_start old.seat.space ≤ layouts_start old.seat.space
   eden_below = omega (arith, roots_start_is old.seat.space, layouts_start_is old.seat.space)
 
@@ -98,12 +107,13 @@ module _ {old new : Mutator} {graph : Graph} {plain : PlainObject} {object : ℕ
       record { from = omega (arith, known.stands); below = omega (arith, known.stands, size) }
 
   -- so the store is made of them
-  pub makes : MakesStore (heap_words growing.adds.mid.seat) object store (next_at old)
+  pub makes : MakesStore (heap_words growing.adds.mid.seat) object store (grown store.capacity) (next_at old)
   makes =
       let known = growing.known in
       let whole = known.shows.shows.whole in
       let behind = marks_start_is old.seat.space in
       record {
+        more = omega arith;
         within = omega (arith, run_ends, counted, eden_below, behind);
         other = omega (arith, growing.is.within, counted);
         apart = elim growing.is.used [
@@ -112,7 +122,8 @@ module _ {old new : Mutator} {graph : Graph} {plain : PlainObject} {object : ℕ
         ];
         slot = omega (arith, cell_below_layouts whole known.has slot_of_cell, counted, behind);
         named = λ from below.
-            apart_from_run (object + store_slot) (object + store_slot) known.has slot_of_cell from (omega (arith, below)) refl;
+            apart_from_run (object + store_slot) (object + store_slot) known.has slot_of_cell from
+            (omega (arith, below)) refl;
       }
 
   -- a word that is neither the header, the slot, nor one of the box is that before these were put
@@ -123,7 +134,8 @@ module _ {old new : Mutator} {graph : Graph} {plain : PlainObject} {object : ℕ
   headed_stays a not_object not_slot not_box =
       let adds = growing.adds in
       let words = stored old adds.mid object store in
-      last_stays (boxed old adds.mid object value store) (slot_at old store) (slot_word old value store) object header adds.next
+      last_stays (boxed old adds.mid object value store) (slot_at old store) (slot_word old value store) object header
+      adds.next
       a not_object not_slot
       ∙ with_content_stays words (beside_content value) (box_at old store) a not_box
 
@@ -138,7 +150,7 @@ module _ {old new : Mutator} {graph : Graph} {plain : PlainObject} {object : ℕ
       (header_bits (record header { shape = adds.next }))
       ∙ length-set box (slot_at old store) (slot_word old value store)
       ∙ length-with_content (stored old adds.mid object store) (beside_content value) (box_at old store)
-      ∙ length-with_store words object store (next_at old) makes
+      ∙ length-with_store words object store (grown store.capacity) (next_at old) makes
 
   -- a word of the object's cell is none of a box or of the new slot
   not_in_run : (a : ℕ) → IsOfCell growing.known.cell a → next_at old ≤ a → a < next_at old + run_words value store → ⊥
@@ -160,7 +172,7 @@ module _ {old new : Mutator} {graph : Graph} {plain : PlainObject} {object : ℕ
       let put_long : length put ≡ marks_start old.seat.space =
       length-set (boxed old adds.mid object value store) (slot_at old store) (slot_word old value store)
       ∙ length-with_content (stored old adds.mid object store) (beside_content value) (box_at old store)
-      ∙ length-with_store words object store (next_at old) makes ∙ counted in
+      ∙ length-with_store words object store (grown store.capacity) (next_at old) makes ∙ counted in
       record {
         tied = known.can.tied;
         room = adds.room;
@@ -174,12 +186,12 @@ module _ {old new : Mutator} {graph : Graph} {plain : PlainObject} {object : ℕ
         put = headed_stays (object + store_slot) (λ same. omega (arith, same))
             (λ same. not_in_run (object + store_slot) slot_of_cell (omega (arith, same)) (omega (arith, same)))
             (λ from below. not_in_run (object + store_slot) slot_of_cell (omega (arith, from)) (omega (arith, below)))
-            ∙ with_store_named words object store (next_at old) makes;
+            ∙ with_store_named words object store (grown store.capacity) (next_at old) makes;
         stay = λ a not_cell not_at not_new.
             headed_stays a (λ same. not_cell (same ∙ sym known.stands))
             (λ same. not_new (omega (arith, same)) (omega (arith, same)))
             (λ from below. not_new (omega (arith, from)) (omega (arith, below)))
-            ∙ with_store_stays words object store (next_at old) makes a not_at
+            ∙ with_store_stays words object store (grown store.capacity) (next_at old) makes a not_at
             (λ from below. not_new from (omega (arith, below)));
         cell_below = cell_below_layouts whole known.has first;
         at_below = cell_below_layouts whole known.has slot_of_cell;

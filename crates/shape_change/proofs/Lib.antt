@@ -1,17 +1,5 @@
-pub mod CellsRead
-mod WordsTold
-mod SlotTargets
 mod Filled
-mod UnusedWords
-mod NewBoxes
-mod WordsPut
-mod OneWord
 mod ReadyHeaps
-mod OwnCells
-mod SlotsNow
-mod OwnPlaces
-mod OneField
-mod HeldContents
 mod FieldsSet
 mod SettingNeeds
 mod ContentsShown
@@ -26,31 +14,15 @@ mod SetOutcomes
 mod SetRefused
 mod SetThere
 mod SetByPlace
-mod SlotPlaces
-mod FieldsFound
-pub mod PlainFields
 mod ShownFields
-mod Refills
-mod NewFields
 mod NewLayouts
-mod StoreCells
 mod SlotAddresses
 mod SlotsClosed
-mod StoresRead
 mod NewNeeds
 mod FullStores
 mod AddedFields
 mod TaggedBefore
 mod AddedSlots
-mod CellWritesRead
-mod CellWrites
-mod NumberedSlots
-mod FieldWords
-mod WrittenPlaces
-mod RefilledFields
-mod RefilledCells
-mod RefilledNames
-mod RefilledHeaps
 mod FieldsLess
 mod StoresFound
 mod TakenOut
@@ -68,14 +40,11 @@ mod AddedContents
 mod AddedShown
 mod OneAdding
 mod OwnAdded
-mod MadeBoxes
 mod StoreAdded
-mod PutRanges
-mod NewStores
-mod StoreWords
 mod GrownWords
 mod GrownStores
 mod GrownSlots
 mod GrownAdded
 mod FieldAdded
 mod NewNames
+pub mod FullPaths

@@ -19,15 +19,17 @@ use Rattle.handle_roots.specs.declared.held.Held.{Held}
 use Rattle.handle_roots.specs.Roots.{FitsHeld}
 use Rattle.heap_model.specs.Showing.{ShowsHeld}
 use Rattle.write_barrier.specs.Mains.{Mutator, heap_of, MainShows}
-use Rattle.shape_change.specs.FieldChanges.{IsPlainAt, IsShownSetting, LacksFields, LacksPaths}
-use Rattle.shape_change.specs.CellsAt.{IsHeaderAt}
-use Rattle.shape_change.specs.Contents.{held_rep}
+use Rattle.object_cells.specs.PlainObjects.{IsPlainAt, LacksFields, LacksPaths}
+use Rattle.shape_change.specs.FieldChanges.{IsShownSetting, IsFullOfPaths}
+use Rattle.object_cells.specs.CellsAt.{IsHeaderAt}
+use Rattle.object_cells.specs.Contents.{held_rep}
 use Rattle.shape_change.specs.Additions.{IsShapeAt, CanAdd, MayAdd, added_path, count_of}
-use Rattle.shape_change.proofs.CellsRead.{cell_before_marks}
-use Rattle.shape_change.proofs.PlainFields.{plain_sound, plain_shown, shown_whole}
+use Rattle.object_cells.proofs.CellsRead.{cell_before_marks}
+use Rattle.object_cells.proofs.PlainFields.{plain_sound, plain_shown, shown_whole}
 use Rattle.shape_change.proofs.FullStores.{cap_is}
-use Rattle.shape_change.proofs.SlotsNow.{plain_cell_size}
-use Rattle.shape_change.proofs.HeldContents.{held_rep_is}
+use Rattle.object_cells.proofs.SlotsNow.{plain_cell_size}
+use Rattle.object_cells.proofs.HeldContents.{held_rep_is}
+use Rattle.shape_change.proofs.FullPaths.{full_of_paths}
 use Rattle.shape_change.proofs.AddedFields.{new_field, with_field-new, path_of-push}
 
 -- The shape of a plain object of a graph that is shown is that of its path.
@@ -79,11 +81,10 @@ pub lacks_paths : {old : Mutator} {graph : Graph} {plain : PlainObject} {shape :
     (name : ℕ) (value : Held) → MainShows old graph → IsShownShape old plain shape
     → ShowsHeld (heap_of old) value (Some what) → field_value plain.fields name ≡ None
     → IsFullFor old.paths old.paths (added_path old.paths shape name value) full
-    → LacksPaths graph plain (with_field plain.fields name what)
-lacks_paths {old} {graph} {plain} {what = what} name value shows known held fresh full =
-    ap (λ paths. with_path (Some paths_most) paths (path_of plain.cap (with_field plain.fields name what)))
-    (sym shows.shows.paths)
-    ∙ ap (with_path (Some paths_most) old.paths) (sym (path_with name value known held fresh)) ∙ full.refused
+    → IsFullOfPaths graph plain (with_field plain.fields name what) full
+lacks_paths {old} {plain = plain} {shape} {what} name value shows known held fresh full =
+    full_of_paths plain (with_field plain.fields name what) (added_path old.paths shape name value) old.paths shows
+    (path_with name value known held fresh) full
 
 -- and where there may be as many, these are no reason
 pub lacks_no_path : {old : Mutator} {graph : Graph} {plain : PlainObject} {shape : ℕ} {what : Value} (name : ℕ)
@@ -94,17 +95,11 @@ lacks_no_path {old} {graph} {plain} {shape} {what} name value shows known held f
     let path = added_path old.paths shape name value in
     let refused : with_path (Some paths_most) old.paths path ≡ None =
     ap (with_path (Some paths_most) old.paths) (path_with name value known held fresh)
-    ∙ ap (λ paths. with_path (Some paths_most) paths (path_of plain.cap (with_field plain.fields name what))) shows.shows.paths
+    ∙ ap (λ paths. with_path (Some paths_most) paths (path_of plain.cap (with_field plain.fields name what)))
+    shows.shows.paths
     ∙ lacks in
     let added = with_path-added old.paths (old.paths ++ missing old.paths path) path refl may in
     none-some (old.paths ++ missing old.paths path) (sym refused ∙ added)
-
--- a value that is held is one of the graph
-pub held_is_value : {main : Mutator} {graph : Graph} (known : Held) (what : Value) → MainShows main graph → FitsHeld known
-    → ShowsHeld (heap_of main) known (Some what) → IsValue (length graph.objects) what
-held_is_value known what shows fits ShowsHeld.undefined = tt
-held_is_value known what shows fits (ShowsHeld.integer v) = fits
-held_is_value known what shows fits (ShowsHeld.object at number place) = shows.shows.made number at place
 
 -- so a field of a new name may come to the object
 pub can_add : {old : Mutator} {object shape name : ℕ} {header : Header} {value : Held} → IsShownSetting old object value

@@ -8,7 +8,6 @@ use Rattle.std.proofs.lemmas.Bool.{or_parts}
 use Rattle.std.proofs.lemmas.Bool.Decides.{nat_tests}
 use Rattle.tagged_word.specs.declared.header.Header.{Header}
 use Rattle.tagged_word.specs.Headers.{header_bits}
-use Rattle.tagged_word.specs.Words.{small}
 use Rattle.tagged_word.specs.Cells.{store_head}
 use Rattle.tagged_word.specs.Readings.{header_in}
 use Rattle.tagged_word.proofs.Readings.{header_to}
@@ -17,14 +16,17 @@ use Rattle.object_graph.specs.declared.path.PathField.{PathField}
 use Rattle.shape_tree.specs.Shapes.{shape_path}
 use Rattle.cell_layout.specs.declared.cell.Cell.{Cell}
 use Rattle.handle_roots.specs.declared.held.Held.{Held}
-use Rattle.handle_roots.specs.declared.held.Held.TheVariants as held
 use Rattle.heap_model.specs.Heaps.{Heap, HasCell}
 use Rattle.heap_model.specs.Needs.{shape_at, path_at, index_of, store_need, box_need, new_field_need, set_need_at}
 use Rattle.heap_model.specs.Needs.{set_need_by, capacity_at, grown}
 use Rattle.heap_model.proofs.CellsApart.{has_is_cell}
 use Rattle.write_barrier.specs.Mains.{heap_of, Mutator}
-use Rattle.shape_change.specs.declared.stores.Store.{Store}
-use Rattle.shape_change.specs.Additions.{CanAdd, IsStoreAt, is_wide_held, content_need, beside_content, count_of, behind_cap}
+use Rattle.object_cells.specs.Capacities.{set_capacity_at, set_capacity_by, new_field_capacity, stored_capacity}
+use Rattle.object_cells.specs.declared.stores.Store.{Store}
+use Rattle.shape_change.specs.Additions.{CanAdd, count_of}
+use Rattle.object_cells.proofs.HeldNeeds.{content_need_is}
+use Rattle.object_cells.specs.Made.{IsStoreAt, is_wide_held, content_need, beside_content}
+use Rattle.shape_change.specs.Additions.{behind_cap}
 
 -- the shape that is read at a cell's address is the cell's
 pub shape_read : {heap : Heap} {cell : Cell} {words : List ℕ} (at : ℕ) → HasCell heap cell words → cell.at ≡ at
@@ -45,6 +47,14 @@ no_index (field ∷ fields) name none =
     ap (λ test. cond test (Some 0) (option_map suc (index_of fields name))) parts.0
     ∙ ap (λ found. option_map suc found) (no_index fields name parts.1)
 
+-- the path at its address is that of the object's shape
+path_read : (main : Mutator) (object : ℕ) (header : Header) (name : ℕ) (value : Held)
+    → CanAdd main object header name value
+    → path_at (heap_of main) object ≡ shape_path main.paths header.shape
+path_read main object header name value can =
+    ap (shape_path main.paths)
+    (shape_read object can.there.has can.there.stands ∙ ap (λ (h : Header). h.shape) can.headed)
+
 -- the words are those of a field that is new
 pub need_is_new : (main : Mutator) (object : ℕ) (header : Header) (name : ℕ) (value : Held) (wide : Bool)
     → CanAdd main object header name value
@@ -52,24 +62,10 @@ pub need_is_new : (main : Mutator) (object : ℕ) (header : Header) (name : ℕ)
     ≡ new_field_need (heap_of main) object (shape_path main.paths header.shape) wide
 need_is_new main object header name value wide can =
     let heap = heap_of main in
-    let path : path_at heap object ≡ shape_path main.paths header.shape =
-    ap (shape_path main.paths) (shape_read object can.there.has can.there.stands ∙ ap (λ (h : Header). h.shape) can.headed) in
+    let path = path_read main object header name value can in
     let by : Path → ℕ = λ p. set_need_by heap object p (index_of p.fields name) wide in
     ap by path ∙ ap (λ found. set_need_by heap object (shape_path main.paths header.shape) found wide)
     (no_index (shape_path main.paths header.shape).fields name can.is_new)
-
--- an integer needs a box where it is not small
-integer_need : (v : ℤ) (is_small : Bool) → small v ≡ is_small
-    → content_need (beside_content (held.Int v)) ≡ box_need (not (small v))
-integer_need v true is = rw is (rw is refl)
-integer_need v false is = rw is refl
-
--- the words of a box are those of the value
-pub content_need_is : (value : Held) → content_need (beside_content value) ≡ box_need (is_wide_held value)
-content_need_is held.Unbound = refl
-content_need_is held.Undefined = refl
-content_need_is (held.Int v) = integer_need v (small v) refl
-content_need_is (held.Ref at) = refl
 
 -- none in the object itself
 pub need_own : (main : Mutator) (object : ℕ) (header : Header) (name : ℕ) (value : Held)
@@ -117,3 +113,59 @@ need_to_new_store main object header name value store can behind is full =
     let test : nat_lt (behind_cap main.paths header.shape) store.capacity ≡ false = grind (arith, nat_tests) in
     need_beside main object header name value store can behind is
     ∙ ap (λ t. cond t 0 (store_head + grown store.capacity) + content_need (beside_content value)) test
+
+-- the capacity is that of the store of a field that is new
+capacity_is_new : (main : Mutator) (object : ℕ) (header : Header) (name : ℕ) (value : Held)
+    → CanAdd main object header name value
+    → set_capacity_at (heap_of main) object name
+    ≡ new_field_capacity (heap_of main) object (shape_path main.paths header.shape)
+capacity_is_new main object header name value can =
+    let heap = heap_of main in
+    let path = shape_path main.paths header.shape in
+    ap (λ (p : Path). set_capacity_by heap object p (index_of p.fields name))
+    (path_read main object header name value can)
+    ∙ ap (set_capacity_by heap object path) (no_index path.fields name can.is_new)
+
+-- as before, where the object itself has a slot for it
+pub capacity_own : (main : Mutator) (object : ℕ) (header : Header) (name : ℕ) (value : Held)
+    → CanAdd main object header name value → count_of main.paths header.shape < (shape_path main.paths header.shape).cap
+    → set_capacity_at (heap_of main) object name ≡ capacity_at (heap_of main) object
+capacity_own main object header name value can own =
+    let path = shape_path main.paths header.shape in
+    let test : nat_lt (length path.fields) path.cap ≡ true = grind (arith, nat_tests) in
+    let kept : ℕ = capacity_at (heap_of main) object in
+    capacity_is_new main object header name value can
+    ∙ ap (λ t. cond t kept (stored_capacity kept (length path.fields - path.cap))) test
+
+-- and else that of a store with so many slots used
+capacity_beside : (main : Mutator) (object : ℕ) (header : Header) (name : ℕ) (value : Held)
+    → CanAdd main object header name value → (shape_path main.paths header.shape).cap ≤ count_of main.paths header.shape
+    → set_capacity_at (heap_of main) object name
+    ≡ stored_capacity (capacity_at (heap_of main) object) (behind_cap main.paths header.shape)
+capacity_beside main object header name value can behind =
+    let path = shape_path main.paths header.shape in
+    let test : nat_lt (length path.fields) path.cap ≡ false = grind (arith, nat_tests) in
+    let kept : ℕ = capacity_at (heap_of main) object in
+    capacity_is_new main object header name value can
+    ∙ ap (λ t. cond t kept (stored_capacity kept (length path.fields - path.cap))) test
+
+-- which stays where the store has room
+pub capacity_to_store : (main : Mutator) (object : ℕ) (header : Header) (name : ℕ) (value : Held) (store : Store)
+    → CanAdd main object header name value → (shape_path main.paths header.shape).cap ≤ count_of main.paths header.shape
+    → IsStoreAt (heap_of main) object store → behind_cap main.paths header.shape < store.capacity
+    → set_capacity_at (heap_of main) object name ≡ capacity_at (heap_of main) object
+capacity_to_store main object header name value store can behind is room =
+    let kept : ℕ = capacity_at (heap_of main) object in
+    let test : nat_lt (behind_cap main.paths header.shape) kept ≡ true = grind (arith, nat_tests, is.capacity) in
+    capacity_beside main object header name value can behind ∙ ap (λ t. cond t kept (grown kept)) test
+
+-- and grows where it is full
+pub capacity_to_new_store : (main : Mutator) (object : ℕ) (header : Header) (name : ℕ) (value : Held) (store : Store)
+    → CanAdd main object header name value → (shape_path main.paths header.shape).cap ≤ count_of main.paths header.shape
+    → IsStoreAt (heap_of main) object store → behind_cap main.paths header.shape ≡ store.capacity
+    → set_capacity_at (heap_of main) object name ≡ grown store.capacity
+capacity_to_new_store main object header name value store can behind is full =
+    let kept : ℕ = capacity_at (heap_of main) object in
+    let test : nat_lt (behind_cap main.paths header.shape) kept ≡ false = grind (arith, nat_tests, is.capacity) in
+    capacity_beside main object header name value can behind ∙ ap (λ t. cond t kept (grown kept)) test
+    ∙ ap grown is.capacity

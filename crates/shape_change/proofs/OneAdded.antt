@@ -13,12 +13,12 @@ use Rattle.cell_layout.specs.declared.cell.Cell.{Cell}
 use Rattle.heap_model.specs.Heaps.{Heap, words_of_cell}
 use Rattle.heap_model.specs.Kinds.{HasSlots, IsPlainCell, IsBoxCell}
 use Rattle.heap_model.specs.Showing.{ShowsField}
-use Rattle.shape_change.specs.CellWrites.{reshaped}
-use Rattle.shape_change.specs.SlotChanges.{IsTaggedSlot, ComesFrom, StoreComes}
-use Rattle.shape_change.proofs.NumberedSlots.{IsNumbered, one_address, one_number}
-use Rattle.shape_change.proofs.SlotsNow.{PutsOwn, store_now, slot_now}
-use Rattle.shape_change.proofs.OwnPlaces.{IsSlotPlace}
-use Rattle.shape_change.proofs.OneField.{slots_after}
+use Rattle.object_cells.specs.CellWrites.{reshaped}
+use Rattle.object_cells.specs.SlotChanges.{IsTaggedSlot, ComesFrom, StoreComes}
+use Rattle.object_cells.proofs.NumberedSlots.{IsNumbered, one_address, one_number}
+use Rattle.object_cells.proofs.SlotsNow.{PutsOwn, store_now, slot_now}
+use Rattle.object_cells.proofs.OwnPlaces.{IsSlotPlace, plain_is_object}
+use Rattle.object_cells.proofs.OneField.{slots_after}
 use Rattle.shape_change.proofs.AddedSlots.{SlotIs, PutsOne, AddsSlot}
 
 -- The word of a field that is new was put in the slot behind those of the other fields, for which there is one.
@@ -33,9 +33,10 @@ pub record AddsOne (old new : Heap) (cell : Cell) (next at word : ℕ) (others m
   pub place : IsSlotPlace old cell sound.has.store at others
 
 -- the slots are those from before with the word in one
-one_puts : {old new : Heap} {cell : Cell} {next at word : ℕ} {others made : List Cell} {fields : List Field} {field : Field}
-    (now : List ℕ) (adds : AddsOne old new cell next at word others made fields field)
-    → HasSlots new (words_of_cell new (reshaped new.paths cell next)) now → PutsOne adds.sound.slots now (length fields) word
+one_puts : {old new : Heap} {cell : Cell} {next at word : ℕ} {others made : List Cell} {fields : List Field}
+    {field : Field} (now : List ℕ) (adds : AddsOne old new cell next at word others made fields field)
+    → HasSlots new (words_of_cell new (reshaped new.paths cell next)) now
+    → PutsOne adds.sound.slots now (length fields) word
 one_puts {old} {new} {cell} {at = at} {word} {fields = fields} now adds are k x there =
     let puts = adds.puts in
     let one = slot_now k x puts adds.sound.has are there in
@@ -45,7 +46,8 @@ one_puts {old} {new} {cell} {at = at} {word} {fields = fields} now adds are k x 
           let address : one.a ≡ at = one_address (length fields) one.a at numbered adds.numbered in
           SlotIs.put same (same_Some x word (sym one.stands ∙ ap (slice_get new.words) address ∙ puts.one.put))
       | inr apart ↦
-          SlotIs.kept apart (one.kept (λ same. apart (one_number k (length fields) at puts.whole.rows puts.has puts.plain
+          SlotIs.kept apart (one.kept
+          (λ same. apart (one_number k (length fields) at puts.whole.rows puts.has (plain_is_object puts.plain)
           (subst (IsNumbered old cell (words_of_cell old cell) k) same one.numbered) adds.numbered)))
     ]
 

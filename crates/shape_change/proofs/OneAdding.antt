@@ -13,13 +13,13 @@ use Rattle.handle_roots.specs.declared.held.Held.{Held}
 use Rattle.heap_table.specs.Seats.{heap_words}
 use Rattle.heap_model.specs.Heaps.{Heap, words_of_cell}
 use Rattle.write_barrier.specs.Mains.{Mutator, heap_of}
-use Rattle.shape_change.specs.CellWrites.{WritesCells}
-use Rattle.shape_change.specs.Contents.{next_at}
+use Rattle.object_cells.specs.CellWrites.{WritesCells}
+use Rattle.object_cells.specs.Contents.{next_at}
 use Rattle.shape_change.specs.Additions.{added_path}
-use Rattle.shape_change.proofs.CellWrites.{writes_keep_cells}
-use Rattle.shape_change.proofs.NumberedSlots.{IsNumbered, number_is_not_store}
-use Rattle.shape_change.proofs.OwnCells.{writes_cells}
-use Rattle.shape_change.proofs.OwnPlaces.{slot_place}
+use Rattle.object_cells.proofs.CellWrites.{writes_keep_cells}
+use Rattle.object_cells.proofs.NumberedSlots.{IsNumbered, number_is_not_store}
+use Rattle.object_cells.proofs.OwnCells.{writes_cells}
+use Rattle.object_cells.proofs.OwnPlaces.{plain_is_object, slot_place}
 use Rattle.shape_change.proofs.AddedFields.{new_field}
 use Rattle.shape_change.proofs.AddedWords.{PutsOver, over_writes_one}
 use Rattle.shape_change.proofs.AddedShown.{Adding}
@@ -56,7 +56,8 @@ pub one_adding : {old mid new : Mutator} {graph : Graph} {plain : PlainObject} {
     → IsNumbered (heap_of old) known.cell (words_of_cell (heap_of old) known.cell) (length plain.fields) at
     → length plain.fields < length known.sound.slots
     → OneAdding (heap_of old) (heap_of new) known.cell next at word made plain.fields (new_field name what)
-one_adding {old} {mid} {new} {plain = plain} {header = header} {name} {value} {what} {next} {at} {word} {need} {words} made known
+one_adding {old} {mid} {new} {plain = plain} {header = header} {name} {value} {what} {next} {at} {word} {need} {words}
+    made known
     over row numbered there =
     let before : Heap = heap_of old in
     let after : Heap = heap_of new in
@@ -80,7 +81,8 @@ one_adding {old} {mid} {new} {plain = plain} {header = header} {name} {value} {w
           writes = writes;
           cells = (writes_keep_cells before after cell next place.0 made whole writes).1;
           not_store = λ same.
-              number_is_not_store (length plain.fields) at whole.rows known.has kind numbered (sym same);
+              number_is_not_store (length plain.fields) at whole.rows known.has (plain_is_object kind) numbered
+              (sym same);
         };
         sound = known.sound;
         was = known.was;

@@ -17,14 +17,19 @@ use Rattle.heap_model.specs.Heaps.{words_of_cell}
 use Rattle.heap_model.proofs.CellsApart.{IsOfCell, first_of_cell}
 use Rattle.heap_model.proofs.BoundHeaps.{none_in}
 use Rattle.write_barrier.specs.Mains.{Mutator, heap_of}
-use Rattle.shape_change.specs.FieldChanges.{ShowsRefilled}
-use Rattle.shape_change.specs.Contents.{next_at}
-use Rattle.shape_change.specs.Additions.{AddsOwn, AddsPath, added_path, count_of, content_word, own_content, with_shape}
-use Rattle.shape_change.proofs.WrittenPlaces.{written_places_stay}
-use Rattle.shape_change.proofs.AddedContents.{new_value_held, content_shows, content_comes, own_holds_no_box}
+use Rattle.object_cells.specs.PlainObjects.{ShowsRefilled}
+use Rattle.object_cells.specs.Contents.{next_at}
+use Rattle.shape_change.specs.Additions.{AddsOwn, AddsPath, added_path, count_of, own_content, with_shape}
+use Rattle.object_cells.specs.Made.{content_word}
+use Rattle.heap_model.specs.Needs.{capacity_at}
+use Rattle.object_cells.specs.Capacities.{CapacitiesBecome}
+use Rattle.object_cells.proofs.KeptCapacities.{one_keeps}
+use Rattle.object_cells.proofs.WrittenPlaces.{written_places_stay}
+use Rattle.object_cells.proofs.HeldNeeds.{new_value_held}
+use Rattle.shape_change.proofs.AddedContents.{content_shows, content_comes, own_holds_no_box}
 use Rattle.shape_change.proofs.TaggedBefore.{wide_not_tagged}
-use Rattle.shape_change.specs.SlotChanges.{IsTaggedSlot}
-use Rattle.shape_change.specs.CellWrites.{reshaped}
+use Rattle.object_cells.specs.SlotChanges.{IsTaggedSlot}
+use Rattle.object_cells.specs.CellWrites.{reshaped}
 use Rattle.heap_model.specs.Showing.{ShowsField}
 use Rattle.std.proofs.lemmas.List.{length-map}
 use Rattle.shape_tree.specs.ShapeLayouts.{layout_of}
@@ -32,12 +37,12 @@ use Rattle.object_graph.specs.declared.object.Field.{Field}
 use Rattle.object_graph.specs.declared.path.Path.{Path}
 use Rattle.object_graph.specs.Paths.{path_of}
 use Rattle.shape_change.proofs.OneAdded.{one_adds}
-use Rattle.shape_change.proofs.MadeBoxes.{row_of_none}
+use Rattle.object_cells.proofs.MadeBoxes.{row_of_none}
 use Rattle.nursery.specs.Young.{HasRoom}
 use Rattle.shape_change.proofs.FullStores.{length-slots}
-use Rattle.shape_change.proofs.NumberedSlots.{IsNumbered}
-use Rattle.shape_change.proofs.OwnCells.{cell_below_layouts}
-use Rattle.shape_change.proofs.SlotsNow.{plain_cell_size}
+use Rattle.object_cells.proofs.NumberedSlots.{IsNumbered}
+use Rattle.object_cells.proofs.OwnCells.{cell_below_layouts}
+use Rattle.object_cells.proofs.SlotsNow.{plain_cell_size}
 use Rattle.shape_change.proofs.AddedFields.{new_field, path_of-push}
 use Rattle.shape_change.proofs.AddedWords.{PutsOver, over_last, reserved_none}
 use Rattle.shape_change.proofs.AddedShown.{Adding, added_shows}
@@ -48,8 +53,8 @@ abbrev own_place : Mutator → ℕ → Header → ℕ
 own_place old object header = object + (plain_head + count_of old.paths header.shape)
 
 -- it is one of the object's cell, where that has the slot
-own_of_cell : {old : Mutator} {graph : Graph} {plain : PlainObject} {object : ℕ} {header : Header} {name : ℕ} {value : Held}
-    {what : Value} (known : Adding old graph plain object header name value what)
+own_of_cell : {old : Mutator} {graph : Graph} {plain : PlainObject} {object : ℕ} {header : Header} {name : ℕ}
+    {value : Held} {what : Value} (known : Adding old graph plain object header name value what)
     → count_of old.paths header.shape < (shape_path old.paths header.shape).cap
     → IsOfCell known.cell (own_place old object header)
 own_of_cell known own =
@@ -57,8 +62,8 @@ own_of_cell known own =
     record { from = omega (arith, known.stands); below = omega (arith, known.stands, known.cap, own, size) }
 
 -- it is that of the slot of this number
-own_numbered : {old : Mutator} {graph : Graph} {plain : PlainObject} {object : ℕ} {header : Header} {name : ℕ} {value : Held}
-    {what : Value} (known : Adding old graph plain object header name value what)
+own_numbered : {old : Mutator} {graph : Graph} {plain : PlainObject} {object : ℕ} {header : Header} {name : ℕ}
+    {value : Held} {what : Value} (known : Adding old graph plain object header name value what)
     → count_of old.paths header.shape < (shape_path old.paths header.shape).cap
     → IsNumbered (heap_of old) known.cell (words_of_cell (heap_of old) known.cell) (length plain.fields)
     (own_place old object header)
@@ -67,8 +72,8 @@ own_numbered known own =
     (own_of_cell known own)
 
 -- there is room for no word
-room_for_none : {old : Mutator} {graph : Graph} {plain : PlainObject} {object : ℕ} {header : Header} {name : ℕ} {value : Held}
-    {what : Value} → Adding old graph plain object header name value what → HasRoom old.young 0
+room_for_none : {old : Mutator} {graph : Graph} {plain : PlainObject} {object : ℕ} {header : Header} {name : ℕ}
+    {value : Held} {what : Value} → Adding old graph plain object header name value what → HasRoom old.young 0
 room_for_none {old} known =
     omega (arith, known.shows.shows.whole.rows.few, ap (λ (s : Space). s.sizes.young) known.shows.tied)
 
@@ -85,7 +90,8 @@ own_over {old} {object = object} {header} {name} {value} known own adds =
     let whole = known.shows.shows.whole in
     let path = subst (λ main. AddsPath main adds.mid (added_path old.paths header.shape name value) adds.next)
     (sym (reserved_none old)) adds.path in
-    over_last adds.next (own_place old object header) (content_word (own_content value) 0) 0 object (heap_words adds.mid.seat)
+    over_last adds.next (own_place old object header) (content_word (own_content value) 0) 0 object
+    (heap_words adds.mid.seat)
     known.can.tied (room_for_none known) path adds.words refl (λ a not_new. refl) known.stands known.headed
     (λ same. omega (arith, same, known.stands)) (cell_below_layouts whole known.has (first_of_cell known.has))
     (cell_below_layouts whole known.has (own_of_cell known own))
@@ -120,7 +126,8 @@ own_not_tagged {new = new} {plain = plain} {name = name} {what = what} known own
 -- and the graph is shown in which the object has it
 pub own_shown : {old new : Mutator} {graph : Graph} {plain : PlainObject} {object : ℕ} {header : Header} {name : ℕ}
     {value : Held} {what : Value} → Adding old graph plain object header name value what
-    → count_of old.paths header.shape < (shape_path old.paths header.shape).cap → AddsOwn old new object header name value
+    → count_of old.paths header.shape < (shape_path old.paths header.shape).cap
+    → AddsOwn old new object header name value
     → ShowsRefilled new graph plain (with_field plain.fields name what)
 own_shown {old} {new} {graph} {plain} {object} {header} {name} {value} {what} known own adds =
     let one = own_adding known own adds in
@@ -132,9 +139,19 @@ own_shown {old} {new} {graph} {plain} {object} {header} {name} {value} {what} kn
     let below : slot < known.cell.layout.cap = omega (arith, known.count, known.cap, own) in
     let test : nat_lt slot known.cell.layout.cap ≡ true = grind (arith, nat_tests) in
     let shows : ShowsField (heap_of new) true word (rep_of what) what =
-    content_shows (length graph.objects) 0 holds places known.fits (λ v boxed. absurd (own_holds_no_box v holds boxed)) in
+    content_shows (length graph.objects) 0 holds places known.fits
+    (λ v boxed. absurd (own_holds_no_box v holds boxed)) in
     added_shows 0 known over.adds over.puts one.writes
     (one_adds one.adds (subst (λ o. ShowsField (heap_of new) o word (rep_of what) what) (sym test) shows)
     (λ tagged. content_comes known.cell one.adds.sound.slots [] slot 0 holds places
     (λ is_own wide. own_not_tagged known own adds tagged wide) (λ v boxed. absurd (own_holds_no_box v holds boxed)))
     (λ other there. absurd (none_in other there)) (λ other there. absurd (none_in other there)))
+
+-- each property store has as many slots as before
+pub own_keeps : {old new : Mutator} {graph : Graph} {plain : PlainObject} {object : ℕ} {header : Header} {name : ℕ}
+    {value : Held} {what : Value} (known : Adding old graph plain object header name value what)
+    → count_of old.paths header.shape < (shape_path old.paths header.shape).cap
+    → AddsOwn old new object header name value
+    → CapacitiesBecome (heap_of old) (heap_of new) known.cell.at (capacity_at (heap_of old) known.cell.at)
+own_keeps known own adds =
+    one_keeps (own_adding known own adds).adds.puts (λ other there. absurd (none_in other there))

@@ -14,13 +14,13 @@ use Rattle.heap_model.specs.Wholeness.{HasSizes}
 use Rattle.write_barrier.specs.Mains.{Mutator, heap_of, IsTied, reserved}
 use Rattle.write_barrier.specs.Opening.{ChangesWithin}
 use Rattle.write_barrier.specs.Values.{box_header}
-use Rattle.shape_change.specs.declared.content.Filling.{Filling}
-use Rattle.shape_change.specs.declared.content.Filling.TheVariants as filling
-use Rattle.shape_change.specs.Contents.{next_at, with_box, Allocates, filling_need}
+use Rattle.object_cells.specs.declared.content.Filling.{Filling}
+use Rattle.object_cells.specs.declared.content.Filling.TheVariants as filling
+use Rattle.object_cells.specs.Contents.{next_at, with_box, Allocates, filling_need}
 use Rattle.shape_change.specs.Fillings.{with_paths}
-use Rattle.shape_change.proofs.WordsPut.{PutsTwo, puts_two, sizes_put}
-use Rattle.shape_change.proofs.OneWord.{IsReady, still_new}
-use Rattle.shape_change.proofs.UnusedWords.{next_before_segments}
+use Rattle.object_cells.proofs.WordsPut.{PutsTwo, puts_two, sizes_put}
+use Rattle.object_cells.proofs.OneWord.{IsReady, still_new}
+use Rattle.object_cells.proofs.UnusedWords.{next_before_segments}
 
 -- words are used
 ready_reserved : (old : Mutator) (need : ℕ) → HasSizes (heap_of old) → HasRoom old.young need

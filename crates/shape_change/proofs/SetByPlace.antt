@@ -14,12 +14,12 @@ use Rattle.write_barrier.specs.declared.room.NoRoom.{NoRoom}
 use Rattle.shape_change.specs.declared.slot_setting.SlotSetting.{SlotSetting}
 use Rattle.shape_change.specs.declared.stop.FieldStop.{FieldStop}
 use Rattle.shape_change.specs.declared.stop.FieldStop.TheVariants as stop
-use Rattle.shape_change.specs.CellsAt.{HasField}
-use Rattle.shape_change.specs.Contents.{filling_at, LacksRoom}
+use Rattle.object_cells.specs.CellsAt.{HasField}
+use Rattle.object_cells.specs.Contents.{filling_at, LacksRoom}
 use Rattle.shape_change.specs.FieldChanges.{HasSetField, SetsField}
 use Rattle.shape_change.specs.Fillings.{FillsSlot, IsSlotSetting, SetsWider}
 use Rattle.shape_change.specs.Places.{place_at}
-use Rattle.shape_change.proofs.HeldContents.{held_rep_is}
+use Rattle.object_cells.proofs.HeldContents.{held_rep_is}
 use Rattle.shape_change.proofs.Settings.{Setting}
 use Rattle.shape_change.proofs.SetOutcomes.{set_as_it_is}
 use Rattle.shape_change.proofs.SetRefused.{refused_room, paths_enough, wider_sets}

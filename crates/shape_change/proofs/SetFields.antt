@@ -17,20 +17,23 @@ use Rattle.cell_layout.specs.Cells.{IsRow}
 use Rattle.heap_table.specs.declared.phase.Phase.TheVariants.{Quiet}
 use Rattle.heap_table.specs.Seats.{heap_words}
 use Rattle.heap_model.specs.Heaps.{words_of_cell}
+use Rattle.heap_model.specs.Needs.{capacity_at}
 use Rattle.heap_model.specs.Showing.{ShowsPlain}
 use Rattle.heap_model.proofs.CellsApart.{first_of_cell}
 use Rattle.nursery.specs.Young.{Young}
 use Rattle.write_barrier.specs.Mains.{Mutator, heap_of, IsTied}
-use Rattle.shape_change.specs.FieldChanges.{ShowsRefilled}
-use Rattle.shape_change.specs.Refills.{AreNewFields}
-use Rattle.shape_change.specs.Contents.{next_at}
-use Rattle.shape_change.proofs.CellWrites.{writes_keep_cells}
-use Rattle.shape_change.proofs.RefilledHeaps.{written_fields_show}
-use Rattle.shape_change.proofs.WordsPut.{PutsTwo}
-use Rattle.shape_change.proofs.OneWord.{IsReady, writes_one}
-use Rattle.shape_change.proofs.OwnCells.{IsOwnWord, writes_cells, cell_below_layouts}
-use Rattle.shape_change.proofs.SlotsNow.{PutsOwn}
-use Rattle.shape_change.proofs.OneField.{SetsOne, FillsOne, slots_after, refills_slots}
+use Rattle.object_cells.specs.PlainObjects.{ShowsRefilled}
+use Rattle.object_cells.specs.Refills.{AreNewFields}
+use Rattle.object_cells.specs.Capacities.{CapacitiesBecome}
+use Rattle.object_cells.specs.Contents.{next_at}
+use Rattle.object_cells.proofs.CellWrites.{writes_keep_cells}
+use Rattle.object_cells.proofs.KeptCapacities.{one_keeps}
+use Rattle.object_cells.proofs.RefilledHeaps.{written_fields_show}
+use Rattle.object_cells.proofs.WordsPut.{PutsTwo}
+use Rattle.object_cells.proofs.OneWord.{IsReady, writes_one}
+use Rattle.object_cells.proofs.OwnCells.{IsOwnWord, writes_cells, cell_below_layouts}
+use Rattle.object_cells.proofs.SlotsNow.{PutsOwn}
+use Rattle.object_cells.proofs.OneField.{SetsOne, FillsOne, slots_after, refills_slots}
 use Rattle.shape_change.proofs.Settings.{Setting, fields_are, fields_are_new, slot_is_field}
 
 -- The object has this shape, which is that of its fields with the one set, and their path was added.
@@ -77,14 +80,20 @@ sets_one {old} {mid} {new} {slot = slot} {plain} {what} next at word need others
       there = slot_is_field s;
     }
 
--- so the heap shows the graph with the field
+-- The heap shows the graph with the field, and each property store has as many slots as before.
+pub record ShowsSet {old : Mutator} {graph : Graph} {object slot : ℕ} {plain : PlainObject} {what : Value} {name : ℕ}
+    (s : Setting old graph object slot plain what name) (new : Mutator) : Type 0 where
+  pub shows : ShowsRefilled new graph plain (with_field plain.fields name what)
+  pub stores : CapacitiesBecome (heap_of old) (heap_of new) s.cell.at (capacity_at (heap_of old) s.cell.at)
+
+-- so it is
 pub field_shown : {old mid new : Mutator} {graph : Graph} {object slot next at word need : ℕ} {plain : PlainObject}
     {what : Value}
     {name : ℕ} {others made : List Cell} {head : ℕ} (s : Setting old graph object slot plain what name)
     → IsNextShape old new s next → IsReady old mid need → PutsTwo mid new s.cell.at head at word
     → (sets : SetsOne (heap_of old) (heap_of new) s.cell next at word slot others made plain.fields
     (revalued s.field what))
-    → FillsOne sets → ShowsRefilled new graph plain (with_field plain.fields name what)
+    → FillsOne sets → ShowsSet s new
 field_shown {old} {new = new} {graph} {slot = slot} {next} {plain = plain} {what} {name} {others} {made} s shape
     ready puts sets fills =
     let heap = heap_of old in
@@ -98,6 +107,9 @@ field_shown {old} {new = new} {graph} {slot = slot} {next} {plain = plain} {what
     let tied : IsTied new =
     ap (λ (y : Young). y.space) (puts.young ∙ ready.young) ∙ s.shows.tied ∙ sym space in
     let quiet : new.seat.phase ≡ Quiet = puts.phase ∙ ready.phase ∙ s.shows.quiet in
-    subst (ShowsRefilled new graph plain) (sym same)
-    (written_fields_show old new graph plain s.cell next others made fields s.shows s.is.object s.carries s.cap shown
-    new_fields added tied quiet sets.puts.writes (refills_slots sets fills))
+    record {
+      shows = subst (ShowsRefilled new graph plain) (sym same)
+          (written_fields_show old new graph plain s.cell next others made fields s.shows s.is.object s.carries s.cap
+          shown new_fields added tied quiet sets.puts.writes (refills_slots sets fills));
+      stores = one_keeps sets.puts fills.kinds;
+    }

@@ -18,32 +18,36 @@ use Rattle.nursery.specs.Young.{Young, HasRoom}
 use Rattle.heap_table.specs.Seats.{heap_words}
 use Rattle.heap_model.specs.Heaps.{Heap, words_of_cell}
 use Rattle.heap_model.specs.Needs.{set_need_at, set_need_by, path_at, index_of, field_word, is_raw_after, box_need}
-use Rattle.heap_model.specs.Needs.{is_box_word}
+use Rattle.heap_model.specs.Needs.{is_box_word, capacity_at}
 use Rattle.heap_model.proofs.CellsApart.{first_of_cell, has_is_cell}
 use Rattle.write_barrier.specs.Mains.{Mutator, heap_of, with_word}
-use Rattle.shape_change.specs.declared.content.Content.{Content}
-use Rattle.shape_change.specs.declared.content.Filling.{Filling}
-use Rattle.shape_change.specs.declared.content.Filling.TheVariants as filling
+use Rattle.object_cells.specs.declared.content.Content.{Content}
+use Rattle.object_cells.specs.declared.content.Filling.{Filling}
+use Rattle.object_cells.specs.declared.content.Filling.TheVariants as filling
 use Rattle.shape_change.specs.declared.place.Place.{Place}
-use Rattle.shape_change.specs.FieldChanges.{is_wide, UsesMore, HasSetField}
-use Rattle.shape_change.specs.Contents.{box_in, next_at, filling_of, filling_at, filling_need, filled}
+use Rattle.object_cells.specs.HeldValues.{is_wide}
+use Rattle.object_cells.specs.Uses.{UsesMore}
+use Rattle.object_cells.specs.Capacities.{CapacitiesBecome, set_capacity_at, set_capacity_by}
+use Rattle.shape_change.specs.FieldChanges.{HasSetField}
+use Rattle.object_cells.specs.Contents.{box_in, next_at, filling_of, filling_at, filling_need, filled}
 use Rattle.shape_change.specs.Fillings.{FillsSlot, FillsWider}
 use Rattle.shape_change.specs.Places.{place_at, IsPlaceOf}
-use Rattle.shape_change.proofs.FieldWords.{path_field}
+use Rattle.object_cells.proofs.FieldWords.{path_field}
 use Rattle.shape_change.proofs.FieldsSet.{index_found, path_stays}
 use Rattle.shape_change.proofs.Filled.{allocates_paths, filled_space}
 use Rattle.shape_change.proofs.FilledFields.{next_head}
 use Rattle.shape_change.proofs.FoundPlaces.{field_word_at}
-use Rattle.shape_change.proofs.OneWord.{IsReady}
-use Rattle.shape_change.proofs.OwnCells.{cell_below_layouts}
-use Rattle.shape_change.proofs.PlainFields.{plain_sound, names_distinct}
+use Rattle.object_cells.proofs.OneWord.{IsReady}
+use Rattle.object_cells.proofs.OwnCells.{cell_below_layouts}
+use Rattle.object_cells.proofs.PlainFields.{plain_sound, names_distinct}
 use Rattle.shape_change.proofs.ReadyHeaps.{ready_allocated, ready_laid}
 use Rattle.shape_change.proofs.Settings.{Setting, name_is_there, path_is_there}
-use Rattle.shape_change.proofs.SettingNeeds.{shape_read, need_there}
+use Rattle.shape_change.proofs.SettingNeeds.{need_there}
+use Rattle.object_cells.proofs.SlotBoxes.{shape_read}
 use Rattle.shape_change.proofs.SetFields.{IsNextShape}
 use Rattle.shape_change.proofs.SetShown.{FillsAt, was_field_word, fill_shown}
-use Rattle.shape_change.proofs.UnusedWords.{cell_is_used, next_before_segments}
-use Rattle.shape_change.proofs.WordsPut.{HasHead}
+use Rattle.object_cells.proofs.UnusedWords.{cell_is_used, next_before_segments}
+use Rattle.object_cells.proofs.WordsPut.{HasHead}
 
 -- how many words it takes to set the field
 pub setting_need : {old : Mutator} {graph : Graph} {object slot : ℕ} {plain : PlainObject} {what : Value} {name : ℕ}
@@ -73,6 +77,19 @@ setting_need {old} {slot = slot} {plain} {what} {name} place word content s with
     let need = need_there word (next_at old) s.shows.shows.whole.sized within fills.comes (was_field_word s fills) in
     let by_filling = ap (λ w. filling_need (filling_of (box_in heap w) (next_at old) content)) (sym fills.reads) in
     by_path ∙ by_index ∙ by_word ∙ by_field ∙ need ∙ by_filling
+
+-- its object keeps the capacity of its property store
+setting_capacity : {old : Mutator} {graph : Graph} {object slot : ℕ} {plain : PlainObject} {what : Value} {name : ℕ}
+    (s : Setting old graph object slot plain what name)
+    → set_capacity_at (heap_of old) s.cell.at name ≡ capacity_at (heap_of old) s.cell.at
+setting_capacity {old} {slot = slot} {plain} {name = name} s =
+    let heap : Heap = heap_of old in
+    let at : ℕ = s.cell.at in
+    let path : Path = path_of s.cell.layout.cap plain.fields in
+    let is_path : path_at heap at ≡ path = ap (shape_path heap.paths) (shape_read s.has) ∙ s.shown.path in
+    ap (λ (p : Path). set_capacity_by heap at p (index_of p.fields name)) is_path
+    ∙ ap (set_capacity_by heap at path)
+    (index_found s.cell.layout.cap plain.fields slot s.field name (names_distinct s.shows s.is) s.there s.named)
 
 -- where a slot is filled, what is used stays
 filled_young : (main : Mutator) (at : ℕ) (filling : Filling) → (filled main at filling).young ≡ main.young
@@ -150,11 +167,15 @@ has_set_field {old} {new = new} {graph} {object} {plain = plain} {what} {name} p
     let uses = uses_more s.cell.at (next_head s next) at (filling_at old at content) ready head in
     let used = subst P (sym need) (ready.room, uses) in
     let at_object = subst (λ a. P (set_need_at (heap_of old) a name (is_wide what))) s.stands used in
+    let shown = fill_shown at word next content s fills ready shape head in
+    let Q : ℕ → ℕ → Type 0 = λ a n. CapacitiesBecome (heap_of old) (heap_of new) a n in
     record {
       few = λ lacks. name_is_there s lacks;
       room = at_object.0;
       uses = at_object.1;
-      shows = fill_shown at word next content s fills ready shape head;
+      stores = subst (λ a. Q a (set_capacity_at (heap_of old) a name)) s.stands
+          (subst (Q s.cell.at) (sym (setting_capacity s)) shown.stores);
+      shows = shown.shows;
     }
 
 -- the paths are those from before it was filled

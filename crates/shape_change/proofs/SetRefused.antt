@@ -8,22 +8,27 @@ use Rattle.object_graph.specs.Paths.{path_of, with_path}
 use Rattle.object_graph.specs.Objects.{with_field, revalued}
 use Rattle.object_graph.specs.Graphs.{Graph, PlainObject}
 use Rattle.object_graph.specs.Limits.{paths_most}
+use Rattle.shape_tree.specs.declared.full.ShapesFull.{ShapesFull}
+use Rattle.shape_tree.specs.Shapes.{IsFullFor}
 use Rattle.page_space.specs.Sizes.{AreWithin}
 use Rattle.nursery.specs.Young.{HasRoom}
 use Rattle.heap_model.specs.Needs.{set_need_at}
 use Rattle.write_barrier.specs.Mains.{Mutator, heap_of}
 use Rattle.write_barrier.specs.declared.room.NoRoom.{NoRoom}
-use Rattle.shape_change.specs.declared.content.Content.{Content}
-use Rattle.shape_change.specs.declared.content.Filling.{Filling}
-use Rattle.shape_change.specs.declared.content.Filling.TheVariants as filling
+use Rattle.object_cells.specs.declared.content.Content.{Content}
+use Rattle.object_cells.specs.declared.content.Filling.{Filling}
+use Rattle.object_cells.specs.declared.content.Filling.TheVariants as filling
 use Rattle.shape_change.specs.declared.place.Place.{Place}
 use Rattle.shape_change.specs.declared.stop.FieldStop.{FieldStop}
 use Rattle.shape_change.specs.declared.stop.FieldStop.TheVariants as stop
-use Rattle.shape_change.specs.FieldChanges.{is_wide, SetsField}
-use Rattle.shape_change.specs.Contents.{filling_at, filling_need, LacksRoom}
+use Rattle.object_cells.specs.HeldValues.{is_wide}
+use Rattle.shape_change.specs.FieldChanges.{SetsField, IsFullOfPaths}
+use Rattle.object_cells.proofs.SlotBoxes.{lacks_need}
+use Rattle.object_cells.specs.Contents.{filling_at, filling_need, LacksRoom}
 use Rattle.shape_change.specs.Fillings.{SetsWider}
 use Rattle.shape_change.specs.Places.{place_at, IsPlaceOf}
 use Rattle.shape_change.proofs.FieldsSet.{path_stays}
+use Rattle.shape_change.proofs.FullPaths.{full_of_paths}
 use Rattle.shape_change.proofs.Settings.{Setting, fields_are, name_is_there, path_is_there}
 use Rattle.shape_change.proofs.SetOutcomes.{setting_need, set_wider_has}
 use Rattle.shape_change.proofs.SetShown.{FillsAt}
@@ -40,13 +45,15 @@ paths_lack {graph = graph} {plain = plain} path s is_path =
     ∙ ap (with_path (Some paths_most) graph.paths) is_path
     ∙ ap (λ paths. with_path (Some paths_most) paths path) (sym s.shows.shows.paths)
 
--- where there is no room, so many words were needed
-lacks_need : (main : Mutator) (filling : Filling) (full : NoRoom) → LacksRoom main filling full
-    → (full.need ≡ filling_need filling) × (HasRoom main.young full.need → ⊥)
-lacks_need main (filling.Tagged word) full lacks = absurd lacks
-lacks_need main (filling.Raw word) full lacks = absurd lacks
-lacks_need main (filling.NewBox at v) full lacks = (lacks.0, λ room. lacks.1 (subst (HasRoom main.young) lacks.0 room))
-lacks_need main (filling.OldBox at v) full lacks = absurd lacks
+-- so are the numbers of those that are lacking
+wider_lacks : {old : Mutator} {graph : Graph} {object slot : ℕ} {plain : PlainObject} {what : Value} {name : ℕ}
+    (path : Path) (full : ShapesFull) (s : Setting old graph object slot plain what name)
+    → path_of plain.cap (set plain.fields slot (revalued s.field what)) ≡ path
+    → IsFullFor old.paths old.paths path full
+    → IsFullOfPaths graph plain (with_field plain.fields name what) full
+wider_lacks {old} {plain = plain} {what} {name} path full s is_path is =
+    full_of_paths plain (with_field plain.fields name what) path old.paths s.shows
+    (sym is_path ∙ ap (path_of plain.cap) (sym (fields_are s))) is
 
 -- there is no room for the words that the field needs, and nothing else is lacking
 pub refused_room : {old new : Mutator} {graph : Graph} {object slot : ℕ} {plain : PlainObject} {what : Value} {name : ℕ}
@@ -90,6 +97,6 @@ wider_sets new place word path content (Ok done) s within is fills is_path sets 
     set_wider_has place word path content s within is fills is_path sets
 wider_sets new place word path content (Err stop.FieldsFull) s within is fills is_path sets = absurd sets
 wider_sets new place word path content (Err (stop.ShapesFull full)) s within is fills is_path sets =
-    ((λ lacks. name_is_there s lacks), paths_lack path s is_path ∙ sets.0, sets.1)
+    ((λ lacks. name_is_there s lacks), wider_lacks path full s is_path sets.0, sets.1)
 wider_sets new place word path content (Err (stop.Full full)) s within is fills is_path sets =
     refused_room place word path content full s within is fills is_path sets.0 sets.1 sets.2

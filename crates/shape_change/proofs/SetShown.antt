@@ -3,27 +3,26 @@ use Rattle.std.proofs.Common.{◌≡◌, ℕ, Option, Some, None, nat_lt}
 use Rattle.std.proofs.Common.{sym, ap}
 use Rattle.std.specs.Prelude.{ℤ}
 use Rattle.object_graph.specs.declared.value.Value.{Value}
-use Rattle.object_graph.specs.Objects.{with_field, revalued}
+use Rattle.object_graph.specs.Objects.{revalued}
 use Rattle.object_graph.specs.Graphs.{Graph, PlainObject}
 use Rattle.heap_model.specs.Heaps.{words_of_cell}
 use Rattle.heap_model.specs.Slots.{IsSlotWord, IsFieldWord}
 use Rattle.heap_model.specs.Kinds.{HasWord}
 use Rattle.heap_model.specs.Needs.{word_at}
 use Rattle.write_barrier.specs.Mains.{Mutator, heap_of}
-use Rattle.shape_change.specs.declared.content.Content.{Content}
-use Rattle.shape_change.specs.declared.content.Content.TheVariants as content
-use Rattle.shape_change.specs.FieldChanges.{ShowsRefilled}
-use Rattle.shape_change.specs.Contents.{box_in, next_at, filling_of, filling_at, filling_need, filled}
+use Rattle.object_cells.specs.declared.content.Content.{Content}
+use Rattle.object_cells.specs.declared.content.Content.TheVariants as content
+use Rattle.object_cells.specs.Contents.{box_in, next_at, filling_of, filling_at, filling_need, filled}
 use Rattle.shape_change.proofs.BoxedFields.{new_box_shown, old_box_shown}
-use Rattle.shape_change.proofs.ContentsShown.{box_of_word}
-use Rattle.shape_change.proofs.FieldWords.{field_word as is_field_word}
+use Rattle.object_cells.proofs.SlotBoxes.{box_of_word}
+use Rattle.object_cells.proofs.FieldWords.{field_word as is_field_word}
 use Rattle.shape_change.proofs.FilledFields.{next_head, tagged_shown, raw_shown}
-use Rattle.shape_change.proofs.HeldContents.{HoldsValue, held_slot_word}
-use Rattle.shape_change.proofs.NumberedSlots.{IsNumbered}
-use Rattle.shape_change.proofs.OneWord.{IsReady}
+use Rattle.object_cells.proofs.HeldContents.{HoldsValue, held_slot_word}
+use Rattle.object_cells.proofs.NumberedSlots.{IsNumbered}
+use Rattle.object_cells.proofs.OneWord.{IsReady}
 use Rattle.shape_change.proofs.Settings.{Setting}
-use Rattle.shape_change.proofs.SetFields.{IsNextShape}
-use Rattle.shape_change.proofs.WordsPut.{HasHead}
+use Rattle.shape_change.proofs.SetFields.{IsNextShape, ShowsSet}
+use Rattle.object_cells.proofs.WordsPut.{HasHead}
 
 -- The slot of the field stands at the address and holds the word, and comes to hold this.
 pub record FillsAt {old : Mutator} {graph : Graph} {object slot : ℕ} {plain : PlainObject} {what : Value} {name : ℕ}
@@ -47,7 +46,7 @@ boxed_shown : {old mid new : Mutator} {graph : Graph} {object slot : ℕ} {plain
     → FillsAt s at word (content.Boxed v) → box_in (heap_of old) word ≡ found
     → IsReady old mid (filling_need (filling_of found (next_at old) (content.Boxed v))) → IsNextShape old new s next
     → HasHead mid (filled mid at (filling_of found (next_at old) (content.Boxed v))) new s.cell.at (next_head s next)
-    → ShowsRefilled new graph plain (with_field plain.fields name what)
+    → ShowsSet s new
 boxed_shown at word next v None s fills is ready shape head =
     new_box_shown at next v s fills.numbered ready shape head fills.comes
 boxed_shown {old} at word next v (Some box) s fills is ready shape head =
@@ -63,7 +62,7 @@ pub fill_shown : {old mid new : Mutator} {graph : Graph} {object slot : ℕ} {pl
     → FillsAt s at word content
     → IsReady old mid (filling_need (filling_at old at content)) → IsNextShape old new s next
     → HasHead mid (filled mid at (filling_at old at content)) new s.cell.at (next_head s next)
-    → ShowsRefilled new graph plain (with_field plain.fields name what)
+    → ShowsSet s new
 fill_shown at word next (content.Tagged put) s fills ready shape head =
     tagged_shown at next put s fills.numbered ready shape head fills.comes
 fill_shown at word next (content.Raw put) s fills ready shape head =

@@ -21,23 +21,23 @@ use Rattle.handle_roots.specs.Roots.{FitsHeld}
 use Rattle.heap_model.specs.Needs.{word_at}
 use Rattle.heap_model.specs.Showing.{ShowsHeld}
 use Rattle.write_barrier.specs.Mains.{Mutator, heap_of}
-use Rattle.shape_change.specs.declared.content.Content.{Content}
+use Rattle.object_cells.specs.declared.content.Content.{Content}
 use Rattle.shape_change.specs.declared.place.Place.{Place}
 use Rattle.shape_change.specs.declared.slot_setting.SlotSetting.{SlotSetting}
 use Rattle.shape_change.specs.FieldChanges.{IsShownSetting}
-use Rattle.shape_change.specs.CellsAt.{HasField}
-use Rattle.shape_change.specs.Contents.{held_rep, content_of, HoldsSlotWord}
+use Rattle.object_cells.specs.CellsAt.{HasField}
+use Rattle.object_cells.specs.Contents.{held_rep, content_of, HoldsSlotWord}
 use Rattle.shape_change.specs.Fillings.{IsSlotSetting}
 use Rattle.shape_change.specs.Places.{place_at, IsPlaceOf}
-use Rattle.shape_change.proofs.FieldWords.{path_field}
+use Rattle.object_cells.proofs.FieldWords.{path_field}
 use Rattle.shape_change.proofs.FieldsSet.{path_changed}
 use Rattle.shape_change.proofs.FoundPlaces.{place_numbered}
-use Rattle.shape_change.proofs.HeldContents.{HoldsValue, held_rep_is, value_held, held_slot_word}
-use Rattle.shape_change.proofs.PlainFields.{plain_sound, plain_shown, shape_there}
+use Rattle.object_cells.proofs.HeldContents.{HoldsValue, held_rep_is, value_held, held_slot_word}
+use Rattle.object_cells.proofs.PlainFields.{plain_sound, plain_shown, shape_there}
 use Rattle.shape_change.proofs.Settings.{Setting, mapped, setting, slot_is_field}
 use Rattle.shape_change.proofs.SetShown.{FillsAt, was_field_word}
-use Rattle.shape_change.proofs.SlotPlaces.{one_slots}
-use Rattle.shape_change.proofs.SlotsNow.{numbered_stands}
+use Rattle.object_cells.proofs.SlotPlaces.{one_slots}
+use Rattle.object_cells.proofs.SlotsNow.{numbered_stands}
 
 -- The slot of the field is at the place, in the object itself or not; the field had this representation, and the
 -- shape's path is that of the fields.

@@ -20,22 +20,14 @@ use Rattle.heap_model.specs.Slots.{IsFieldWord, IsWideWord, RefersToBox}
 use Rattle.heap_model.specs.Needs.{box_need, is_box_at, is_box_word, shape_at, is_tagged_rep}
 use Rattle.heap_model.specs.Wholeness.{HasSizes}
 use Rattle.heap_model.proofs.CellsApart.{has_is_cell}
-use Rattle.shape_change.specs.declared.content.Content.{Content}
-use Rattle.shape_change.specs.declared.content.Content.TheVariants as content
-use Rattle.shape_change.specs.Contents.{box_in, filling_of, filling_need}
-use Rattle.shape_change.specs.FieldChanges.{is_wide}
-use Rattle.shape_change.proofs.CellsRead.{box_has_shape}
-use Rattle.shape_change.proofs.WordsTold.{cell_fits}
-use Rattle.shape_change.proofs.HeldContents.{HoldsValue}
-
--- the shape that is read where a cell stands is its own
-pub shape_read : {heap : Heap} {cell : Cell} {words : List ℕ} → HasCell heap cell words
-    → shape_at heap cell.at ≡ cell.header.shape
-shape_read {heap} {cell} has =
-    let reads = (has_is_cell has).reads in
-    let shape : Option Header → ℕ = λ found. unwrap_or (option_map (λ (header : Header). header.shape) found) 0 in
-    ap (λ found. shape (option_and_then header_in found)) reads.first
-    ∙ ap shape (header_to (header_bits cell.header) cell.header reads.is_header refl)
+use Rattle.object_cells.specs.declared.content.Content.{Content}
+use Rattle.object_cells.specs.declared.content.Content.TheVariants as content
+use Rattle.object_cells.specs.Contents.{box_in, filling_of, filling_need}
+use Rattle.object_cells.specs.HeldValues.{is_wide}
+use Rattle.object_cells.proofs.CellsRead.{box_has_shape}
+use Rattle.object_cells.proofs.WordsTold.{cell_fits}
+use Rattle.object_cells.proofs.SlotBoxes.{shape_read, boxed_need}
+use Rattle.object_cells.proofs.HeldContents.{HoldsValue}
 
 -- what refers to a box is told to do so
 pub box_told : {heap : Heap} {word : ℕ} {v : ℤ} → HasSizes heap → AreWithin heap.space.sizes heap.space.variables
@@ -45,20 +37,6 @@ box_told {heap} {word} sized within box =
     let refers = reference_to word box.cell.at (cell_fits sized within box.target.has) box.target.refers in
     let shape = shape_read box.target.has ∙ box_has_shape sized box.target.has box.box in
     (refers, ap (is_box_at heap) refers ∙ eq-eqb (shape_at heap box.cell.at) box_shape shape)
-
--- an integer that goes into a box takes the words of one where the slot refers to none
-need_by_box : (refers : Option ℕ) (test : Bool) (at : ℕ) (v : ℤ) → (refers ≡ None → test ≡ false)
-    → filling_need (filling_of (if test then refers else None) at (content.Boxed v)) ≡ box_need (not test)
-need_by_box None true at v none = absurd (false≢true (sym (none refl)))
-need_by_box None false at v none = refl
-need_by_box (Some box) true at v none = refl
-need_by_box (Some box) false at v none = refl
-
--- so it is with the word of a slot
-boxed_need : (heap : Heap) (word at : ℕ) (v : ℤ)
-    → filling_need (filling_of (box_in heap word) at (content.Boxed v)) ≡ box_need (not (is_box_word heap word))
-boxed_need heap word at v =
-    need_by_box (reference_in word) (is_box_word heap word) at v (λ none. ap (is_box_at heap) none)
 
 -- a slot that is not raw and was wide refers to a box
 wide_is_boxed : {heap : Heap} (own : Bool) (was : Rep) (word : ℕ) → HasSizes heap

@@ -23,13 +23,14 @@ use Rattle.heap_model.specs.Showing.{ShowsHeld, ShowsPlain}
 use Rattle.heap_model.proofs.PathLayouts.{layout_is}
 use Rattle.heap_model.proofs.SlotWords.{All-slice_get}
 use Rattle.write_barrier.specs.Mains.{Mutator, heap_of, MainShows}
-use Rattle.shape_change.specs.FieldChanges.{IsPlainAt, IsReachedValue, IsValueHeld, LacksFields}
-use Rattle.shape_change.specs.Refills.{AreNewFields}
-use Rattle.shape_change.proofs.FieldsFound.{value_found}
+use Rattle.object_cells.specs.PlainObjects.{IsPlainAt, LacksFields}
+use Rattle.object_cells.specs.HeldValues.{IsReachedValue, IsValueHeld}
+use Rattle.object_cells.specs.Refills.{AreNewFields}
+use Rattle.object_cells.proofs.FieldsFound.{value_found}
 use Rattle.shape_change.proofs.FieldsSet.{with_field_found}
-use Rattle.shape_change.proofs.NewFields.{written_fields_are_new}
-use Rattle.shape_change.proofs.OwnPlaces.{has_own_words}
-use Rattle.shape_change.proofs.PlainFields.{plain_sound, plain_shown, names_distinct}
+use Rattle.object_cells.proofs.NewFields.{written_fields_are_new}
+use Rattle.object_cells.proofs.OwnPlaces.{has_own_words}
+use Rattle.object_cells.proofs.PlainFields.{plain_sound, plain_shown, names_distinct}
 
 -- The plain object at an address has a field of this number and name, and the value is one of the graph.
 pub record Setting (old : Mutator) (graph : Graph) (object slot : ℕ) (plain : PlainObject) (what : Value) (name : ℕ)

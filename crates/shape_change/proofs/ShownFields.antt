@@ -16,10 +16,10 @@ use Rattle.heap_model.specs.Heaps.{Heap, HasCell, words_of_cell}
 use Rattle.heap_model.specs.Showing.{ShowsPlain}
 use Rattle.heap_model.proofs.PathLayouts.{layout_is}
 use Rattle.write_barrier.specs.Mains.{Mutator, heap_of, MainShows}
-use Rattle.shape_change.specs.CellsAt.{IsHeaderAt, HasField}
-use Rattle.shape_change.specs.FieldChanges.{IsPlainAt}
-use Rattle.shape_change.proofs.FieldsFound.{named_at, field_at}
-use Rattle.shape_change.proofs.PlainFields.{plain_sound, plain_shown}
+use Rattle.object_cells.specs.CellsAt.{IsHeaderAt, HasField}
+use Rattle.object_cells.specs.PlainObjects.{IsPlainAt}
+use Rattle.object_cells.proofs.FieldsFound.{named_at, field_at}
+use Rattle.object_cells.proofs.PlainFields.{plain_sound, plain_shown}
 
 -- The plain object's cell shows it, has as many in-object slots, and the header that was read.
 pub record ShownCell (main : Mutator) (object : ℕ) (plain : PlainObject) (header : Header) : Type 0 where

@@ -16,12 +16,12 @@ use Rattle.heap_model.specs.Wholeness.{Whole}
 use Rattle.heap_model.proofs.CellsApart.{used_few}
 use Rattle.heap_model.proofs.CellWords.{slice_get-drop, words_by_kind, words_are_size}
 use Rattle.heap_model.proofs.WordsAlike.{cell_below_roots}
-use Rattle.shape_change.specs.CellWrites.{IsInCell}
+use Rattle.object_cells.specs.CellWrites.{IsInCell}
 use Rattle.shape_change.specs.Shifts.{slot_at}
-use Rattle.shape_change.proofs.CellsRead.{word_stands}
-use Rattle.shape_change.proofs.SlotPlaces.{own_slot, behind_cap}
-use Rattle.shape_change.proofs.StoreCells.{store_cells, store_at, IsStoreBeside, is_store_cell, store_cell_there}
-use Rattle.shape_change.proofs.StoreCells.{cells_beside, store_is_other, slots_counted, more_slots}
+use Rattle.object_cells.proofs.CellsRead.{word_stands}
+use Rattle.object_cells.proofs.SlotPlaces.{own_slot, behind_cap}
+use Rattle.object_cells.proofs.StoreCells.{store_cells, store_at, IsStoreBeside, is_store_cell, store_cell_there}
+use Rattle.object_cells.proofs.StoreCells.{cells_beside, store_is_other, slots_counted, more_slots}
 
 -- a slot below the cap stands in the object
 pub slot_at-own : (object cap store slot : ℕ) → slot < cap

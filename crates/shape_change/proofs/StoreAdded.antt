@@ -1,6 +1,6 @@
 -- A field that comes to a slot that the property store has is shown, in a box where it needs one.
 use Rattle.std.proofs.Common.{◌≡◌, ◌≢◌, ℕ, ◌+◌, ◌≤◌, ◌<◌, false, List, ◌∷◌, length, refl, sym, ◌∙◌, ap, subst}
-use Rattle.std.proofs.Common.{arith, inl, nat_lt, slice_get, Contains}
+use Rattle.std.proofs.Common.{arith, inl, inr, nat_lt, slice_get, Contains}
 use Rattle.std.specs.Prelude.{ℤ, slice_set}
 use Rattle.std.proofs.lemmas.Bool.{false≢true}
 use Rattle.std.proofs.lemmas.Bool.Decides.{nat_tests}
@@ -21,32 +21,40 @@ use Rattle.heap_model.specs.Heaps.{HasCell, words_of_cell}
 use Rattle.heap_model.specs.Showing.{ShowsField}
 use Rattle.heap_model.proofs.CellsApart.{IsOfCell, first_of_cell}
 use Rattle.write_barrier.specs.Mains.{Mutator, heap_of}
-use Rattle.shape_change.specs.declared.content.Content.TheVariants as content
-use Rattle.shape_change.specs.declared.stores.Store.{Store}
-use Rattle.shape_change.specs.CellWrites.{reshaped}
-use Rattle.shape_change.specs.FieldChanges.{ShowsRefilled}
-use Rattle.shape_change.specs.Contents.{next_at}
-use Rattle.shape_change.specs.Additions.{AddsToStore, IsStoreAt, added_path, count_of, behind_cap, content_need, content_word}
-use Rattle.shape_change.specs.Additions.{beside_content, with_content, with_shape}
+use Rattle.object_cells.specs.declared.content.Content.TheVariants as content
+use Rattle.object_cells.specs.declared.stores.Store.{Store}
+use Rattle.object_cells.specs.CellWrites.{reshaped}
+use Rattle.object_cells.specs.PlainObjects.{ShowsRefilled}
+use Rattle.object_cells.specs.Contents.{next_at}
+use Rattle.shape_change.specs.Additions.{AddsToStore, added_path, count_of, behind_cap}
+use Rattle.object_cells.specs.Made.{IsStoreAt, content_need}
+use Rattle.object_cells.specs.Made.{content_word}
+use Rattle.shape_change.specs.Additions.{with_shape}
+use Rattle.object_cells.specs.Made.{beside_content, with_content}
 use Rattle.shape_change.proofs.FullStores.{length-slots}
-use Rattle.shape_change.proofs.NumberedSlots.{IsNumbered}
-use Rattle.shape_change.proofs.OwnCells.{cell_below_layouts, beside_not_header}
-use Rattle.shape_change.proofs.StoresRead.{StoredAt, stored_at}
-use Rattle.shape_change.proofs.WrittenPlaces.{written_places_stay}
-use Rattle.shape_change.proofs.UnusedWords.{next_before_segments, cell_is_used}
-use Rattle.shape_change.proofs.AddedContents.{new_value_held, content_shows, content_comes}
+use Rattle.object_cells.proofs.NumberedSlots.{IsNumbered}
+use Rattle.object_cells.proofs.OwnCells.{cell_below_layouts, beside_not_header}
+use Rattle.object_cells.proofs.StoresRead.{StoredAt, stored_at}
+use Rattle.heap_model.specs.Needs.{capacity_at}
+use Rattle.object_cells.specs.Capacities.{CapacitiesBecome}
+use Rattle.object_cells.proofs.KeptCapacities.{one_keeps}
+use Rattle.object_cells.proofs.WrittenPlaces.{written_places_stay}
+use Rattle.object_cells.proofs.UnusedWords.{next_before_segments, cell_is_used}
+use Rattle.object_cells.proofs.HeldNeeds.{new_value_held}
+use Rattle.shape_change.proofs.AddedContents.{content_shows, content_comes}
 use Rattle.shape_change.proofs.AddedFields.{new_field}
 use Rattle.shape_change.proofs.AddedWords.{PutsOver, over_last, over_sized, over_space, last_stays}
 use Rattle.shape_change.proofs.AddedShown.{Adding, added_shows}
-use Rattle.shape_change.proofs.MadeBoxes.{made_boxes, BoxStands, made_row, made_box, boxed_integer, refers_to_made, made_boxed}
-use Rattle.shape_change.proofs.MadeBoxes.{made_sound, length-with_content, with_content_stays, with_content_box}
-use Rattle.shape_change.proofs.NewBoxes.{box_cell}
+use Rattle.object_cells.proofs.MadeBoxes.{made_boxes, BoxStands, made_row, made_box, boxed_integer, refers_to_made}
+use Rattle.object_cells.proofs.MadeBoxes.{made_boxed}
+use Rattle.object_cells.proofs.MadeBoxes.{made_sound, length-with_content, with_content_stays, with_content_box}
+use Rattle.object_cells.proofs.NewBoxes.{box_cell}
 use Rattle.shape_change.proofs.OneAdded.{one_adds}
 use Rattle.shape_change.proofs.OneAdding.{OneAdding, one_adding}
 
 -- What is known where a field comes to a store that has room.
-pub record StoreAdding (old new : Mutator) (graph : Graph) (plain : PlainObject) (object : ℕ) (header : Header) (name : ℕ)
-    (value : Held) (what : Value) (store : Store) : Type 0 where
+pub record StoreAdding (old new : Mutator) (graph : Graph) (plain : PlainObject) (object : ℕ) (header : Header)
+    (name : ℕ) (value : Held) (what : Value) (store : Store) : Type 0 where
   pub known : Adding old graph plain object header name value what
   pub behind : (shape_path old.paths header.shape).cap ≤ count_of old.paths header.shape
   pub is : IsStoreAt (heap_of old) object store
@@ -65,43 +73,57 @@ boxed_words old mid value = with_content (heap_words mid.seat) (beside_content v
 abbrev store_word : Mutator → Held → ℕ
 store_word old value = content_word (beside_content value) (next_at old)
 
-module _ {old new : Mutator} {graph : Graph} {plain : PlainObject} {object : ℕ} {header : Header} {name : ℕ} {value : Held}
-    {what : Value} {store : Store} (adding : StoreAdding old new graph plain object header name value what store) where
+module _ {old new : Mutator} {graph : Graph} {plain : PlainObject} {object : ℕ} {header : Header} {name : ℕ}
+    {value : Held} {what : Value} {store : Store}
+    (adding : StoreAdding old new graph plain object header name value what store) where
   -- the store's cell
   there : StoredAt (heap_of old) adding.known.sound.has.store adding.known.sound.has.beside store
   there =
       let known = adding.known in
-      stored_at object store adding.is known.has known.stands known.sound.has (omega (arith, adding.room))
+      stored_at object known.sound.has.store known.sound.has.beside store adding.is known.has known.stands
+      known.sound.has.slot known.sound.has.stands (omega (arith, adding.room))
 
   -- the address is one of the store
   of_store : IsOfCell there.found.cell (store_place old header store)
-  of_store = record { from = omega (arith, there.found.stands); below = omega (arith, there.found.stands, there.found.size, there.capacity, adding.room) }
+  of_store = record {
+    from = omega (arith, there.found.stands);
+    below = omega
+        (arith, there.found.stands, there.found.size, there.capacity, adding.room);
+  }
 
   -- it is that of the slot behind those of the fields
-  numbered : IsNumbered (heap_of old) adding.known.cell (words_of_cell (heap_of old) adding.known.cell) (length plain.fields)
+  numbered : IsNumbered (heap_of old) adding.known.cell (words_of_cell (heap_of old) adding.known.cell)
+      (length plain.fields)
       (store_place old header store)
   numbered =
       let known = adding.known in
-      IsNumbered.beside known.sound.has.store (behind_cap old.paths header.shape) there.found.cell there.found.words known.sound.has.slot
-      there.found.refers there.found.of_kind (omega (arith, known.count, known.cap, adding.behind)) (omega (arith, there.found.stands)) of_store
+      IsNumbered.beside known.sound.has.store (behind_cap old.paths header.shape) there.found.cell there.found.words
+      known.sound.has.slot
+      there.found.refers there.found.of_kind (omega (arith, known.count, known.cap, adding.behind))
+      (omega (arith, there.found.stands)) of_store
 
   -- the words that are put are one word, the header, and those of a box
-  pub over : PutsOver old adding.adds.mid new (added_path old.paths header.shape name value) adding.known.cell adding.adds.next
+  pub over : PutsOver old adding.adds.mid new (added_path old.paths header.shape name value) adding.known.cell
+      adding.adds.next
       (store_place old header store) (store_word old value) (content_need (beside_content value))
-      (with_shape (slice_set (boxed_words old adding.adds.mid value) (store_place old header store) (store_word old value))
+      (with_shape (slice_set (boxed_words old adding.adds.mid value) (store_place old header store)
+      (store_word old value))
       object header adding.adds.next)
   over =
       let known = adding.known in
       let adds = adding.adds in
       let whole = known.shows.shows.whole in
       let words = heap_words adds.mid.seat in
-      over_last adds.next (store_place old header store) (store_word old value) (content_need (beside_content value)) object
+      over_last adds.next (store_place old header store) (store_word old value) (content_need (beside_content value))
+      object
       (boxed_words old adds.mid value) known.can.tied adds.room adds.path adds.words
       (length-with_content words (beside_content value) (next_at old))
       (λ a not_new. with_content_stays words (beside_content value) (next_at old) a not_new) known.stands known.headed
-      (λ same. beside_not_header (store_place old header store) whole known.has known.shown.of_kind there.found.refers.has
+      (λ same. beside_not_header (store_place old header store) whole known.has known.shown.of_kind
+      there.found.refers.has
       (inl there.found.of_kind) of_store (sym same))
-      (cell_below_layouts whole known.has (first_of_cell known.has)) (cell_below_layouts whole there.found.refers.has of_store)
+      (cell_below_layouts whole known.has (first_of_cell known.has))
+      (cell_below_layouts whole there.found.refers.has of_store)
 
   -- no address of a cell is one of the words that are reserved
   apart_from_run : {cell : Cell} {words : List ℕ} (a b : ℕ) → HasCell (heap_of old) cell words → IsOfCell cell a
@@ -123,7 +145,8 @@ module _ {old new : Mutator} {graph : Graph} {plain : PlainObject} {object : ℕ
       let known = adding.known in
       let adds = adding.adds in
       ap (λ all. slice_get all b) adds.words.heap
-      ∙ last_stays (boxed_words old adds.mid value) (store_place old header store) (store_word old value) object header adds.next b
+      ∙ last_stays (boxed_words old adds.mid value) (store_place old header store) (store_word old value) object header
+      adds.next b
       (λ same. apart_from_run known.cell.at b known.has (first_of_cell known.has) from below (same ∙ sym known.stands))
       (apart_from_run (store_place old header store) b there.found.refers.has of_store from below)
 
@@ -142,8 +165,10 @@ module _ {old new : Mutator} {graph : Graph} {plain : PlainObject} {object : ℕ
       with_content_box (heap_words adds.mid.seat) (beside_content value) (next_at old) v boxed
       (omega (arith, count, ends, within, ap content_need boxed)) in
       record {
-        header = λ v boxed. run_word (next_at old) (omega arith) (omega (arith, ap content_need boxed)) ∙ (words v boxed).header;
-        raw = λ v boxed. run_word (next_at old + 1) (omega arith) (omega (arith, ap content_need boxed)) ∙ (words v boxed).raw;
+        header = λ v boxed. run_word (next_at old) (omega arith) (omega (arith, ap content_need boxed))
+            ∙ (words v boxed).header;
+        raw = λ v boxed. run_word (next_at old + 1) (omega arith) (omega (arith, ap content_need boxed))
+            ∙ (words v boxed).raw;
         from = λ v boxed. omega (arith, start);
         below = λ v boxed. omega (arith, ends, segments, ap content_need boxed);
       }
@@ -162,8 +187,8 @@ module _ {old new : Mutator} {graph : Graph} {plain : PlainObject} {object : ℕ
         adding.behind,
         adding.room,
         length-slots known.has known.shown.of_kind known.sound.has,
-        adding.is.slots known.cell (words_of_cell (heap_of old) known.cell) known.sound.slots known.has known.stands
-            known.sound.has,
+        adding.is.slots known.cell (words_of_cell (heap_of old) known.cell) known.sound.has.beside
+            known.sound.has.store known.has known.stands known.sound.has.slot known.sound.has.stands,
       ))
 
   -- the box stands in the new heap
@@ -203,3 +228,9 @@ module _ {old new : Mutator} {graph : Graph} {plain : PlainObject} {object : ℕ
       }))
       (made_boxed holds_all box)
       (λ other there. made_sound count box other holds known.fits box_stands (made_has other there) there))
+
+  -- each property store has as many slots as before
+  pub store_keeps : CapacitiesBecome (heap_of old) (heap_of new) adding.known.cell.at
+      (capacity_at (heap_of old) adding.known.cell.at)
+  store_keeps =
+      one_keeps one.adds.puts (λ other there. inr (made_boxed (beside_content value) (next_at old) other there))

@@ -18,13 +18,13 @@ use Rattle.heap_model.specs.Wholeness.{Whole}
 use Rattle.heap_model.proofs.WordClasses.{same_reference}
 use Rattle.heap_model.proofs.CellsApart.{one_at, one_words}
 use Rattle.heap_model.proofs.CellWords.{slice_get-drop}
-use Rattle.shape_change.specs.CellsAt.{HasField}
+use Rattle.object_cells.specs.CellsAt.{HasField}
 use Rattle.shape_change.specs.Deletions.{HasStoreAt, HasFirstBeside}
-use Rattle.shape_change.proofs.CellsRead.{word_stands}
-use Rattle.shape_change.proofs.PlainFields.{plain_sound, cap_there}
-use Rattle.shape_change.proofs.SlotPlaces.{behind_cap}
-use Rattle.shape_change.proofs.NumberedSlots.{store_of}
-use Rattle.shape_change.proofs.StoreCells.{store_at, store_cell_there, is_store_cell, slots_counted}
+use Rattle.object_cells.proofs.CellsRead.{word_stands}
+use Rattle.object_cells.proofs.PlainFields.{plain_sound, cap_there}
+use Rattle.object_cells.proofs.SlotPlaces.{behind_cap}
+use Rattle.object_cells.proofs.NumberedSlots.{store_of}
+use Rattle.object_cells.proofs.StoreCells.{store_at, store_cell_there, is_store_cell, slots_counted}
 use Rattle.shape_change.proofs.SlotAddresses.{SlotsStand}
 use Rattle.shape_change.proofs.SlotAddresses.{slots_stand}
 

@@ -11,16 +11,17 @@ use Rattle.shape_tree.specs.ShapeLayouts.{layout_of}
 use Rattle.cell_layout.specs.declared.cell.Cell.{Cell}
 use Rattle.heap_model.specs.Heaps.{Heap, HasCell}
 use Rattle.heap_model.specs.Wholeness.{HasSizes}
-use Rattle.shape_change.specs.SlotChanges.{IsTaggedSlot}
+use Rattle.object_cells.specs.SlotChanges.{IsTaggedSlot}
 use Rattle.shape_change.proofs.AddedFields.{push_cases}
-use Rattle.shape_change.proofs.FieldWords.{field_is_tagged, tagged_is_field}
+use Rattle.object_cells.proofs.FieldWords.{field_is_tagged, tagged_is_field}
 
 -- a slot that is tagged where the path has a field more, and is not that field's, was tagged before
 pub tagged_before : {heap : Heap} {cell : Cell} {words : List ℕ} (new : Cell) (name : ℕ) (one : Rep) (slot : ℕ)
     → HasSizes heap → HasCell heap cell words → cell.layout.kind ≡ kind.Plain → IsPathShape heap.paths cell.header.shape
     → cell.layout.cap ≡ (shape_path heap.paths cell.header.shape).cap
     → new.layout ≡ layout_of (stepped (shape_path heap.paths cell.header.shape) name one)
-    → (slot ≡ length (shape_path heap.paths cell.header.shape).fields → ⊥) → IsTaggedSlot new slot → IsTaggedSlot cell slot
+    → (slot ≡ length (shape_path heap.paths cell.header.shape).fields → ⊥) → IsTaggedSlot new slot
+    → IsTaggedSlot cell slot
 tagged_before {heap} {cell} new name one slot sized has plain shape caps laid apart tagged below =
     let path : Path = shape_path heap.paths cell.header.shape in
     let of_path = tagged_is_field new (stepped path name one) slot laid tagged (omega (arith, below, caps)) in

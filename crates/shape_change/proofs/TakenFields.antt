@@ -11,7 +11,7 @@ use Rattle.heap_table.specs.Seats.{heap_words}
 use Rattle.heap_model.specs.Slots.{hole_word}
 use Rattle.heap_model.specs.Wholeness.{Whole}
 use Rattle.write_barrier.specs.Mains.{Mutator, heap_of, with_word}
-use Rattle.shape_change.specs.CellsAt.{HasField}
+use Rattle.object_cells.specs.CellsAt.{HasField}
 use Rattle.shape_change.specs.Shifts.{ClosesGap, ClosesSlots, SlotsWithin}
 use Rattle.shape_change.specs.Deletions.{HasStoreAt, DrawsInFirst, FindsWithout, shaped_bits, TakesOut}
 use Rattle.shape_change.proofs.SlotsClosed.{own_closed}

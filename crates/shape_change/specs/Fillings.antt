@@ -7,20 +7,20 @@ use Rattle.object_graph.specs.declared.path.Path.{Path}
 use Rattle.object_graph.specs.Paths.{with_path}
 use Rattle.object_graph.specs.Limits.{paths_most}
 use Rattle.object_graph.specs.Values.{join}
-use Rattle.shape_tree.specs.Shapes.{IsPathShape, shape_path, Leads}
+use Rattle.shape_tree.specs.Shapes.{IsPathShape, shape_path, Leads, IsFullFor}
 use Rattle.handle_roots.specs.declared.held.Held.{Held}
 use Rattle.heap_model.specs.Heaps.{Heap}
 use Rattle.heap_model.specs.Needs.{word_at}
 use Rattle.heap_model.specs.Wholeness.{HasSizes}
 use Rattle.write_barrier.specs.Mains.{Mutator, heap_of, IsTied, with_word}
 use Rattle.write_barrier.specs.Opening.{ChangesWithin}
-use Rattle.shape_change.specs.declared.content.Content.{Content}
+use Rattle.object_cells.specs.declared.content.Content.{Content}
 use Rattle.shape_change.specs.declared.slot_setting.SlotSetting.{SlotSetting}
 use Rattle.shape_change.specs.declared.stop.FieldStop.{FieldStop}
 use Rattle.shape_change.specs.declared.stop.FieldStop.TheVariants as stop
 use Rattle.shape_change.specs.Places.{place_at, IsPlaceOf}
-use Rattle.shape_change.specs.CellsAt.{IsWhole, IsHeaderAt, HasField}
-use Rattle.shape_change.specs.Contents.{held_rep, content_of, HoldsSlotWord, filling_at, filled, Allocates, LacksRoom}
+use Rattle.object_cells.specs.CellsAt.{IsWhole, IsHeaderAt, HasField}
+use Rattle.object_cells.specs.Contents.{held_rep, content_of, HoldsSlotWord, filling_at, filled, Allocates, LacksRoom}
 
 -- How the slot of this number of the plain object at the address is set to the value: the place of the slot, the
 -- representation of its field before and after, and what the slot comes to hold. Where that is a reference to a box, it
@@ -74,7 +74,7 @@ abbrev pub SetsWider : Mutator → Mutator → ℕ → ℕ → Path → Content 
 SetsWider old new object at path content (Ok _) = FillsWider old new object at path content
 SetsWider old new object at path content (Err stop.FieldsFull) = ⊥
 SetsWider old new object at path content (Err (stop.ShapesFull full)) =
-    (with_path (Some paths_most) old.paths path ≡ None) × (new ≡ old)
+    IsFullFor old.paths old.paths path full × (new ≡ old)
 SetsWider old new object at path content (Err (stop.Full full)) =
     (with_path (Some paths_most) old.paths path ≡ None → ⊥) × LacksRoom old (filling_at old at content) full
     × (new ≡ old)

@@ -1,11 +1,6 @@
 pub mod FieldChanges
-pub mod CellsAt
 pub mod Places
-pub mod Refills
-pub mod CellWrites
-pub mod SlotChanges
 pub mod Shifts
 pub mod Deletions
-pub mod Contents
 pub mod Fillings
 pub mod Additions

@@ -11,26 +11,32 @@ ghost use Rattle.heap_table.specs.declared.phase.Phase.TheVariants.{Quiet};
 ghost use Rattle.heap_table.specs.Seats.{heap_words};
 ghost use Rattle.heap_model.specs.Needs as needs;
 ghost use Rattle.write_barrier.specs.Mains.{heap_of, MainShows};
-ghost use Rattle.shape_change.specs.FieldChanges.{IsShownSetting, IsPlainAt, IsValueHeld, SetsField};
-ghost use Rattle.shape_change.specs.Additions.{IsShapeAt, CanAdd, PutsWords, IsStoreAt, AddsOwn};
-ghost use Rattle.shape_change.specs.Additions.{AddsToStore, AddsToNewStore, AddsField, RefusesRoom};
-ghost use Rattle.shape_change.specs.Additions.{count_of, behind_cap, is_wide_held, with_shape, with_content};
-ghost use Rattle.shape_change.specs.Additions.{content_need, content_word, beside_content};
+ghost use Rattle.object_cells.specs.PlainObjects.{IsPlainAt};
+ghost use Rattle.object_cells.specs.HeldValues.{IsValueHeld};
+ghost use Rattle.shape_change.specs.FieldChanges.{IsShownSetting, SetsField};
+ghost use Rattle.shape_change.specs.Additions.{IsShapeAt, CanAdd};
+ghost use Rattle.object_cells.specs.Made.{PutsWords, IsStoreAt};
+ghost use Rattle.shape_change.specs.Additions.{AddsOwn, AddsToStore, AddsToNewStore, AddsField};
+ghost use Rattle.object_cells.specs.Made.{RefusesRoom};
+ghost use Rattle.shape_change.specs.Additions.{count_of, behind_cap, ComesBehind};
+ghost use Rattle.object_cells.specs.Made.{is_wide_held};
+ghost use Rattle.shape_change.specs.Additions.{with_shape};
+ghost use Rattle.object_cells.specs.Made.{with_content, content_need, content_word, beside_content};
 
-use crate::content::{Content, content_of, rep_of};
-use crate::reading::{PLAIN_HEAD, STORE_HEAD, header_at};
+use crate::reading::{PLAIN_HEAD, header_at};
 use crate::stepping::{can_step, cap_of, fields_of, step_to};
 use crate::stop::FieldStop;
-use crate::stores::{Store, make_store, room_for, store_of};
+use crate::stores::grown;
 use handle_roots::Held;
-use tagged_word::{Header, Word};
+use object_cells::{
+    Content, STORE_HEAD, Store, boxed_word, content_of, make_store, need_of, rep_of, room_for,
+    store_of,
+};
+use tagged_word::Header;
 use write_barrier::{Main, NoRoom};
 
 /// The most fields of an object.
 const FIELDS_MOST: u32 = 64;
-
-/// The words of a box.
-const BOX_WORDS: u32 = 2;
 
 /// Adds a field of a new name to the plain object at an address, behind its other fields.
 ///
@@ -52,6 +58,8 @@ pub(crate) fn add_there(
         → field_value plain.fields name ≡ None
         → SetsField main.old main.new graph object plain name what result }
 {
+    // No address of a heap is past 32 bits.
+    let _regions = main.regions();
     if fields_of(main, shape) >= FIELDS_MOST {
         return Err(FieldStop::FieldsFull);
     }
@@ -144,38 +152,6 @@ fn put_own(main: &mut Main, object: u32, offset: u32, content: Content)
     }
 }
 
-// How many words of a box that takes which a slot comes to hold.
-fn need_of(content: Content) -> u32
-    ensures { result ≡ content_need content }
-{
-    match content {
-        Content::Tagged(_) => 0,
-        Content::Raw(_) => 0,
-        Content::Boxed(_) => BOX_WORDS,
-    }
-}
-
-// The word that a slot of a property store comes to hold; a box that it needs is made at an
-// address.
-fn boxed_word(main: &mut Main, content: Content, at: u32) -> Word
-    requires quiet { main.old.seat.phase ≡ Quiet }
-    requires within { (v : ℤ) → content ≡ Content.Boxed v
-        → at + 1 < marks_start main.old.seat.space }
-    ensures made { let words = heap_words main.old.seat in
-        PutsWords main.old main.new (with_content words content at) }
-    ensures word { result.0 ≡ content_word content at }
-{
-    match content {
-        Content::Tagged(word) => word,
-        Content::Raw(word) => Word(word),
-        Content::Boxed(v) => {
-            main.make_box(at, v);
-            main.made(at);
-            Word::reference(at)
-        }
-    }
-}
-
 // The field comes to the next slot of the property store.
 fn add_to_store(
     main: &mut Main,
@@ -187,8 +163,7 @@ fn add_to_store(
 ) -> Result<(), NoRoom>
     requires can { CanAdd main.old object header name value }
     requires is { IsStoreAt (heap_of main.old) object store }
-    requires behind { let paths = main.old.paths in
-        (shape_path paths header.shape).cap ≤ count_of paths header.shape }
+    requires behind { ComesBehind main.old.paths header.shape }
     requires room { behind_cap main.old.paths header.shape < store.capacity }
     ensures ok { OnOk result (AddsToStore main.old main.new object header name value store) }
     ensures refused { let need = content_need (beside_content value) in
@@ -216,8 +191,7 @@ fn add_to_new_store(
 ) -> Result<(), NoRoom>
     requires can { CanAdd main.old object header name value }
     requires is { IsStoreAt (heap_of main.old) object store }
-    requires behind { let paths = main.old.paths in
-        (shape_path paths header.shape).cap ≤ count_of paths header.shape }
+    requires behind { ComesBehind main.old.paths header.shape }
     requires full { behind_cap main.old.paths header.shape ≡ store.capacity }
     ensures ok { OnOk result (AddsToNewStore main.old main.new object header name value store) }
     ensures refused { let words = store_head + needs.grown store.capacity in
@@ -228,10 +202,11 @@ fn add_to_new_store(
     let _regions = main.regions();
     let rep = rep_of(value);
     let content = content_of(false, rep, value);
-    let words = STORE_HEAD + store.grown();
+    let capacity = grown(store.capacity);
+    let words = STORE_HEAD + capacity;
     let at = room_for(main, words + need_of(content))?;
     let next = step_to(main, header.shape, name, rep);
-    make_store(main, object, store, at);
+    make_store(main, object, store, capacity, at);
     let word = boxed_word(main, content, at + words);
     main.store(at, STORE_HEAD + store.capacity, word);
     set_shape(main, object, header, next);

@@ -7,14 +7,16 @@ ghost use Rattle.heap_table.specs.declared.phase.Phase.TheVariants.{Quiet};
 ghost use Rattle.heap_table.specs.Seats.{heap_words};
 ghost use Rattle.heap_model.specs.Slots.{RefersToBox, raw_word};
 ghost use Rattle.write_barrier.specs.Mains.{heap_of, MainShows, with_word};
-ghost use Rattle.shape_change.specs.CellsAt.{IsWhole, HasField};
-ghost use Rattle.shape_change.specs.FieldChanges.{IsPlainAt, IsShownPlain, DeletesField};
+ghost use Rattle.object_cells.specs.CellsAt.{IsWhole, HasField};
+ghost use Rattle.object_cells.specs.PlainObjects.{IsPlainAt, IsShownPlain};
+ghost use Rattle.shape_change.specs.FieldChanges.{DeletesField};
 ghost use Rattle.shape_change.specs.Deletions.{HasStoreAt, HasFirstBeside, DrawsInFirst};
 ghost use Rattle.shape_change.specs.Deletions.{FindsWithout, TakingOut, shaped_bits};
 
 use crate::paths::put_new_layouts;
-use crate::reading::{STORE_HEAD, STORE_SLOT, header_at};
+use crate::reading::header_at;
 use crate::shifting::{close_both, close_own};
+use object_cells::{STORE_HEAD, STORE_SLOT};
 use object_graph::Rep;
 use shape_tree::ShapesFull;
 use tagged_word::{Header, Word};
@@ -174,7 +176,7 @@ pub fn delete(main: &mut Main, object: u32, name: u32) -> Result<(), ShapesFull>
     requires { IsShownPlain main.old object }
     ensures { (graph : Graph) (plain : PlainObject) → MainShows main.old graph
         → IsPlainAt main.old graph object plain
-        → DeletesField main.old main.new graph plain name result }
+        → DeletesField main.old main.new graph object plain name result }
 {
     let header = header_at(main, object);
     match main.shapes().find(header.shape, name) {

@@ -3,8 +3,9 @@ ghost use Rattle.std.specs.Prelude.{◌≡◌, ℕ, Some};
 ghost use Rattle.object_graph.specs.Graphs.{Graph, PlainObject};
 ghost use Rattle.heap_model.specs.Showing.{ShowsHeld};
 ghost use Rattle.write_barrier.specs.Mains.{heap_of, MainShows};
-ghost use Rattle.shape_change.specs.FieldChanges.{IsPlainAt, IsShownPlain, value_or_undefined};
-ghost use Rattle.shape_change.specs.CellsAt.{IsWhole, HasField, TellsField};
+ghost use Rattle.object_cells.specs.PlainObjects.{IsPlainAt, IsShownPlain};
+ghost use Rattle.shape_change.specs.FieldChanges.{value_or_undefined};
+ghost use Rattle.object_cells.specs.CellsAt.{IsWhole, HasField, TellsField};
 
 use crate::reading::{header_at, place_of, value_of_field, word_of_place};
 use handle_roots::Held;

@@ -12,26 +12,22 @@ ghost use Rattle.heap_model.specs.Slots.{IsSlotWord, IsFieldWord, small_word, un
 ghost use Rattle.heap_model.specs.Slots.{RefersToBox, RefersToPlace};
 ghost use Rattle.heap_model.specs.Showing.{ShowsHeld, ShowsField};
 ghost use Rattle.write_barrier.specs.Mains.{heap_of};
-ghost use Rattle.shape_change.specs.CellsAt.{IsWhole, HasCellAt, HasPlainSlot, IsHeaderAt, IsCapAt};
-ghost use Rattle.shape_change.specs.CellsAt.{TellsBox, TellsObject};
+ghost use Rattle.object_cells.specs.CellsAt.{IsWhole, HasCellAt, HasPlainSlot, IsHeaderAt, IsCapAt};
+ghost use Rattle.object_cells.specs.CellsAt.{TellsBox, TellsObject};
 ghost use Rattle.shape_change.specs.Places.{place_at, is_own, IsPlaceOf, StandsSlot};
 
 use crate::place::Place;
 use handle_roots::Held;
+use object_cells::{STORE_HEAD, STORE_SLOT};
 use object_graph::Rep;
 use tagged_word::{Class, Header, Word, shape};
 use write_barrier::Main;
 
-// The words of a plain cell before its in-object slots, those of a store before its slots, and the
-// offset of the slot for the store.
+// The words of a plain cell before its in-object slots.
 pub(crate) const PLAIN_HEAD: u32 = 2;
 
-pub(crate) const STORE_HEAD: u32 = 2;
-
-pub(crate) const STORE_SLOT: u32 = 1;
-
 /// The header of the cell at an address.
-pub(crate) fn header_at(main: &Main, at: u32) -> Header
+pub fn header_at(main: &Main, at: u32) -> Header
     requires whole { IsWhole main.now }
     requires there { HasCellAt (heap_of main.now) at }
     ensures { IsHeaderAt (heap_of main.now) at result }

@@ -5,15 +5,16 @@ ghost use Rattle.object_graph.specs.declared.value.Value.{Value};
 ghost use Rattle.object_graph.specs.Graphs.{Graph, PlainObject};
 ghost use Rattle.heap_model.specs.Needs.{word_at};
 ghost use Rattle.write_barrier.specs.Mains.{heap_of, IsTied, MainShows};
-ghost use Rattle.shape_change.specs.FieldChanges.{IsPlainAt, IsShownSetting, IsValueHeld};
+ghost use Rattle.object_cells.specs.PlainObjects.{IsPlainAt};
+ghost use Rattle.object_cells.specs.HeldValues.{IsValueHeld};
+ghost use Rattle.shape_change.specs.FieldChanges.{IsShownSetting};
 ghost use Rattle.shape_change.specs.FieldChanges.{SetsField};
 ghost use Rattle.shape_change.specs.Places.{place_at};
-ghost use Rattle.shape_change.specs.CellsAt.{IsWhole, HasField};
-ghost use Rattle.shape_change.specs.Contents.{HoldsSlotWord, LacksRoom, filling_at};
+ghost use Rattle.object_cells.specs.CellsAt.{IsWhole, HasField};
+ghost use Rattle.object_cells.specs.Contents.{HoldsSlotWord, LacksRoom, filling_at};
 ghost use Rattle.shape_change.specs.Fillings.{FillsSlot};
 
 use crate::adding::add_there;
-use crate::content::Content;
 use crate::filling::{fill, filling_of};
 use crate::place::Place;
 use crate::reading::header_at;
@@ -21,6 +22,7 @@ use crate::slot_setting::setting_of;
 use crate::stop::FieldStop;
 use crate::widening::set_wider;
 use handle_roots::Held;
+use object_cells::Content;
 use write_barrier::{Main, NoRoom};
 
 // The slot at a place of a plain object comes to hold this; its shape stays.

@@ -2,13 +2,13 @@
 ghost use Rattle.std.specs.Prelude.{◌≡◌};
 ghost use Rattle.write_barrier.specs.Mains.{heap_of};
 ghost use Rattle.shape_change.specs.FieldChanges.{IsShownSetting};
-ghost use Rattle.shape_change.specs.CellsAt.{HasField};
+ghost use Rattle.object_cells.specs.CellsAt.{HasField};
 ghost use Rattle.shape_change.specs.Fillings.{IsSlotSetting};
 
-use crate::content::{Content, content_of, rep_of};
 use crate::place::Place;
 use crate::reading::place_of;
 use handle_roots::Held;
+use object_cells::{Content, content_of, rep_of};
 use object_graph::Rep;
 use write_barrier::Main;
 

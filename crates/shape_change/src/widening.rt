@@ -1,9 +1,9 @@
 //! A field gets a wider representation: the object gets another shape.
-ghost use Rattle.std.specs.Prelude.{◌≡◌, ◌+◌, ◌<◌, ◌≤◌, Some, None, length, OnOk, OnErr};
+ghost use Rattle.std.specs.Prelude.{◌≡◌, ◌+◌, ◌<◌, ◌≤◌, length, OnOk, IfErr};
 ghost use Rattle.page_space.specs.Extents.{layouts_start, marks_start};
-ghost use Rattle.object_graph.specs.Paths.{missing, with_path};
+ghost use Rattle.object_graph.specs.Paths.{missing};
 ghost use Rattle.object_graph.specs.Limits.{paths_most};
-ghost use Rattle.shape_tree.specs.Shapes.{IsPathShape, shape_path, changed, Leads};
+ghost use Rattle.shape_tree.specs.Shapes.{IsPathShape, shape_path, changed, Leads, IsFullFor};
 ghost use Rattle.heap_table.specs.declared.phase.Phase.TheVariants.{Quiet};
 ghost use Rattle.heap_model.specs.Wholeness.{HasSizes};
 ghost use Rattle.write_barrier.specs.Mains.{heap_of};
@@ -11,12 +11,12 @@ ghost use Rattle.write_barrier.specs.Opening.{ChangesWithin};
 ghost use Rattle.shape_change.specs.Places.{place_at};
 ghost use Rattle.shape_change.specs.Fillings.{with_paths, CanSetSlot, SetsWider};
 
-use crate::content::Filling;
 use crate::filling::{fill, filling_of};
 use crate::paths::put_new_layouts;
 use crate::reading::header_at;
 use crate::slot_setting::SlotSetting;
 use crate::stop::FieldStop;
+use object_cells::Filling;
 use object_graph::Rep;
 use shape_tree::ShapesFull;
 use tagged_word::Header;
@@ -35,7 +35,7 @@ fn room_for_change(main: &Main, shape: u32, slot: u32, rep: Rep) -> Result<(), S
     ensures room { let path = changed (shape_path main.now.paths shape) slot rep in
         OnOk result (length main.now.paths + length (missing main.now.paths path) ≤ paths_most) }
     ensures refused { let path = changed (shape_path main.now.paths shape) slot rep in
-        OnErr result (with_path (Some paths_most) main.now.paths path ≡ None) }
+        IfErr result (λ full. IsFullFor main.now.paths main.now.paths path full) }
 {
     let paths = main.shapes().paths();
     let missing = main.shapes().missing_change(shape, slot, rep);

@@ -49,6 +49,65 @@ fn an_object_with_a_field_has_the_words_of_its_description(rt: HostRuntime) -> R
 }
 
 #[test]
+fn a_list_has_the_words_of_its_description(rt: HostRuntime) -> Result<(), Fail> {
+    let script = b"list l\npush l 1\npush l 2\npush l 3\npush l 4";
+    let ended = ended_by(&rt, &["run"], script)?;
+    let kept = ended.kept.ok_or("no heap was kept")?;
+    let words = kept.image.words.as_slice();
+    let wanted: [(usize, u64); 11] = [
+        (131_072, 6),
+        (131_073, 524_301),
+        (131_074, 4),
+        (131_075, 14),
+        (131_076, 4),
+        (131_077, 2),
+        (131_078, 4),
+        (131_079, 6),
+        (131_080, 8),
+        (131_081, 0),
+        (188_416, 524_289),
+    ];
+    for (at, word) in wanted {
+        assert_eq!(rt; words.get(at).copied(), Some(word), "at {at}");
+    }
+    assert_eq!(rt; kept.image.used, 9);
+    assert!(rt; is_whole(&kept.image));
+    Ok(())
+}
+
+// The store of 8 slots stands behind the first one, and the box behind it.
+#[test]
+fn a_full_store_is_followed_by_one_of_twice_the_slots(rt: HostRuntime) -> Result<(), Fail> {
+    let script = b"list l\npush l 1\npush l 2\npush l 3\npush l 4\npush l 5000000000";
+    let ended = ended_by(&rt, &["run"], script)?;
+    let kept = ended.kept.ok_or("no heap was kept")?;
+    let words = kept.image.words.as_slice();
+    let wanted: [(usize, u64); 15] = [
+        (131_073, 524_325),
+        (131_074, 5),
+        (131_081, 14),
+        (131_082, 8),
+        (131_083, 2),
+        (131_084, 4),
+        (131_085, 6),
+        (131_086, 8),
+        (131_087, 524_365),
+        (131_088, 7),
+        (131_089, 7),
+        (131_090, 7),
+        (131_091, 22),
+        (131_092, 5_000_000_000),
+        (131_093, 0),
+    ];
+    for (at, word) in wanted {
+        assert_eq!(rt; words.get(at).copied(), Some(word), "at {at}");
+    }
+    assert_eq!(rt; kept.image.used, 21);
+    assert!(rt; is_whole(&kept.image));
+    Ok(())
+}
+
+#[test]
 fn the_kept_heap_has_the_sizes_of_the_words(rt: HostRuntime) -> Result<(), Fail> {
     let words = ["run", "--pages", "1", "--young", "64", "--helpers=0"];
     let ended = ended_by(&rt, &words, b"let x 1\nlet y 2")?;
@@ -67,12 +126,14 @@ fn the_kept_heap_has_the_sizes_of_the_words(rt: HostRuntime) -> Result<(), Fail>
 #[test]
 fn each_kept_heap_is_whole(rt: HostRuntime) -> Result<(), Fail> {
     let words = ["run", "--pages", "1", "--young", "128", "--helpers", "1"];
-    let scripts: [&[u8]; 6] = [
+    let scripts: [&[u8]; 8] = [
         b"",
         b"new x 2\nset x a 1\nset x b 5000000000\nset x c x\ndel x b\nset x c 5000000000",
         b"new x 0\nset x a 5000000000\nset x b 5000000000\nset x a x\ndel x a\ndel x b",
         b"new x 1\nrepeat 100\nset x a 5000000000\nset x b 1\nset x c x\nnew x 1\nend",
         b"new x 1\nset x a 1\nset x b 2\nset x c 3\nset x d 4\nset x e 5\nset x f 5000000000\ndel x c",
+        b"list l\npush l l\npush l 5000000000\nput l 0 5000000000\nput l 1 l\nput l 0 undefined\nput l 2 0",
+        b"list l\nrepeat 100\npush l 5000000000\npush l l\npush l undefined\nend",
         b"new x 8\nset x a x\nlet y x\ndrop x\nset y b 7\nget z y c\nset z a 1",
     ];
     for script in scripts {

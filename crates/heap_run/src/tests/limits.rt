@@ -38,6 +38,8 @@ fn each_limit_has_an_answer_on_both_sides(rt: HostRuntime) -> Result<(), Fail> {
         ("", "new x 8", 820, 3, "heap full 820\n"),
         ("new x 8\n", "set x a# 0", 64, 0, ""),
         ("new x 8\n", "set x a# 0", 65, 1, "fault 66 fieldsfull\n"),
+        ("list l\n", "push l #", 1_000, 0, ""),
+        ("list l\n", "push l #", 1_001, 1, "fault 1002 listfull\n"),
     ];
     for (head, line, count, status, text) in table {
         let script = numbered(&rt, head, line, count)?;

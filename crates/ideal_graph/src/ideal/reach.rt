@@ -45,7 +45,7 @@ impl Ideal {
     }
 
     /// The marks of what can be reached.
-    fn reached(&self) -> Result<Vec<bool>, IdealStop>
+    pub(crate) fn reached(&self) -> Result<Vec<bool>, IdealStop>
         ensures marked { IfOk result (λ marks. marks.items ≡ reach self.now.graph) }
         ensures memory { IfErr result (λ stop. stop ≡ IdealStop.NoMemory) }
     {

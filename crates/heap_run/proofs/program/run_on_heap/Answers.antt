@@ -1,10 +1,10 @@
-use Rattle.std.proofs.Common.{◌≡◌, ℕ, ◌∙◌, ap, length}
+use Rattle.std.proofs.Common.{ℕ, ◌∙◌, ap}
 use Rattle.std.proofs.lemmas.Bool.{cases_eq}
-use Rattle.page_space.specs.Extents.{Space}
 use Rattle.heap_model.specs.Heaps.{Heap}
 use Rattle.heap_model.specs.Images.{image_heap}
 use Rattle.write_barrier.specs.Mains.{heap_of}
 use Rattle.collector.proofs.ImagesShow.{images_show, images_are_blank}
+use Rattle.collector.proofs.ImageStores.{images_keep_stores}
 use Rattle.collector.proofs.ImageNeeds.{images_need_as_much}
 use Rattle.heap_run.proofs.Concluding.{IsKeepable, Runs-finished}
 use Rattle.heap_run.proofs.Imaged.{Laws, finishes_imaged}
@@ -20,7 +20,7 @@ returns g c = λ bytes is.
     let heap : Heap = heap_of c.run_script-finished.new.heap.main in
     let image = c.into_image.result in
     let imaged = c.into_image.ensures in
-    let laws : Laws = record { show = images_show; need = images_need_as_much } in
+    let laws : Laws = record { show = images_show; stores = images_keep_stores; need = images_need_as_much } in
     let finishes = finishes_imaged finished _ _ _ _ laws c.lines-lines.ensures.numbered imaged ran.finishes in
     let keepable : IsKeepable space.sizes script image = record {
       regions = imaged.space ∙ ran.space

@@ -45,4 +45,4 @@ returns-in_default-new g c =
 
 pub returns : goal.returns
 returns g c =
-    rw (c.in-Ok-open_heap.ensures.1, c.new.ensures) at (c.run_on_heap.ensures c.args.source.now c.in-Ok.ensures.script)
+    rw (c.in-Ok-open_heap.ensures.2, c.new.ensures) at (c.run_on_heap.ensures c.args.source.now c.in-Ok.ensures.script)

@@ -1,4 +1,4 @@
-use Rattle.std.proofs.Common.{◌∙◌, ap}
+use Rattle.std.proofs.Common.{ap}
 use Rattle.mutator.specs.Carries.{field_numbers}
 use Rattle.write_barrier.specs.Mains.{MainShows}
 use Rattle.collector.specs.States.{HeapState}

@@ -5,8 +5,17 @@ use Rattle.heap_script.proofs.execute.execute.Goals as goal
 pub returns-in-New-clause-carried : goal.returns-in-New-clause-carried
 returns-in-New-clause-carried c = λ graph shown made. (
   [],
-  rw c.in-New.is (c.make.ensures.carried graph c.args.script.now.fields shown made),
-  written_nothing (is_ok c.make.result) c.args.out.now,
+  rw c.in-New.is
+      (rw c.counted.ensures.same (c.new_plain.ensures.carried graph c.args.script.now.fields shown made)),
+  written_nothing (is_ok c.counted.result) c.args.out.now,
+)
+
+pub returns-in-List-clause-carried : goal.returns-in-List-clause-carried
+returns-in-List-clause-carried c = λ graph shown made. (
+  [],
+  rw c.in-List.is
+      (rw c.counted-in-List.ensures.same (c.list.ensures.carried graph c.args.script.now.fields shown made)),
+  written_nothing (is_ok c.counted-in-List.result) c.args.out.now,
 )
 
 pub returns-in-LetValue-clause-carried : goal.returns-in-LetValue-clause-carried
@@ -49,6 +58,27 @@ returns-in-Del-clause-carried c = λ graph shown made. (
   [],
   rw c.in-Del.is (c.del.ensures.carried graph c.args.script.now.fields shown),
   written_nothing (is_ok c.del.result) c.args.out.now,
+)
+
+pub returns-in-Push-clause-carried : goal.returns-in-Push-clause-carried
+returns-in-Push-clause-carried c = λ graph shown made. (
+  [],
+  rw c.in-Push.is (c.push.ensures.carried graph c.args.script.now.fields shown),
+  written_nothing (is_ok c.push.result) c.args.out.now,
+)
+
+pub returns-in-Put-clause-carried : goal.returns-in-Put-clause-carried
+returns-in-Put-clause-carried c = λ graph shown made. (
+  [],
+  rw c.in-Put.is (c.put.ensures.carried graph c.args.script.now.fields shown),
+  written_nothing (is_ok c.put.result) c.args.out.now,
+)
+
+pub returns-in-At-clause-carried : goal.returns-in-At-clause-carried
+returns-in-At-clause-carried c = λ graph shown made. (
+  [],
+  rw c.in-At.is (c.at.ensures.carried graph c.args.script.now.fields shown),
+  written_nothing (is_ok c.at.result) c.args.out.now,
 )
 
 pub returns-in-Print-clause-carried : goal.returns-in-Print-clause-carried

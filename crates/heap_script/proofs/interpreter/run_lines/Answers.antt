@@ -17,7 +17,7 @@ loop-at-init g c =
     record {
       running = rw (c.requires.empty, c.new-turns.ensures)
           (Running-start c.args.script.now c.args.heap.now taken (rw lines.all at lines.placed) c.requires.shown
-          c.requires.variables);
+          c.requires.opened c.requires.variables);
       room = rw c.requires.empty (omega arith);
       space = refl;
       steady = refl;
@@ -43,6 +43,7 @@ returns-then-executed-eq-LINES_MOST-clause-pauses g c =
     r.left in
     record {
       reached = r.reached;
+      spends = r.spends;
       halts = (
         ComesTo-limit script (heap_of c.loop-at.heap.main) _ c.loop-at.executed line.number _ _ r.reached goes
             c.if-executed-eq-LINES_MOST.true,
@@ -66,6 +67,7 @@ returns-clause-pauses g c =
     rw (← c.lines-lines.ensures.all) (slice_get_past lines c.loop-at.at c.loop-at-test.false) in
     record {
       reached = r.reached;
+      spends = r.spends;
       halts = (
         ComesTo-end c.args.script.now (heap_of c.loop-at.heap.main) c.loop-at.at c.loop-at.executed c.loop-at.turns r.reached r.left past,
         r.handed,
@@ -93,7 +95,7 @@ returns-in-Err g c =
     below goes carries in
     record {
       pauses = rw (same, out-is, c.stopped.ensures)
-          (Pauses-stopped script (heap_of heap.main) c.loop-at.out n line.number c.in-Err.stop _ _ _ _ r.reached comes
+          (Pauses-stopped script (heap_of heap.main) c.loop-at.out n line.number c.in-Err.stop _ _ _ _ r.reached r.spends comes
           r.handed c.loop-at.invariant.steady);
       shows = rw same (graph, r.shown);
       space = rw same c.loop-at.invariant.space;
@@ -137,6 +139,7 @@ returns-in_default-make_room g c =
     record {
       pauses = record {
         reached = ran.reached;
+        spends = ran.spends;
         halts = (
           (refl, refl, fills-handed ran.handed (rw out-is at c.in_default-make_room.ensures.due)),
           CutsOff-handed ran.handed (rw out-is at c.in_default-make_room.ensures.stopped),

@@ -49,5 +49,5 @@ returns-in_err-delete c = record {
       subst (λ main. Carries names main c.delete.new.main graph (Del c.args.x c.args.f) [] answer) same
       (subst (λ one. Carries names c.bound.new.main c.delete.new.main graph (Del c.args.x c.args.f) [] one)
       (sym stopped)
-      (del_stopped names c.args.f taking lacks.0 lacks.1));
+      (del_stopped names c.args.f taking lacks.0.refused lacks.1));
 }

@@ -44,5 +44,5 @@ returns c = record {
       (binding_carried (bind graph y value) names (Get y c.args.x c.args.f) y held shown
       (get_done names graph y c.args.x c.args.f target found.plain is found.refers) refl
       tt (binds_anew graph y value) below c.hold.ensures.holds.fits read
-      (record { held = c.hold.ensures.held; heap = c.hold.ensures.heap }) refl);
+      (record { held = c.hold.ensures.held; heap = c.hold.ensures.heap }) refl (λ at. refl));
 }

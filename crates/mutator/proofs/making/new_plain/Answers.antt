@@ -1,11 +1,12 @@
 -- The new object: its cell is put and bound, or there is no room for it.
 use Rattle.std.proofs.Common.{[], refl, ap, subst, arith}
+use Rattle.tagged_word.specs.declared.header.Header.{Header}
 use Rattle.object_graph.specs.declared.object.Object.TheVariants.{Plain}
 use Rattle.object_graph.specs.Graphs.{make}
 use Rattle.page_space.specs.Extents.{Space}
 use Rattle.nursery.specs.Young.{HasRoom}
 use Rattle.shape_tree.specs.Shapes.{IsShapeOf}
-use Rattle.mutator.proofs.MadeObjects.{new_carried}
+use Rattle.mutator.proofs.MadeObjects.{making_carried, plain_made}
 use Rattle.mutator.proofs.making.new_plain.Goals as goal
 
 pub returns-in-Ok : goal.returns-in-Ok
@@ -13,22 +14,24 @@ returns-in-Ok c = record {
   carried = λ graph names shows count.
       let shaped = subst (λ paths. IsShapeOf paths (record { cap = c.args.cap; fields = [] }) c.root-shape.result)
       c.shapes.ensures c.root-shape.ensures in
-      new_carried names shows (record {
+      let header : Header = record { shape = c.root-shape.result; object = c.args.object } in
+      making_carried names shows
+      (record { fits = c.requires.within.1; done = λ other. refl; need = refl; keeps = λ at. refl })
+      (record {
         run = c.in-Ok.ensures.run.at;
         taken = c.in-Ok.ensures.reserved;
         put = c.fill_plain.ensures.filled;
         heap = c.fill_plain.ensures.heap;
         holds = record { held = c.hold.ensures.held; heap = c.hold.ensures.heap };
-      }) (record {
-        sized = shows.shows.whole.sized;
-        is_header = record {
-          shape = omega (arith, shaped.is_shape.below, shows.shows.whole.sized.shapes.few);
-          object = omega arith;
-        };
-        few = c.requires.within.1;
-        shaped = shaped;
-        room = omega (arith, c.in-Ok.ensures.room, ap (λ (space : Space). space.sizes.young) shows.tied);
-      }) c.hold.ensures.holds.fits c.requires.within.0 count c.in-Ok.ensures.room;
+      })
+      (plain_made {header = header} c.args.x shows.shows.whole.sized
+      (record {
+        shape = omega (arith, shaped.is_shape.below, shows.shows.whole.sized.shapes.few);
+        object = omega arith;
+      })
+      c.requires.within.1 shaped
+      (omega (arith, c.in-Ok.ensures.room, ap (λ (space : Space). space.sizes.young) shows.tied)) count)
+      c.hold.ensures.holds.fits c.requires.within.0 c.in-Ok.ensures.room;
 }
 
 pub returns-in-Err : goal.returns-in-Err

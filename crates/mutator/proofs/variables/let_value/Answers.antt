@@ -24,5 +24,5 @@ returns c = record {
       binding_carried (bind graph x value) names (LetValue x c.args.v) x held shows
       (ap (λ found. given Unbound found (λ one. done (bind graph x one) [])) is) refl
       (operand_fits c.args.v value held is stands) (binds_anew graph x value)
-      c.requires.within.0 stands.fits shown holds refl;
+      c.requires.within.0 stands.fits shown holds refl (λ at. refl);
 }

@@ -1,14 +1,32 @@
 -- A field is added to the slot that it comes to.
 use Rattle.std.proofs.Common.{sym, subst, arith}
 use Rattle.std.proofs.lemmas.Result.{on_ok_weaker, IfErr-weaker}
-use Rattle.shape_change.specs.Additions.{AddsField, RefusesRoom}
+use Rattle.shape_change.specs.Additions.{AddsField}
+use Rattle.object_cells.specs.Made.{RefusesRoom}
+use Rattle.object_cells.proofs.PlainFields.{plain_sound}
 use Rattle.shape_change.proofs.NewNeeds.{need_to_store, need_to_new_store}
 use Rattle.shape_change.proofs.FullStores.{store_is_full}
 use Rattle.shape_change.proofs.adding.add_field.Goals as goal
 
+pub store_of-store-requires-clause-there : goal.store_of-store-requires-clause-there
+store_of-store-requires-clause-there c =
+    let there = c.requires.there in
+    let are = (plain_sound c.requires.whole.whole there.has there.plain).has in
+    record {
+      cell = there.cell;
+      words = there.words;
+      has = there.has;
+      stands = there.stands;
+      word = are.store;
+      slot = are.slot;
+      beside = are.beside;
+      are = are.stands;
+    }
+
 pub add_to_new_store-requires-clause-full : goal.add_to_new_store-requires-clause-full
 add_to_new_store-requires-clause-full c =
-    store_is_full c.args.main.now c.args.object c.args.header c.args.name c.args.value c.store_of-store.result c.requires
+    store_is_full c.args.main.now c.args.object c.args.header c.args.name c.args.value c.store_of-store.result
+    c.requires
     c.store_of-store.ensures (omega arith) (omega arith)
 
 pub returns-then-slot-cap-2-clause-ok : goal.returns-then-slot-cap-2-clause-ok
@@ -19,7 +37,8 @@ returns-then-slot-cap-2-clause-ok c =
 
 pub returns-then-slot-cap-2-clause-refused : goal.returns-then-slot-cap-2-clause-refused
 returns-then-slot-cap-2-clause-refused c =
-    let need = need_to_store c.args.main.now c.args.object c.args.header c.args.name c.args.value c.store_of-store.result
+    let need = need_to_store c.args.main.now c.args.object c.args.header c.args.name c.args.value
+    c.store_of-store.result
     c.requires (omega arith) c.store_of-store.ensures (omega arith) in
     IfErr-weaker c.add_to_store.result _ _
     (λ no_room lacks. subst (λ n. RefusesRoom c.args.main.now c.add_to_store.new.main n no_room) (sym need) lacks)
@@ -27,7 +46,8 @@ returns-then-slot-cap-2-clause-refused c =
 
 pub returns-else-slot-cap-2-clause-ok : goal.returns-else-slot-cap-2-clause-ok
 returns-else-slot-cap-2-clause-ok c =
-    let full = store_is_full c.args.main.now c.args.object c.args.header c.args.name c.args.value c.store_of-store.result
+    let full = store_is_full c.args.main.now c.args.object c.args.header c.args.name c.args.value
+    c.store_of-store.result
     c.requires c.store_of-store.ensures (omega arith) (omega arith) in
     on_ok_weaker c.add_to_new_store.result
     (λ adds. AddsField.to_new_store c.store_of-store.result (omega arith) c.store_of-store.ensures full adds)
@@ -35,9 +55,11 @@ returns-else-slot-cap-2-clause-ok c =
 
 pub returns-else-slot-cap-2-clause-refused : goal.returns-else-slot-cap-2-clause-refused
 returns-else-slot-cap-2-clause-refused c =
-    let full = store_is_full c.args.main.now c.args.object c.args.header c.args.name c.args.value c.store_of-store.result
+    let full = store_is_full c.args.main.now c.args.object c.args.header c.args.name c.args.value
+    c.store_of-store.result
     c.requires c.store_of-store.ensures (omega arith) (omega arith) in
-    let need = need_to_new_store c.args.main.now c.args.object c.args.header c.args.name c.args.value c.store_of-store.result
+    let need = need_to_new_store c.args.main.now c.args.object c.args.header c.args.name c.args.value
+    c.store_of-store.result
     c.requires (omega arith) c.store_of-store.ensures full in
     IfErr-weaker c.add_to_new_store.result _ _
     (λ no_room lacks. subst (λ n. RefusesRoom c.args.main.now c.add_to_new_store.new.main n no_room) (sym need) lacks)

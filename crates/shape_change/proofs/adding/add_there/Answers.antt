@@ -8,8 +8,10 @@ use Rattle.nursery.specs.Young.{HasRoom}
 use Rattle.write_barrier.specs.Mains.{heap_of}
 use Rattle.shape_change.specs.Additions.{MayAdd}
 use Rattle.shape_change.proofs.AddedShown.{adding}
-use Rattle.shape_change.proofs.FieldAdded.{wide_is, field_is_set}
-use Rattle.shape_change.proofs.NewNames.{shown_shape, lacks_fields, lacks_no_field, lacks_paths, lacks_no_path, held_is_value}
+use Rattle.object_cells.proofs.HeldNeeds.{wide_is}
+use Rattle.shape_change.proofs.FieldAdded.{field_is_set}
+use Rattle.shape_change.proofs.NewNames.{shown_shape, lacks_fields, lacks_no_field, lacks_paths, lacks_no_path}
+use Rattle.object_cells.proofs.HeldNeeds.{held_is_value}
 use Rattle.shape_change.proofs.NewNames.{can_add}
 use Rattle.shape_change.proofs.adding.add_there.Goals as goal
 
@@ -51,9 +53,11 @@ returns-in-Ok c graph plain what shows is holds fresh =
     let paths = c.args.main.now.paths in
     let may = subst (λ (rep : Rep). MayAdd paths (stepped (shape_path paths c.args.shape) c.args.name rep))
     c.rep_of.ensures c.in_default.ensures.may in
-    let can = can_add c.requires.shown c.requires.shape c.header_at-header.ensures c.requires.is_new (omega arith) may in
+    let can =
+    can_add c.requires.shown c.requires.shape c.header_at-header.ensures c.requires.is_new (omega arith) may in
     let fits : FitsHeld c.args.value = search rules in
-    field_is_set (adding can shows is holds (held_is_value c.args.value what shows fits holds.shows) fresh) c.in-Ok.ensures.ok
+    field_is_set (adding can shows is holds (held_is_value c.args.value what shows fits holds.shows) fresh)
+    c.regions-regions.ensures.within c.in-Ok.ensures.ok
 
 pub returns-in-Err-add_field : goal.returns-in-Err-add_field
 returns-in-Err-add_field c graph plain what shows is holds fresh =

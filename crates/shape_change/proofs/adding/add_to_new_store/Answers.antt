@@ -1,21 +1,22 @@
 -- The store and the box that are made stand in the words that were reserved.
 use Rattle.std.proofs.Common.{◌≡◌, ◌+◌, refl, ap, ◌∙◌, arith}
 use Rattle.write_barrier.specs.Mains.{Mutator}
-use Rattle.shape_change.specs.Additions.{content_need}
-use Rattle.shape_change.proofs.UnusedWords.{run_before_marks, marks_fit}
+use Rattle.object_cells.specs.Made.{content_need}
+use Rattle.object_cells.proofs.UnusedWords.{run_before_marks, marks_fit}
 use Rattle.shape_change.proofs.adding.add_to_new_store.Goals as goal
 
 pub make_store-requires-clause-within : goal.make_store-requires-clause-within
 make_store-requires-clause-within c =
-    let need = 2 + c.grown-words.result + c.need_of.result in
+    let need = 2 + c.grown-capacity.result + c.need_of.result in
     let space = c.step_to-next.ensures.space ∙ ap (λ (main : Mutator). main.seat.space) c.in_ok-at.ensures.reserved in
-    let before = run_before_marks c.args.main.now need c.in_ok-at.at c.step_to-next.new.main.seat.space c.requires.can.tied
+    let before = run_before_marks c.args.main.now need c.in_ok-at.at c.step_to-next.new.main.seat.space
+    c.requires.can.tied
     c.in_ok-at.ensures.room (c.in_ok-at.ensures.at (omega arith)) space in
-    omega (arith, before, c.grown-words.ensures)
+    omega (arith, before, c.grown-capacity.ensures)
 
 pub overflow_add-at : goal.overflow_add-at
 overflow_add-at c =
-    let need = 2 + c.grown-words.result + c.need_of.result in
+    let need = 2 + c.grown-capacity.result + c.need_of.result in
     let space = c.args.main.now.seat.space in
     let before = run_before_marks c.args.main.now need c.in_ok-at.at space c.requires.can.tied
     c.in_ok-at.ensures.room (c.in_ok-at.ensures.at (omega arith)) refl in
@@ -23,19 +24,20 @@ overflow_add-at c =
 
 pub boxed_word-word-requires-clause-within : goal.boxed_word-word-requires-clause-within
 boxed_word-word-requires-clause-within c v boxed =
-    let need = 2 + c.grown-words.result + c.need_of.result in
+    let need = 2 + c.grown-capacity.result + c.need_of.result in
     let two : c.need_of.result ≡ 2 = c.need_of.ensures ∙ ap content_need boxed in
     let space = c.make_store.ensures.space ∙ c.step_to-next.ensures.space
     ∙ ap (λ (main : Mutator). main.seat.space) c.in_ok-at.ensures.reserved in
-    let before = run_before_marks c.args.main.now need c.in_ok-at.at c.make_store.new.main.seat.space c.requires.can.tied
+    let before = run_before_marks c.args.main.now need c.in_ok-at.at c.make_store.new.main.seat.space
+    c.requires.can.tied
     c.in_ok-at.ensures.room (c.in_ok-at.ensures.at (omega arith)) space in
     omega (arith, before, two)
 
 pub store-requires-clause-within : goal.store-requires-clause-within
 store-requires-clause-within c =
-    let need = 2 + c.grown-words.result + c.need_of.result in
+    let need = 2 + c.grown-capacity.result + c.need_of.result in
     let space = c.boxed_word-word.ensures.made.space ∙ c.make_store.ensures.space ∙ c.step_to-next.ensures.space
     ∙ ap (λ (main : Mutator). main.seat.space) c.in_ok-at.ensures.reserved in
     let before = run_before_marks c.args.main.now need c.in_ok-at.at c.boxed_word-word.new.main.seat.space
     c.requires.can.tied c.in_ok-at.ensures.room (c.in_ok-at.ensures.at (omega arith)) space in
-    omega (arith, before, c.grown-words.ensures)
+    omega (arith, before, c.grown-capacity.ensures)

@@ -1,8 +1,8 @@
 -- The box that is made stands in the words that were reserved.
 use Rattle.std.proofs.Common.{◌≡◌, ap, ◌∙◌, arith}
 use Rattle.write_barrier.specs.Mains.{Mutator}
-use Rattle.shape_change.specs.Additions.{content_need}
-use Rattle.shape_change.proofs.UnusedWords.{run_before_marks}
+use Rattle.object_cells.specs.Made.{content_need}
+use Rattle.object_cells.proofs.UnusedWords.{run_before_marks}
 use Rattle.shape_change.proofs.adding.add_to_store.Goals as goal
 
 pub boxed_word-word-requires-clause-within : goal.boxed_word-word-requires-clause-within

@@ -3,8 +3,8 @@ use Rattle.std.proofs.Common.{◌≡◌, sym, ◌∙◌}
 use Rattle.std.proofs.lemmas.Option.{same_Some}
 use Rattle.tagged_word.proofs.Readings.{reference_to}
 use Rattle.heap_model.specs.Slots.{raw_word}
-use Rattle.shape_change.proofs.CellsRead.{word_is}
-use Rattle.shape_change.proofs.WordsTold.{cell_fits}
+use Rattle.object_cells.proofs.CellsRead.{word_is}
+use Rattle.object_cells.proofs.WordsTold.{cell_fits}
 use Rattle.shape_change.proofs.deleting.raw_in_box.Goals as goal
 
 pub returns : goal.returns

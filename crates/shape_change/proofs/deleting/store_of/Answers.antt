@@ -3,8 +3,8 @@ use Rattle.std.proofs.Common.{sym, ◌∙◌, ap}
 use Rattle.std.proofs.lemmas.Option.{same_Some, none-some}
 use Rattle.tagged_word.specs.Readings.{reference_in}
 use Rattle.tagged_word.proofs.Readings.{reference_to}
-use Rattle.shape_change.proofs.CellsRead.{word_is}
-use Rattle.shape_change.proofs.WordsTold.{cell_fits}
+use Rattle.object_cells.proofs.CellsRead.{word_is}
+use Rattle.object_cells.proofs.WordsTold.{cell_fits}
 use Rattle.shape_change.proofs.deleting.store_of.Goals as goal
 
 pub unreachable-requires : goal.unreachable-requires

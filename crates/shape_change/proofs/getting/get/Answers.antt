@@ -15,9 +15,9 @@ use Rattle.handle_roots.specs.declared.held.Held.TheVariants as held
 use Rattle.heap_model.specs.Kinds.{HasWord}
 use Rattle.heap_model.specs.Showing.{ShowsHeld, ShowsField}
 use Rattle.write_barrier.specs.Mains.{heap_of}
-use Rattle.shape_change.proofs.FieldsFound.{no_value, value_found, named_at, field_at}
-use Rattle.shape_change.proofs.PlainFields.{plain_sound, plain_shown, names_distinct}
-use Rattle.shape_change.proofs.SlotPlaces.{one_slots}
+use Rattle.object_cells.proofs.FieldsFound.{no_value, value_found, named_at, field_at}
+use Rattle.object_cells.proofs.PlainFields.{plain_sound, plain_shown, names_distinct}
+use Rattle.object_cells.proofs.SlotPlaces.{one_slots}
 use Rattle.shape_change.proofs.getting.get.Goals as goal
 
 pub find-requires : goal.find-requires

@@ -9,7 +9,7 @@ use Rattle.shape_tree.specs.Shapes.{shape_path}
 use Rattle.heap_model.specs.Kinds.{HasWord}
 use Rattle.heap_model.specs.Showing.{ShowsField}
 use Rattle.write_barrier.specs.Mains.{heap_of}
-use Rattle.shape_change.proofs.PlainFields.{field_slot_there, shape_there, cap_there, field_word_there}
+use Rattle.object_cells.proofs.PlainFields.{field_slot_there, shape_there, cap_there, field_word_there}
 use Rattle.shape_change.proofs.getting.value_of_slot.Goals as goal
 
 pub place_of-place-requires-clause-there : goal.place_of-place-requires-clause-there

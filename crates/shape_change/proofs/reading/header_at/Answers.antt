@@ -3,7 +3,7 @@ use Rattle.std.proofs.Common.{sym, ◌∙◌, subst, ◌<◌}
 use Rattle.std.proofs.lemmas.Option.{same_Some, none-some}
 use Rattle.page_space.specs.Extents.{marks_start}
 use Rattle.heap_model.proofs.CellsApart.{has_is_cell}
-use Rattle.shape_change.proofs.CellsRead.{header_stands, cell_at_before_marks}
+use Rattle.object_cells.proofs.CellsRead.{header_stands, cell_at_before_marks}
 use Rattle.shape_change.proofs.reading.header_at.Goals as goal
 
 pub word-requires-clause-within : goal.word-requires-clause-within

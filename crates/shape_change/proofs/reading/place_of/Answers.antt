@@ -9,9 +9,9 @@ use Rattle.heap_model.specs.Heaps.{HasCell}
 use Rattle.heap_model.specs.Kinds.{HasWord, HasSlots}
 use Rattle.heap_model.proofs.CellsApart.{one_at, one_words}
 use Rattle.write_barrier.specs.Mains.{heap_of}
-use Rattle.shape_change.proofs.CellsRead.{word_is, fits_address}
-use Rattle.shape_change.proofs.SlotPlaces.{own_slot, own_slot_within, store_within, StandsAt, beside_word, beside_refers}
-use Rattle.shape_change.proofs.SlotPlaces.{behind_cap, behind_cap_below, one_slots}
+use Rattle.object_cells.proofs.CellsRead.{word_is, fits_address}
+use Rattle.object_cells.proofs.SlotPlaces.{own_slot, own_slot_within, store_within, StandsAt, beside_word, beside_refers}
+use Rattle.object_cells.proofs.SlotPlaces.{behind_cap, behind_cap_below, one_slots}
 use Rattle.shape_change.proofs.reading.place_of.Goals as goal
 
 -- a slot below the cap ends before the marks

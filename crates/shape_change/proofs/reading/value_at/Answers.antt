@@ -9,7 +9,7 @@ use Rattle.page_space.specs.Extents.{marks_start}
 use Rattle.heap_model.specs.Slots.{is_object_kind}
 use Rattle.heap_model.proofs.CellWords.{words_by_kind, words_are_size}
 use Rattle.handle_roots.specs.declared.held.Held.TheVariants as held
-use Rattle.shape_change.proofs.CellsRead.{word_is, fits_address, shape_is_box, box_has_shape, cell_before_marks}
+use Rattle.object_cells.proofs.CellsRead.{word_is, fits_address, shape_is_box, box_has_shape, cell_before_marks}
 use Rattle.shape_change.proofs.reading.value_at.Goals as goal
 
 -- the cell at the address is a box, where its header says so

@@ -3,7 +3,7 @@ use Rattle.std.proofs.Common.{ap, ◌∙◌}
 use Rattle.handle_roots.specs.declared.held.Held.TheVariants as held
 use Rattle.std.specs.Int.{w64, cast_signed, cast_unsigned}
 use Rattle.heap_model.proofs.SlotWords.{field_is_slot}
-use Rattle.shape_change.proofs.WordsTold.{field_told, raw_field_told, raw_back, TellsWord}
+use Rattle.object_cells.proofs.WordsTold.{field_told, raw_field_told, raw_back, TellsWord}
 use Rattle.write_barrier.specs.Mains.{heap_of}
 use Rattle.shape_change.proofs.reading.value_of_field.Goals as goal
 

@@ -10,7 +10,7 @@ use Rattle.heap_model.specs.Slots.{reference_word, IsPlace}
 use Rattle.heap_model.specs.Showing.{ShowsHeld}
 use Rattle.heap_model.proofs.WordClasses.{same_reference}
 use Rattle.write_barrier.specs.Mains.{heap_of}
-use Rattle.shape_change.proofs.WordsTold.{class_of_slot, slot_target, small_back}
+use Rattle.object_cells.proofs.WordsTold.{class_of_slot, slot_target, small_back}
 use Rattle.shape_change.proofs.reading.value_of_word.Goals as goal
 
 -- the word is the reference to the address that was read from it

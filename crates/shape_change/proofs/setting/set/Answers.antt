@@ -9,9 +9,9 @@ use Rattle.object_graph.specs.Graphs.{Graph, PlainObject}
 use Rattle.object_graph.specs.Objects.{field_value}
 use Rattle.shape_tree.specs.Shapes.{IsPathShape, shape_path, has_name}
 use Rattle.write_barrier.specs.Mains.{Mutator, heap_of, MainShows}
-use Rattle.shape_change.specs.CellsAt.{IsHeaderAt}
-use Rattle.shape_change.specs.FieldChanges.{IsPlainAt}
-use Rattle.shape_change.proofs.FieldsFound.{no_value}
+use Rattle.object_cells.specs.CellsAt.{IsHeaderAt}
+use Rattle.object_cells.specs.PlainObjects.{IsPlainAt}
+use Rattle.object_cells.proofs.FieldsFound.{no_value}
 use Rattle.shape_change.proofs.ShownFields.{shown_cell, shown_shape, field_found}
 use Rattle.shape_change.proofs.setting.set.Goals as goal
 

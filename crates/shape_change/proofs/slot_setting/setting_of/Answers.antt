@@ -6,11 +6,11 @@ use Rattle.object_graph.specs.declared.path.PathField.{PathField}
 use Rattle.object_graph.specs.Values.{join}
 use Rattle.handle_roots.specs.Roots.{FitsHeld}
 use Rattle.write_barrier.specs.Mains.{heap_of}
-use Rattle.shape_change.specs.Contents.{content_of}
+use Rattle.object_cells.specs.Contents.{content_of}
 use Rattle.shape_change.specs.Places.{IsPlaceOf}
 use Rattle.shape_change.proofs.SetThere.{is_read, fills_at, held_there, shown_setting}
 use Rattle.shape_tree.specs.Shapes.{shape_path}
-use Rattle.shape_change.proofs.PlainFields.{field_slot_there, cap_there}
+use Rattle.object_cells.proofs.PlainFields.{field_slot_there, cap_there}
 use Rattle.shape_change.proofs.slot_setting.setting_of.Goals as goal
 
 pub place_of-place-requires-clause-there : goal.place_of-place-requires-clause-there

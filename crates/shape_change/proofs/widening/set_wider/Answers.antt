@@ -3,8 +3,8 @@ use Rattle.std.proofs.Common.{◌<◌, sym, ◌∙◌, ap, subst}
 use Rattle.page_space.specs.Extents.{Space, marks_start}
 use Rattle.write_barrier.specs.Mains.{Mutator}
 use Rattle.shape_change.specs.Places.{place_at}
-use Rattle.shape_change.specs.Contents.{IsBeforeMarks}
-use Rattle.shape_change.proofs.CellsRead.{cell_at_before_marks}
+use Rattle.object_cells.specs.Contents.{IsBeforeMarks}
+use Rattle.object_cells.proofs.CellsRead.{cell_at_before_marks}
 use Rattle.shape_change.proofs.Filled.{laid_space, filled_space}
 use Rattle.shape_change.proofs.widening.set_wider.Goals as goal
 

@@ -1,0 +1,58 @@
+-- The places of an object between two addresses, as cells are passed.
+use Rattle.std.proofs.Common.{ℕ, ◌+◌, ◌≤◌, ◌<◌, inl, inr, sym, subst, arith}
+use Rattle.std.proofs.lemmas.Bool.{cases_lt}
+use Rattle.cell_layout.specs.declared.cell.Cell.{Cell}
+use Rattle.heap_model.specs.Heaps.{Heap, words_of_cell}
+use Rattle.heap_model.specs.Wholeness.{HasRows}
+use Rattle.heap_check.specs.Finding.{HasNoCellFrom}
+use Rattle.heap_check.specs.Spans.{StandsIn}
+use Rattle.heap_check.specs.Onward.{IsNextCell}
+use Rattle.heap_check.proofs.CellsOnward.{passed_or_next}
+use Rattle.heap_judge.specs.Places.{IsOf, HasNoPlaceFrom, IsFirstPlace, IsMade}
+
+-- no cell of the object stands from one address to another
+abbrev pub HasNoPlaceOf : Heap → ℕ → ℕ → ℕ → Type 0
+HasNoPlaceOf heap number from at =
+    (cell : Cell) → StandsIn heap cell → from ≤ cell.at → cell.at < at → IsOf cell number → ⊥
+
+-- one cell more was passed, which is not the object's
+pub no_place_more : (heap : Heap) (number from at : ℕ) (next : Cell) → HasRows heap → IsNextCell heap at next
+    → HasNoPlaceOf heap number from at → (IsOf next number → ⊥) → HasNoPlaceOf heap number from (next.at + next.size)
+no_place_more heap number from at next rows is none other cell stands behind before of_number =
+    elim (passed_or_next heap at next cell rows is stands before) [
+      | inl early ↦ none cell stands behind early of_number
+      | inr same ↦ other (subst (λ (one : Cell). IsOf one number) (sym same) of_number)
+    ]
+
+-- all cells were passed
+pub no_place_to_end : (heap : Heap) (number from at : ℕ) → HasNoCellFrom heap at → HasNoPlaceOf heap number from at
+    → HasNoPlaceFrom heap number from
+no_place_to_end heap number from at end none cell stands behind of_number =
+    none cell stands behind (end cell (words_of_cell heap cell) stands) of_number
+
+-- the next cell is the first of the object
+pub first_place : (heap : Heap) (number from at : ℕ) (next : Cell) → IsNextCell heap at next → from ≤ at
+    → HasNoPlaceOf heap number from at → IsOf next number → IsFirstPlace heap number from next
+first_place heap number from at next is behind none of_number = record {
+  stands = is.first.has;
+  is = of_number;
+  reached = omega (arith, behind, is.first.reached);
+  first = λ other stands past of_other. elim (cases_lt other.at at) [
+    | inl early ↦ absurd (none other stands past early of_other)
+    | inr late ↦ is.first.first other (words_of_cell heap other) stands late
+  ];
+  onward = is.onward;
+}
+
+-- each object's cell before an address carries the number of one of so many objects
+abbrev pub AreMadeTo : Heap → ℕ → ℕ → Type 0
+AreMadeTo heap count at = (cell : Cell) → StandsIn heap cell → cell.at < at → IsMade cell count
+
+-- and so does the next
+pub made_to_more : (heap : Heap) (count at : ℕ) (next : Cell) → HasRows heap → IsNextCell heap at next
+    → AreMadeTo heap count at → IsMade next count → AreMadeTo heap count (next.at + next.size)
+made_to_more heap count at next rows is made here cell stands before =
+    elim (passed_or_next heap at next cell rows is stands before) [
+      | inl early ↦ made cell stands early
+      | inr same ↦ subst (λ (one : Cell). IsMade one count) same here
+    ]

@@ -1,0 +1,11 @@
+use Rattle.std.proofs.Common.{◌≡◌, ℕ, ◌<◌, Some, slice_get}
+use Rattle.object_graph.specs.declared.object.Entry.{Entry}
+use Rattle.heap_model.specs.Images.{image_heap}
+use Rattle.heap_check.specs.TablePairs.{table_pairs}
+use Rattle.heap_judge.specs.KeyPairs.{ShowsIfReached}
+use Rattle.heap_judge.proofs.entries.show_entries.Given as goal
+
+abbrev pub invariant-loop-entry : goal.invariant-loop-entry
+invariant-loop-entry l =
+    (at : ℕ) → at < l.entry-index → (entry : Entry) → slice_get l.entries at ≡ Some entry
+    → ShowsIfReached (image_heap l.image) l.marks (table_pairs (image_heap l.image) l.table) entry

@@ -1,0 +1,10 @@
+use Rattle.std.proofs.Common.{◌≡◌, ℕ, ◌<◌, Some, slice_get}
+use Rattle.object_graph.specs.declared.object.Object.{Object}
+use Rattle.heap_model.specs.Images.{image_heap}
+use Rattle.heap_judge.specs.Reached.{ShowsMarked}
+use Rattle.heap_judge.proofs.objects.show_reached.Given as goal
+
+abbrev pub invariant-loop-number : goal.invariant-loop-number
+invariant-loop-number l =
+    (number : ℕ) → number < l.number → (what : Object) → slice_get l.objects number ≡ Some what
+    → ShowsMarked (image_heap l.image) l.marks number what

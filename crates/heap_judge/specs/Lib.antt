@@ -1,0 +1,6 @@
+pub mod PathFields
+pub mod Places
+pub mod ShownSlots
+pub mod KeyPairs
+pub mod Reached
+pub mod Bindings

@@ -1,0 +1,25 @@
+//! Heap judge: whether an image of a heap shows the graph that the ideal meaning has.
+//!
+//! Model: none of its own. `Shows` of `heap_model` says which graph a heap shows; each function here
+//! answers whether one part of it holds, and `shows` puts them together.
+//! Invariant: none. A judge that needs what another one found requires it; `shows` requires nothing.
+//! The judges are slow: each object that can be reached is looked for in the whole heap.
+#![tactic(auto)]
+
+mod bindings;
+mod entries;
+mod fields;
+mod lists;
+mod objects;
+mod pairs;
+mod paths;
+mod places;
+mod shown;
+#[cfg(test)]
+mod tests;
+mod values;
+mod weak;
+mod whole;
+
+pub use shown::shows;
+pub use whole::is_whole_heap;

@@ -1,0 +1,86 @@
+//! Kept heaps of runs, judged against the ideal meaning of the same scripts.
+
+use crate::shows;
+use heap_run::{MemSink, MemSource, OpenGate, run};
+use ideal_graph::{Command, Ideal};
+use script_text::{Script, What, parse};
+use std::alloc::Global;
+use std::test::Fail;
+use std::thread::Threads;
+
+/// The graph of a script without `repeat` up to its end or its first fault, and after it this command
+/// more, if it is one.
+fn meant(alloc: Global, script: &Script<'_>, more: Option<Command>) -> Result<Ideal, Fail> {
+    let mut names = Vec::new(alloc);
+    for field in 0..script.fields() {
+        names.push(Vec::from_slice(alloc, script.field(field))?)?;
+    }
+    let Ok(mut ideal) = Ideal::new(alloc, names) else {
+        return Err(Fail::from("memory was refused"));
+    };
+    for line in script.lines() {
+        if let What::Run(command) = line.what {
+            if ideal.step(&command).is_err() {
+                break;
+            }
+        }
+    }
+    if let Some(command) = more {
+        if ideal.step(&command).is_err() {
+            return Err(Fail::from("the command was refused"));
+        }
+    }
+    Ok(ideal)
+}
+
+/// Whether the kept heap of a script's run shows its graph, and whether it shows that graph with one
+/// command more.
+fn judged<R: Threads + Sync + AllocGlobal>(
+    rt: &R,
+    source: &[u8],
+    more: Command,
+) -> Result<(bool, bool), Fail> {
+    let alloc = rt.alloc();
+    let mut words = Vec::new(alloc);
+    for word in ["run", "--pages", "1", "--young", "128", "--helpers", "1"] {
+        words.push(String::from_str(alloc, word)?)?;
+    }
+    let mut from = MemSource::new(source.to_vec(alloc)?, 4096, Vec::new(alloc));
+    let mut sink = MemSink::new(alloc, 1 << 20, 4096, Vec::new(alloc))?;
+    let ended = run(rt, alloc, &words, &mut from, &mut sink, &OpenGate);
+    let kept = ended.kept.ok_or("no heap was kept")?;
+    let Ok(script) = parse(alloc, source) else {
+        return Err(Fail::from("the script is bad"));
+    };
+    let ideal = meant(alloc, &script, None)?;
+    let after = meant(alloc, &script, Some(more))?;
+    match (shows(&kept.image, &ideal), shows(&kept.image, &after)) {
+        (Ok(same), Ok(other)) => Ok((same, other)),
+        _ => Err(Fail::from("memory was refused")),
+    }
+}
+
+#[test]
+fn kept_heaps_show_the_graphs_of_their_scripts(rt: HostRuntime) -> Result<(), Fail> {
+    let scripts: [&[u8]; 9] = [
+        b"let x 1",
+        b"new x 2\nset x a 1\nset x b 5000000000\nset x c x\ndel x b\nset x c 5000000000",
+        b"new x 0\nset x a 5000000000\nset x b 5000000000\nset x a x\ndel x a\ndel x b",
+        b"new x 1\nset x a 1\nset x b 2\nset x c 3\nset x d 4\nset x e 5\nset x f 5000000000\ndel x c",
+        b"new x 8\nset x a x\nlet y x\ndrop x\nset y b 7\nget z y c\nset z a 1\nlet x 1",
+        b"new x 1\nnew y 1\nset x a y\nset y a x\nnew x 1\nlet z -9223372036854775808\nadd z z",
+        b"new x 2\nset x a 1\nnew y 2\nset y b 1\nset y a 1\nset x b undefined\nprint q",
+        b"list l\npush l 1\npush l 5000000000\npush l l\npush l undefined\npush l 5000000000\nput l 0 l\nput l 1 7",
+        b"new x 1\nlist l\npush l x\nset x a l\nlist m\npush m l\nat y m 0\nat z l 0\ndrop l\npush y 5000000000\nput y 0 5000000001",
+    ];
+    for script in scripts {
+        let more = Command::LetValue {
+            x: 0,
+            v: heap_command::Operand::Int(77),
+        };
+        let (same, other) = judged(&rt, script, more)?;
+        assert!(rt; same);
+        assert!(rt; !other);
+    }
+    Ok(())
+}

@@ -1,0 +1,24 @@
+-- The kind of a cell by its shape, where that is a fixed one.
+use Rattle.std.proofs.Common.{◌≡◌, ℕ, ◌%◌, List, refl, sym, ◌∙◌, ap}
+use Rattle.std.proofs.lemmas.Option.{same_Some}
+use Rattle.tagged_word.specs.declared.layout.Kind.TheVariants as kind
+use Rattle.tagged_word.specs.Layouts.{layout_bits}
+use Rattle.tagged_word.specs.Shapes.{list_shape}
+use Rattle.tagged_word.proofs.Layouts.{parts, same_kind}
+use Rattle.shape_tree.specs.ShapeLayouts.{layout_word}
+use Rattle.cell_layout.specs.declared.cell.Cell.{Cell}
+use Rattle.cell_layout.proofs.CellsThere.{slice_get-layouts_in}
+use Rattle.heap_model.specs.Heaps.{Heap, HasCell}
+use Rattle.heap_model.specs.Wholeness.{HasSizes}
+use Rattle.heap_model.proofs.CellsApart.{has_is_cell}
+
+-- a cell of the shape of lists is a list
+pub shape_is_list : {heap : Heap} {cell : Cell} {words : List ℕ} → HasSizes heap → HasCell heap cell words
+    → cell.header.shape ≡ list_shape → cell.layout.kind ≡ kind.List
+shape_is_list {heap} {cell} sized has is =
+    let reads = (has_is_cell has).reads in
+    let word : layout_bits cell.layout ≡ 2 =
+    same_Some _ _ (sym reads.of_shape ∙ slice_get-layouts_in heap.space heap.words cell.header.shape reads.known
+    ∙ sized.layouts cell.header.shape reads.known) ∙ ap (layout_word heap.paths) is in
+    same_kind cell.layout.kind kind.List
+    (sym (parts (layout_bits cell.layout) cell.layout reads.is_layout refl).number ∙ ap (λ n. n % 16) word)

@@ -1,0 +1,12 @@
+mod ListCells
+mod PushNeeds
+mod ElementsRead
+mod Places
+mod ListWriting
+mod ElementValues
+mod WrittenSlots
+mod PushedToNewStore
+mod PushOutcomes
+mod PutWords
+mod BoxedElements
+mod PutOutcomes

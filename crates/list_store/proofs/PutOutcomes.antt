@@ -1,0 +1,186 @@
+-- What comes of a put: the heap shows the graph in which the value is in the place of the element.
+use Rattle.std.proofs.Common.{◌≡◌, ℕ, ◌+◌, ◌≤◌, ◌<◌, length, Some, not, ◌&&◌, slice_get, get_or, set, length-set, unwrap_or}
+use Rattle.std.proofs.Common.{refl, sym, ◌∙◌, ap, subst, arith}
+use Rattle.std.specs.Prelude.{slice_set}
+use Rattle.tagged_word.specs.declared.layout.Kind.TheVariants as kind
+use Rattle.tagged_word.specs.Cells.{store_head, store_slot}
+use Rattle.tagged_word.specs.Readings.{reference_in}
+use Rattle.tagged_word.proofs.Readings.{reference_to}
+use Rattle.page_space.specs.Sizes.{AreWithin}
+use Rattle.object_graph.specs.declared.value.Value.{Value}
+use Rattle.object_graph.specs.Graphs.{Graph, ListObject}
+use Rattle.object_graph.specs.Meaning.{list_most}
+use Rattle.object_graph.proofs.Lists.{slice_get-set_other}
+use Rattle.nursery.specs.Young.{HasRoom}
+use Rattle.cell_layout.specs.declared.cell.Cell.{Cell}
+use Rattle.handle_roots.specs.declared.held.Held.{Held}
+use Rattle.heap_table.specs.Seats.{heap_words}
+use Rattle.heap_model.specs.Kinds.{count_offset}
+use Rattle.heap_model.specs.Needs.{capacity_at, word_at, beside_by, box_need, is_box_word}
+use Rattle.heap_model.proofs.CellsApart.{IsOfCell, cells_apart}
+use Rattle.heap_model.proofs.CellWords.{words_by_kind, words_are_size}
+use Rattle.write_barrier.specs.Mains.{Mutator, heap_of}
+use Rattle.object_cells.specs.declared.stores.Store.{Store}
+use Rattle.object_cells.specs.Capacities.{CapacitiesBecome}
+use Rattle.object_cells.specs.Contents.{next_at, box_in, filling_of, filling_need}
+use Rattle.object_cells.specs.Made.{IsStoreAt, with_content, content_need, content_word, beside_content, is_wide_held}
+use Rattle.object_cells.specs.HeldValues.{is_wide}
+use Rattle.object_cells.specs.Uses.{UsesMore}
+use Rattle.object_cells.proofs.CellsRead.{word_stands}
+use Rattle.object_cells.proofs.HeldNeeds.{wide_is}
+use Rattle.object_cells.proofs.MadeBoxes.{with_content_stays}
+use Rattle.object_cells.proofs.NewElements.{put_elements_are_new}
+use Rattle.object_cells.proofs.OneElement.{set_differs}
+use Rattle.object_cells.proofs.SlotBoxes.{box_of_word}
+use Rattle.object_cells.proofs.StoresRead.{stored_at}
+use Rattle.object_cells.proofs.UnusedWords.{cell_is_used, next_before_segments}
+use Rattle.object_cells.proofs.WordsTold.{cell_fits}
+use Rattle.heap_model.specs.Needs.{element_word, put_need_at}
+use Rattle.list_store.specs.ListChanges.{HasPut}
+use Rattle.list_store.specs.Pushes.{WritesSlot}
+use Rattle.list_store.proofs.BoxedElements.{box_shown, box_keeps, room_for_none, same_young}
+use Rattle.list_store.proofs.ElementsRead.{SlotRead, slot_read}
+use Rattle.list_store.proofs.PutWords.{PutBy, value_put, set_there}
+use Rattle.list_store.proofs.WrittenSlots.{Changing, Elements, list_is_no_store, slot_shown, slot_keeps}
+
+-- one element in the place of another
+abbrev pub put_elements : {old : Mutator} {graph : Graph} {at : ℕ} {list : ListObject} {value : Held} {what : Value}
+    (place : ℕ) → Changing old graph at list value what → place < length list.elements → length list.elements ≤ list_most
+    → Elements graph list what place (length list.elements)
+put_elements {graph = graph} {list = list} {what = what} place known there few = record {
+  after = set list.elements place what;
+  differs = set_differs list.elements place what there;
+  long = length-set list.elements place what;
+  few = few;
+  are_new = put_elements_are_new graph list place what known.shows.is_graph known.is.object known.is.reached known.fits
+      known.held.reached;
+}
+
+-- the address of the slot
+abbrev pub place_at : Store → ℕ → ℕ
+place_at store place = store.at + (store_head + place)
+
+module _ {old : Mutator} {graph : Graph} {at : ℕ} {list : ListObject} {value : Held} {what : Value}
+    (store : Store) (place : ℕ) (known : Changing old graph at list value what) (is_store : IsStoreAt (heap_of old) at store)
+    (below : place < store.capacity) where
+  -- the word of the slot
+  pub slot : SlotRead (heap_of old) known.shown.shows.slots store.at place (get_or known.shown.shows.slots place 0)
+  slot =
+      let shown = known.shown in
+      slot_read at shown.shows.store place shown.shows.slots store known.shows.shows.whole is_store shown.has shown.stands
+      shown.shows.slot shown.shows.has below
+
+  pub word_is : word_at (heap_of old) (place_at store place) ≡ get_or known.shown.shows.slots place 0
+  word_is = ap (λ found. unwrap_or found 0) slot.stands
+
+  -- it is the word of the element
+  pub element_is : AreWithin old.seat.space.sizes old.seat.space.variables
+      → element_word (heap_of old) at place ≡ word_at (heap_of old) (place_at store place)
+  element_is sizes =
+      let heap = heap_of old in
+      let shown = known.shown in
+      let found = (stored_at at shown.shows.store shown.shows.slots store is_store shown.has shown.stands shown.shows.slot
+      shown.shows.has (omega (arith, below))).found in
+      let refers = ap (λ n. word_at heap (n + store_slot)) (sym shown.stands)
+      ∙ ap (λ o. unwrap_or o 0) (word_stands store_slot shown.shows.store shown.has shown.shows.slot) in
+      let told = reference_to shown.shows.store found.cell.at
+      (cell_fits known.shows.shows.whole.sized sizes found.refers.has) found.refers.refers in
+      let same : found.cell.at + store_head + place ≡ place_at store place = omega (arith, found.stands) in
+      ap (λ w. beside_by heap (reference_in w) place) refers ∙ ap (λ o. beside_by heap o place) told
+      ∙ ap (word_at heap) same
+
+  -- so many words it takes
+  pub put_need : AreWithin old.seat.space.sizes old.seat.space.variables
+      → filling_need (filling_of (box_in (heap_of old) (word_at (heap_of old) (place_at store place))) (next_at old)
+      (beside_content value)) ≡ put_need_at (heap_of old) at place (is_wide what)
+  put_need sizes =
+      let heap = heap_of old in
+      value_put heap (word_at heap (place_at store place)) (next_at old) value
+      ∙ ap (λ x. box_need (is_wide_held value && not (is_box_word heap x))) (sym (element_is sizes))
+      ∙ ap (put_need_at heap at place) (wide_is value what known.held.shows)
+
+  -- the length stays
+  pub count_stays : HasRoom old.young (content_need (beside_content value))
+      → slice_get (slice_set (with_content (heap_words old.seat) (beside_content value) (next_at old))
+      (place_at store place) (content_word (beside_content value) (next_at old))) (at + count_offset)
+      ≡ Some (length list.elements)
+  count_stays room =
+      let shown = known.shown in
+      let found = (stored_at at shown.shows.store shown.shows.slots store is_store shown.has shown.stands shown.shows.slot
+      shown.shows.has (omega (arith, below))) in
+      let rows = known.shows.shows.whole.rows in
+      let size : shown.cell.size ≡ 3 =
+      sym (words_are_size shown.has) ∙ words_by_kind kind.List shown.has shown.shows.of_kind in
+      let of_list : IsOfCell shown.cell (at + count_offset) =
+      record { from = omega (arith, shown.stands); below = omega (arith, shown.stands, size) } in
+      let of_store : IsOfCell found.found.cell (place_at store place) = record {
+        from = omega (arith, found.found.stands);
+        below = omega (arith, found.found.stands, found.found.size, found.capacity, below);
+      } in
+      slice_get-set_other (with_content (heap_words old.seat) (beside_content value) (next_at old)) (place_at store place)
+      (at + count_offset) (content_word (beside_content value) (next_at old))
+      (λ same.
+      let cells = cells_apart (place_at store place) rows shown.has found.found.refers.has
+      (subst (IsOfCell shown.cell) same of_list) of_store in
+      list_is_no_store shown.shows.of_kind (ap (λ (c : Cell). c.layout.kind) cells ∙ found.found.of_kind))
+      ∙ with_content_stays (heap_words old.seat) (beside_content value) (next_at old) (at + count_offset)
+      (λ from high. cell_is_used rows shown.has of_list from
+      (omega (arith, high, next_before_segments old (content_need (beside_content value)) known.shows.tied room)))
+      ∙ ap (λ n. slice_get (heap_words old.seat) (n + count_offset)) (sym shown.stands)
+      ∙ word_stands count_offset (length list.elements) shown.has shown.shows.counted
+
+-- so the element is the value
+pub has_put : {old new : Mutator} {graph : Graph} {at : ℕ} {list : ListObject} {value : Held} {what : Value} (store : Store)
+    (place : ℕ) → Changing old graph at list value what → IsStoreAt (heap_of old) at store → place < store.capacity
+    → place < length list.elements → length list.elements ≤ list_most → length list.elements ≤ store.capacity
+    → AreWithin old.seat.space.sizes old.seat.space.variables
+    → PutBy old new (place_at store place) (word_at (heap_of old) (place_at store place)) (beside_content value)
+    → HasPut old new graph at list place what
+has_put {old} {new} {at = at} {list} {value} {what} store place known is_store below there few enough sizes
+    (PutBy.slot room words needs) =
+    let heap = heap_of old in
+    let need = sym needs ∙ put_need store place known is_store below sizes in
+    let pushes : WritesSlot old new at place (length list.elements) value store = record {
+      room = room;
+      words = record {
+        space = words.space;
+        phase = words.phase;
+        paths = words.paths;
+        young = words.young;
+        heap = words.heap
+            ∙ sym (set_there _ (at + count_offset) (length list.elements)
+            (count_stays store place known is_store below room));
+      };
+    } in
+    let becomes = put_elements place known there few in
+    record {
+      room = subst (HasRoom old.young) need room;
+      uses = subst (UsesMore old new) need (record { space = words.space; young = words.young });
+      stores = subst (λ a. CapacitiesBecome heap (heap_of new) a (capacity_at heap a)) known.shown.stands
+          (slot_keeps known becomes is_store below enough pushes);
+      shows = slot_shown known becomes is_store below enough pushes;
+    }
+has_put {old} {new} {at = at} {list} {value} {what} store place known is_store below there few enough sizes
+    (PutBy.of_box box v boxed found same) =
+    let heap = heap_of old in
+    let w : ℕ = get_or known.shown.shows.slots place 0 in
+    let read = slot store place known is_store below in
+    let here = word_is store place known is_store below in
+    let box_of = box_of_word w box known.shows.shows.whole.sized read.is (ap (box_in heap) (sym here) ∙ found) in
+    let none : filling_need (filling_of (box_in heap (word_at heap (place_at store place))) (next_at old)
+    (beside_content value)) ≡ 0 =
+    ap (λ o. filling_need (filling_of o (next_at old) (beside_content value))) found
+    ∙ ap (λ holds. filling_need (filling_of (Some box) (next_at old) holds)) boxed in
+    let need = sym none ∙ put_need store place known is_store below sizes in
+    let becomes = put_elements place known there few in
+    record {
+      room = subst (HasRoom old.young) need
+          (room_for_none w known becomes is_store below enough refl read.holds box_of boxed same);
+      uses = subst (UsesMore old new) need (record {
+        space = ap (λ (m : Mutator). m.seat.space) same;
+        young = same_young w known becomes is_store below enough refl read.holds box_of boxed same;
+      });
+      stores = subst (λ a. CapacitiesBecome heap (heap_of new) a (capacity_at heap a)) known.shown.stands
+          (box_keeps w known becomes is_store below enough refl read.holds box_of boxed same);
+      shows = box_shown w known becomes is_store below enough refl read.holds box_of boxed same;
+    }

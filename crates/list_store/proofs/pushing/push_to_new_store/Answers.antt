@@ -1,0 +1,65 @@
+-- The store and the box that are made stand in the words that were reserved.
+use Rattle.std.proofs.Common.{◌≡◌, ◌+◌, refl, ap, ◌∙◌, arith}
+use Rattle.page_space.specs.Extents.{Space, marks_start}
+use Rattle.write_barrier.specs.Mains.{Mutator}
+use Rattle.object_cells.specs.Made.{content_need}
+use Rattle.object_cells.proofs.CellsRead.{fits_address}
+use Rattle.object_cells.proofs.UnusedWords.{run_before_marks, marks_fit}
+use Rattle.list_store.proofs.ListCells.{count_within, slot_within}
+use Rattle.list_store.proofs.pushing.push_to_new_store.Goals as goal
+
+pub begin_store-requires-clause-within : goal.begin_store-requires-clause-within
+begin_store-requires-clause-within c =
+    let need = 2 + c.grown-capacity.result + c.need_of.result in
+    let space = ap (λ (main : Mutator). main.seat.space) c.in_ok-at.ensures.reserved in
+    let before = run_before_marks c.args.main.now need c.in_ok-at.at c.room_for.new.main.seat.space
+    c.requires.can.ready.tied c.in_ok-at.ensures.room (c.in_ok-at.ensures.at (omega arith)) space in
+    omega (arith, before)
+
+pub boxed_word-word-requires-clause-within : goal.boxed_word-word-requires-clause-within
+boxed_word-word-requires-clause-within c v boxed =
+    let need = 2 + c.grown-capacity.result + c.need_of.result in
+    let two : c.need_of.result ≡ 2 = c.need_of.ensures ∙ ap content_need boxed in
+    let space = c.begin_store.ensures.space ∙ ap (λ (main : Mutator). main.seat.space) c.in_ok-at.ensures.reserved in
+    let before = run_before_marks c.args.main.now need c.in_ok-at.at c.begin_store.new.main.seat.space
+    c.requires.can.ready.tied c.in_ok-at.ensures.room (c.in_ok-at.ensures.at (omega arith)) space in
+    omega (arith, before, two)
+
+pub store-requires-clause-within : goal.store-requires-clause-within
+store-requires-clause-within c =
+    let need = 2 + c.grown-capacity.result + c.need_of.result in
+    let space = c.boxed_word-word.ensures.made.space ∙ c.begin_store.ensures.space
+    ∙ ap (λ (main : Mutator). main.seat.space) c.in_ok-at.ensures.reserved in
+    let before = run_before_marks c.args.main.now need c.in_ok-at.at c.boxed_word-word.new.main.seat.space
+    c.requires.can.ready.tied c.in_ok-at.ensures.room (c.in_ok-at.ensures.at (omega arith)) space in
+    omega (arith, before, c.grown-capacity.ensures, c.requires.few)
+
+pub overflow_add-at : goal.overflow_add-at
+overflow_add-at c =
+    let need = 2 + c.grown-capacity.result + c.need_of.result in
+    let space = c.args.main.now.seat.space in
+    let before = run_before_marks c.args.main.now need c.in_ok-at.at space c.requires.can.ready.tied
+    c.in_ok-at.ensures.room (c.in_ok-at.ensures.at (omega arith)) refl in
+    omega (arith, before, marks_fit space c.regions-regions.ensures.within)
+
+pub store-requires-2-clause-within : goal.store-requires-2-clause-within
+store-requires-2-clause-within c =
+    let within = slot_within c.requires.can.ready.whole.whole c.requires.can.ready.there in
+    let space = ap (λ (main : Mutator). main.seat.space) c.made.ensures.same
+    ∙ ap (λ (main : Mutator). main.seat.space) c.store.ensures.stored ∙ c.boxed_word-word.ensures.made.space
+    ∙ c.begin_store.ensures.space ∙ ap (λ (main : Mutator). main.seat.space) c.in_ok-at.ensures.reserved in
+    omega (arith, within, ap (λ (s : Space). marks_start s) space)
+
+pub overflow_add-list : goal.overflow_add-list
+overflow_add-list c =
+    fits_address (count_within c.requires.can.ready.whole.whole c.requires.can.ready.there)
+    c.regions-regions.ensures.within
+
+pub write-requires-clause-within : goal.write-requires-clause-within
+write-requires-clause-within c =
+    let within = count_within c.requires.can.ready.whole.whole c.requires.can.ready.there in
+    let space = ap (λ (main : Mutator). main.seat.space) c.store-2.ensures.stored
+    ∙ ap (λ (main : Mutator). main.seat.space) c.made.ensures.same
+    ∙ ap (λ (main : Mutator). main.seat.space) c.store.ensures.stored ∙ c.boxed_word-word.ensures.made.space
+    ∙ c.begin_store.ensures.space ∙ ap (λ (main : Mutator). main.seat.space) c.in_ok-at.ensures.reserved in
+    omega (arith, within, ap (λ (s : Space). marks_start s) space)

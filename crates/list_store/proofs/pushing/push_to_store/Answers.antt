@@ -1,0 +1,29 @@
+-- The box that is made stands in the words that were reserved, and the length in the list's cell.
+use Rattle.std.proofs.Common.{◌≡◌, ap, ◌∙◌, arith}
+use Rattle.page_space.specs.Extents.{Space, marks_start}
+use Rattle.write_barrier.specs.Mains.{Mutator}
+use Rattle.object_cells.specs.Made.{content_need}
+use Rattle.object_cells.proofs.CellsRead.{fits_address}
+use Rattle.object_cells.proofs.UnusedWords.{run_before_marks}
+use Rattle.list_store.proofs.ListCells.{count_within}
+use Rattle.list_store.proofs.pushing.push_to_store.Goals as goal
+
+pub boxed_word-word-requires-clause-within : goal.boxed_word-word-requires-clause-within
+boxed_word-word-requires-clause-within c v boxed =
+    let need : c.need_of.result ≡ 2 = c.need_of.ensures ∙ ap content_need boxed in
+    let space = ap (λ (main : Mutator). main.seat.space) c.in_ok-at.ensures.reserved in
+    let before = run_before_marks c.args.main.now c.need_of.result c.in_ok-at.at c.room_for.new.main.seat.space
+    c.requires.can.ready.tied c.in_ok-at.ensures.room (c.in_ok-at.ensures.at (omega arith)) space in
+    omega (arith, before, need)
+
+pub overflow_add-list : goal.overflow_add-list
+overflow_add-list c =
+    fits_address (count_within c.requires.can.ready.whole.whole c.requires.can.ready.there)
+    c.regions-regions.ensures.within
+
+pub write-requires-clause-within : goal.write-requires-clause-within
+write-requires-clause-within c =
+    let within = count_within c.requires.can.ready.whole.whole c.requires.can.ready.there in
+    let space = ap (λ (main : Mutator). main.seat.space) c.store.ensures.stored ∙ c.boxed_word-word.ensures.made.space
+    ∙ ap (λ (main : Mutator). main.seat.space) c.in_ok-at.ensures.reserved in
+    omega (arith, within, ap (λ (s : Space). marks_start s) space)

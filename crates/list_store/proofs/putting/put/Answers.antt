@@ -1,0 +1,119 @@
+-- An element is put, or refused.
+use Rattle.std.proofs.Common.{ℕ, ◌+◌, false, refl, sym, ◌∙◌, ap, subst, rules, arith, unwrap_or}
+use Rattle.std.specs.Prelude.{FitsSigned}
+use Rattle.std.specs.Int.{w64}
+use Rattle.page_space.specs.Extents.{Space}
+use Rattle.nursery.specs.Young.{HasRoom}
+use Rattle.handle_roots.specs.Roots.{FitsHeld}
+use Rattle.heap_model.specs.Slots.{IsSlotWord}
+use Rattle.heap_model.specs.Needs.{word_at}
+use Rattle.write_barrier.specs.Mains.{heap_of}
+use Rattle.object_cells.specs.Contents.{box_in, filling_at}
+use Rattle.object_cells.specs.Made.{beside_content}
+use Rattle.object_cells.proofs.HeldNeeds.{held_is_value, new_value_held}
+use Rattle.object_cells.proofs.SlotBoxes.{lacks_need}
+use Rattle.list_store.proofs.ListCells.{list_shown, shown_there, shown_beside, shown_ready, count_shown}
+use Rattle.list_store.proofs.ListCells.{store_has_room}
+use Rattle.list_store.proofs.ElementsRead.{place_below, slot_read, held_before}
+use Rattle.list_store.proofs.Places.{index_named, place_stands}
+use Rattle.list_store.proofs.ElementValues.{no_raw}
+use Rattle.list_store.proofs.WrittenSlots.{Changing}
+use Rattle.list_store.proofs.PutWords.{put_by}
+use Rattle.list_store.proofs.PutOutcomes.{put_need, has_put}
+use Rattle.list_store.proofs.putting.put.Goals as goal
+
+pub count_of-requires-clause-there : goal.count_of-requires-clause-there
+count_of-requires-clause-there c = shown_there (list_shown c.requires.shows c.requires.is)
+
+pub returns-in_default : goal.returns-in_default
+returns-in_default c graph one what shows is holds =
+    let fits : FitsSigned w64 c.args.index = search rules in (
+      index_named c.count_of.result c.args.index c.place_of.result (list_shown shows is) c.count_of.ensures.counted fits
+          c.place_of.ensures ∙ c.in_default.is,
+      refl,
+    )
+
+pub store_of-store-requires-clause-there : goal.store_of-store-requires-clause-there
+store_of-store-requires-clause-there c = shown_beside (list_shown c.requires.shows c.requires.is)
+
+pub fill_slot-requires-clause-within : goal.fill_slot-requires-clause-within
+fill_slot-requires-clause-within c =
+    let ready = shown_ready c.requires.shows (list_shown c.requires.shows c.requires.is) c.count_of.ensures.counted in
+    let below = place_below c.count_of.result c.in-Some.place _ (sym c.place_of.ensures ∙ c.in-Some.is) in
+    (place_stands c.store_of-store.result c.in-Some.place ready c.store_of-store.ensures below).within
+
+pub fill_slot-requires-clause-held : goal.fill_slot-requires-clause-held
+fill_slot-requires-clause-held c =
+    let heap = heap_of c.args.main.now in
+    let shown = list_shown c.requires.shows c.requires.is in
+    let ready = shown_ready c.requires.shows shown c.count_of.ensures.counted in
+    let below = place_below c.count_of.result c.in-Some.place _ (sym c.place_of.ensures ∙ c.in-Some.is) in
+    let room = (place_stands c.store_of-store.result c.in-Some.place ready c.store_of-store.ensures below).below in
+    let read = slot_read c.args.list shown.shows.store c.in-Some.place shown.shows.slots c.store_of-store.result
+    c.requires.shows.shows.whole c.store_of-store.ensures shown.has shown.stands shown.shows.slot shown.shows.has room in
+    held_before heap _ (beside_content c.args.value)
+    (subst (IsSlotWord heap) (sym (ap (λ found. unwrap_or found 0) read.stands)) read.is)
+
+pub returns-in-Ok : goal.returns-in-Ok
+returns-in-Ok c graph one what shows is holds =
+    let old = c.args.main.now in
+    let shown = list_shown shows is in
+    let index : FitsSigned w64 c.args.index = search rules in
+    let fits : FitsHeld c.args.value = search rules in
+    let counted = c.count_of.ensures.counted ∙ count_shown shown in
+    let ready = shown_ready shows shown c.count_of.ensures.counted in
+    let place : ℕ = c.in-Some.place in
+    let store = c.store_of-store.result in
+    let below = place_below c.count_of.result place _ (sym c.place_of.ensures ∙ c.in-Some.is) in
+    let stands = place_stands store place ready c.store_of-store.ensures below in
+    let known : Changing old graph c.args.list one c.args.value what = record {
+      shows = shows;
+      is = is;
+      held = holds;
+      fits = held_is_value c.args.value what shows fits holds.shows;
+      shown = shown;
+    } in
+    let fills = c.in-Ok.ensures in
+    let young = ap (λ (space : Space). space.sizes.young) shows.tied in
+    let none : HasRoom old.young 0 = omega (arith, shows.shows.whole.rows.few, young) in
+    let at : ℕ = store.at + (2 + place) in
+    let word : ℕ = word_at (heap_of old) at in
+    let by = put_by old fills.between c.fill_slot.new.main at word (beside_content c.args.value)
+    (box_in (heap_of old) word) shows.tied stands.within none refl
+    (λ w. no_raw w (new_value_held false c.args.value what holds.shows)) fills.allocates fills.fills in (
+      place,
+      index_named c.count_of.result c.args.index c.place_of.result shown c.count_of.ensures.counted index
+          c.place_of.ensures ∙ c.in-Some.is,
+      has_put store place known c.store_of-store.ensures stands.below (omega (arith, below, counted))
+          (omega (arith, counted, c.count_of.ensures.few))
+          (omega (arith, counted, store_has_room store ready c.store_of-store.ensures))
+          c.regions-regions.ensures.within by,
+    )
+
+pub returns-in-Err : goal.returns-in-Err
+returns-in-Err c graph one what shows is holds =
+    let old = c.args.main.now in
+    let shown = list_shown shows is in
+    let index : FitsSigned w64 c.args.index = search rules in
+    let fits : FitsHeld c.args.value = search rules in
+    let ready = shown_ready shows shown c.count_of.ensures.counted in
+    let place : ℕ = c.in-Some.place in
+    let store = c.store_of-store.result in
+    let below = place_below c.count_of.result place _ (sym c.place_of.ensures ∙ c.in-Some.is) in
+    let stands = place_stands store place ready c.store_of-store.ensures below in
+    let known : Changing old graph c.args.list one c.args.value what = record {
+      shows = shows;
+      is = is;
+      held = holds;
+      fits = held_is_value c.args.value what shows fits holds.shows;
+      shown = shown;
+    } in
+    let at : ℕ = store.at + (2 + place) in
+    let lacks = lacks_need old (filling_at old at (beside_content c.args.value)) c.in-Err.no_room c.in-Err.ensures.0 in (
+      place,
+      index_named c.count_of.result c.args.index c.place_of.result shown c.count_of.ensures.counted index
+          c.place_of.ensures ∙ c.in-Some.is,
+      lacks.0 ∙ put_need store place known c.store_of-store.ensures stands.below c.regions-regions.ensures.within,
+      lacks.1,
+      c.in-Err.ensures.1,
+    )

@@ -1,0 +1,86 @@
+-- What the calls on the elements of a list do.
+use Rattle.std.specs.Prelude.{◌≡◌, ℕ, ◌<◌, ◌≤◌, [], ◌∷◌, ◌++◌, length, Some, None, slice_get, slice_set, ℤ}
+use Rattle.std.specs.Prelude.{Result, Ok, Err}
+use Rattle.object_graph.specs.declared.value.Value.{Value}
+use Rattle.object_graph.specs.Graphs.{Graph, ListObject}
+use Rattle.object_graph.specs.Meaning.{list_most, below, relist}
+use Rattle.nursery.specs.Young.{HasRoom}
+use Rattle.handle_roots.specs.declared.held.Held.{Held}
+use Rattle.heap_model.specs.Showing.{ShowsHeld}
+use Rattle.heap_model.specs.Needs.{capacity_at, push_need_at, put_need_at}
+use Rattle.write_barrier.specs.Mains.{Mutator, heap_of, MainShows}
+use Rattle.object_cells.specs.ListObjects.{IsListAt}
+use Rattle.object_cells.specs.HeldValues.{IsValueHeld, is_wide}
+use Rattle.object_cells.specs.Uses.{UsesMore}
+use Rattle.object_cells.specs.Capacities.{CapacitiesBecome}
+use Rattle.list_store.specs.Growth.{push_capacity_at}
+use Rattle.list_store.specs.declared.stop.PushStop.{PushStop}
+use Rattle.list_store.specs.declared.stop.PushStop.TheVariants as push
+use Rattle.list_store.specs.declared.stop.PutStop.{PutStop}
+use Rattle.list_store.specs.declared.stop.PutStop.TheVariants as put
+use Rattle.list_store.specs.declared.stop.Range.{Range}
+
+-- The heap shows a graph whose list of some number stands at the address, and what is held shows a value of it.
+pub record IsShownSetting (main : Mutator) (at : ℕ) (held : Held) : Type 0 where
+  pub graph : Graph
+  pub list : ListObject
+  pub value : Value
+  pub shows : MainShows main graph
+  pub is : IsListAt main graph at list
+  pub is_held : IsValueHeld main graph held value
+
+-- How a value comes to be the last element of the list at the address: it allocates what that needs, for which there is
+-- room, and the heap shows the graph in which it is. The list's store is made anew where it is full or absent; no other
+-- object's is.
+pub record HasPushed (old new : Mutator) (graph : Graph) (at : ℕ) (list : ListObject) (value : Value) : Type 0 where
+  pub few : length list.elements < list_most
+  pub room : HasRoom old.young (push_need_at (heap_of old) at (is_wide value))
+  pub uses : UsesMore old new (push_need_at (heap_of old) at (is_wide value))
+  pub stores : CapacitiesBecome (heap_of old) (heap_of new) at (push_capacity_at (heap_of old) at)
+  pub shows : MainShows new (relist graph list (list.elements ++ value ∷ []))
+
+-- `push`: the value becomes the last element; or the list has as many as it may have, or there is no room, in this order,
+-- and nothing changes.
+abbrev pub PushesElement : Mutator → Mutator → Graph → ℕ → ListObject → Value → Result Unit PushStop → Type 0
+PushesElement old new graph at list value (Ok _) = HasPushed old new graph at list value
+PushesElement old new graph at list value (Err push.ListFull) = (list_most ≤ length list.elements) × (new ≡ old)
+PushesElement old new graph at list value (Err (push.Full room)) =
+    (length list.elements < list_most) × (room.need ≡ push_need_at (heap_of old) at (is_wide value))
+    × (HasRoom old.young room.need → ⊥) × (new ≡ old)
+
+-- the place that an index names in a list; none where it is below 0, or not below the length
+abbrev pub IsPlaceIn : ListObject → ℤ → ℕ → Type 0
+IsPlaceIn list index place = below (length list.elements) index ≡ Some place
+
+abbrev pub IsOutside : ListObject → ℤ → Type 0
+IsOutside list index = below (length list.elements) index ≡ None
+
+-- How the element at a place of the list at the address comes to be a value: it allocates what that needs, for which there
+-- is room, and the heap shows the graph in which it is. Each store stays.
+pub record HasPut (old new : Mutator) (graph : Graph) (at : ℕ) (list : ListObject) (place : ℕ) (value : Value) : Type 0 where
+  pub room : HasRoom old.young (put_need_at (heap_of old) at place (is_wide value))
+  pub uses : UsesMore old new (put_need_at (heap_of old) at place (is_wide value))
+  pub stores : CapacitiesBecome (heap_of old) (heap_of new) at (capacity_at (heap_of old) at)
+  pub shows : MainShows new (relist graph list (slice_set list.elements place value))
+
+-- `put`: the element that an index names becomes the value; or it names none, or there is no room, in this order, and
+-- nothing changes.
+abbrev pub PutsElement : Mutator → Mutator → Graph → ℕ → ListObject → ℤ → Value → Result Unit PutStop → Type 0
+PutsElement old new graph at list index value (Ok _) =
+    (place : ℕ) × IsPlaceIn list index place × HasPut old new graph at list place value
+PutsElement old new graph at list index value (Err put.Range) = IsOutside list index × (new ≡ old)
+PutsElement old new graph at list index value (Err (put.Full room)) =
+    (place : ℕ) × IsPlaceIn list index place
+    × (room.need ≡ put_need_at (heap_of old) at place (is_wide value)) × (HasRoom old.young room.need → ⊥) × (new ≡ old)
+
+-- the element that an index names
+pub record IsElementAt (list : ListObject) (index : ℤ) (value : Value) : Type 0 where
+  pub place : ℕ
+  pub names : IsPlaceIn list index place
+  pub stands : slice_get list.elements place ≡ Some value
+
+-- `at`: what is held shows the element that an index names; or it names none.
+abbrev pub TellsElement : Mutator → ListObject → ℤ → Result Held Range → Type 0
+TellsElement main list index (Ok held) =
+    (value : Value) × IsElementAt list index value × ShowsHeld (heap_of main) held (Some value)
+TellsElement main list index (Err range) = IsOutside list index

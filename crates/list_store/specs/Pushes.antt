@@ -1,0 +1,89 @@
+-- How a value comes behind the elements of a list, or in place of one: which words that puts.
+use Rattle.std.specs.Prelude.{◌≡◌, ℕ, ◌+◌, ◌<◌, List, slice_set, Result, Ok, Err}
+use Rattle.tagged_word.specs.declared.layout.Kind.TheVariants as kind
+use Rattle.tagged_word.specs.Cells.{store_head, store_slot}
+use Rattle.nursery.specs.Young.{HasRoom}
+use Rattle.cell_layout.specs.declared.cell.Cell.{Cell}
+use Rattle.handle_roots.specs.declared.held.Held.{Held}
+use Rattle.heap_table.specs.Seats.{heap_words}
+use Rattle.heap_model.specs.Heaps.{Heap, HasCell}
+use Rattle.heap_model.specs.Slots.{reference_word}
+use Rattle.heap_model.specs.Kinds.{count_offset}
+use Rattle.write_barrier.specs.declared.room.NoRoom.{NoRoom}
+use Rattle.write_barrier.specs.Mains.{Mutator, heap_of, IsTied, reserved}
+use Rattle.object_cells.specs.declared.stores.Store.{Store}
+use Rattle.object_cells.specs.CellsAt.{IsWhole}
+use Rattle.object_cells.specs.Contents.{next_at, filling_at, filled, Allocates, LacksRoom}
+use Rattle.object_cells.specs.Made.{PutsWords, IsStoreAt, begun_store, with_content, content_need, content_word}
+use Rattle.object_cells.specs.Made.{beside_content}
+use Rattle.heap_model.specs.Needs.{count_at, grown_list}
+
+-- a list's cell stands at the address
+pub record IsListCellAt (heap : Heap) (at : ℕ) : Type 0 where
+  pub cell : Cell
+  pub words : List ℕ
+  pub has : HasCell heap cell words
+  pub stands : cell.at ≡ at
+  pub of_kind : cell.layout.kind ≡ kind.List
+
+-- The elements of the list at the address, which are so many, may change.
+pub record IsListReady (main : Mutator) (list count : ℕ) : Type 0 where
+  pub tied : IsTied main
+  pub whole : IsWhole main
+  pub there : IsListCellAt (heap_of main) list
+  pub counted : count_at (heap_of main) list ≡ count
+
+-- and they stand in this store
+pub record CanChange (main : Mutator) (list count : ℕ) (store : Store) : Type 0 where
+  pub ready : IsListReady main list count
+  pub is : IsStoreAt (heap_of main) list store
+
+-- the words with a value put in the slot at an address, where its box is made at another one, if it needs one
+abbrev pub with_element : List ℕ → ℕ → Held → ℕ → List ℕ
+with_element words at value box =
+    slice_set (with_content words (beside_content value) box) at (content_word (beside_content value) box)
+
+-- the words with the length of the list at an address
+abbrev pub with_count : List ℕ → ℕ → ℕ → List ℕ
+with_count words list count = slice_set words (list + count_offset) count
+
+-- The value comes to this slot of the list's store, and the list has so many elements; a box that it needs is made.
+pub record WritesSlot (old new : Mutator) (list slot count : ℕ) (value : Held) (store : Store) : Type 0 where
+  pub room : HasRoom old.young (content_need (beside_content value))
+  pub words : let put = with_element (heap_words old.seat) (store.at + (store_head + slot)) value (next_at old) in
+      PutsWords (reserved old (content_need (beside_content value))) new (with_count put list count)
+
+-- The value comes to the next slot of the list's store.
+abbrev pub PushesToStore : Mutator → Mutator → ℕ → ℕ → Held → Store → Type 0
+PushesToStore old new list count value store = WritesSlot old new list count (count + 1) value store
+
+-- A store is made in place of the one before, and the value comes to its first slot behind the slots of that one; a box
+-- that it needs is made behind the store. Then the store is the list's.
+pub record PushesToNewStore (old new : Mutator) (list count : ℕ) (value : Held) (store : Store) : Type 0 where
+  pub room : HasRoom old.young (store_head + grown_list count + content_need (beside_content value))
+  pub words : let at = next_at old in
+      let behind = at + (store_head + grown_list count) in
+      let begun = begun_store (heap_words old.seat) store (grown_list count) at in
+      let put = with_element begun (at + (store_head + count)) value behind in
+      let linked = slice_set put (list + store_slot) (reference_word at) in
+      PutsWords (reserved old (store_head + grown_list count + content_need (beside_content value))) new
+      (with_count linked list (count + 1))
+
+-- How the value comes behind so many elements of the list at the address: to the list's store, which is made anew where it
+-- is full or absent.
+pub data PushesAt (old new : Mutator) (list count : ℕ) (value : Held) : Type 0 where
+  to_store : (store : Store) → CanChange old list count store → count < store.capacity
+      → PushesToStore old new list count value store → PushesAt old new list count value
+  to_new_store : (store : Store) → CanChange old list count store → count ≡ store.capacity
+      → PushesToNewStore old new list count value store → PushesAt old new list count value
+
+-- The slot at the address came to hold the value: the words that it needs are used, and it was filled.
+pub record FillsElement (old new : Mutator) (at : ℕ) (value : Held) : Type 0 where
+  pub between : Mutator
+  pub allocates : Allocates old between (filling_at old at (beside_content value))
+  pub fills : new ≡ filled between at (filling_at old at (beside_content value))
+
+-- it did; or there is no room, and nothing has changed
+abbrev pub FillsOrRefuses : Mutator → Mutator → ℕ → Held → Result Unit NoRoom → Type 0
+FillsOrRefuses old new at value (Ok _) = FillsElement old new at value
+FillsOrRefuses old new at value (Err full) = LacksRoom old (filling_at old at (beside_content value)) full × (new ≡ old)

@@ -1,0 +1,25 @@
+//! Why a call on a list stops.
+
+use write_barrier::NoRoom;
+
+/// Why an element is not pushed. Nothing has changed.
+#[derive(Clone, Copy, Debug, PartialEq, Eq)]
+pub enum PushStop {
+    /// The list has 1,000 elements.
+    ListFull,
+    /// Eden has not the words for a store or a box that the element needs.
+    Full(NoRoom),
+}
+
+/// Why an element is not put. Nothing has changed.
+#[derive(Clone, Copy, Debug, PartialEq, Eq)]
+pub enum PutStop {
+    /// The index is below 0, or not below the length.
+    Range,
+    /// Eden has not the words for a box that the element needs.
+    Full(NoRoom),
+}
+
+/// An index is below 0, or not below the length.
+#[derive(Clone, Copy, Debug, PartialEq, Eq)]
+pub struct Range;

@@ -1,0 +1,8 @@
+use Rattle.std.proofs.Common.{◌≡◌, false}
+use Rattle.mark_world.specs.Pages.{is_head_of}
+use Rattle.mark_world.specs.Covering.{cell_of}
+use Rattle.mark_core.proofs.FreeStarts.{FreeBelow}
+use Rattle.mark_core.proofs.cells.is_no_head.Given as goal
+
+abbrev pub invariant-loop-start : goal.invariant-loop-start
+invariant-loop-start l = FreeBelow l.world.main l.start-items l.start-index (λ start. is_head_of start (cell_of l.world start) l.at ≡ false)

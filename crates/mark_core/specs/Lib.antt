@@ -1,0 +1,5 @@
+pub mod Spots
+pub mod Names
+pub mod Sureness
+pub mod Runs
+pub mod Asking

@@ -1,0 +1,11 @@
+pub mod Colours
+pub mod Starts
+pub mod Joins
+pub mod Coverage
+pub mod Sureness
+pub mod Sizing
+pub mod Listing
+pub mod Waiting
+pub mod Reading
+pub mod Cells
+pub mod Drained

@@ -1,0 +1,4 @@
+pub mod Ends
+pub mod Steadiness
+pub mod Keeping
+pub mod Cells

@@ -1,0 +1,31 @@
+-- What stays through every event, and what only rises.
+use Rattle.std.specs.Prelude.{◌≤◌, ◌<◌, ◌^◌, ℕ}
+use Rattle.mark_world.specs.declared.event.Event.{Event}
+use Rattle.mark_world.specs.declared.world.World.{World}
+use Rattle.mark_world.specs.Moments.{after, Possible}
+use Rattle.mark_world.specs.Covering.{colour_of}
+use Rattle.mark_world.specs.Soundness.{HasCells, HasGrey, HasLists, HasSizes}
+use Rattle.mark_world.specs.Lineage.{Born}
+
+-- no event makes a cell's colour lighter
+abbrev pub ColoursRise : Type 0
+ColoursRise =
+    (world : World) (event : Event) → HasSizes world → (at : ℕ) → colour_of world at ≤ colour_of (after world event) at
+
+-- a possible event leaves the sizes right, where addresses of old cells have 32 bits
+abbrev pub SizesStay : Type 0
+SizesStay =
+    (world : World) (event : Event) → HasSizes world → HasLists world → world.old < 2 ^ 32 → Possible world event
+    → HasSizes (after world event)
+
+-- a possible event leaves the lists right
+abbrev pub ListsStay : Type 0
+ListsStay =
+    (world : World) (event : Event) → HasSizes world → HasCells world → HasLists world → Born world → Possible world event
+    → HasLists (after world event)
+
+-- after a possible event each grey published cell waits, where addresses of old cells have 32 bits
+abbrev pub GreysWait : Type 0
+GreysWait =
+    (world : World) (event : Event) → HasSizes world → HasCells world → HasLists world → HasGrey world → world.old < 2 ^ 32
+    → Possible world event → HasGrey (after world event)

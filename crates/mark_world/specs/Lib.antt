@@ -1,0 +1,11 @@
+pub mod Pages
+pub mod Safety
+pub mod Naming
+pub mod Steps
+pub mod Conditions
+pub mod Moments
+pub mod Covering
+pub mod Soundness
+pub mod Lineage
+pub mod Resting
+pub mod OneLayouts

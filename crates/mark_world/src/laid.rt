@@ -1,0 +1,10 @@
+//! A header with the layout of its shape.
+
+use tagged_word::{Header, LayoutWord};
+
+/// A header, and the layout of its shape that is in place.
+#[derive(Clone, Copy, Debug, PartialEq, Eq)]
+pub struct Laid {
+    pub header: Header,
+    pub layout: LayoutWord,
+}

@@ -1,0 +1,50 @@
+-- A cell that is to be made in eden: what it is made of.
+use Rattle.std.proofs.Common.{◌≡◌, ℕ, false, List, [], ◌∷◌, length, Some, slice_get, sym, ◌∙◌, ap, subst}
+use Rattle.std.specs.Prelude.{Contains}
+use Rattle.std.proofs.lemmas.Option.{same_Some}
+use Rattle.tagged_word.specs.declared.header.Header.{Header}
+use Rattle.tagged_word.specs.declared.layout.LayoutWord.{LayoutWord}
+use Rattle.tagged_word.specs.Headers.{IsHeader, header_bits}
+use Rattle.tagged_word.specs.Layouts.{IsLayout}
+use Rattle.tagged_word.specs.Cells.{cell_size, has_length, scavenge_offsets, store_slot}
+use Rattle.tagged_word.proofs.Members.{one_in}
+use Rattle.cell_layout.specs.declared.cell.Cell.{Cell}
+use Rattle.heap_model.specs.Heaps.{Heap, words_of_cell}
+use Rattle.heap_model.specs.Slots.{undefined_word}
+use Rattle.heap_model.specs.Kinds.{HasWord}
+use Rattle.heap_model.specs.Laws.{RefersToNothing}
+use Rattle.heap_model.proofs.WordClasses.{undefined_refers_not}
+
+-- its header, its layout, and its words, which are so many
+pub record NewCell : Type 0 where
+  pub header : Header
+  pub layout : LayoutWord
+  pub size : ℕ
+  pub words : List ℕ
+
+-- the cell at an address
+abbrev pub cell_of : ℕ → NewCell → Cell
+cell_of at one = record { at = at; header = one.header; layout = one.layout; length = 0; size = one.size }
+
+-- it is one of an object without a store: the slot for that alone may refer to a cell, and is `undefined`
+pub record IsFresh (one : NewCell) : Type 0 where
+  pub long : length one.words ≡ one.size
+  pub is_header : IsHeader one.header
+  pub first : HasWord one.words 0 (header_bits one.header)
+  pub is_layout : IsLayout one.layout
+  pub no_length : has_length one.layout.kind ≡ false
+  pub sized : cell_size one.layout 0 ≡ Some one.size
+  pub offsets : scavenge_offsets one.layout 0 ≡ store_slot ∷ []
+  pub slot : HasWord one.words store_slot undefined_word
+
+-- so it refers to nothing
+pub fresh_refers_not : (heap : Heap) (at : ℕ) {one : NewCell} → IsFresh one
+    → words_of_cell heap (cell_of at one) ≡ one.words
+    → RefersToNothing (cell_of at one) (words_of_cell heap (cell_of at one))
+fresh_refers_not heap at fresh are offset word to there stands refers =
+    let same : store_slot ≡ offset =
+    one_in store_slot offset (subst (λ offsets. Contains offsets offset) fresh.offsets there) in
+    let word_is : undefined_word ≡ word =
+    same_Some undefined_word word
+    (sym fresh.slot ∙ ap (λ words. slice_get words store_slot) (sym are) ∙ ap (slice_get _) same ∙ stands) in
+    undefined_refers_not to (word_is ∙ refers)

@@ -1,0 +1,130 @@
+//! The commands `list`, `push`, `put` and `at`, on the elements of a list. What they do to its cells
+//! is done in `list_store`.
+ghost use Rattle.std.specs.Prelude.{◌≡◌, ℕ, ◌+◌, ◌≤◌, List, [], length};
+ghost use Rattle.tagged_word.specs.Headers.{IsHeader};
+ghost use Rattle.page_space.specs.Extents.{marks_start};
+ghost use Rattle.heap_command.specs.Commands.{IsWithin};
+ghost use Rattle.object_graph.specs.Graphs.{Graph};
+ghost use Rattle.heap_table.specs.declared.phase.Phase.TheVariants.{Quiet};
+ghost use Rattle.heap_table.specs.Seats.{heap_words};
+ghost use Rattle.write_barrier.specs.Mains.{MainShows, with_table};
+ghost use Rattle.write_barrier.specs.Values.{with_range};
+ghost use Rattle.mutator.specs.Carries.{Carries, field_numbers};
+ghost use Rattle.mutator.specs.Making.{empty_list};
+
+use crate::reading::{integer, list_found, operand, operands};
+use crate::stop::Stop;
+use handle_roots::Held;
+use heap_command::{Command, Operand};
+use tagged_word::{Header, Word, odd, shape};
+use write_barrier::Main;
+
+/// The words of a list's own cell: its header, the slot for its store, and its length.
+const LIST_WORDS: u32 = 3;
+
+/// The offset of the slot for the store.
+const STORE_SLOT: u32 = 1;
+
+/// The offset of the length.
+const LENGTH: u32 = 2;
+
+/// Binds `x` to a new list without elements. `object` is the number of objects made so far, and
+/// becomes the new one's number.
+///
+/// Stops with `NoRoom` where eden has not the cell's three words.
+#[inline(never)]
+pub fn list(main: &mut Main, x: u32, object: u32) -> Result<(), Stop>
+    requires shown { (graph : Graph) × MainShows main.old graph × (object ≡ length graph.objects) }
+    requires within { IsWithin main.old.seat.space.variables field_numbers (Command.List x) }
+    ensures carried { (graph : Graph) (names : List (List ℕ)) → MainShows main.old graph →
+        object ≡ length graph.objects →
+        Carries names main.old main.new graph (Command.List x) [] result }
+{
+    match main.reserve(LIST_WORDS) {
+        Ok(run) => {
+            let header = Header {
+                shape: shape::LIST,
+                object,
+            };
+            fill_list(main, run.at, header);
+            main.hold(x, Held::Ref(run.at));
+            Ok(())
+        }
+        Err(no_room) => Err(Stop::NoRoom { need: no_room.need }),
+    }
+}
+
+// Makes the words at an address the cell of a list without elements.
+fn fill_list(main: &mut Main, at: u32, header: Header)
+    requires quiet { main.old.seat.phase ≡ Quiet }
+    requires is { IsHeader header }
+    requires within { at + LIST_WORDS ≤ marks_start main.old.seat.space }
+    ensures filled { let words = empty_list header in
+        main.new ≡ with_table main.old (with_range main.old.seat.table at words) }
+    ensures heap { let words = empty_list header in
+        heap_words main.new.seat ≡ with_range (heap_words main.old.seat) at words }
+{
+    // No address of a heap is past 32 bits.
+    let _regions = main.regions();
+    main.set_header(at, header);
+    main.write(at + STORE_SLOT, Word::odd(odd::UNDEFINED).0);
+    main.write(at + LENGTH, 0);
+    main.made(at);
+}
+
+/// Makes the value the last element of the list `x`.
+///
+/// Stops with `unbound`, `notlist`, `listfull` where the list has 1,000 elements, or for want of room
+/// for a new store or box.
+#[inline(always)]
+pub fn push(main: &mut Main, x: u32, v: Operand) -> Result<(), Stop>
+    requires shown { (graph : Graph) × MainShows main.old graph }
+    requires within { IsWithin main.old.seat.space.variables field_numbers (Command.Push x v) }
+    ensures carried { (graph : Graph) (names : List (List ℕ)) → MainShows main.old graph →
+        Carries names main.old main.new graph (Command.Push x v) [] result }
+{
+    // The value is read before the list is judged: `unbound` comes before `notlist`.
+    let (target, value) = operands(main, Operand::Var(x), v)?;
+    let found = list_found(main, target)?;
+    list_store::push(main, found, value)?;
+    Ok(())
+}
+
+/// Makes the element of the list `x` at the index `i` the value. Indices are from 0.
+///
+/// Stops with `unbound`, `notlist`, `notint`, `range` where the index is below 0 or not below the
+/// length, or for want of room for a box.
+#[inline(always)]
+pub fn put(main: &mut Main, x: u32, i: Operand, v: Operand) -> Result<(), Stop>
+    requires shown { (graph : Graph) × MainShows main.old graph }
+    requires within { IsWithin main.old.seat.space.variables field_numbers (Command.Put x i v) }
+    ensures carried { (graph : Graph) (names : List (List ℕ)) → MainShows main.old graph →
+        Carries names main.old main.new graph (Command.Put x i v) [] result }
+{
+    // All three are read before any is judged: `unbound` comes before all other faults.
+    let (target, index) = operands(main, Operand::Var(x), i)?;
+    let value = operand(main, v)?;
+    let found = list_found(main, target)?;
+    let place = integer(index)?;
+    list_store::put(main, found, place, value)?;
+    Ok(())
+}
+
+/// Binds `y` to the element of the list `x` at the index `i`. Indices are from 0.
+///
+/// Stops with `unbound`, `notlist`, `notint`, or `range` where the index is below 0 or not below the
+/// length.
+#[inline(always)]
+pub fn at(main: &mut Main, y: u32, x: u32, i: Operand) -> Result<(), Stop>
+    requires shown { (graph : Graph) × MainShows main.old graph }
+    requires within { IsWithin main.old.seat.space.variables field_numbers (Command.At y x i) }
+    ensures carried { (graph : Graph) (names : List (List ℕ)) → MainShows main.old graph →
+        Carries names main.old main.new graph (Command.At y x i) [] result }
+{
+    let (target, index) = operands(main, Operand::Var(x), i)?;
+    let from = list_found(main, target)?;
+    let which = integer(index)?;
+    let value = list_store::at(main, from, which)?;
+    main.hold(y, value);
+    Ok(())
+}

@@ -1,0 +1,176 @@
+-- The box that is made for what a slot comes to hold, if it needs one.
+use Rattle.std.proofs.Common.{◌≡◌, ℕ, ◌+◌, ◌≤◌, ◌<◌, length, length-set, Bool, List, [], ◌∷◌, Contains, Some, slice_get}
+use Rattle.std.proofs.Common.{refl, sym, ◌∙◌}
+use Rattle.std.proofs.Common.{ap, subst, arith}
+use Rattle.std.specs.Prelude.{ℤ, FitsSigned, slice_set}
+use Rattle.std.specs.Int.{w64}
+use Rattle.tagged_word.specs.declared.layout.Kind.TheVariants as kind
+use Rattle.tagged_word.specs.Headers.{header_bits}
+use Rattle.tagged_word.proofs.Members.{first_in, one_in}
+use Rattle.page_space.specs.Extents.{eden_start, segments_start}
+use Rattle.object_graph.specs.declared.value.Value.{Value}
+use Rattle.object_graph.specs.declared.value.Rep.{Rep}
+use Rattle.object_graph.specs.Invariants.{IsValue}
+use Rattle.object_graph.proofs.Lists.{slice_get-set_same, slice_get-set_other}
+use Rattle.cell_layout.specs.declared.cell.Cell.{Cell}
+use Rattle.cell_layout.specs.Cells.{IsRow, none}
+use Rattle.heap_model.specs.Heaps.{Heap, HasCell, words_of_cell}
+use Rattle.heap_model.specs.Slots.{raw_word, reference_word, RefersToBox}
+use Rattle.heap_model.specs.Kinds.{HasWord, IsBoxCell}
+use Rattle.heap_model.specs.Wholeness.{HasSizes}
+use Rattle.heap_model.proofs.BoundHeaps.{none_in}
+use Rattle.write_barrier.specs.Values.{box_header}
+use Rattle.object_cells.specs.declared.content.Content.{Content}
+use Rattle.object_cells.specs.declared.content.Content.TheVariants as content
+use Rattle.object_cells.specs.Made.{content_need, with_content}
+use Rattle.object_cells.proofs.HeldContents.{HoldsValue}
+use Rattle.object_cells.proofs.NewBoxes.{box_cell, box_is_cell, row_of_box}
+use Rattle.object_cells.proofs.SlotsNow.{word_at_offset}
+
+-- the box that is made for it, at an address
+abbrev pub made_boxes : Content → ℕ → List Cell
+made_boxes (content.Tagged word) at = []
+made_boxes (content.Raw word) at = []
+made_boxes (content.Boxed v) at = box_cell at ∷ []
+
+-- both words of the box stand in eden, if it needs one
+pub record BoxStands (heap : Heap) (holds : Content) (box : ℕ) : Type 0 where
+  pub header : (v : ℤ) → holds ≡ content.Boxed v → slice_get heap.words box ≡ Some (header_bits box_header)
+  pub raw : (v : ℤ) → holds ≡ content.Boxed v → slice_get heap.words (box + 1) ≡ Some (raw_word v)
+  pub from : (v : ℤ) → holds ≡ content.Boxed v → eden_start heap.space ≤ box
+  pub below : (v : ℤ) → holds ≡ content.Boxed v → box + 2 ≤ segments_start heap.space
+
+-- no cell is made in no words
+pub row_of_none : (heap : Heap) (at : ℕ) → IsRow heap.space heap.words at (at + 0) []
+row_of_none heap at =
+    let same : at ≡ at + 0 = omega arith in
+    subst (λ end. IsRow heap.space heap.words at end []) same (none at)
+
+-- then it is a row
+pub made_row : (heap : Heap) (holds : Content) (box : ℕ) → HasSizes heap → BoxStands heap holds box
+    → IsRow heap.space heap.words box (box + content_need holds) (made_boxes holds box)
+made_row heap (content.Tagged word) box sized stands = row_of_none heap box
+made_row heap (content.Raw word) box sized stands = row_of_none heap box
+made_row heap (content.Boxed v) box sized stands =
+    row_of_box heap box (box + 2)
+    (box_is_cell heap box sized (stands.header v refl) (stands.from v refl) (stands.below v refl))
+    refl
+
+-- A slot comes to hold a box with this integer, and this cell is the box.
+pub record IsTheBox (holds : Content) (box : ℕ) (other : Cell) : Type 0 where
+  pub integer : ℤ
+  pub boxed : holds ≡ content.Boxed integer
+  pub same : box_cell box ≡ other
+
+-- each of them is that box
+pub the_box : (holds : Content) (box : ℕ) (other : Cell) → Contains (made_boxes holds box) other
+    → IsTheBox holds box other
+the_box (content.Tagged word) box other there = absurd (none_in other there)
+the_box (content.Raw word) box other there = absurd (none_in other there)
+the_box (content.Boxed v) box other there =
+    record { integer = v; boxed = refl; same = one_in (box_cell box) other there }
+
+-- the box is one of them
+pub made_box : (holds : Content) (box : ℕ) (v : ℤ) → holds ≡ content.Boxed v
+    → Contains (made_boxes holds box) (box_cell box)
+made_box holds box v boxed =
+    subst (λ one. Contains (made_boxes one box) (box_cell box)) (sym boxed) (first_in (box_cell box) [])
+
+-- a slot that needs a box holds an integer
+pub boxed_integer : {heap : Heap} {own : Bool} {was one : Rep} {what : Value} {holds : Content} (count : ℕ) (v : ℤ)
+    → HoldsValue heap own was one what holds → IsValue count what → holds ≡ content.Boxed v → FitsSigned w64 v
+boxed_integer count v (HoldsValue.small_integer one w is apart) fits boxed = cc
+boxed_integer count v (HoldsValue.raw w own apart) fits boxed = cc
+boxed_integer count v (HoldsValue.wide_box w beside apart small) fits boxed =
+    let same : w ≡ v = cc in
+    subst (FitsSigned w64) same fits
+boxed_integer count v (HoldsValue.tagged_box w wide was) fits boxed =
+    let same : w ≡ v = cc in
+    subst (FitsSigned w64) same fits
+boxed_integer count v HoldsValue.undefined fits boxed = cc
+boxed_integer count v (HoldsValue.object at number place) fits boxed = cc
+
+-- the integer of the box
+box_word : {heap : Heap} (holds : Content) (box : ℕ) (v : ℤ) → holds ≡ content.Boxed v → BoxStands heap holds box
+    → HasCell heap (box_cell box) (words_of_cell heap (box_cell box))
+    → HasWord (words_of_cell heap (box_cell box)) 1 (raw_word v)
+box_word holds box v boxed stands has = word_at_offset 1 has (omega arith) ∙ stands.raw v boxed
+
+-- so it is a box
+pub made_is_box : {heap : Heap} (holds : Content) (box : ℕ) (v : ℤ) → holds ≡ content.Boxed v → FitsSigned w64 v
+    → BoxStands heap holds box → HasCell heap (box_cell box) (words_of_cell heap (box_cell box))
+    → IsBoxCell (box_cell box) (words_of_cell heap (box_cell box))
+made_is_box holds box v boxed fits stands has =
+    record { no_number = refl; integer = v; fits = fits; holds = box_word holds box v boxed stands has }
+
+-- to which its reference refers
+pub refers_to_made : {heap : Heap} (holds : Content) (box : ℕ) (v : ℤ) → holds ≡ content.Boxed v → FitsSigned w64 v
+    → BoxStands heap holds box → HasCell heap (box_cell box) (words_of_cell heap (box_cell box))
+    → RefersToBox heap (reference_word box) v
+refers_to_made {heap} holds box v boxed fits stands has = record {
+  cell = box_cell box;
+  words = words_of_cell heap (box_cell box);
+  target = record { refers = refl; has = has };
+  box = refl;
+  holds = box_word holds box v boxed stands has;
+  fits = fits;
+}
+
+-- the cells that are made are boxes
+pub made_boxed : (holds : Content) (box : ℕ) (other : Cell) → Contains (made_boxes holds box) other
+    → other.layout.kind ≡ kind.Boxed
+made_boxed holds box other there =
+    let one = the_box holds box other there in
+    ap (λ (c : Cell). c.layout.kind) (sym one.same)
+
+-- and sound ones
+pub made_sound : {heap old : Heap} {own : Bool} {was one : Rep} {what : Value} {holds : Content} (count box : ℕ)
+    (other : Cell) → HoldsValue old own was one what holds → IsValue count what → BoxStands heap holds box
+    → HasCell heap other (words_of_cell heap other) → Contains (made_boxes holds box) other
+    → IsBoxCell other (words_of_cell heap other)
+made_sound {heap} {holds = holds} count box other value fits stands has there =
+    let one = the_box holds box other there in
+    let box_has = subst (λ (c : Cell). HasCell heap c (words_of_cell heap c)) (sym one.same) has in
+    subst (λ (c : Cell). IsBoxCell c (words_of_cell heap c)) one.same
+    (made_is_box holds box one.integer one.boxed (boxed_integer count one.integer value fits one.boxed) stands box_has)
+
+-- with a box made there are as many words
+pub length-with_content : (words : List ℕ) (holds : Content) (box : ℕ)
+    → length (with_content words holds box) ≡ length words
+length-with_content words (content.Tagged word) box = refl
+length-with_content words (content.Raw word) box = refl
+length-with_content words (content.Boxed v) box =
+    length-set (slice_set words box (header_bits box_header)) (box + 1) (raw_word v)
+    ∙ length-set words box (header_bits box_header)
+
+-- and but for those of the box they are as before
+pub with_content_stays : (words : List ℕ) (holds : Content) (box a : ℕ) → (box ≤ a → a < box + content_need holds → ⊥)
+    → slice_get (with_content words holds box) a ≡ slice_get words a
+with_content_stays words (content.Tagged word) box a beside = refl
+with_content_stays words (content.Raw word) box a beside = refl
+with_content_stays words (content.Boxed v) box a beside =
+    slice_get-set_other (slice_set words box (header_bits box_header)) (box + 1) a (raw_word v)
+    (λ same. beside (omega (arith, same)) (omega (arith, same)))
+    ∙ slice_get-set_other words box a (header_bits box_header)
+    (λ same. beside (omega (arith, same)) (omega (arith, same)))
+
+-- The words of a box with this integer stand at this address.
+pub record BoxWords (words : List ℕ) (box : ℕ) (v : ℤ) : Type 0 where
+  pub header : slice_get words box ≡ Some (header_bits box_header)
+  pub raw : slice_get words (box + 1) ≡ Some (raw_word v)
+
+-- and those are the words of the box
+pub with_content_box : (words : List ℕ) (holds : Content) (box : ℕ) (v : ℤ) → holds ≡ content.Boxed v
+    → box + 1 < length words → BoxWords (with_content words holds box) box v
+with_content_box words (content.Tagged word) box v boxed within = cc
+with_content_box words (content.Raw word) box v boxed within = cc
+with_content_box words (content.Boxed w) box v boxed within =
+    let same : w ≡ v = cc in
+    let one = slice_set words box (header_bits box_header) in
+    record {
+      header = slice_get-set_other one (box + 1) box (raw_word w) (λ is. omega (arith, is))
+          ∙ slice_get-set_same words box (header_bits box_header) (omega (arith, within));
+      raw = slice_get-set_same one (box + 1) (raw_word w)
+          (omega (arith, within, length-set words box (header_bits box_header)))
+          ∙ ap (λ (n : ℤ). Some (raw_word n)) same;
+    }

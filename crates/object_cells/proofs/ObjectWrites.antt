@@ -1,0 +1,197 @@
+-- Where the cell of one object becomes another of it, and words of its own cells have changed, cells stand in rows.
+use Rattle.std.proofs.Common.{◌≡◌, ℕ, ◌+◌, ◌<◌, ◌≤◌, inl, inr, List, [], ◌∷◌, ◌++◌, length, IsTrue}
+use Rattle.std.proofs.Common.{Contains, All, map, slice_get}
+use Rattle.std.proofs.Common.{sym, ◌∙◌, ap, subst, arith}
+use Rattle.std.specs.List.{flat_map}
+use Rattle.std.proofs.lemmas.Bool.{false≢true}
+use Rattle.std.proofs.lemmas.List.Concat.{flat_map_single}
+use Rattle.std.proofs.lemmas.List.Folds.{flat_map-map}
+use Rattle.std.proofs.lemmas.List.Elements.{All-cons, All-contains, All-map, All-weaker, All-contains_itself}
+use Rattle.std.proofs.lemmas.List.{map-id}
+use Rattle.std.proofs.lemmas.Simd.{map-map}
+use Rattle.tagged_word.specs.declared.layout.Kind.{Kind}
+use Rattle.tagged_word.specs.declared.layout.Kind.TheVariants as kind
+use Rattle.tagged_word.specs.Cells.{has_length}
+use Rattle.tagged_word.proofs.Members.{in_map, first_in, rest_in}
+use Rattle.object_graph.specs.declared.path.Path.{Path}
+use Rattle.page_space.specs.Extents.{Space, eden_start, roots_start, layouts_start, marks_start}
+use Rattle.page_space.proofs.Starts.{roots_start_is, layouts_start_is}
+use Rattle.cell_layout.specs.declared.cell.Cell.{Cell}
+use Rattle.cell_layout.specs.Cells.{IsCell, IsRow}
+use Rattle.cell_layout.specs.CellLaws.{ReadsAlike}
+use Rattle.heap_model.specs.Heaps.{Heap, HasCell, words_of_cell}
+use Rattle.heap_model.specs.Slots.{is_object_kind}
+use Rattle.heap_model.specs.Wholeness.{Whole, HasSizes, HasRows}
+use Rattle.heap_model.specs.Changes.{IsPatched, Rewrite, IsRewrite, patch_of, IsChange, CellsChange, IsNewlyUsed}
+use Rattle.heap_model.proofs.CellsApart.{has_is_cell, used_few}
+use Rattle.heap_model.proofs.LayoutsStay.{SayLayouts, layout_stays}
+use Rattle.heap_model.proofs.WordsAlike.{cell_below_roots}
+use Rattle.heap_model.proofs.Rewrites.{rewrite_by_one, rewrite_slots, rewrites_are_patches, rewrites_keep_cells}
+use Rattle.object_cells.specs.CellWrites.{IsInCell, IsWrittenBeside}
+
+-- A cell of the same object stands in the words of an object's cell. Otherwise only words of this cell and of these others
+-- have changed, words that are newly used, in which cells were made, and layout words of shapes that are new.
+pub record WritesObject (old new : Heap) (cell came : Cell) (others made : List Cell) : Type 0 where
+  pub same_space : new.space ≡ old.space
+  pub same_survivors : new.survivors ≡ old.survivors
+  pub grown : old.used ≤ new.used
+  pub room : new.survivors + new.used ≤ new.space.sizes.young
+  pub more : List Path
+  pub paths : new.paths ≡ old.paths ++ more
+  pub sized : HasSizes new
+  pub stood : HasCell old cell (words_of_cell old cell)
+  pub object : IsTrue (is_object_kind cell.layout.kind)
+  pub still_object : IsTrue (is_object_kind came.layout.kind)
+  pub place : came.at ≡ cell.at
+  pub size : came.size ≡ cell.size
+  pub number : came.header.object ≡ cell.header.object
+  pub is_cell : IsCell new.space new.words came
+  pub beside : (other : Cell) → Contains others other → IsWrittenBeside old new other
+  pub made_stand : IsRow new.space new.words (eden_start old.space + old.used) (eden_start old.space + new.used) made
+  pub stay : (at : ℕ) → at < layouts_start old.space → (IsInCell at cell → ⊥)
+      → ((other : Cell) → Contains others other → IsInCell at other → ⊥) → (IsNewlyUsed old new at → ⊥)
+      → slice_get new.words at ≡ slice_get old.words at
+
+-- there are as many words as before
+pub same_count : {old new : Heap} → HasSizes old → HasSizes new → new.space ≡ old.space
+    → length new.words ≡ length old.words
+same_count sized sized_new same = sized_new.words ∙ ap marks_start same ∙ sym sized.words
+
+-- where paths are only added, a cell's layout word is read as before
+pub layout_alike : {old new : Heap} {cell : Cell} {words : List ℕ} (more : List Path) → HasSizes old → HasSizes new
+    → new.space ≡ old.space → new.paths ≡ old.paths ++ more → (has : HasCell old cell words)
+    → slice_get new.words cell.at ≡ slice_get old.words cell.at
+    → (IsTrue (has_length cell.layout.kind) → slice_get new.words (cell.at + 1) ≡ slice_get old.words (cell.at + 1))
+    → ReadsAlike old.space old.words new.words cell
+layout_alike {old} {new} {cell} more sized sized_new same paths has first second =
+    let say : SayLayouts old.space new.words (old.paths ++ more) =
+    subst (λ (space : Space). SayLayouts space new.words (old.paths ++ more)) same
+    (subst (λ (all : List Path). SayLayouts new.space new.words all) paths sized_new.layouts) in
+    record {
+      first = first;
+      second = second;
+      of_shape = layout_stays old.space old.words new.words old.paths more cell sized.layouts say (has_is_cell has);
+    }
+
+-- a box has no length
+box_without : (k : Kind) → k ≡ kind.Boxed → IsTrue (has_length k) → ⊥
+box_without k boxed long = false≢true (ap has_length (sym boxed) ∙ long)
+
+-- a store or a box that was written is read as before
+beside_alike : {old new : Heap} {cell came other : Cell} {others made : List Cell} → Whole old
+    → WritesObject old new cell came others made → Contains others other
+    → ReadsAlike old.space old.words new.words other
+beside_alike {other = other} whole writes there =
+    let beside = writes.beside other there in
+    layout_alike writes.more whole.sized writes.sized writes.same_space writes.paths beside.stood beside.header
+    (λ long. elim beside.of_kind [
+      | inl store ↦ beside.length store
+      | inr boxed ↦ absurd (box_without other.layout.kind boxed long)
+    ])
+
+-- the cell is rewritten by itself
+abbrev by_itself : Cell → Rewrite
+by_itself cell = record { cell = cell; into = cell ∷ [] }
+
+-- the cell becomes another
+abbrev by_other : Cell → Cell → Rewrite
+by_other cell came = record { cell = cell; into = came ∷ [] }
+
+-- the object's cell becomes the other, and each of those beside it itself
+abbrev rewrites_of : Cell → Cell → List Cell → List Rewrite
+rewrites_of cell came others = by_other cell came ∷ map by_itself others
+
+-- these are rewrites
+are_rewrites : {old new : Heap} {cell came : Cell} {others made : List Cell} → Whole old
+    → WritesObject old new cell came others made → All (IsRewrite old new) (rewrites_of cell came others)
+are_rewrites {old} {new} {cell} {came} {others} whole writes =
+    let Q : Cell → Type 0 = λ other. IsRewrite old new (by_itself other) in
+    let each : (other : Cell) → Contains others other → Q other = λ other there.
+    rewrite_slots (writes.beside other there).stood writes.same_space
+    (same_count whole.sized writes.sized writes.same_space) (beside_alike whole writes there) in
+    All-cons (IsRewrite old new) (by_other cell came) (map by_itself others)
+    (rewrite_by_one writes.stood writes.is_cell writes.place writes.size)
+    (All-map (IsRewrite old new) by_itself others
+    (All-weaker (Contains others) Q each others (All-contains_itself others)))
+
+-- newly used words are before the roots
+new_below_roots : {old new : Heap} {cell came : Cell} {others made : List Cell} (at : ℕ)
+    → WritesObject old new cell came others made → IsNewlyUsed old new at → at < roots_start old.space
+new_below_roots {old} at writes is_new =
+    let young = ap (λ (space : Space). space.sizes.young) writes.same_space in
+    omega (arith, is_new.below, writes.room, young, roots_start_is old.space)
+
+-- a word of the roots stays
+root_stays : {old new : Heap} {cell came : Cell} {others made : List Cell} (at : ℕ) → Whole old
+    → WritesObject old new cell came others made → roots_start old.space ≤ at → at < layouts_start old.space
+    → slice_get new.words at ≡ slice_get old.words at
+root_stays at whole writes behind below =
+    let few = used_few whole.rows in
+    writes.stay at below (λ of_cell. omega (arith, of_cell.below, cell_below_roots few writes.stood))
+    (λ other there of_other. omega (arith, of_other.below, cell_below_roots few (writes.beside other there).stood))
+    (λ is_new. omega (arith, new_below_roots at writes is_new))
+
+-- a word of cells that no patch has stays, unless it is newly used
+free_stays : {old new : Heap} {cell came : Cell} {others made : List Cell} (at : ℕ)
+    → WritesObject old new cell came others made → at < roots_start old.space
+    → All (λ patch. IsPatched at patch → ⊥) (map patch_of (rewrites_of cell came others))
+    → (IsNewlyUsed old new at → ⊥) → slice_get new.words at ≡ slice_get old.words at
+free_stays {old} {cell = cell} {came} {others} at writes below free not_new =
+    let first = by_other cell came in
+    let rewrites = rewrites_of cell came others in
+    let apart : (rewrite : Rewrite) → Contains rewrites rewrite → IsPatched at (patch_of rewrite) → ⊥ =
+    λ rewrite there. All-contains (λ patch. IsPatched at patch → ⊥) (map patch_of rewrites) (patch_of rewrite) free
+    (in_map patch_of rewrites rewrite there) in
+    writes.stay at (omega (arith, below, layouts_start_is old.space))
+    (λ of_cell. apart first (first_in first (map by_itself others))
+    (record { from = of_cell.from; below = of_cell.below }))
+    (λ other there of_other. apart (by_itself other)
+    (rest_in first (map by_itself others) (by_itself other) (in_map by_itself others other there))
+    (record { from = of_other.from; below = of_other.below }))
+    not_new
+
+-- nothing else changes
+is_change : {old new : Heap} {cell came : Cell} {others made : List Cell} → Whole old
+    → WritesObject old new cell came others made
+    → IsChange old new (map patch_of (rewrites_of cell came others)) made
+is_change {old} {new} {cell} {came} {others} whole writes =
+    let are = rewrites_are_patches old new (rewrites_of cell came others) whole.rows (are_rewrites whole writes) in
+    record {
+      same_space = writes.same_space;
+      same_survivors = writes.same_survivors;
+      grown = writes.grown;
+      room = writes.room;
+      more = writes.more;
+      paths = writes.paths;
+      sized = writes.sized;
+      each = are.0;
+      apart = are.1;
+      made_stand = writes.made_stand;
+      cells_stay = λ at below free not_new. free_stays at writes below free not_new;
+      roots_stay = λ at behind below. root_stays at whole writes behind below;
+    }
+
+-- what went are the cell and the others
+cells_went : (cell came : Cell) (others : List Cell)
+    → map (λ (rewrite : Rewrite). rewrite.cell) (rewrites_of cell came others) ≡ cell ∷ others
+cells_went cell came others =
+    ap (λ more. cell ∷ more) (map-map (λ (rewrite : Rewrite). rewrite.cell) by_itself others ∙ map-id others)
+
+-- and what came are what the cell became, and the others
+cells_came : (cell came : Cell) (others : List Cell)
+    → flat_map (λ (rewrite : Rewrite). rewrite.into) (rewrites_of cell came others) ≡ came ∷ others
+cells_came cell came others =
+    ap (λ more. came ∷ more)
+    (flat_map-map (λ (rewrite : Rewrite). rewrite.into) by_itself others ∙ flat_map_single (λ one. one) others
+    ∙ map-id others)
+
+-- cells stand in rows again: what the object's became, the others as they were, and those that were made
+pub object_keeps_cells : {old new : Heap} {cell came : Cell} {others made : List Cell} → Whole old
+    → WritesObject old new cell came others made
+    → HasRows new × CellsChange old new (cell ∷ others) (came ∷ others) made
+object_keeps_cells {old} {new} {cell} {came} {others} {made} whole writes =
+    let rewrites : List Rewrite = rewrites_of cell came others in
+    let kept = rewrites_keep_cells old new rewrites made whole (is_change whole writes) in
+    let P : List Cell → Type 0 = λ gone. CellsChange old new gone (flat_map (λ rewrite. rewrite.into) rewrites) made in
+    let Q : List Cell → Type 0 = λ all. CellsChange old new (cell ∷ others) all made in
+    (kept.0, subst Q (cells_came cell came others) (subst P (cells_went cell came others) kept.1))

@@ -1,0 +1,182 @@
+-- One word that was put is one of an object's own cells, and the other one of its cell.
+use Rattle.std.proofs.Common.{◌≡◌, ◌≢◌, ℕ, ◌+◌, ◌<◌, ◌⊎◌, inl, inr, List, Contains, slice_get, IsTrue}
+use Rattle.std.proofs.Common.{sym, ◌∙◌, ap, subst, arith}
+use Rattle.std.proofs.lemmas.Bool.{false≢true}
+use Rattle.tagged_word.specs.declared.layout.Kind.TheVariants as kind
+use Rattle.tagged_word.specs.Cells.{length_offset}
+use Rattle.page_space.specs.Extents.{Space, layouts_start}
+use Rattle.page_space.proofs.Starts.{layouts_start_is}
+use Rattle.shape_tree.specs.Shapes.{IsPathShape, shape_path}
+use Rattle.cell_layout.specs.declared.cell.Cell.{Cell}
+use Rattle.heap_model.specs.Heaps.{Heap, HasCell, words_of_cell}
+use Rattle.heap_model.specs.Slots.{is_object_kind}
+use Rattle.heap_model.specs.Kinds.{count_offset}
+use Rattle.heap_model.specs.Wholeness.{Whole}
+use Rattle.heap_model.specs.Changes.{IsNewlyUsed}
+use Rattle.heap_model.proofs.CellsApart.{IsOfCell, first_of_cell, cells_apart, used_few}
+use Rattle.heap_model.proofs.CellWords.{words_by_kind, words_are_size}
+use Rattle.heap_model.proofs.WordsAlike.{cell_below_roots}
+use Rattle.object_cells.specs.CellWrites.{IsInCell, IsWrittenBeside, WritesCells}
+use Rattle.object_cells.specs.ElementChanges.{WritesList}
+use Rattle.object_cells.proofs.WrittenPlaces.{IsBesideKind, beside_is_no_object}
+use Rattle.object_cells.proofs.UnusedWords.{cell_is_used}
+use Rattle.object_cells.proofs.OneWord.{WritesOne, WritesTwo, two_of_one}
+
+-- the words of a list
+pub list_size : {heap : Heap} {cell : Cell} {words : List ℕ} → HasCell heap cell words → cell.layout.kind ≡ kind.List
+    → cell.size ≡ 3
+list_size has list = sym (words_are_size has) ∙ words_by_kind kind.List has list
+
+-- its length is one of them
+pub count_of_cell : {heap : Heap} {cell : Cell} {words : List ℕ} → HasCell heap cell words
+    → cell.layout.kind ≡ kind.List → IsOfCell cell (cell.at + count_offset)
+count_of_cell has list = record { from = omega arith; below = omega (arith, list_size has list) }
+
+-- a store or a box stands in the heap, and the address is neither that of its header nor that of its length
+pub record IsPutBeside (heap : Heap) (at : ℕ) (other : Cell) : Type 0 where
+  pub stood : HasCell heap other (words_of_cell heap other)
+  pub of_kind : IsBesideKind other.layout.kind
+  pub header : other.at ≢ at
+  pub length : other.layout.kind ≡ kind.Store → other.at + length_offset ≢ at
+
+-- the address is in the cell, or in one of the stores and boxes
+pub record IsOwnWord (heap : Heap) (cell : Cell) (others : List Cell) (at : ℕ) : Type 0 where
+  pub each : (other : Cell) → Contains others other → IsPutBeside heap at other
+  pub inside : IsInCell at cell ⊎ ((other : Cell) × Contains others other × IsInCell at other)
+
+-- a word of a cell is not among those that are newly used
+cell_not_new : {old new : Heap} {one : Cell} {words : List ℕ} {first head at word : ℕ} {made : List Cell} (a : ℕ)
+    → Whole old → WritesTwo old new first head at word made → HasCell old one words → IsOfCell one a
+    → IsNewlyUsed old new a
+    → ⊥
+cell_not_new {old} a whole writes has of_cell is_new =
+    let young = ap (λ (space : Space). space.sizes.young) writes.same_space in
+    cell_is_used whole.rows has of_cell is_new.from (omega (arith, is_new.below, writes.room, young))
+
+-- a word of a cell is before the layout words
+pub cell_below_layouts : {heap : Heap} {cell : Cell} {words : List ℕ} {a : ℕ} → Whole heap → HasCell heap cell words
+    → IsOfCell cell a → a < layouts_start heap.space
+cell_below_layouts {heap} whole has of_cell =
+    omega (arith, of_cell.below, cell_below_roots (used_few whole.rows) has, layouts_start_is heap.space)
+
+-- so a word of a cell stays, unless it is one of the two
+pub own_word_stays : {old new : Heap} {one : Cell} {words : List ℕ} {first head at word : ℕ} {made : List Cell} (a : ℕ)
+    → Whole old → WritesTwo old new first head at word made → HasCell old one words → IsOfCell one a → a ≢ first
+    → a ≢ at
+    → slice_get new.words a ≡ slice_get old.words a
+own_word_stays a whole writes has of_cell not_first not_at =
+    writes.stay a (cell_below_layouts whole has of_cell) not_first not_at (cell_not_new a whole writes has of_cell)
+
+-- and where one is the header of the object
+pub word_stays : {old new : Heap} {cell one : Cell} {words : List ℕ} {shape at word : ℕ} {made : List Cell} (a : ℕ)
+    → Whole old → WritesOne old new cell shape at word made → HasCell old one words → IsOfCell one a → a ≢ cell.at
+    → a ≢ at
+    → slice_get new.words a ≡ slice_get old.words a
+word_stays a whole writes has of_cell not_cell not_at =
+    own_word_stays a whole (two_of_one writes) has of_cell not_cell not_at
+
+-- no address of a store or box is one of an object's cell
+pub beside_not_own : {heap : Heap} {cell other : Cell} {words others : List ℕ} (a first : ℕ) → Whole heap
+    → HasCell heap cell words → IsTrue (is_object_kind cell.layout.kind) → IsOfCell cell first
+    → HasCell heap other others → IsBesideKind other.layout.kind → IsOfCell other a → a ≢ first
+beside_not_own {cell = cell} {other} a first whole has object of_own has_other is of_other same =
+    let one = cells_apart a whole.rows has has_other (subst (IsOfCell cell) (sym same) of_own) of_other in
+    let is_object = ap (λ (c : Cell). is_object_kind c.layout.kind) (sym one) ∙ object in
+    false≢true (sym (beside_is_no_object other.layout.kind is) ∙ is_object)
+
+-- so none is that of its header
+pub beside_not_header : {heap : Heap} {cell other : Cell} {words others : List ℕ} (a : ℕ) → Whole heap
+    → HasCell heap cell words → cell.layout.kind ≡ kind.Plain → HasCell heap other others
+    → IsBesideKind other.layout.kind
+    → IsOfCell other a → a ≢ cell.at
+beside_not_header {cell = cell} a whole has plain has_other is of_cell =
+    beside_not_own a cell.at whole has (ap is_object_kind plain) (first_of_cell has) has_other is of_cell
+
+-- the second word of a store is one of it
+store_second : {heap : Heap} {other : Cell} {words : List ℕ} → HasCell heap other words → other.layout.kind ≡ kind.Store
+    → IsOfCell other (other.at + length_offset)
+store_second has store =
+    record { from = omega arith; below = omega (arith, words_by_kind kind.Store has store, words_are_size has) }
+
+-- A store or box was written, of which neither the header nor the length changed: one word is of the object's cell, and
+-- the other neither of these.
+pub written_beside : {old new : Heap} {cell other : Cell} {words : List ℕ} {first head at word : ℕ} {made : List Cell}
+    → Whole old → HasCell old cell words → IsTrue (is_object_kind cell.layout.kind) → IsOfCell cell first
+    → WritesTwo old new first head at word made → IsPutBeside old at other → IsWrittenBeside old new other
+written_beside {other = other} {first = first} whole has object of_own writes put =
+    let start = first_of_cell put.stood in
+    record {
+      stood = put.stood;
+      of_kind = put.of_kind;
+      header = own_word_stays other.at whole writes put.stood start
+          (beside_not_own other.at first whole has object of_own put.stood put.of_kind start) put.header;
+      length = λ store.
+          let second = store_second put.stood store in
+          own_word_stays (other.at + length_offset) whole writes put.stood second
+          (beside_not_own (other.at + length_offset) first whole has object of_own put.stood put.of_kind second)
+          (put.length store);
+    }
+
+-- a word of no cell that is the object's own stays
+pub others_stay : {old new : Heap} {cell : Cell} {others made : List Cell} {first head at word : ℕ}
+    → IsOfCell cell first → WritesTwo old new first head at word made → IsOwnWord old cell others at → (a : ℕ)
+    → a < layouts_start old.space → (IsInCell a cell → ⊥)
+    → ((other : Cell) → Contains others other → IsInCell a other → ⊥) → (IsNewlyUsed old new a → ⊥)
+    → slice_get new.words a ≡ slice_get old.words a
+others_stay {cell = cell} of_own writes own a below not_cell not_others not_new =
+    writes.stay a below
+    (λ same. not_cell (record { from = omega (arith, same, of_own.from); below = omega (arith, same, of_own.below) }))
+    (λ same. elim own.inside [
+      | inl in_cell ↦ not_cell (subst (λ n. IsInCell n cell) (sym same) in_cell)
+      | inr there ↦ not_others there.0 there.1 (subst (λ n. IsInCell n there.0) (sym same) there.2)
+    ])
+    not_new
+
+-- so where one word of a plain object's own cells was put, and its header, words of these cells were written
+pub writes_cells : {old new : Heap} (cell : Cell) (shape at word : ℕ) (others made : List Cell) → Whole old
+    → HasCell old cell (words_of_cell old cell) → cell.layout.kind ≡ kind.Plain → IsPathShape new.paths shape
+    → (shape_path new.paths shape).cap ≡ cell.layout.cap → IsOwnWord old cell others at
+    → WritesOne old new cell shape at word made → WritesCells old new cell shape others made
+writes_cells cell shape at word others made whole has plain is_shape cap own writes =
+    let two = two_of_one writes in
+    record {
+      same_space = writes.same_space;
+      same_survivors = writes.same_survivors;
+      grown = writes.grown;
+      room = writes.room;
+      more = writes.more;
+      paths = writes.paths;
+      sized = writes.sized;
+      stood = has;
+      plain = plain;
+      is_shape = is_shape;
+      cap = cap;
+      header = writes.header;
+      beside = λ other there.
+          written_beside whole has (ap is_object_kind plain) (first_of_cell has) two (own.each other there);
+      made_stand = writes.made_stand;
+      stay = λ a below not_cell not_others not_new.
+          others_stay (first_of_cell has) two own a below not_cell not_others not_new;
+    }
+
+-- and where one word of a list's own cells was put, not its header, and its length, words of these cells were written
+pub writes_of_list : {old new : Heap} (cell : Cell) (count at word : ℕ) (others made : List Cell) → Whole old
+    → HasCell old cell (words_of_cell old cell) → cell.layout.kind ≡ kind.List → new.paths ≡ old.paths → cell.at ≢ at
+    → IsOwnWord old cell others at → WritesTwo old new (cell.at + count_offset) count at word made
+    → WritesList old new cell others made
+writes_of_list cell count at word others made whole has list paths not_header own writes =
+    let of_own = count_of_cell has list in
+    record {
+      same_space = writes.same_space;
+      same_survivors = writes.same_survivors;
+      grown = writes.grown;
+      room = writes.room;
+      paths = paths;
+      sized = writes.sized;
+      stood = has;
+      list = list;
+      header = own_word_stays cell.at whole writes has (first_of_cell has) (λ same. omega (arith, same)) not_header;
+      beside = λ other there. written_beside whole has (ap is_object_kind list) of_own writes (own.each other there);
+      made_stand = writes.made_stand;
+      stay = λ a below not_cell not_others not_new. others_stay of_own writes own a below not_cell not_others not_new;
+    }

@@ -1,0 +1,51 @@
+-- Where words of a list's own cells were written and its slots show other elements, the heap shows the graph in which the
+-- list has these.
+use Rattle.std.proofs.Common.{List, ◌∷◌, sym, ◌∙◌, ap}
+use Rattle.std.proofs.lemmas.List.Elements.{All-contains}
+use Rattle.tagged_word.proofs.Members.{first_in}
+use Rattle.object_graph.specs.declared.value.Value.{Value}
+use Rattle.object_graph.specs.declared.value.Value.TheVariants.{Ref}
+use Rattle.object_graph.specs.declared.object.Object.TheVariants.{List as ListOf}
+use Rattle.object_graph.specs.Graphs.{Graph}
+use Rattle.graph_laws.proofs.MadeGraphs.{relists}
+use Rattle.cell_layout.specs.declared.cell.Cell.{Cell}
+use Rattle.heap_model.specs.Heaps.{Heap}
+use Rattle.write_barrier.specs.Mains.{heap_of}
+use Rattle.object_cells.specs.HeldValues.{IsReachedValue}
+use Rattle.object_cells.specs.Refills.{IsAtRest}
+use Rattle.object_cells.specs.ElementChanges.{AreNewElements, WrittenElementsShow}
+use Rattle.object_cells.proofs.ListWrites.{writes_list, written_list_keeps_cells}
+use Rattle.object_cells.proofs.RefilledElements.{Relisting, list_shows, elements_own}
+use Rattle.object_cells.proofs.ReplacedObjects.{HasReachedLinks, ReplacesCells, replaced_shows}
+use Rattle.object_cells.proofs.WrittenPlaces.{beside_is_no_object, went_object}
+
+-- what a list links to is what one of its elements refers to
+links_reached : (graph : Graph) (elements : List Value) → AreNewElements graph elements
+    → HasReachedLinks graph (ListOf elements)
+links_reached graph elements are inside number link =
+    All-contains (IsReachedValue graph) elements (Ref number) are.reached link
+
+-- so the heap shows the graph in which the list has these elements
+pub written_elements_show : WrittenElementsShow
+written_elements_show old new graph list cell others made elements shows there carries shown are tied quiet writes slots =
+    let before : Heap = heap_of old in
+    let now : Heap = heap_of new in
+    let whole = shows.shows.whole in
+    let law = written_list_keeps_cells before now cell others made whole writes in
+    let rest : IsAtRest new = record { tied = tied; quiet = quiet; sized = writes.sized; rows = law.0 } in
+    let relisting : Relisting before now cell others made list.elements elements =
+    record { whole = whole; shown = shown; writes = writes; slots = slots; cells = law.1 } in
+    let replaces : ReplacesCells before now list.number (ListOf elements) (cell ∷ others) (cell ∷ others) made = record {
+      cells = law.1;
+      own = elements_own relisting;
+      only = λ other among object.
+          ap (λ (c : Cell). c.header.object) (sym (went_object (writes_list whole writes) other among object)) ∙ carries;
+      no_object = λ other among. beside_is_no_object other.layout.kind (slots.kinds other among);
+      cell = cell;
+      among = first_in cell others;
+      carries = carries;
+      shows = λ marks. list_shows relisting;
+    } in
+    replaced_shows list.number (ListOf elements) graph.paths shows
+    (relists graph list elements shows.is_graph are.are) (writes.paths ∙ shows.shows.paths)
+    (links_reached graph elements are) rest replaces

@@ -1,0 +1,120 @@
+-- A heap in which the cell of one object shows another in its place shows the graph in which it has that place.
+use Rattle.std.proofs.Common.{◌≡◌, ◌≢◌, ℕ, zero, suc, false, List, [], ◌∷◌, length, Some, refl, sym}
+use Rattle.std.proofs.Common.{◌∙◌, ap, subst, Bool, arith, ◌⊎◌, inl, inr, set, length-set, slice_get}
+use Rattle.std.specs.Prelude.{Contains, IsTrue}
+use Rattle.std.proofs.lemmas.Bool.{false≢true}
+use Rattle.std.proofs.lemmas.Option.{none-some, same_Some}
+use Rattle.object_graph.specs.declared.object.Object.{Object}
+use Rattle.object_graph.specs.declared.path.Path.{Path}
+use Rattle.object_graph.specs.Graphs.{Graph}
+use Rattle.object_graph.specs.Reach.{is_marked, reach}
+use Rattle.object_graph.specs.Invariants.{IsGraph}
+use Rattle.graph_laws.specs.ReachLaws.{LinksTo, HasBound, IsClosed}
+use Rattle.graph_laws.proofs.Reaches.{reach_has_bound, reach_closed, reach_least}
+use Rattle.cell_layout.specs.declared.cell.Cell.{Cell}
+use Rattle.heap_model.specs.Heaps.{Heap, words_of_cell}
+use Rattle.heap_model.specs.Slots.{is_object_kind}
+use Rattle.heap_model.specs.Showing.{ShowsObject}
+use Rattle.heap_model.specs.Changes.{CellsChange, IsOwnChange, IsGraphChange}
+use Rattle.heap_model.proofs.WholeStays.{own_changes_keep_whole}
+use Rattle.heap_model.proofs.ShownGraphs.{own_changes_show}
+use Rattle.write_barrier.specs.Mains.{Mutator, heap_of, MainShows}
+use Rattle.object_cells.specs.Refills.{IsAtRest}
+
+-- after one was put in the place of another, an element stood at another place, or is that one
+put_cases : {X : Type 0} (xs : List X) (place : ℕ) (put : X) (i : ℕ) (x : X) → slice_get (set xs place put) i ≡ Some x
+    → ((slice_get xs i ≡ Some x) × (i ≢ place)) ⊎ ((i ≡ place) × (put ≡ x))
+put_cases [] place put i x there = absurd (none-some x there)
+put_cases (first ∷ xs) zero put zero x there = inr (refl, same_Some put x there)
+put_cases (first ∷ xs) zero put (suc i) x there = inl (there, λ same. omega (arith, same))
+put_cases (first ∷ xs) (suc place) put zero x there = inl (there, λ same. omega (arith, same))
+put_cases (first ∷ xs) (suc place) put (suc i) x there = elim (put_cases xs place put i x there) [
+  | inl old ↦ inl (old.0, λ same. old.1 (omega (arith, same)))
+  | inr new ↦ inr (ap suc new.0, new.1)
+]
+
+-- the graph with the object in the place of that with this number, and with these paths
+abbrev pub replaced : Graph → ℕ → Object → List Path → Graph
+replaced graph number object paths = record graph { objects = set graph.objects number object; paths = paths }
+
+-- each object that this one links to can be reached
+abbrev pub HasReachedLinks : Graph → Object → Type 0
+HasReachedLinks graph object =
+    (inside : ℕ → Bool) (number : ℕ) → LinksTo inside object number → IsTrue (is_marked (reach graph) number)
+
+-- nothing more can be reached
+reaches_no_more : (graph : Graph) (number : ℕ) (object : Object) (paths : List Path) (other : ℕ)
+    → HasReachedLinks graph object → IsTrue (is_marked (reach (replaced graph number object paths)) other)
+    → IsTrue (is_marked (reach graph) other)
+reaches_no_more graph number object paths other links marked =
+    let inside = is_marked (reach graph) in
+    let after : Graph = replaced graph number object paths in
+    let long : length after.objects ≡ length graph.objects = length-set graph.objects number object in
+    let bound : HasBound after inside = λ x one within at. reach_has_bound graph x one (omega (arith, long, within)) at in
+    let closed : IsClosed after inside = λ holder what one there held within linked.
+    elim (put_cases graph.objects number object holder what there) [
+      | inl old ↦ reach_closed graph holder what one old.0 held (omega (arith, long, within)) linked
+      | inr new ↦ links inside one (subst (λ (o : Object). LinksTo inside o one) (sym new.1) linked)
+    ] in
+    reach_least after inside bound closed other marked
+
+-- Of objects only that with this number went. One came that carries it and shows the object, and none was made.
+pub record ReplacesCells (old new : Heap) (number : ℕ) (object : Object) (gone came made : List Cell) : Type 0 where
+  pub cells : CellsChange old new gone came made
+  pub own : IsOwnChange old new gone came made
+  pub only : (cell : Cell) → Contains gone cell → IsTrue (is_object_kind cell.layout.kind) → cell.header.object ≡ number
+  pub no_object : (cell : Cell) → Contains made cell → is_object_kind cell.layout.kind ≡ false
+  pub cell : Cell
+  pub among : Contains came cell
+  pub carries : cell.header.object ≡ number
+  pub shows : (marks : List Bool) → ShowsObject new marks cell (words_of_cell new cell) object
+
+-- the change of the graph is that of the cells
+graph_changes : {old new : Heap} (graph : Graph) (number : ℕ) (object : Object) (paths : List Path)
+    {gone came made : List Cell} → new.paths ≡ paths → HasReachedLinks graph object
+    → ReplacesCells old new number object gone came made
+    → IsGraphChange old new graph (replaced graph number object paths) gone came made
+graph_changes {new = new} graph number object paths same links replaces =
+    let after : Graph = replaced graph number object paths in
+    record {
+      paths = same;
+      bindings = refl;
+      few = omega (arith, length-set graph.objects number object);
+      reached = λ other marked. reaches_no_more graph number object paths other links marked;
+      each = λ other what there marked.
+          elim (put_cases graph.objects number object other what there) [
+            | inl stays ↦ inl (record {
+              same = stays.0;
+              stood = λ cell went is_object carries. stays.1 (sym carries ∙ replaces.only cell went is_object);
+            })
+            | inr put ↦ inr (record {
+              cell = replaces.cell;
+              among = replaces.among;
+              carries = replaces.carries ∙ sym put.0;
+              shows = subst (λ (one : Object). ShowsObject new (reach after) replaces.cell
+                  (words_of_cell new replaces.cell) one)
+                  put.1 (replaces.shows (reach after));
+            })
+          ];
+      numbered = λ cell there is_object. absurd (false≢true (sym (replaces.no_object cell there) ∙ is_object));
+    }
+
+-- so the heap shows it
+pub replaced_shows : {old new : Mutator} {graph : Graph} (number : ℕ) (object : Object) (paths : List Path)
+    {gone came made : List Cell} → MainShows old graph → IsGraph (replaced graph number object paths)
+    → new.paths ≡ paths → HasReachedLinks graph object → IsAtRest new
+    → ReplacesCells (heap_of old) (heap_of new) number object gone came made
+    → MainShows new (replaced graph number object paths)
+replaced_shows {old} {new} {graph} number object paths {gone} {came} {made} shows is_graph same links rest replaces =
+    let before : Heap = heap_of old in
+    let now : Heap = heap_of new in
+    let after : Graph = replaced graph number object paths in
+    let whole = own_changes_keep_whole before now gone came made shows.shows.whole rest.sized rest.rows replaces.cells
+    replaces.own in
+    let change = graph_changes graph number object paths same links replaces in
+    record {
+      tied = rest.tied;
+      is_graph = is_graph;
+      quiet = rest.quiet;
+      shows = own_changes_show before now graph after gone came made shows.shows whole replaces.cells replaces.own change;
+    }

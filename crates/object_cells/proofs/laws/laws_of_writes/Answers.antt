@@ -1,0 +1,6 @@
+-- The law, as it was proved.
+use Rattle.object_cells.proofs.CellWrites.{writes_keep_cells}
+use Rattle.object_cells.proofs.laws.laws_of_writes.Goals as goal
+
+pub returns : goal.returns
+returns c = record { cells = writes_keep_cells }

@@ -1,0 +1,99 @@
+-- What the slot of a field comes to hold for a value, and which words that writes.
+use Rattle.std.specs.Prelude.{◌≡◌, ℕ, ◌+◌, ◌≤◌, Bool, true, false, Option, Some, None, ℤ, if◌then◌else◌}
+use Rattle.tagged_word.specs.Words.{small}
+use Rattle.tagged_word.specs.Headers.{header_bits}
+use Rattle.tagged_word.specs.Readings.{reference_in}
+use Rattle.object_graph.specs.declared.value.Rep.{Rep}
+use Rattle.object_graph.specs.declared.value.Rep.TheVariants as rep
+use Rattle.page_space.specs.Extents.{Space, eden_start, marks_start}
+use Rattle.nursery.specs.Young.{HasRoom}
+use Rattle.handle_roots.specs.declared.held.Held.{Held}
+use Rattle.handle_roots.specs.declared.held.Held.TheVariants as held
+use Rattle.heap_model.specs.Heaps.{Heap}
+use Rattle.heap_model.specs.Slots.{small_word, undefined_word, reference_word, raw_word, IsSlotWord}
+use Rattle.heap_model.specs.Needs.{box_words, is_box_word, word_at}
+use Rattle.write_barrier.specs.Mains.{Mutator, heap_of, with_word, reserved}
+use Rattle.write_barrier.specs.Values.{box_header}
+use Rattle.write_barrier.specs.declared.room.NoRoom.{NoRoom}
+use Rattle.object_cells.specs.declared.content.Content.{Content}
+use Rattle.object_cells.specs.declared.content.Content.TheVariants as content
+use Rattle.object_cells.specs.declared.content.Filling.{Filling}
+use Rattle.object_cells.specs.declared.content.Filling.TheVariants as filling
+
+-- the narrowest representation that holds what is held
+abbrev pub held_rep : Held → Rep
+held_rep (held.Int v) = if small v then rep.Small else rep.Wide
+held_rep _ = rep.Tagged
+
+-- an integer in a slot that is not raw: its own word where it is small, and else a box
+abbrev pub small_content : ℤ → Bool → Content
+small_content v true = content.Tagged (record { 0 = small_word v })
+small_content v false = content.Boxed v
+
+-- an integer in a slot of this representation: a wide one is raw in the object, and in a box in the property store
+abbrev pub integer_content : Bool → Rep → ℤ → Content
+integer_content true rep.Wide v = content.Raw (raw_word v)
+integer_content false rep.Wide v = content.Boxed v
+integer_content own _ v = small_content v (small v)
+
+-- what a slot of this representation, in the object itself or in its property store, holds for a value
+abbrev pub content_of : Bool → Rep → Held → Content
+content_of own rep (held.Int v) = integer_content own rep v
+content_of own rep (held.Ref at) = content.Tagged (record { 0 = reference_word at })
+content_of own rep _ = content.Tagged (record { 0 = undefined_word })
+
+-- the box to which the word refers
+abbrev pub box_in : Heap → ℕ → Option ℕ
+box_in heap word = if is_box_word heap word then reference_in word else None
+
+-- the address of the next word of eden that is not used
+abbrev pub next_at : Mutator → ℕ
+next_at main = eden_start main.seat.space + main.young.used
+
+-- how a slot comes to hold this: a box is written where one stands, and else made at the address
+abbrev pub filling_of : Option ℕ → ℕ → Content → Filling
+filling_of box at (content.Tagged word) = filling.Tagged word
+filling_of box at (content.Raw word) = filling.Raw word
+filling_of None at (content.Boxed v) = filling.NewBox at v
+filling_of (Some box) at (content.Boxed v) = filling.OldBox box v
+
+-- how the slot at an address comes to hold this
+abbrev pub filling_at : Mutator → ℕ → Content → Filling
+filling_at main at content = filling_of (box_in (heap_of main) (word_at (heap_of main) at)) (next_at main) content
+
+-- how many words that allocates
+abbrev pub filling_need : Filling → ℕ
+filling_need (filling.NewBox at v) = box_words
+filling_need _ = 0
+
+-- there was room for these, and they are used from now on
+abbrev pub Allocates : Mutator → Mutator → Filling → Type 0
+Allocates old new (filling.NewBox at v) = HasRoom old.young box_words × (new ≡ reserved old box_words)
+Allocates old new _ = new ≡ old
+
+-- there is no room for these
+abbrev pub LacksRoom : Mutator → Filling → NoRoom → Type 0
+LacksRoom main (filling.NewBox at v) full = (full.need ≡ box_words) × (HasRoom main.young box_words → ⊥)
+LacksRoom main _ full = ⊥
+
+-- the slot held a slot word before, where it is to refer to a box
+abbrev pub HoldsSlotWord : Heap → ℕ → Content → Type 0
+HoldsSlotWord heap word (content.Boxed v) = IsSlotWord heap word
+HoldsSlotWord heap word _ = Unit {0}
+
+-- a box that is made is before the marks
+abbrev pub IsBeforeMarks : Space → Filling → Type 0
+IsBeforeMarks space (filling.NewBox at v) = at + box_words ≤ marks_start space
+IsBeforeMarks space (filling.OldBox at v) = at + box_words ≤ marks_start space
+IsBeforeMarks space _ = Unit {0}
+
+-- both words at an address are those of a box of the integer
+abbrev pub with_box : Mutator → ℕ → ℤ → Mutator
+with_box main at v = with_word (with_word main at (header_bits box_header)) (at + 1) (raw_word v)
+
+-- the slot at the address is filled so
+abbrev pub filled : Mutator → ℕ → Filling → Mutator
+filled main at (filling.Tagged word) = with_word main at word.0
+filled main at (filling.Raw word) = with_word main at word
+filled main at (filling.NewBox box v) = with_word (with_box main box v) at (reference_word box)
+filled main at (filling.OldBox box v) = with_word main (box + 1) (raw_word v)

@@ -1,0 +1,136 @@
+-- A change of the elements of one list, slot by slot: the list's cell, its store and its boxes stay where they are, or a
+-- store and boxes are made.
+use Rattle.std.specs.Prelude.{◌≡◌, ℕ, ◌+◌, ◌<◌, ◌≤◌, ◌⊎◌, List, ◌∷◌, ◌++◌, length, Contains, Some, slice_get, All}
+use Rattle.std.specs.Prelude.{[], slice_set, IsTrue}
+use Rattle.tagged_word.specs.declared.layout.Kind.TheVariants as kind
+use Rattle.tagged_word.specs.Cells.{store_slot}
+use Rattle.object_graph.specs.declared.value.Value.{Value}
+use Rattle.object_graph.specs.declared.object.Object.TheVariants.{List as ListOf}
+use Rattle.object_graph.specs.Graphs.{Graph, ListObject}
+use Rattle.object_graph.specs.Meaning.{list_most, relist}
+use Rattle.object_graph.specs.Reach.{is_marked, reach}
+use Rattle.object_graph.specs.Invariants.{IsGraph, IsValue, AreElements}
+use Rattle.page_space.specs.Extents.{eden_start, layouts_start}
+use Rattle.cell_layout.specs.declared.cell.Cell.{Cell}
+use Rattle.cell_layout.specs.Cells.{IsRow}
+use Rattle.heap_table.specs.declared.phase.Phase.TheVariants.{Quiet}
+use Rattle.heap_model.specs.Heaps.{Heap, HasCell, words_of_cell}
+use Rattle.heap_model.specs.Slots.{hole_word, reference_word, IsBeside}
+use Rattle.heap_model.specs.Kinds.{HasWord, HasNoNumber, IsBoxCell, count_offset}
+use Rattle.heap_model.specs.Wholeness.{Whole, HasSizes, HasRows, NamesFrom}
+use Rattle.heap_model.specs.Showing.{ShowsValue, ShowsList}
+use Rattle.heap_model.specs.Changes.{IsNewlyUsed, CellsChange}
+use Rattle.write_barrier.specs.Mains.{Mutator, heap_of, IsTied, MainShows}
+use Rattle.object_cells.specs.HeldValues.{IsReachedValue}
+use Rattle.object_cells.specs.CellWrites.{IsInCell, IsWrittenBeside}
+use Rattle.object_cells.specs.SlotChanges.{NamesNone, IsNoBoxOf, StoreComes}
+
+-- Of the words before the layout words only those of the list's cell but its header have changed, slots of these stores,
+-- integers of these boxes, and words that are newly used, in which cells were made.
+pub record WritesList (old new : Heap) (cell : Cell) (others made : List Cell) : Type 0 where
+  pub same_space : new.space ≡ old.space
+  pub same_survivors : new.survivors ≡ old.survivors
+  pub grown : old.used ≤ new.used
+  pub room : new.survivors + new.used ≤ new.space.sizes.young
+  pub paths : new.paths ≡ old.paths
+  pub sized : HasSizes new
+  pub stood : HasCell old cell (words_of_cell old cell)
+  pub list : cell.layout.kind ≡ kind.List
+  pub header : slice_get new.words cell.at ≡ slice_get old.words cell.at
+  pub beside : (other : Cell) → Contains others other → IsWrittenBeside old new other
+  pub made_stand : IsRow new.space new.words (eden_start old.space + old.used) (eden_start old.space + new.used) made
+  pub stay : (at : ℕ) → at < layouts_start old.space → (IsInCell at cell → ⊥)
+      → ((other : Cell) → Contains others other → IsInCell at other → ⊥) → (IsNewlyUsed old new at → ⊥)
+      → slice_get new.words at ≡ slice_get old.words at
+
+-- Then cells stand in rows again: the list's and these others as they were, those that were made, and all else as before.
+abbrev pub WrittenListKeepsCells : Type 0
+WrittenListKeepsCells =
+    (old new : Heap) (cell : Cell) (others made : List Cell) → Whole old → WritesList old new cell others made
+    → HasRows new × CellsChange old new (cell ∷ others) (cell ∷ others) made
+
+-- the slots of a list's store, beside its cell of these words
+pub record HasElements (heap : Heap) (words slots : List ℕ) : Type 0 where
+  pub store : ℕ
+  pub slot : HasWord words store_slot store
+  pub stands : IsBeside heap kind.Store store slots
+
+-- Where the word of a slot comes from: the slot of the same number held it before; or it names no store, table or box; or
+-- it refers to a box that was made, which only the slot of number `one` does.
+pub data ElementComes (new : Heap) (slots : List ℕ) (made : List Cell) (one slot word : ℕ) : Type 0 where
+  stayed : HasWord slots slot word → ElementComes new slots made one slot word
+  none : NamesNone new word → ElementComes new slots made one slot word
+  of_made : (box : Cell) → Contains made box → box.layout.kind ≡ kind.Boxed → word ≡ reference_word box.at → slot ≡ one
+      → ElementComes new slots made one slot word
+
+-- What a slot shows: the element that it showed before, or its element anew.
+pub data ShowsElement (new : Heap) (slots : List ℕ) (others : List Cell) (before : List Value) (slot word : ℕ) (value : Value)
+    : Type 0 where
+  kept : slice_get before slot ≡ Some value → HasWord slots slot word → IsNoBoxOf others word
+      → ShowsElement new slots others before slot word value
+  fresh : ShowsValue new word value → ShowsElement new slots others before slot word value
+
+-- The elements of a list become others, slot by slot. `others` are cells that belong to the list and were written, and
+-- `made` those that were made: stores, of which the list has the one, and boxes.
+pub record RefillsElements (old new : Heap) (cell : Cell) (others made : List Cell) (before after : List Value)
+    : Type 0 where
+  -- the slots before and after
+  pub slots : List ℕ
+  pub were : HasElements old (words_of_cell old cell) slots
+  pub now : List ℕ
+  pub are : HasElements new (words_of_cell new cell) now
+  -- how many of them hold elements
+  pub counted : HasWord (words_of_cell new cell) count_offset (length after)
+  pub few : length after ≤ list_most
+  pub enough : length after ≤ length now
+  -- each slot
+  pub one : ℕ
+  pub each_slot : (slot word : ℕ) → HasWord now slot word → ElementComes new slots made one slot word
+  pub each_element : (slot word : ℕ) (value : Value) → slice_get after slot ≡ Some value → HasWord now slot word
+      → ShowsElement new slots others before slot word value
+  pub rest : (slot word : ℕ) → length after ≤ slot → HasWord now slot word → word ≡ hole_word
+  -- the slot for the store
+  pub store_comes : StoreComes old cell made are.store
+  -- the cells beside the list's
+  pub belong : (other : Cell) → Contains others other → (slot : ℕ) × NamesFrom old cell slot other.at
+  pub kinds : (other : Cell) → Contains made other → (other.layout.kind ≡ kind.Store) ⊎ (other.layout.kind ≡ kind.Boxed)
+  pub stores : (other : Cell) → Contains (others ++ made) other → other.layout.kind ≡ kind.Store
+      → HasNoNumber other × (are.store ≡ reference_word other.at)
+  pub boxes : (other : Cell) → Contains (others ++ made) other → other.layout.kind ≡ kind.Boxed
+      → IsBoxCell other (words_of_cell new other)
+
+-- elements that a list of the graph may have, which refer to nothing that cannot be reached
+pub record AreNewElements (graph : Graph) (elements : List Value) : Type 0 where
+  pub are : AreElements (length graph.objects) elements
+  pub reached : All (IsReachedValue graph) elements
+
+-- So a heap that showed a graph shows it with these elements in the list.
+abbrev pub WrittenElementsShow : Type 0
+WrittenElementsShow =
+    (old new : Mutator) (graph : Graph) (list : ListObject) (cell : Cell) (others made : List Cell) (elements : List Value)
+    → MainShows old graph → slice_get graph.objects list.number ≡ Some (ListOf list.elements)
+    → cell.header.object ≡ list.number
+    → ShowsList (heap_of old) cell (words_of_cell (heap_of old) cell) list.elements
+    → AreNewElements graph elements → IsTied new → new.seat.phase ≡ Quiet
+    → WritesList (heap_of old) (heap_of new) cell others made
+    → RefillsElements (heap_of old) (heap_of new) cell others made list.elements elements
+    → MainShows new (relist graph list elements)
+
+-- With one element more behind those that it has, for which there is room, a list that can be reached has elements that it
+-- may have.
+abbrev pub PushedElementsAreNew : Type 0
+PushedElementsAreNew =
+    (graph : Graph) (list : ListObject) (value : Value) → IsGraph graph
+    → slice_get graph.objects list.number ≡ Some (ListOf list.elements)
+    → IsTrue (is_marked (reach graph) list.number) → length list.elements < list_most
+    → IsValue (length graph.objects) value → IsReachedValue graph value
+    → AreNewElements graph (list.elements ++ value ∷ [])
+
+-- And so it has with one in the place of another.
+abbrev pub PutElementsAreNew : Type 0
+PutElementsAreNew =
+    (graph : Graph) (list : ListObject) (place : ℕ) (value : Value) → IsGraph graph
+    → slice_get graph.objects list.number ≡ Some (ListOf list.elements)
+    → IsTrue (is_marked (reach graph) list.number)
+    → IsValue (length graph.objects) value → IsReachedValue graph value
+    → AreNewElements graph (slice_set list.elements place value)

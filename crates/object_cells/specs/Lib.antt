@@ -1,0 +1,12 @@
+pub mod HeldValues
+pub mod Uses
+pub mod Capacities
+pub mod PlainObjects
+pub mod CellsAt
+pub mod Contents
+pub mod Refills
+pub mod CellWrites
+pub mod SlotChanges
+pub mod ListObjects
+pub mod ElementChanges
+pub mod Made

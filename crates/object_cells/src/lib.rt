@@ -1,0 +1,24 @@
+//! Object cells: what words that are written in an object's own cells make of the heap, and of the
+//! graph that it shows.
+//!
+//! Model: none of its own. `specs/CellWrites.antt` says which words were written, and
+//! `specs/SlotChanges.antt` where the word of each slot comes from; `laws_of_writes` and
+//! `laws_of_slots` say what this makes of the object's cells, `laws_of_capacities` what of how many
+//! slots objects have, and `laws_of_refills` what a change of its cells makes of the graph.
+//! `specs/ElementChanges.antt` and `laws_of_elements` say all this of lists.
+//! `content_of` is what the slot of a field holds for a value. `stores.rt` and `boxes.rt` make the
+//! stores and the boxes that objects need, and say which words that puts.
+//! Invariant: none. The calls that write show how they wrote, and nothing of graphs or owners.
+#![tactic(auto)]
+
+mod boxes;
+mod content;
+mod laws;
+mod stores;
+
+pub use boxes::{boxed_word, fill, filling_of, need_of};
+pub use content::{Content, Filling, content_of, rep_of};
+pub use laws::{
+    laws_of_capacities, laws_of_elements, laws_of_refills, laws_of_slots, laws_of_writes,
+};
+pub use stores::{STORE_HEAD, STORE_SLOT, Store, begin_store, make_store, room_for, store_of};

@@ -1,0 +1,111 @@
+//! The stores beside objects, and the room for new ones.
+ghost use Rattle.std.specs.Prelude.{◌≡◌, ◌+◌, ◌<◌, ◌≤◌, OnOk, IfOk, IfErr};
+ghost use Rattle.tagged_word.specs.Cells.{store_head, store_slot, cell_words_most};
+ghost use Rattle.page_space.specs.Extents.{marks_start};
+ghost use Rattle.nursery.specs.Young.{HasRoom};
+ghost use Rattle.word_store.specs.Copies.{AreApart};
+ghost use Rattle.heap_table.specs.declared.phase.Phase.TheVariants.{Quiet};
+ghost use Rattle.heap_table.specs.Seats.{heap_words};
+ghost use Rattle.write_barrier.specs.Mains.{heap_of, IsTied, reserved};
+ghost use Rattle.object_cells.specs.CellsAt.{IsWhole};
+ghost use Rattle.object_cells.specs.Contents.{next_at};
+ghost use Rattle.object_cells.specs.Made.{HasBeside, IsStoreAt, PutsWords, RefusesRoom};
+ghost use Rattle.object_cells.specs.Made.{begun_store, with_store};
+
+use tagged_word::Word;
+use write_barrier::{Main, NoRoom};
+
+/// The words of a store before its slots.
+pub const STORE_HEAD: u32 = 2;
+
+/// The offset of an object's slot for its store.
+pub const STORE_SLOT: u32 = 1;
+
+// The offset of the length of a store.
+const LENGTH: u32 = 1;
+
+/// A store beside an object: where it stands, and how many slots it has. One of no slots may stand
+/// for none.
+#[derive(Clone, Copy)]
+pub struct Store {
+    /// The address of its cell.
+    pub at: u32,
+    /// How many slots it has.
+    pub capacity: u32,
+}
+
+/// The store beside the object at an address.
+pub fn store_of(main: &Main, object: u32) -> Store
+    requires whole { IsWhole main.now }
+    requires there { HasBeside (heap_of main.now) object }
+    ensures { IsStoreAt (heap_of main.now) object result }
+{
+    // No address of a heap is past 32 bits.
+    let _regions = main.regions();
+    match Word(main.word(object + STORE_SLOT)).address() {
+        Some(at) => Store {
+            at,
+            capacity: main.word(at + LENGTH) as u32,
+        },
+        None => Store { at: 0, capacity: 0 },
+    }
+}
+
+/// So many words of eden that were not used; where none are asked for, any address.
+///
+/// # Errors
+/// There is no room for them; nothing has changed.
+pub fn room_for(main: &mut Main, need: u32) -> Result<u32, NoRoom>
+    requires tied { IsTied main.old }
+    requires few { need ≤ cell_words_most }
+    ensures at { IfOk result (λ at. 0 < need → at ≡ next_at main.old) }
+    ensures reserved { OnOk result (main.new ≡ reserved main.old need) }
+    ensures room { OnOk result (HasRoom main.old.young need) }
+    ensures refused { IfErr result (RefusesRoom main.old main.new need) }
+{
+    // What is used fits.
+    let _used = main.used();
+    if need == 0 {
+        return Ok(0);
+    }
+    match main.reserve(need) {
+        Ok(run) => Ok(run.at),
+        Err(no_room) => Err(no_room),
+    }
+}
+
+/// Makes the words at an address a store of so many slots, which is no object's so far. The slots of
+/// another one go to it, and holes stand behind them.
+pub fn begin_store(main: &mut Main, store: Store, capacity: u32, at: u32)
+    requires quiet { main.old.seat.phase ≡ Quiet }
+    requires more { store.capacity ≤ capacity }
+    requires few { store_head + store.capacity ≤ cell_words_most }
+    requires within { at + (store_head + capacity) ≤ marks_start main.old.seat.space }
+    requires other { store.at + (store_head + store.capacity) ≤ marks_start main.old.seat.space }
+    requires apart { AreApart (store.at + store_head) (at + store_head) store.capacity }
+    ensures { let words = heap_words main.old.seat in
+        PutsWords main.old main.new (begun_store words store capacity at) }
+{
+    // No address of a heap is past 32 bits.
+    let _regions = main.regions();
+    main.fill_store(at, capacity);
+    main.copy_slots(store.at + STORE_HEAD, at + STORE_HEAD, store.capacity);
+}
+
+/// Makes the words at an address a store of so many slots in place of another one of an object. The
+/// slots of the other go to it, and holes stand behind them.
+pub fn make_store(main: &mut Main, object: u32, store: Store, capacity: u32, at: u32)
+    requires quiet { main.old.seat.phase ≡ Quiet }
+    requires more { store.capacity ≤ capacity }
+    requires few { store_head + store.capacity ≤ cell_words_most }
+    requires within { at + (store_head + capacity) ≤ marks_start main.old.seat.space }
+    requires other { store.at + (store_head + store.capacity) ≤ marks_start main.old.seat.space }
+    requires named { object + store_slot < marks_start main.old.seat.space }
+    requires apart { AreApart (store.at + store_head) (at + store_head) store.capacity }
+    ensures { let words = heap_words main.old.seat in
+        PutsWords main.old main.new (with_store words object store capacity at) }
+{
+    begin_store(main, store, capacity, at);
+    main.made(at);
+    main.store(object, STORE_SLOT, Word::reference(at));
+}

@@ -1,0 +1,59 @@
+-- Laws of copying: the start, the three steps, what live slots refer to, and the end.
+use Rattle.std.specs.Prelude.{◌≡◌, ℕ, List, [], Contains, slice_index, slice_set}
+use Rattle.tagged_word.specs.declared.word.Class.TheVariants.{Ref}
+use Rattle.tagged_word.specs.Words.{bits_of}
+use Rattle.scav_copy.specs.declared.places.Home.{Home}
+use Rattle.scav_copy.specs.Places.{Fixed, IsLaidOut, IsInRooms, IsInCopies, StoodAt}
+use Rattle.scav_copy.specs.Renamings.{RefersTo, Reached, Renaming, Outside}
+use Rattle.scav_copy.specs.Copies.{with_home, HasNoHome, AreHoused, AreApart, Copying, IsCopyAt}
+
+-- words as before, with no home, are copying
+abbrev pub StartIsCopying : Type 0
+StartIsCopying = (fixed : Fixed) → Copying fixed fixed.before []
+
+-- a word of a room that is in no home copy may become any
+abbrev pub RoomsMayBeFilled : Type 0
+RoomsMayBeFilled =
+    (fixed : Fixed) (words : List ℕ) (homes : List Home) (at word : ℕ) → IsLaidOut fixed → Copying fixed words homes
+    → IsInRooms fixed at → (IsInCopies fixed homes at → ⊥) → Copying fixed (slice_set words at word) homes
+
+-- the header of a cell that was reached and has no home may become the reference to its words, where these stand in a room
+abbrev pub CellsMayMove : Type 0
+CellsMayMove =
+    (fixed : Fixed) (words : List ℕ) (homes : List Home) (cell to : ℕ) → IsLaidOut fixed → Copying fixed words homes
+    → Reached fixed cell → HasNoHome homes cell → IsCopyAt fixed words homes cell to
+    → Copying fixed (slice_set words cell (bits_of (Ref to))) (with_home homes (record { from = cell; to = to }))
+
+-- a live slot that referred to a cell before may become the reference to the cell's home
+abbrev pub SlotsMayBeRenamed : Type 0
+SlotsMayBeRenamed =
+    (fixed : Fixed) (words : List ℕ) (homes : List Home) (slot place : ℕ) (home : Home) → IsLaidOut fixed
+    → Copying fixed words homes → StoodAt fixed homes slot place → Contains homes home
+    → RefersTo fixed.before place home.from → Copying fixed (slice_set words slot (bits_of (Ref home.to))) homes
+
+-- a live slot that refers to one of the cells holds the word that stood at its place before, and the cell is reached
+abbrev pub LiveSlotsReferAsBefore : Type 0
+LiveSlotsReferAsBefore =
+    (fixed : Fixed) (words : List ℕ) (homes : List Home) (slot place cell : ℕ) → IsLaidOut fixed
+    → Copying fixed words homes → StoodAt fixed homes slot place → RefersTo words slot cell → Contains fixed.cells cell
+    → (slice_index words slot ≡ slice_index fixed.before place) × Reached fixed cell
+
+-- the word of a live slot stood at one place
+abbrev pub LiveSlotsHaveOneOrigin : Type 0
+LiveSlotsHaveOneOrigin =
+    (fixed : Fixed) (words : List ℕ) (homes : List Home) (slot one other : ℕ) → IsLaidOut fixed
+    → Copying fixed words homes → StoodAt fixed homes slot one → StoodAt fixed homes slot other → one ≡ other
+
+-- a live slot stays one when a cell gets a home
+abbrev pub LiveSlotsStayLive : Type 0
+LiveSlotsStayLive =
+    (fixed : Fixed) (homes : List Home) (new : Home) (slot place : ℕ) → StoodAt fixed homes slot place
+    → StoodAt fixed (with_home homes new) slot place
+
+-- Where no live slot refers to one of the cells, all that was reached was copied and renamed, and nothing outside changed.
+-- Each home copy lies in one room and shares no word with another.
+abbrev pub EndIsRenaming : Type 0
+EndIsRenaming =
+    (fixed : Fixed) (words : List ℕ) (homes : List Home) → IsLaidOut fixed → Copying fixed words homes
+    → ((slot place cell : ℕ) → StoodAt fixed homes slot place → RefersTo words slot cell → Contains fixed.cells cell → ⊥)
+    → Renaming fixed words homes × Outside fixed words × AreHoused fixed homes × AreApart fixed homes

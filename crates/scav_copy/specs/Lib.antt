@@ -1,0 +1,5 @@
+pub mod Places
+pub mod Renamings
+pub mod Copies
+pub mod CopyLaws
+pub mod Worked

@@ -1,0 +1,15 @@
+pub mod Tested
+pub mod Stepping
+pub mod Running
+pub mod Counting
+pub mod Enabled
+pub mod Wanted
+pub mod Keeping
+pub mod Loading
+pub mod Moving
+pub mod Exchanging
+pub mod Handing
+pub mod Events
+pub mod Outcomes
+pub mod Relying
+pub mod Enabling

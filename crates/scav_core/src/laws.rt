@@ -1,0 +1,33 @@
+//! What every list of events leaves true.
+ghost use Rattle.scav_core.specs.WorldLaws.{FreshIsUnderway, EventsKeepUnderway, ListsKeepUnderway};
+ghost use Rattle.scav_core.specs.WorldLaws.{FixedStays, UnderwayHasFacts};
+ghost use Rattle.scav_core.specs.Reliance.{EventsStayFor, HeadersMayBeLoaded, BodiesMayBeLoaded};
+ghost use Rattle.scav_core.specs.Reliance.{SlotsMayBeRedirected, TodoMayBeLoaded};
+
+/// A fresh world is underway, and stays so in each event that is possible, and so in each list of
+/// them. What is fixed no event changes. A world that is underway has all that `replay` says of the
+/// world after events from a fresh one.
+pub fn laws_of_worlds()
+    ensures fresh { FreshIsUnderway }
+    ensures event { EventsKeepUnderway }
+    ensures list { ListsKeepUnderway }
+    ensures fixed { FixedStays }
+    ensures facts { UnderwayHasFacts }
+{}
+
+/// What a worker may rely on, whatever event comes: homes, forwarding words and copies stay, live
+/// slots change from a cell to its home alone, and a room's other words and a view by its worker
+/// alone.
+pub fn laws_of_what_stays()
+    ensures { EventsStayFor }
+{}
+
+/// What a worker knows to be possible by its own view: to read the header and the next word of the
+/// cell that it took on, to store a reference that it has for the header, and to read each slot of
+/// the copies that it has to do.
+pub fn laws_of_what_is_possible()
+    ensures headers { HeadersMayBeLoaded }
+    ensures bodies { BodiesMayBeLoaded }
+    ensures redirects { SlotsMayBeRedirected }
+    ensures todo { TodoMayBeLoaded }
+{}

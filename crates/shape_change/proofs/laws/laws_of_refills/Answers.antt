@@ -1,7 +1,0 @@
--- The laws, as they were proved.
-use Rattle.shape_change.proofs.NewFields.{written_fields_are_new, rest_of_fields_are_new}
-use Rattle.shape_change.proofs.Refills.{refills_show}
-use Rattle.shape_change.proofs.laws.laws_of_refills.Goals as goal
-
-pub returns : goal.returns
-returns c = record { show = refills_show; written = written_fields_are_new; rest = rest_of_fields_are_new }

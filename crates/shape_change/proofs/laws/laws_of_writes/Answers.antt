@@ -1,6 +1,0 @@
--- The law, as it was proved.
-use Rattle.shape_change.proofs.CellWrites.{writes_keep_cells}
-use Rattle.shape_change.proofs.laws.laws_of_writes.Goals as goal
-
-pub returns : goal.returns
-returns c = record { cells = writes_keep_cells }
