@@ -40,7 +40,8 @@ raised_there list at word more a e = elim (cases_lt at (length list)) [
 ]
 
 -- a list with one number raised has no number lowered
-raised : (list : List ℕ) (at word : ℕ) → slice_index list at ≤ word → (a : ℕ) → slice_index list a ≤ slice_index (slice_set list at word) a
+raised : (list : List ℕ) (at word : ℕ) → slice_index list at ≤ word → (a : ℕ)
+    → slice_index list a ≤ slice_index (slice_set list at word) a
 raised list at word more a = elim (cases_lt at a) [
   | inl other ↦ let same = get_or-set_other list at a word 0 (λ e. absurd (omega (arith, e))) in omega (arith, same)
   | inr not_above ↦ elim (cases_lt a at) [
@@ -63,7 +64,8 @@ RaisesSpot (Some (Spot.Colour at)) found word = found ≤ word
 RaisesSpot _ found word = Unit {0}
 
 -- a step of the mutator makes no colour lighter
-main_raises : (world : World) (of : Event) → HasSizes world → RaisesSpot (main_spot of) (word_at world (main_spot of)) (becomes of (word_at world (main_spot of)))
+main_raises : (world : World) (of : Event) → HasSizes world
+    → RaisesSpot (main_spot of) (word_at world (main_spot of)) (becomes of (word_at world (main_spot of)))
 main_raises world (event.ShadeMain at) sizes = shaded_rises (slice_index world.colours at)
 main_raises world (event.Blacken at) sizes = each_colour world sizes at
 main_raises world (event.NewBlack at) sizes = each_colour world sizes at
@@ -82,10 +84,13 @@ load_raises : (world : World) (offset : ℕ) (snap : Option Snap) (found word : 
 load_raises world offset None found word = tt
 load_raises world offset (Some snap) found word = tt
 
-layout_raises : (header : Option Header) (found word : ℕ) → RaisesSpot (option_map (λ h. Spot.Layout h.shape) header) found word
+-- the spot of the layout that a header names is no colour, so it raises
+layout_raises : (header : Option Header) (found word : ℕ)
+    → RaisesSpot (option_map (λ h. Spot.Layout h.shape) header) found word
 layout_raises None found word = tt
 layout_raises (Some header) found word = tt
 
+-- so is the one that a snap names
 layout_of_raises : (snap : Option Snap) (found word : ℕ) → RaisesSpot (option_and_then layout_spot snap) found word
 layout_of_raises None found word = tt
 layout_of_raises (Some snap) found word = layout_raises (header_in snap.header) found word
@@ -96,7 +101,8 @@ helper_raises : (world : World) (view : HelperView) (of : Event)
 helper_raises world view (event.ShadeHelper number at) = shaded_rises (slice_index world.colours at)
 helper_raises world view (event.Settle number) = settle_raises world number view.snap
 helper_raises world view (event.LoadLayout number) =
-    layout_of_raises view.snap (word_at world (option_and_then layout_spot view.snap)) (word_at world (option_and_then layout_spot view.snap))
+    layout_of_raises view.snap (word_at world (option_and_then layout_spot view.snap))
+    (word_at world (option_and_then layout_spot view.snap))
 helper_raises world view (event.LoadLength number) =
     let spot = option_map (λ (s : Snap). Spot.Heap (s.cell + length_offset)) view.snap in
     load_raises world length_offset view.snap (word_at world spot) (word_at world spot)
@@ -119,7 +125,8 @@ pub helper_rises : (world : World) (number : ℕ) (of : Event) (view : Option He
     → colour_of world at ≤ colour_of (after_helper world number of view) at
 helper_rises world number of None at = omega arith
 helper_rises world number of (Some view) at =
-    with_word_rises world (helper_spot view of) (becomes of (word_at world (helper_spot view of))) (helper_raises world view of) at
+    with_word_rises world (helper_spot view of) (becomes of (word_at world (helper_spot view of)))
+    (helper_raises world view of) at
 
 -- taking a seat back makes none lighter
 return_rises : (world : World) (number : ℕ) (view : Option HelperView) (at : ℕ)
@@ -137,5 +144,6 @@ step_rises world of Actor.Lends sizes at = omega arith
 step_rises world of (Actor.Returns number) sizes at = return_rises world number (slice_get world.helpers number) at
 
 -- no event makes a cell's colour lighter
-pub colours_rise : (world : World) (of : Event) → HasSizes world → (at : ℕ) → colour_of world at ≤ colour_of (after world of) at
+pub colours_rise : (world : World) (of : Event) → HasSizes world → (at : ℕ)
+    → colour_of world at ≤ colour_of (after world of) at
 colours_rise world of = step_rises world of (actor of)

@@ -1,6 +1,8 @@
 -- What is covered stays covered.
-use Rattle.std.proofs.Common.{ℕ, ◌<◌, ◌≡◌, ◌≢◌, ◌==◌, ◌⊎◌, ◌∷◌, inl, inr, Bool, true, false, IsTrue, List, [], length}
-use Rattle.std.proofs.Common.{slice_get, slice_index, slice_set, Option, Some, None, IsSome, IsSomeAnd, All, Any, Contains, refl, sym, ap, subst, ◌∙◌, arith}
+use Rattle.std.proofs.Common.{ℕ, ◌<◌, ◌≡◌, ◌≢◌, ◌==◌, ◌⊎◌, ◌∷◌, inl, inr, Bool, true, false}
+use Rattle.std.proofs.Common.{IsTrue, List, [], length}
+use Rattle.std.proofs.Common.{slice_get, slice_index, slice_set, Option, Some, None, IsSome, IsSomeAnd, All, Any, Contains}
+use Rattle.std.proofs.Common.{refl, sym, ap, subst, ◌∙◌, arith}
 use Rattle.std.proofs.Common.{if◌then◌else◌, is_some, eqb-true, eq-eqb}
 use Rattle.std.proofs.lemmas.Bool.Decides.{nat_tests}
 use Rattle.std.proofs.lemmas.List.{get_or-set_same, get_or_append_left, length-append}
@@ -18,10 +20,12 @@ use Rattle.mark_world.specs.declared.world.World.{World}
 use Rattle.mark_world.specs.declared.views.MainView.{MainView}
 use Rattle.mark_world.specs.Pages.{target, targets_joined}
 use Rattle.mark_world.specs.Naming.{IsReadOut, named, read_offsets}
-use Rattle.mark_world.specs.Steps.{actor, all_joined, becomes, black, free_slot_words, helper_learns, helper_spot, lent, main_spot, returned}
+use Rattle.mark_world.specs.Steps.{actor, all_joined, becomes, black, free_slot_words, helper_learns, helper_spot, lent}
+use Rattle.mark_world.specs.Steps.{main_spot, returned}
 use Rattle.mark_world.specs.Steps.{shaded, white}
 use Rattle.mark_world.specs.Conditions.{MayHelper, MayMain}
-use Rattle.mark_world.specs.Moments.{after, after_helper, after_main, after_return, after_step, MayStep, Possible, PossibleStep, with_word, word_at}
+use Rattle.mark_world.specs.Moments.{after, after_helper, after_main, after_return, after_step, MayStep, Possible}
+use Rattle.mark_world.specs.Moments.{PossibleStep, with_word, word_at}
 use Rattle.mark_world.specs.Covering.{IsCovered, colour_of}
 use Rattle.mark_world.specs.Soundness.{HasCells, HasLists, HasSizes, HasViewLists}
 use Rattle.mark_world.specs.Lineage.{Born}
@@ -49,7 +53,8 @@ left_or_coloured list colours a at within there = elim (decided (at == a)) [
       let e : a ≡ at = sym (eqb-true _ _ same) in
       inl (subst (λ (k : ℕ). slice_index (slice_set colours a (shaded (slice_index colours a))) k ≢ white) e
       (shaded_coloured colours a within))
-  | inr other ↦ inr (left_keeps list a at (λ e. let t = eq-eqb at a e in absurd (let both : true ≡ false = sym t ∙ other in cc)) there)
+  | inr other ↦ inr (left_keeps list a at
+      (λ e. let t = eq-eqb at a e in absurd (let both : true ≡ false = sym t ∙ other in cc)) there)
 ]
 
 -- what is owed stays so where a cell turns black, since targets only join
@@ -106,7 +111,8 @@ main_covers world of sizes cells may rise at (inr (inr visit)) =
     (sym (with_word_views world (main_spot of) (becomes of (word_at world (main_spot of))))) visit))
 
 -- a helper with a snap has nothing to visit
-settles_empty : (view : HelperView) (P : Snap → Type 0) → (IsSome view.snap → view.visit ≡ []) → (snap : Option Snap) → view.snap ≡ snap
+settles_empty : (view : HelperView) (P : Snap → Type 0) → (IsSome view.snap → view.visit ≡ [])
+    → (snap : Option Snap) → view.snap ≡ snap
     → IsSomeAnd snap P → view.visit ≡ []
 settles_empty view P one None e h = absurd h
 settles_empty view P one (Some snap) e h = one (ap is_some e)
@@ -118,14 +124,21 @@ helper_visits : (world : World) (number : ℕ) (view : HelperView) (of : Event) 
     → Contains (helper_learns world.old view of (word_at world (helper_spot view of))).visit at
     ⊎ (colour_of (after_helper world number of (Some view)) at ≢ white)
 helper_visits world number view (event.Settle n) may one old at c =
-    absurd (omega (arith, c.1, ap length (settles_empty view (λ snap. IsReadOut (named snap) (read_offsets snap)) one view.snap refl may)))
+    absurd (omega (
+      arith,
+      c.1,
+      ap length
+          (settles_empty view (λ snap. IsReadOut (named snap) (read_offsets snap)) one view.snap refl may),
+    ))
 helper_visits world number view (event.ShadeHelper n a) may one old at c =
-    elim (left_or_coloured view.visit world.colours a at (old a may) c) [ inl coloured ↦ inr coloured | inr still ↦ inl still ]
+    elim (left_or_coloured view.visit world.colours a at (old a may) c)
+    [ inl coloured ↦ inr coloured | inr still ↦ inl still ]
 helper_visits world number view _ may one old at c = inl c
 
 -- a step of a helper keeps what is covered
 helper_covers : (world : World) (number : ℕ) (of : Event) (view : HelperView) → slice_get world.helpers number ≡ Some view
-    → MayHelper view of → (IsSome view.snap → view.visit ≡ []) → ((a : ℕ) → Contains view.visit a → a < length world.colours)
+    → MayHelper view of → (IsSome view.snap → view.visit ≡ [])
+    → ((a : ℕ) → Contains view.visit a → a < length world.colours)
     → ((at : ℕ) → colour_of world at ≢ white → colour_of (after_helper world number of (Some view)) at ≢ white)
     → (at : ℕ) → IsCovered world at → IsCovered (after_helper world number of (Some view)) at
 helper_covers world number of view there may one old rise at (inl coloured) = inl (rise at coloured)
@@ -133,8 +146,10 @@ helper_covers world number of view there may one old rise at (inr (inl owed)) =
     inr (inl (subst (λ (main : MainView). Contains main.owed at)
     (sym (with_word_main world (helper_spot view of) (becomes of (word_at world (helper_spot view of))))) owed))
 helper_covers world number of view there may one old rise at (inr (inr visit)) =
-    elim (any_through (λ v. Contains v.visit at) (colour_of (after_helper world number of (Some view)) at ≢ white) world.helpers number view
-    (helper_learns world.old view of (word_at world (helper_spot view of))) there (helper_visits world number view of may one old at) visit) [
+    elim (any_through (λ v. Contains v.visit at) (colour_of (after_helper world number of (Some view)) at ≢ white)
+    world.helpers number view
+    (helper_learns world.old view of (word_at world (helper_spot view of))) there
+    (helper_visits world number view of may one old at) visit) [
       | inl some ↦ inr (inr some)
       | inr coloured ↦ inl coloured
     ]
@@ -164,7 +179,8 @@ lend_covers world of at (inr (inr (k, view, l, e, visits))) = inr (inr (
 ))
 
 -- a step of a helper that may make it keeps what is covered
-step_of_helper : (world : World) (number : ℕ) (of : Event) → HasSizes world → HasCells world → HasLists world → Born world
+step_of_helper : (world : World) (number : ℕ) (of : Event) → HasSizes world → HasCells world → HasLists world
+    → Born world
     → IsSomeAnd (slice_get world.helpers number) (MayStep world of) → (at : ℕ) → IsCovered world at
     → IsCovered (after_helper world number of (slice_get world.helpers number)) at
 step_of_helper world number of sizes cells lists born may at covered =
@@ -186,19 +202,23 @@ step_of_return : (world : World) (number : ℕ) → IsSomeAnd (slice_get world.h
     → (at : ℕ) → IsCovered world at → IsCovered (after_return world number (slice_get world.helpers number)) at
 step_of_return world number may at covered =
     let v = view_there (λ view. IsTrue view.out) (slice_get world.helpers number) may in
-    subst (λ (o : Option HelperView). IsCovered (after_return world number o) at) (sym v.1) (return_covers world number v.0 v.1 at covered)
+    subst (λ (o : Option HelperView). IsCovered (after_return world number o) at) (sym v.1)
+    (return_covers world number v.0 v.1 at covered)
 
 -- every step keeps what is covered
-pub step_covers : (world : World) (of : Event) (by : Actor) → HasSizes world → HasCells world → HasLists world → Born world
+pub step_covers : (world : World) (of : Event) (by : Actor) → HasSizes world → HasCells world → HasLists world
+    → Born world
     → PossibleStep world of by → (at : ℕ) → IsCovered world at → IsCovered (after_step world of by) at
 step_covers world of Actor.Mutator sizes cells lists born may =
-    main_covers world of sizes cells may (λ a coloured is_white. coloured (let rise = step_rises world of Actor.Mutator sizes a in
+    main_covers world of sizes cells may
+    (λ a coloured is_white. coloured (let rise = step_rises world of Actor.Mutator sizes a in
     let none : colour_of world a ≡ 0 = omega (arith, rise, is_white) in none))
 step_covers world of (Actor.Helper number) sizes cells lists born may = step_of_helper world number of sizes cells lists born may
 step_covers world of Actor.Lends sizes cells lists born may = lend_covers world of
 step_covers world of (Actor.Returns number) sizes cells lists born may = step_of_return world number may
 
 -- a cell that is covered is covered after each possible event
-pub covered_stays : (world : World) (of : Event) → HasSizes world → HasCells world → HasLists world → Born world → Possible world of
+pub covered_stays : (world : World) (of : Event) → HasSizes world → HasCells world → HasLists world → Born world
+    → Possible world of
     → (at : ℕ) → IsCovered world at → IsCovered (after world of) at
 covered_stays world of = step_covers world of (actor of)

@@ -22,7 +22,8 @@ in_none : {X : Type 0} (xs : List X) (x : X) → xs ≡ [] → Contains xs x →
 in_none xs x e c = omega (arith, ap length e, c.1)
 
 -- the view of each helper is empty where none is out
-each_empty : (world : World) → HasLists world → IsDrained world → (view : HelperView) → Contains world.helpers view → IsEmptyView view
+each_empty : (world : World) → HasLists world → IsDrained world → (view : HelperView) → Contains world.helpers view
+    → IsEmptyView view
 each_empty world lists drained view there =
     let has : HasViewLists world view = All-contains (HasViewLists world) world.helpers view lists.helpers there in
     has.in_hand (All-contains (λ (v : HelperView). v.out ≡ false) world.helpers view drained.none_out there)
@@ -53,11 +54,13 @@ last_colour : (colour : ℕ) → colour ≤ black → colour ≢ white → colou
 last_colour colour most coloured settled = grind arith
 
 -- a reached cell is black
-pub reached_black : (world : World) → Sound world → IsDrained world → (at : ℕ) → IsReached world at → colour_of world at ≡ black
+pub reached_black : (world : World) → Sound world → IsDrained world → (at : ℕ) → IsReached world at
+    → colour_of world at ≡ black
 reached_black world sound drained at reached =
     last_colour (colour_of world at) (each_colour world sound.sizes at) reached.coloured
     (λ is_grey. none_waits world sound.lists drained at
-    (All-contains (λ (a : ℕ). colour_of world a ≡ grey → Waits world a) world.main.starts at sound.grey reached.start is_grey))
+    (All-contains (λ (a : ℕ). colour_of world a ≡ grey → Waits world a) world.main.starts at sound.grey reached.start
+    is_grey))
 
 -- a covered cell is reached
 pub covered_reached : (world : World) → HasLists world → IsDrained world → world.main.owed ≡ [] → (at : ℕ)
@@ -78,7 +81,8 @@ next_reached world sound settled drained from at offset cell reached reads there
           covered_reached world sound.lists drained settled.owed at
           (of_target world.old (slice_index world.words (from + offset)) at (IsCovered world) refers covered)
       | inr mine ↦
-          let slots = All-contains (λ (a : ℕ). EachSlot world a (λ o. HasSureTarget world)) world.main.mine from settled.sure mine in
+          let slots = All-contains (λ (a : ℕ). EachSlot world a (λ o. HasSureTarget world)) world.main.mine from
+          settled.sure mine in
           let sure = of_target world.old (slice_index world.words (from + offset)) at (Contains world.main.sure) refers
           (of_slot world from offset cell (λ o. HasSureTarget world) reads there slots) in
           covered_reached world sound.lists drained settled.owed at
@@ -86,10 +90,12 @@ next_reached world sound settled drained from at offset cell reached reads there
     ]
 
 -- each old cell that is reached, in so many steps or few, is reached at once
-all_reached : (world : World) → Sound world → Settled world → IsDrained world → (at : ℕ) → Reached world at → IsReached world at
+all_reached : (world : World) → Sound world → Settled world → IsDrained world → (at : ℕ) → Reached world at
+    → IsReached world at
 all_reached world sound settled drained _ (Reached.start at reached) = reached
 all_reached world sound settled drained _ (Reached.slot from at offset cell before reads there refers) =
-    next_reached world sound settled drained from at offset cell (all_reached world sound settled drained from before) reads there refers
+    next_reached world sound settled drained from at offset cell (all_reached world sound settled drained from before) reads
+    there refers
 
 -- each old cell that is reached is black
 pub reached_is_black : (world : World) → Sound world → Settled world → IsDrained world → MarksAll world

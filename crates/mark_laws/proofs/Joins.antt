@@ -1,6 +1,8 @@
 -- Lists that others join keep what they have.
-use Rattle.std.proofs.Common.{ℕ, ◌+◌, ◌<◌, ◌≡◌, ◌≢◌, ◌==◌, ◌⊎◌, inl, inr, List, [], ◌∷◌, length, get_or, set, slice_get, Option, Some, None}
-use Rattle.std.proofs.Common.{All, Any, Contains, IfSome, IsSomeAnd, true, false, slice_index, eqb-true, eq-eqb, refl, sym, ap, subst, ◌∙◌, arith}
+use Rattle.std.proofs.Common.{ℕ, ◌+◌, ◌<◌, ◌≡◌, ◌≢◌, ◌==◌, ◌⊎◌, inl, inr, List, [], ◌∷◌}
+use Rattle.std.proofs.Common.{length, get_or, set, slice_get, Option, Some, None}
+use Rattle.std.proofs.Common.{All, Any, Contains, IfSome, IsSomeAnd, true, false, slice_index, eqb-true, eq-eqb, refl, sym}
+use Rattle.std.proofs.Common.{ap, subst, ◌∙◌, arith}
 use Rattle.std.proofs.lemmas.Bool.{cases_lt}
 use Rattle.std.proofs.lemmas.List.{get_or-set_same, get_or-set_other, length-set}
 use Rattle.std.proofs.lemmas.Option.{slice_get-get_or, slice_get_within}
@@ -23,7 +25,8 @@ joined_by_keeps list None at c = c
 joined_by_keeps list (Some a) at c = joined_keeps list a at c
 
 -- so does one that targets join
-pub targets_keep : (old : ℕ) (list words : List ℕ) (at : ℕ) → Contains list at → Contains (targets_joined old list words) at
+pub targets_keep : (old : ℕ) (list words : List ℕ) (at : ℕ) → Contains list at
+    → Contains (targets_joined old list words) at
 targets_keep old list [] at c = c
 targets_keep old list (word ∷ rest) at c =
     targets_keep old (joined_by list (target old word)) rest at (joined_by_keeps list (target old word) at c)
@@ -42,14 +45,16 @@ all_there list (a ∷ rest) at c = elim (in_cases a rest at c) [
 ]
 
 -- another view stays where it is
-any_other : (P : HelperView → Type 0) (views : List HelperView) (number : ℕ) (after : HelperView) (k : ℕ) (view : HelperView)
+any_other : (P : HelperView → Type 0) (views : List HelperView) (number : ℕ) (after : HelperView) (k : ℕ)
+    (view : HelperView)
     → k < length views → get_or views k view ≡ view → P view → k ≢ number → Any P (set views number after)
 any_other P views number after k view l e holds other =
     (k, view, omega (arith, length-set views number after, l), get_or-set_other views number k after view other ∙ e, holds)
 
 -- the view that changes has a successor
 any_same : (P : HelperView → Type 0) (Q : Type 0) (views : List HelperView) (number : ℕ) (before after : HelperView)
-    → slice_get views number ≡ Some before → (P before → P after ⊎ Q) → (k : ℕ) (view : HelperView) → k < length views
+    → slice_get views number ≡ Some before → (P before → P after ⊎ Q) → (k : ℕ) (view : HelperView)
+    → k < length views
     → get_or views k view ≡ view → P view → k ≡ number → Any P (set views number after) ⊎ Q
 any_same P Q views number before after there step k view l e holds same =
     let within : number < length views = omega (arith, l) in
@@ -68,7 +73,8 @@ any_same P Q views number before after there step k view l e holds same =
 
 -- one of some views is the one that changes, and then its successor is one, or something else holds; or it is another
 pub any_through : (P : HelperView → Type 0) (Q : Type 0) (views : List HelperView) (number : ℕ) (before after : HelperView)
-    → slice_get views number ≡ Some before → (P before → P after ⊎ Q) → Any P views → Any P (set views number after) ⊎ Q
+    → slice_get views number ≡ Some before → (P before → P after ⊎ Q) → Any P views
+    → Any P (set views number after) ⊎ Q
 any_through P Q views number before after there step (k, view, l, e, holds) = elim (cases_lt k number) [
   | inl below ↦ inl (any_other P views number after k view l e holds (λ same. absurd (omega (arith, same))))
   | inr from ↦ elim (cases_lt number k) [
@@ -78,7 +84,8 @@ any_through P Q views number before after there step (k, view, l, e, holds) = el
 ]
 
 -- what holds of each view holds of the one that there is at a number
-pub of_get : (P : HelperView → Type 0) (views : List HelperView) (number : ℕ) (view : HelperView) → slice_get views number ≡ Some view
+pub of_get : (P : HelperView → Type 0) (views : List HelperView) (number : ℕ) (view : HelperView)
+    → slice_get views number ≡ Some view
     → All P views → P view
 of_get P views number view there each =
     let within : number < length views = slice_get_within views number view there in
@@ -86,7 +93,8 @@ of_get P views number view there each =
     subst P is (each number view within)
 
 -- the view of a helper that there is
-pub view_there : (P : HelperView → Type 0) (o : Option HelperView) → IsSomeAnd o P → (view : HelperView) × (o ≡ Some view) × P view
+pub view_there : (P : HelperView → Type 0) (o : Option HelperView) → IsSomeAnd o P → (view : HelperView)
+    × (o ≡ Some view) × P view
 view_there P None h = absurd h
 view_there P (Some view) h = (view, refl, h)
 
@@ -95,10 +103,12 @@ pub of_target : (old word at : ℕ) (P : ℕ → Type 0) → target old word ≡
 of_target old word at P e h = subst (λ (t : Option ℕ). IfSome t P) e h
 
 -- what holds of each tagged slot holds of this one
-pub of_slot : (world : World) (from offset : ℕ) (cell : Reading) (P : ℕ → ℕ → Type 0) → cell_of world from ≡ Some cell
+pub of_slot : (world : World) (from offset : ℕ) (cell : Reading) (P : ℕ → ℕ → Type 0)
+    → cell_of world from ≡ Some cell
     → Contains (slots_of cell) offset → EachSlot world from P → P offset (slice_index world.words (from + offset))
 of_slot world from offset cell P e there each =
-    let all = subst (λ (c : Option Reading). IfSome c (λ r. All (λ o. P o (slice_index world.words (from + o))) (slots_of r))) e each in
+    let all = subst (λ (c : Option Reading). IfSome c
+    (λ r. All (λ o. P o (slice_index world.words (from + o))) (slots_of r))) e each in
     All-contains (λ (o : ℕ). P o (slice_index world.words (from + o))) (slots_of cell) offset all there
 
 -- what holds of each number that a list contains holds of all of it
@@ -106,10 +116,12 @@ pub all_from : (P : ℕ → Type 0) (list : List ℕ) → ((x : ℕ) → Contain
 all_from P list each k d l = each (get_or list k d) (Contains-get_or list k d l)
 
 -- what holds of each of a list and of what joins it holds of each then
-pub joins : (P : ℕ → Type 0) (list : List ℕ) (new : ℕ) → All P list → P new → (x : ℕ) → Contains (joined list new) x → P x
+pub joins : (P : ℕ → Type 0) (list : List ℕ) (new : ℕ) → All P list → P new → (x : ℕ)
+    → Contains (joined list new) x → P x
 joins P list new each there x c = elim (decided (x == new)) [
   | inl same ↦ subst P (sym (eqb-true _ _ same)) there
-  | inr other ↦ All-contains P list x each (joined_from list new x (λ e. absurd (let t = eq-eqb x new e in let both : true ≡ false = sym t ∙ other in cc)) c)
+  | inr other ↦ All-contains P list x each
+      (joined_from list new x (λ e. absurd (let t = eq-eqb x new e in let both : true ≡ false = sym t ∙ other in cc)) c)
 ]
 
 -- a word of a list that has a target
@@ -117,16 +129,19 @@ abbrev pub HasTarget : ℕ → List ℕ → ℕ → Type 0
 HasTarget old words at = (word : ℕ) × Contains words word × (target old word ≡ Some at)
 
 -- a cell that joined as a target is one of a word
-joined_target : (old : ℕ) (list : List ℕ) (word at : ℕ) (new : Option ℕ) → target old word ≡ new → Contains (joined_by list new) at
+joined_target : (old : ℕ) (list : List ℕ) (word at : ℕ) (new : Option ℕ) → target old word ≡ new
+    → Contains (joined_by list new) at
     → Contains list at ⊎ (target old word ≡ Some at)
 joined_target old list word at None e c = inl c
 joined_target old list word at (Some a) e c = elim (decided (at == a)) [
   | inl same ↦ inr (e ∙ ap (λ x. Some x) (sym (eqb-true _ _ same)))
-  | inr other ↦ inl (joined_from list a at (λ f. absurd (let t = eq-eqb at a f in let both : true ≡ false = sym t ∙ other in cc)) c)
+  | inr other ↦ inl (joined_from list a at
+      (λ f. absurd (let t = eq-eqb at a f in let both : true ≡ false = sym t ∙ other in cc)) c)
 ]
 
 -- what a list has once targets joined it had before, or is a target
-pub targets_from : (old : ℕ) (list words : List ℕ) (at : ℕ) → Contains (targets_joined old list words) at → Contains list at ⊎ HasTarget old words at
+pub targets_from : (old : ℕ) (list words : List ℕ) (at : ℕ) → Contains (targets_joined old list words) at
+    → Contains list at ⊎ HasTarget old words at
 targets_from old list [] at c = inl c
 targets_from old list (word ∷ rest) at c = elim (targets_from old (joined_by list (target old word)) rest at c) [
   | inl early ↦ elim (joined_target old list word at (target old word) refl early) [

@@ -1,5 +1,6 @@
 -- The sizes of a world stay right.
-use Rattle.std.proofs.Common.{ℕ, ◌+◌, ◌<◌, ◌≤◌, ◌^◌, ◌∙◌, inl, inr, List, length, slice_index, slice_set, slice_get}
+use Rattle.std.proofs.Common.{ℕ, ◌+◌, ◌<◌, ◌≤◌, ◌^◌, ◌∙◌, inl, inr, List, length, slice_index}
+use Rattle.std.proofs.Common.{slice_set, slice_get}
 use Rattle.std.proofs.Common.{Option, Some, None, IsSomeAnd, refl, sym, subst, arith}
 use Rattle.std.proofs.lemmas.Bool.{cases_lt}
 use Rattle.std.proofs.lemmas.Bool.Decides.{nat_tests}
@@ -20,9 +21,11 @@ use Rattle.mark_world.specs.declared.snap.Snap.{Snap}
 use Rattle.mark_world.specs.declared.views.HelperView.{HelperView}
 use Rattle.mark_world.specs.declared.views.MainView.{MainView}
 use Rattle.mark_world.specs.declared.world.World.{World}
-use Rattle.mark_world.specs.Steps.{actor, becomes, black, helper_learns, helper_spot, layout_spot, main_learns, main_spot, settled, shaded}
+use Rattle.mark_world.specs.Steps.{actor, becomes, black, helper_learns, helper_spot, layout_spot, main_learns, main_spot}
+use Rattle.mark_world.specs.Steps.{settled, shaded}
 use Rattle.mark_world.specs.Conditions.{MayHelper, MayMain}
-use Rattle.mark_world.specs.Moments.{after, after_helper, after_return, after_step, IsReached, MayStep, Possible, PossibleStep, with_word, word_at}
+use Rattle.mark_world.specs.Moments.{after, after_helper, after_return, after_step, IsReached, MayStep, Possible}
+use Rattle.mark_world.specs.Moments.{PossibleStep, with_word, word_at}
 use Rattle.mark_world.specs.Soundness.{HasLists, HasSizes, HasViewLists}
 use Rattle.mark_laws.proofs.Colours.{each_colour}
 use Rattle.mark_laws.proofs.Joins.{of_get, view_there}
@@ -34,7 +37,8 @@ SizedSpot (Some (Spot.Board place)) word = IsBoardWord word
 SizedSpot _ word = Unit {0}
 
 -- so it does
-with_word_sized : (world : World) (spot : Option Spot) (word : ℕ) → HasSizes world → SizedSpot spot word → HasSizes (with_word world spot word)
+with_word_sized : (world : World) (spot : Option Spot) (word : ℕ) → HasSizes world → SizedSpot spot word
+    → HasSizes (with_word world spot word)
 with_word_sized world None word sizes fits = sizes
 with_word_sized world (Some (Spot.Heap at)) word sizes fits = record {
   pages = sizes.pages;
@@ -97,7 +101,8 @@ reached_fits world sizes small at reached = elim (cases_lt at (length world.colo
 ]
 
 -- a word of the board to which a reached cell is given is one of a board
-given_sized : (world : World) → HasSizes world → world.old < 2 ^ 32 → (place at : ℕ) → place < board_words → IsReached world at
+given_sized : (world : World) → HasSizes world → world.old < 2 ^ 32 → (place at : ℕ) → place < board_words
+    → IsReached world at
     → IsBoardWord (becomes (event.GiveMain place at) (slice_index world.board place))
 given_sized world sizes small place at on_board reached =
     given_is_board_word (slice_index world.board place) at (reached_fits world sizes small at reached)
@@ -107,7 +112,8 @@ given_sized world sizes small place at on_board reached =
 main_sized : (world : World) (of : Event) → HasSizes world → HasLists world → world.old < 2 ^ 32
     → MayMain world.old world.words world.layouts world.main of
     → SizedSpot (main_spot of) (becomes of (word_at world (main_spot of)))
-main_sized world (event.ShadeMain at) sizes lists small may = shaded_three (slice_index world.colours at) (each_colour world sizes at)
+main_sized world (event.ShadeMain at) sizes lists small may = shaded_three (slice_index world.colours at)
+    (each_colour world sizes at)
 main_sized world (event.Blacken at) sizes lists small may = omega arith
 main_sized world (event.NewBlack at) sizes lists small may = omega arith
 main_sized world (event.GiveMain place at) sizes lists small may =
@@ -117,7 +123,8 @@ main_sized world _ sizes lists small may = tt
 
 -- the end of a snap leaves the sizes right
 settle_sized : (world : World) → HasSizes world → (snap : Option Snap)
-    → SizedSpot (option_map (λ s. Spot.Colour s.cell) snap) (settled (word_at world (option_map (λ s. Spot.Colour s.cell) snap)))
+    → SizedSpot (option_map (λ s. Spot.Colour s.cell) snap)
+    (settled (word_at world (option_map (λ s. Spot.Colour s.cell) snap)))
 settle_sized world sizes None = tt
 settle_sized world sizes (Some snap) = settled_three (slice_index world.colours snap.cell) (each_colour world sizes snap.cell)
 
@@ -126,18 +133,22 @@ load_sized : (offset word : ℕ) (snap : Option Snap) → SizedSpot (option_map 
 load_sized offset word None = tt
 load_sized offset word (Some snap) = tt
 
+-- the spot of a layout leaves the sizes right, whatever the word
 layout_sized : (word : ℕ) (header : Option Header) → SizedSpot (option_map (λ h. Spot.Layout h.shape) header) word
 layout_sized word None = tt
 layout_sized word (Some header) = tt
 
+-- so does the one that a snap names
 layout_of_sized : (word : ℕ) (snap : Option Snap) → SizedSpot (option_and_then layout_spot snap) word
 layout_of_sized word None = tt
 layout_of_sized word (Some snap) = layout_sized word (header_in snap.header)
 
 -- nor does a step of a helper
-helper_sized : (world : World) (view : HelperView) (of : Event) → HasSizes world → HasViewLists world view → world.old < 2 ^ 32
+helper_sized : (world : World) (view : HelperView) (of : Event) → HasSizes world → HasViewLists world view
+    → world.old < 2 ^ 32
     → MayHelper view of → SizedSpot (helper_spot view of) (becomes of (word_at world (helper_spot view of)))
-helper_sized world view (event.ShadeHelper number at) sizes lists small may = shaded_three (slice_index world.colours at) (each_colour world sizes at)
+helper_sized world view (event.ShadeHelper number at) sizes lists small may = shaded_three (slice_index world.colours at)
+    (each_colour world sizes at)
 helper_sized world view (event.Settle number) sizes lists small may = settle_sized world sizes view.snap
 helper_sized world view (event.Give number place at) sizes lists small may =
     given_sized world sizes small place at may.on_board (All-contains (IsReached world) view.grey at lists.grey may.had)
@@ -166,7 +177,8 @@ step_of_helper world number of sizes lists small may =
     (with_word_sized world spot word sizes (helper_sized world view of sizes has small v.2.may)))
 
 -- a seat that is taken back
-step_of_return : (world : World) (number : ℕ) → HasSizes world → (view : Option HelperView) → HasSizes (after_return world number view)
+step_of_return : (world : World) (number : ℕ) → HasSizes world → (view : Option HelperView)
+    → HasSizes (after_return world number view)
 step_of_return world number sizes None = sizes
 step_of_return world number sizes (Some view) =
     views_sized world (after_return world number (Some view)).main (after_return world number (Some view)).helpers sizes
@@ -182,8 +194,10 @@ step_sized world of Actor.Mutator sizes lists small may =
 step_sized world of (Actor.Helper number) sizes lists small may = step_of_helper world number of sizes lists small may
 step_sized world of Actor.Lends sizes lists small may =
     views_sized world world.main (after_step world of Actor.Lends).helpers sizes
-step_sized world of (Actor.Returns number) sizes lists small may = step_of_return world number sizes (slice_get world.helpers number)
+step_sized world of (Actor.Returns number) sizes lists small may = step_of_return world number sizes
+    (slice_get world.helpers number)
 
 -- a possible event leaves the sizes right
-pub sizes_stay : (world : World) (of : Event) → HasSizes world → HasLists world → world.old < 2 ^ 32 → Possible world of → HasSizes (after world of)
+pub sizes_stay : (world : World) (of : Event) → HasSizes world → HasLists world → world.old < 2 ^ 32
+    → Possible world of → HasSizes (after world of)
 sizes_stay world of = step_sized world of (actor of)

@@ -1,5 +1,6 @@
 -- Published cells are old.
-use Rattle.std.proofs.Common.{ℕ, ◌+◌, ◌<◌, ◌≤◌, ◌≡◌, ◌⊎◌, inl, inr, IsTrue, List, length, min, slice_index, Option, Some, None}
+use Rattle.std.proofs.Common.{ℕ, ◌+◌, ◌<◌, ◌≤◌, ◌≡◌, ◌⊎◌, inl, inr, IsTrue, List, length, min}
+use Rattle.std.proofs.Common.{slice_index, Option, Some, None}
 use Rattle.std.proofs.Common.{IsSome, Contains, refl, arith}
 use Rattle.std.proofs.lemmas.Bool.{cases_lt}
 use Rattle.std.proofs.lemmas.List.{get_or_past}
@@ -44,10 +45,12 @@ black_within colours at is_black = elim (cases_lt at (length colours)) [
 ]
 
 -- a published cell is old
-pub start_old : (world : World) → HasSizes world → HasCells world → (at : ℕ) → Contains world.main.starts at → at < length world.colours
+pub start_old : (world : World) → HasSizes world → HasCells world → (at : ℕ) → Contains world.main.starts at
+    → at < length world.colours
 start_old world sizes cells at start = elim (free_or_mine world at start) [
   | inl free ↦
       let read = value_of (cell_of world at) (cells.read at free) in
       omega (arith, read_old world at read.0 read.1, sizes.colours)
-  | inr mine ↦ black_within world.colours at (All-contains (λ (a : ℕ). colour_of world a ≡ black) world.main.mine at cells.mine_black mine)
+  | inr mine ↦ black_within world.colours at
+      (All-contains (λ (a : ℕ). colour_of world a ≡ black) world.main.mine at cells.mine_black mine)
 ]

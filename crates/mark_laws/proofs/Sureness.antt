@@ -1,6 +1,7 @@
 -- What the mutator is sure of is covered, and stays so.
 use Rattle.std.proofs.Common.{ℕ, ◌+◌, ◌≡◌, ◌==◌, inl, inr, Bool, true, false, IsTrue, List, [], ◌∷◌, get_or}
-use Rattle.std.proofs.Common.{slice_index, slice_get, Option, Some, None, All, Contains, IfSome, suc, refl, sym, subst, arith, if◌then◌else◌, eqb-true}
+use Rattle.std.proofs.Common.{slice_index, slice_get, Option, Some, None, All, Contains, IfSome, suc, refl, sym, subst, arith}
+use Rattle.std.proofs.Common.{if◌then◌else◌, eqb-true}
 use Rattle.std.proofs.lemmas.List.Elements.{All-contains}
 use Rattle.tagged_word.specs.declared.reading.Reading.{Reading}
 use Rattle.tagged_word.proofs.Members.{map_from}
@@ -35,7 +36,8 @@ record InSlot (world : World) (at word : ℕ) : Type 0 where
   is : slice_index world.words (at + offset) ≡ word
 
 -- a word of a cell's slots, if a cell is read
-in_slots : (world : World) (at word : ℕ) → IsTrue (is_free world.main at) → (cell : Option Reading) → cell_of world at ≡ cell
+in_slots : (world : World) (at word : ℕ) → IsTrue (is_free world.main at) → (cell : Option Reading)
+    → cell_of world at ≡ cell
     → Contains (words_in_slots world.words at cell) word → InSlot world at word
 in_slots world at word free None reads c = absurd (omega (arith, c.1))
 in_slots world at word free (Some cell) reads c =
@@ -62,38 +64,46 @@ slot_born : (world : World) → Born world → (at word to : ℕ) → Contains w
     → target world.old word ≡ Some to → Contains world.main.born to
 slot_born world born at word to at_born s refers =
     of_target world.old word to (Contains world.main.born) refers
-    (subst (HasBorn world) s.is (of_slot world at s.offset s.cell (λ o. HasBorn world) s.reads s.there (born.slots at s.free at_born)))
+    (subst (HasBorn world) s.is
+    (of_slot world at s.offset s.cell (λ o. HasBorn world) s.reads s.there (born.slots at s.free at_born)))
 
 -- in a black cell it is covered
 slot_covered : (world : World) → HasBlack world → (at word to : ℕ) → colour_of world at ≡ black → InSlot world at word
     → target world.old word ≡ Some to → IsCovered world to
 slot_covered world is_covered at word to is_black s refers =
     of_target world.old word to (IsCovered world) refers
-    (subst (HasCovered world) s.is (of_slot world at s.offset s.cell (λ o. HasCovered world) s.reads s.there (is_covered at s.free is_black)))
+    (subst (HasCovered world) s.is
+    (of_slot world at s.offset s.cell (λ o. HasCovered world) s.reads s.there (is_covered at s.free is_black)))
 
 -- the targets of a cell that turns black are covered: by it, if it was black, and else since they are owed
-target_covered : (world : World) (at : ℕ) → HasBlack world → ((a : ℕ) → IsCovered world a → IsCovered (after_main world (event.Blacken at)) a)
-    → (to word : ℕ) → Contains (free_slot_words world.old world.words world.layouts world.main at) word → target world.old word ≡ Some to
+target_covered : (world : World) (at : ℕ) → HasBlack world
+    → ((a : ℕ) → IsCovered world a → IsCovered (after_main world (event.Blacken at)) a)
+    → (to word : ℕ) → Contains (free_slot_words world.old world.words world.layouts world.main at) word
+    → target world.old word ≡ Some to
     → (was_black : Bool) → (colour_of world at == black) ≡ was_black → IsCovered (after_main world (event.Blacken at)) to
 target_covered world at is_covered keeps to word c refers true was =
     keeps to (slot_covered world is_covered at word to (eqb-true _ _ was) (in_slot world at word c) refers)
 target_covered world at is_covered keeps to word c refers false was =
     let words : List ℕ = free_slot_words world.old world.words world.layouts world.main at in
-    inr (inl (subst (λ (b : Bool). Contains (if b then world.main.owed else targets_joined world.old world.main.owed words) to) (sym was)
+    inr (inl (subst (λ (b : Bool). Contains (if b then world.main.owed else targets_joined world.old world.main.owed words)
+    to) (sym was)
     (targets_there world.old world.main.owed words word to c refers)))
 
 -- targets that join born cells are born
-targets_born : (world : World) → Born world → (at : ℕ) → Contains world.main.born at → (list : List ℕ) → AreIn world.main.born list
+targets_born : (world : World) → Born world → (at : ℕ) → Contains world.main.born at → (list : List ℕ)
+    → AreIn world.main.born list
     → AreIn world.main.born (targets_joined world.old list (free_slot_words world.old world.words world.layouts world.main at))
 targets_born world born at at_born list among =
     let words : List ℕ = free_slot_words world.old world.words world.layouts world.main at in
-    all_from (Contains world.main.born) (targets_joined world.old list words) (λ to c. elim (targets_from world.old list words to c) [
+    all_from (Contains world.main.born) (targets_joined world.old list words)
+    (λ to c. elim (targets_from world.old list words to c) [
       | inl had ↦ All-contains (Contains world.main.born) list to among had
       | inr new ↦ slot_born world born at new.0 to at_born (in_slot world at new.0 new.1) new.2
     ])
 
 -- what is owed after a cell turns black is born
-black_born : (world : World) → Born world → (at : ℕ) → Contains world.main.born at → AreIn world.main.born world.main.owed → (was_black : Bool)
+black_born : (world : World) → Born world → (at : ℕ) → Contains world.main.born at
+    → AreIn world.main.born world.main.owed → (was_black : Bool)
     → AreIn world.main.born (if was_black then world.main.owed
     else targets_joined world.old world.main.owed (free_slot_words world.old world.words world.layouts world.main at))
 black_born world born at at_born among true = among
@@ -104,7 +114,8 @@ pub joined_all : (P : ℕ → Type 0) (list : List ℕ) (new : ℕ) → All P li
 joined_all P list new each there = all_from P (joined list new) (λ x c. joins P list new each there x c)
 
 -- a list that a target may join
-pub target_joins : (P : ℕ → Type 0) (list : List ℕ) (new : Option ℕ) → All P list → IfSome new P → All P (joined_by list new)
+pub target_joins : (P : ℕ → Type 0) (list : List ℕ) (new : Option ℕ) → All P list → IfSome new P
+    → All P (joined_by list new)
 target_joins P list None each there = each
 target_joins P list (Some new) each there = joined_all P list new each there
 
@@ -153,7 +164,8 @@ main_sure world _ sizes cells sure is_covered born may keeps = record {
 }
 
 -- where the mutator's lists are as before
-same_sure : (world later : World) → later.main ≡ world.main → HasSure world → ((a : ℕ) → IsCovered world a → IsCovered later a) → HasSure later
+same_sure : (world later : World) → later.main ≡ world.main → HasSure world
+    → ((a : ℕ) → IsCovered world a → IsCovered later a) → HasSure later
 same_sure world later same sure keeps = record {
   covered = subst (λ (main : MainView). All (IsCovered later) main.sure) (sym same)
       (λ k d l. keeps (get_or world.main.sure k d) (sure.covered k d l));
@@ -162,9 +174,11 @@ same_sure world later same sure keeps = record {
 }
 
 -- a step of a helper leaves them
-pub helper_main : (world : World) (number : ℕ) (of : Event) (view : Option HelperView) → (after_helper world number of view).main ≡ world.main
+pub helper_main : (world : World) (number : ℕ) (of : Event) (view : Option HelperView)
+    → (after_helper world number of view).main ≡ world.main
 helper_main world number of None = refl
-helper_main world number of (Some view) = with_word_main world (helper_spot view of) (becomes of (word_at world (helper_spot view of)))
+helper_main world number of (Some view) = with_word_main world (helper_spot view of)
+    (becomes of (word_at world (helper_spot view of)))
 
 -- a list that born cells join
 all_born : (born list others : List ℕ) → AreIn born list → AreIn born others → AreIn born (all_joined list others)
@@ -176,7 +190,8 @@ all_born born list (at ∷ rest) among also =
 -- a seat that is taken back
 return_sure : (world : World) (number : ℕ) (view : Option HelperView) → HasSure world
     → ((v : HelperView) → view ≡ Some v → AreIn world.main.born v.visit)
-    → ((a : ℕ) → IsCovered world a → IsCovered (after_return world number view) a) → HasSure (after_return world number view)
+    → ((a : ℕ) → IsCovered world a → IsCovered (after_return world number view) a)
+    → HasSure (after_return world number view)
 return_sure world number None sure visits keeps = sure
 return_sure world number (Some view) sure visits keeps = record {
   covered = λ k d l. keeps (get_or world.main.sure k d) (sure.covered k d l);
@@ -185,12 +200,14 @@ return_sure world number (Some view) sure visits keeps = record {
 }
 
 -- every step
-step_sure : (world : World) (of : Event) (by : Actor) → HasSizes world → HasCells world → HasLists world → HasSure world → HasBlack world
+step_sure : (world : World) (of : Event) (by : Actor) → HasSizes world → HasCells world → HasLists world
+    → HasSure world → HasBlack world
     → Born world → PossibleStep world of by → HasSure (after_step world of by)
 step_sure world of Actor.Mutator sizes cells lists sure is_covered born may =
     main_sure world of sizes cells sure is_covered born may (step_covers world of Actor.Mutator sizes cells lists born may)
 step_sure world of (Actor.Helper number) sizes cells lists sure is_covered born may =
-    same_sure world (after_step world of (Actor.Helper number)) (helper_main world number of (slice_get world.helpers number)) sure
+    same_sure world (after_step world of (Actor.Helper number)) (helper_main world number of (slice_get world.helpers number))
+    sure
     (step_covers world of (Actor.Helper number) sizes cells lists born may)
 step_sure world of Actor.Lends sizes cells lists sure is_covered born may =
     same_sure world (after_step world of Actor.Lends) refl sure (step_covers world of Actor.Lends sizes cells lists born may)
@@ -200,6 +217,7 @@ step_sure world of (Actor.Returns number) sizes cells lists sure is_covered born
     (step_covers world of (Actor.Returns number) sizes cells lists born may)
 
 -- after a possible event the mutator is sure only of what is covered
-pub sure_stays : (world : World) (of : Event) → HasSizes world → HasCells world → HasLists world → HasSure world → HasBlack world → Born world
+pub sure_stays : (world : World) (of : Event) → HasSizes world → HasCells world → HasLists world → HasSure world
+    → HasBlack world → Born world
     → Possible world of → HasSure (after world of)
 sure_stays world of = step_sure world of (actor of)
