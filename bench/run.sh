@@ -25,6 +25,14 @@ printf 'new x 8\nset x a 1\nset x b 2\nset x c 3\nrepeat 500000\ndel x b\nset x 
 printf 'list l\npush l 1\npush l l\nrepeat 1000000\nput l 0 7\nat y l 1\nend\n' | script elements 3000004
 printf 'list l\npush l 5000000000\nrepeat 1000000\nput l 0 5000000001\nat y l 0\nend\n' | script boxed_elements 3000003
 printf 'repeat 30\nlist l\nrepeat 1000\npush l 1\nend\nend\n' | script pushes 60091 --young 65536
+# A queue and a stack, whose stores are made anew where they were trimmed to their end.
+printf 'list l\nrepeat 40000\npush l 1\nshift l 1\nend\n' | script queue 120002 --young 65536
+printf 'list l\nrepeat 10000\npush l 1\ntrunc l 0\nend\n' | script stack 30002 --young 65536
+# Weak maps: an entry that is there, one that comes and goes, and the last of eight keys with one home.
+printf 'weak m\nnew k 0\nwput m k 1\nrepeat 1000000\nwput m k 2\nwget y m k\nend\n' | script entries 3000004
+printf 'weak m\nnew k 0\nrepeat 1000000\nwput m k 1\nwdel m k\nend\n' | script entry_gone 3000003
+printf 'weak m\nrepeat 8\nnew k 0\nwput m k 1\nrepeat 15\nnew x 0\nend\nend\nrepeat 1000000\nwget y m k\nend\n' |
+  script one_home 2000275
 printf 'repeat 13107\nnew x 3\nend\n' | script new 26215 --young 65536
 printf 'repeat 7000\nnew x 1\nset x a 1\nset x a 5000000000\nset x a x\nend\n' | script representations 35001 --young 65536
 printf '' | script empty 0

@@ -17,12 +17,13 @@ use Rattle.heap_model.specs.Needs.{list_store_need, push_need_at, push_need, ele
 use Rattle.heap_model.proofs.CellWords.{words_by_kind, words_are_size}
 use Rattle.heap_model.proofs.FixedShapes.{shape_is_list}
 use Rattle.heap_model.proofs.SlotWords.{value_is_slot}
+use Rattle.heap_model.proofs.WordsRead.{word_of_cell}
 use Rattle.collector.proofs.CopiedCells.{Copying}
 use Rattle.collector.proofs.FieldWords.{IsRead, is_box_read, two_words, slot_read, beside_read, capacity_at_stays}
-use Rattle.collector.proofs.NeedWords.{RefersToCells, word_of_cell, word_stays, shape_is, shape_stays, slot_refers}
+use Rattle.collector.proofs.NeedWords.{RefersToCells, word_stays, shape_is, shape_stays, slot_refers}
 
 -- two numbers that are asked for on one condition are the same if they are where it holds
-same_if : (is : Bool) (a b : ℕ) → (is ≡ true → a ≡ b) → (if is then a else 0) ≡ (if is then b else 0)
+pub same_if : (is : Bool) (a b : ℕ) → (is ≡ true → a ≡ b) → (if is then a else 0) ≡ (if is then b else 0)
 same_if true a b same = same refl
 same_if false a b same = refl
 
@@ -47,15 +48,18 @@ list_stays : {heap : Heap} {words : List ℕ} {cell : Cell} {others : List ℕ} 
     → HasCell heap cell others → is_list_at (written heap words) cell.at ≡ is_list_at heap cell.at
 list_stays {cell = cell} copying has = ap (λ shape. shape == list_shape) (shape_stays cell.at copying has refl)
 
--- with as many elements
+-- the count of an object that has one is the same in the image
+pub count_read : {heap : Heap} {words : List ℕ} {cell : Cell} {others : List ℕ} → Copying heap words
+    → HasCell heap cell others → count_offset < cell.size
+    → count_at (written heap words) cell.at ≡ count_at heap cell.at
+count_read {cell = cell} copying has within =
+    word_stays (cell.at + count_offset) copying has record { from = omega arith; below = omega (arith, within) }
+
+-- a list has as many elements
 count_stays : {heap : Heap} {words : List ℕ} {cell : Cell} {others : List ℕ} → Copying heap words
     → HasCell heap cell others → cell.layout.kind ≡ kind.List
     → count_at (written heap words) cell.at ≡ count_at heap cell.at
-count_stays {cell = cell} copying has is =
-    word_stays (cell.at + count_offset) copying has record {
-      from = omega arith;
-      below = omega (arith, words_are_size has, words_by_kind kind.List has is);
-    }
+count_stays copying has is = count_read copying has (omega (arith, words_are_size has, words_by_kind kind.List has is))
 
 -- `push` to a list needs as much
 push_at_stays : {heap : Heap} {words : List ℕ} {cell : Cell} {others : List ℕ} (wide : Bool) → Whole heap

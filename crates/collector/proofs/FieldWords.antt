@@ -13,7 +13,7 @@ use Rattle.tagged_word.proofs.Readings.{reference_from}
 use Rattle.cell_layout.specs.declared.cell.Cell.{Cell}
 use Rattle.heap_model.specs.Heaps.{Heap, HasCell}
 use Rattle.heap_model.specs.Changes.{written}
-use Rattle.heap_model.specs.Slots.{is_object_kind, IsBeside}
+use Rattle.heap_model.specs.Slots.{is_object_kind, IsBeside, RefersTo}
 use Rattle.heap_model.specs.Kinds.{HasWord, HasSlots}
 use Rattle.heap_model.specs.Wholeness.{Whole}
 use Rattle.heap_model.specs.Needs.{word_at, capacity_at, capacity_by, beside_by, field_word}
@@ -22,8 +22,9 @@ use Rattle.heap_model.proofs.WordClasses.{undefined_refers_not}
 use Rattle.heap_model.proofs.CellWords.{slice_get-drop, slice_get-append_left, slice_get-append_right, words_by_kind}
 use Rattle.heap_model.proofs.CellWords.{words_are_size, word_there, behind_head}
 use Rattle.heap_model.proofs.SlotWords.{store_word}
+use Rattle.heap_model.proofs.WordsRead.{word_of_cell}
 use Rattle.collector.proofs.CopiedCells.{Copying}
-use Rattle.collector.proofs.NeedWords.{RefersToCells, word_of_cell, word_stays, address_is}
+use Rattle.collector.proofs.NeedWords.{RefersToCells, word_stays, address_is}
 use Rattle.collector.proofs.NeedWords.{zero_refers, box_stays, store_refers, capacity_stays}
 
 -- the word of a field by address is the same in the image, and refers to nothing but cells
@@ -37,15 +38,13 @@ pub is_box_read : {heap : Heap} {words : List ℕ} (word : Heap → ℕ) → Cop
 is_box_read {heap} {words} word copying read =
     ap (is_box_word (written heap words)) read.same ∙ box_stays (word heap) copying read.refers
 
--- a slot of the store to which the word of the slot refers
-pub beside_read : {heap : Heap} {words : List ℕ} (store : ℕ) (slots : List ℕ) (k : ℕ) (found : Option ℕ)
-    → Copying heap words → IsBeside heap kind.Store store slots → k < length slots
-    → ((word : ℕ) → HasWord slots k word → RefersToCells heap word) → reference_in store ≡ found
-    → IsRead heap words (λ one. beside_by one found k)
-beside_read store slots k None copying beside below refers read = record { same = refl; refers = zero_refers }
-beside_read store slots k (Some at) copying IsBeside.none below refers read =
-    absurd (undefined_refers_not at (reference_from store at read).1)
-beside_read {heap} store slots k (Some at) copying (IsBeside.store to cell others target of_kind) below refers read =
+-- a word behind the head of the cell to which the word of the slot refers
+pub behind_read : {heap : Heap} {words : List ℕ} {store : ℕ} {cell : Cell} {others : List ℕ} (k at : ℕ)
+    → Copying heap words → RefersTo heap store cell others → k < length (drop store_head others)
+    → ((word : ℕ) → HasWord (drop store_head others) k word → RefersToCells heap word) → reference_in store ≡ Some at
+    → IsRead heap words (λ one. beside_by one (Some at) k)
+behind_read {heap} {cell = cell} {others} k at copying target below refers read =
+    let slots : List ℕ = drop store_head others in
     let starts : cell.at ≡ at = address_is at target read in
     let word : ℕ = get_or slots k 0 in
     let there : HasWord slots k word = slice_get-get_or slots k 0 below in
@@ -61,6 +60,17 @@ beside_read {heap} store slots k (Some at) copying (IsBeside.store to cell other
       };
       refers = subst (RefersToCells heap) (sym is) (refers word there);
     }
+
+-- a slot of the store to which the word of the slot refers
+pub beside_read : {heap : Heap} {words : List ℕ} (store : ℕ) (slots : List ℕ) (k : ℕ) (found : Option ℕ)
+    → Copying heap words → IsBeside heap kind.Store store slots → k < length slots
+    → ((word : ℕ) → HasWord slots k word → RefersToCells heap word) → reference_in store ≡ found
+    → IsRead heap words (λ one. beside_by one found k)
+beside_read store slots k None copying beside below refers read = record { same = refl; refers = zero_refers }
+beside_read store slots k (Some at) copying IsBeside.none below refers read =
+    absurd (undefined_refers_not at (reference_from store at read).1)
+beside_read store slots k (Some at) copying (IsBeside.store to cell others target of_kind) below refers read =
+    behind_read k at copying target below refers read
 
 -- an object has two words, kind by kind
 two_words_of : (k : Kind) (cap long : ℕ) → IsTrue (is_object_kind k) → 2 ≤ words_of k cap long

@@ -20,13 +20,14 @@ use Rattle.heap_model.specs.Changes.{written}
 use Rattle.heap_model.specs.Slots.{IsPlace}
 use Rattle.heap_model.specs.Wholeness.{Whole, IsHeld}
 use Rattle.heap_model.specs.Needs.{word_at, is_wide_operand, set_need, set_need_at, push_need, put_need}
-use Rattle.heap_model.specs.Needs.{element_of, need_of}
+use Rattle.heap_model.specs.Needs.{element_of, key_of, wput_need, need_of}
 use Rattle.heap_model.proofs.WordClasses.{same_reference, small_refers_not}
 use Rattle.collector.specs.ImageLaws.{ImagesNeedAsMuch}
 use Rattle.collector.proofs.CopiedCells.{Copying}
 use Rattle.collector.proofs.ImagesShow.{image_is, copying}
 use Rattle.collector.proofs.FieldNeeds.{set_at_stays}
 use Rattle.collector.proofs.ElementNeeds.{push_stays, put_stays}
+use Rattle.collector.proofs.WeakNeeds.{wput_stays}
 
 -- the first root word of a variable is the same
 root_stays : {heap : Heap} {words : List ℕ} (x : ℕ) → Copying heap words → x < heap.space.variables
@@ -103,6 +104,23 @@ element_stays (operand.Int v) copying within = refl
 element_stays operand.Undefined copying within = refl
 element_stays (operand.Var x) copying within = ap (λ word. word / 2) (root_stays x copying within)
 
+-- and `wput` to it
+root_wput_stays : {heap : Heap} {words : List ℕ} (m key : ℕ) (wide : Bool) (found : Option ℕ) → Whole heap
+    → Copying heap words → m < heap.space.variables → reference_in (word_at heap (root_at heap.space m)) ≡ found
+    → wput_need (written heap words) found key wide ≡ wput_need heap found key wide
+root_wput_stays m key wide None whole copying below read = refl
+root_wput_stays {heap} {words} m key wide (Some at) whole copying below read =
+    let place = (root_place m at whole below read).1 in
+    let P : ℕ → Type 0 = λ at. wput_need (written heap words) (Some at) key wide ≡ wput_need heap (Some at) key wide in
+    subst P place.stands (wput_stays key wide whole copying place.has place.object)
+
+-- an operand stands for the key for which it stood
+key_stays : {heap : Heap} {words : List ℕ} (k : Operand) → Copying heap words → NamesBelow heap.space.variables k
+    → key_of (written heap words) k ≡ key_of heap k
+key_stays (operand.Int v) copying within = refl
+key_stays operand.Undefined copying within = refl
+key_stays (operand.Var x) copying within = root_stays x copying within
+
 -- each command needs as much on the words of an image
 need_stays : {heap : Heap} {words : List ℕ} (one : Command) (fields : ℕ) → Whole heap → Copying heap words
     → IsWithin heap.space.variables fields one → need_of (written heap words) one ≡ need_of heap one
@@ -127,6 +145,14 @@ need_stays {heap} {words} (command.Put x i v) fields whole copying within =
     ∙ ap (λ element. put_need (written heap words) found element wide) (element_stays i copying within.1)
     ∙ ap (λ wide. put_need (written heap words) found (element_of heap i) wide) (wide_stays v copying within.2)
     ∙ root_put_stays x (element_of heap i) (is_wide_operand heap v) found whole copying within.0 refl
+need_stays {heap} {words} (command.WPut m k v) fields whole copying within =
+    let found = reference_in (word_at heap (root_at heap.space m)) in
+    let wide = is_wide_operand (written heap words) v in
+    ap (λ one. wput_need (written heap words) (reference_in one) (key_of (written heap words) k) wide)
+    (root_stays m copying within.0)
+    ∙ ap (λ key. wput_need (written heap words) found key wide) (key_stays k copying within.1)
+    ∙ ap (λ wide. wput_need (written heap words) found (key_of heap k) wide) (wide_stays v copying within.2)
+    ∙ root_wput_stays m (key_of heap k) (is_wide_operand heap v) found whole copying within.0 refl
 need_stays _ fields whole copying within = refl
 
 -- each command needs as much on an image

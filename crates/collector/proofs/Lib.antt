@@ -8,5 +8,6 @@ mod NeedWords
 mod FieldWords
 mod FieldNeeds
 mod ElementNeeds
+mod WeakNeeds
 pub mod ImageNeeds
 pub mod ImageStores

@@ -1,8 +1,7 @@
 -- What is read by address to tell how much a command needs: words of cells, which an image has too.
-use Rattle.std.proofs.Common.{◌≡◌, ℕ, ◌+◌, ◌-◌, ◌<◌, List, Some, None, Option, option_map, unwrap_or}
-use Rattle.std.proofs.Common.{slice_get, drop, IsTrue, inl, inr, refl, sym, ◌∙◌, ap, subst, arith, ◌==◌}
+use Rattle.std.proofs.Common.{◌≡◌, ℕ, ◌+◌, List, Some, None, Option, option_map, unwrap_or}
+use Rattle.std.proofs.Common.{IsTrue, inl, inr, refl, sym, ◌∙◌, ap, subst, arith, ◌==◌}
 use Rattle.std.specs.Option.{option_and_then}
-use Rattle.std.proofs.lemmas.Option.{slice_get_within}
 use Rattle.tagged_word.specs.declared.header.Header.{Header}
 use Rattle.tagged_word.specs.declared.layout.Kind.{Kind}
 use Rattle.tagged_word.specs.Headers.{header_bits}
@@ -14,26 +13,12 @@ use Rattle.cell_layout.specs.declared.cell.Cell.{Cell}
 use Rattle.heap_model.specs.Heaps.{Heap, HasCell}
 use Rattle.heap_model.specs.Changes.{written}
 use Rattle.heap_model.specs.Slots.{RefersTo, IsSlotWord}
-use Rattle.heap_model.specs.Kinds.{HasWord}
 use Rattle.heap_model.specs.Needs.{word_at, shape_at, capacity_by, is_box_at, is_box_word}
 use Rattle.heap_model.proofs.WordClasses.{same_reference, undefined_refers_not, hole_refers_not, small_refers_not}
 use Rattle.heap_model.proofs.CellsApart.{IsOfCell, has_is_cell, first_of_cell}
-use Rattle.heap_model.proofs.CellWords.{slice_get-drop, slice_get-take, words_are_size}
 use Rattle.heap_model.proofs.FreeCells.{second_word}
 use Rattle.heap_model.proofs.SlotWords.{IsStoreKind, IsStoreWord}
 use Rattle.collector.proofs.CopiedCells.{Copying, cell_word}
-
--- the word of a cell at an offset stands at its address
-pub word_of_cell : {heap : Heap} {cell : Cell} {words : List ℕ} (offset word : ℕ) → HasCell heap cell words
-    → HasWord words offset word → word_at heap (cell.at + offset) ≡ word
-word_of_cell {heap} {cell} {words} offset word has there =
-    let size : ℕ = cell.at + cell.size - cell.at in
-    let below : offset < size = omega (arith, slice_get_within words offset word there, words_are_size has) in
-    let stands : slice_get heap.words (cell.at + offset) ≡ Some word =
-    sym (slice_get-drop cell.at heap.words offset (cell.at + offset) refl)
-    ∙ sym (slice_get-take size (drop cell.at heap.words) offset below)
-    ∙ ap (λ all. slice_get all offset) has.words_are ∙ there in
-    ap (λ found. unwrap_or found 0) stands
 
 -- the shape at a cell is that of its header
 pub shape_is : {heap : Heap} {cell : Cell} {words : List ℕ} → HasCell heap cell words

@@ -2,6 +2,7 @@ pub mod WordClasses
 pub mod RowEnds
 pub mod CellsApart
 pub mod CellWords
+pub mod WordsRead
 pub mod PathLayouts
 pub mod FixedShapes
 pub mod ObjectSlots
@@ -20,6 +21,7 @@ pub mod PlacesBefore
 pub mod ShownObjects
 pub mod ReachedStays
 pub mod ShownGraphs
+pub mod CountsStay
 pub mod WordsAlike
 pub mod BoundRoots
 pub mod BoundHeaps

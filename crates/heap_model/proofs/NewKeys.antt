@@ -42,7 +42,7 @@ one_table_at heap word pairs others one other =
     one.are ∙ ap (λ words. pairs_in (drop store_head words)) (one_words has other.refers.has) ∙ sym other.are
 
 -- a word stands for one table
-one_table : (heap : Heap) (word : ℕ) (pairs others : List Pair) → HasTable heap word pairs → HasTable heap word others
+pub one_table : (heap : Heap) (word : ℕ) (pairs others : List Pair) → HasTable heap word pairs → HasTable heap word others
     → pairs ≡ others
 one_table heap word pairs others one other =
     elim (table_cases heap word pairs one) [
@@ -57,7 +57,7 @@ one_table heap word pairs others one other =
     ]
 
 -- what refers to the place of one object refers to no other's
-one_number : (heap : Heap) (word number other : ℕ) → RefersToPlace heap word number → RefersToPlace heap word other
+pub one_number : (heap : Heap) (word number other : ℕ) → RefersToPlace heap word number → RefersToPlace heap word other
     → number ≡ other
 one_number heap word number other refers refers_other =
     let at : refers.at ≡ refers_other.at =

@@ -7,3 +7,4 @@ pub mod Showing
 pub mod Changes
 pub mod Laws
 pub mod Needs
+pub mod Counting

@@ -1,12 +1,12 @@
 -- How many words a command allocates on a heap, in one run: its cell, or a store and then a box.
-use Rattle.std.specs.Prelude.{ℕ, suc, ◌+◌, ◌-◌, ◌*◌, ◌/◌, max, min, Bool, true, false, not, ◌&&◌, ◌==◌, List, []}
+use Rattle.std.specs.Prelude.{ℕ, zero, suc, ◌+◌, ◌-◌, ◌*◌, ◌/◌, max, min, Bool, true, false, not, ◌&&◌, ◌==◌, List, []}
 use Rattle.std.specs.Prelude.{ℤ, pos, negsuc}
 use Rattle.std.specs.Prelude.{◌∷◌, length, Option, Some, None, option_map, slice_get, unwrap_or, nat_lt}
 use Rattle.std.specs.Prelude.{if◌then◌else◌}
 use Rattle.tagged_word.specs.declared.word.Class.TheVariants.{Odd}
 use Rattle.tagged_word.specs.Words.{small, bits_of}
 use Rattle.tagged_word.specs.Odds.{wide_code}
-use Rattle.tagged_word.specs.Shapes.{list_shape, box_shape}
+use Rattle.tagged_word.specs.Shapes.{list_shape, weak_shape, box_shape}
 use Rattle.tagged_word.specs.Cells.{plain_head, store_head, store_slot, length_offset}
 use Rattle.tagged_word.specs.Readings.{reference_in, header_at}
 use Rattle.heap_command.specs.declared.command.Command.{Command}
@@ -47,7 +47,7 @@ shape_at heap at = unwrap_or (option_map (λ header. header.shape) (header_at he
 abbrev pub path_at : Heap → ℕ → Path
 path_at heap at = shape_path heap.paths (shape_at heap at)
 
--- how many slots the property store to which the word refers has; none where it refers to nothing
+-- how many slots the store to which the word refers has, or how many pairs the table; none where it refers to nothing
 abbrev pub capacity_by : Heap → Option ℕ → ℕ
 capacity_by heap None = 0
 capacity_by heap (Some store) = word_at heap (store + length_offset)
@@ -55,7 +55,7 @@ capacity_by heap (Some store) = word_at heap (store + length_offset)
 abbrev pub capacity_at : Heap → ℕ → ℕ
 capacity_at heap at = capacity_by heap (reference_in (word_at heap (at + store_slot)))
 
--- the word of a slot of the property store to which the word refers
+-- the word of a slot of the store to which the word refers, counted from the first; of a table, of half a pair
 abbrev pub beside_by : Heap → Option ℕ → ℕ → ℕ
 beside_by heap None slot = 0
 beside_by heap (Some store) slot = word_at heap (store + store_head + slot)
@@ -133,7 +133,7 @@ abbrev pub set_need : Heap → Option ℕ → ℕ → Bool → ℕ
 set_need heap None name wide = 0
 set_need heap (Some at) name wide = set_need_at heap at name wide
 
--- how many elements the list at an address has
+-- how many elements the list at an address has, or how many entries the weak map
 abbrev pub count_at : Heap → ℕ → ℕ
 count_at heap at = word_at heap (at + count_offset)
 
@@ -167,7 +167,7 @@ abbrev pub push_need : Heap → Option ℕ → Bool → ℕ
 push_need heap None wide = 0
 push_need heap (Some at) wide = if is_list_at heap at then push_need_at heap at wide else 0
 
--- `put` of an element of what a root refers to, where that is a list that has the element
+-- `put` of an element of what a root refers to, where that is a list of more elements; a negative index faults
 abbrev pub put_need : Heap → Option ℕ → ℕ → Bool → ℕ
 put_need heap None element wide = 0
 put_need heap (Some at) element wide =
@@ -184,9 +184,68 @@ element_of heap (operand.Int v) = number_of v
 element_of heap operand.Undefined = 0
 element_of heap (operand.Var x) = word_at heap (root_at heap.space x) / 2
 
+-- the most pairs of a weak table: a map has at most 256 entries, and a table twice as many pairs
+abbrev pub pairs_most : ℕ
+pairs_most = 512
+
+-- the capacity of the table that takes the place of one of so many pairs: twice as many, but no more than there may be
+abbrev pub grown_table : ℕ → ℕ
+grown_table capacity = min pairs_most (grown capacity)
+
+-- a new table, where twice the entries with one more are over the pairs of the one that is there
+abbrev pub table_need : ℕ → ℕ → ℕ
+table_need capacity count = if nat_lt capacity (2 * suc count) then store_head + 2 * grown_table capacity else 0
+
+-- the word of a pair's key, in the table of the weak map at an address
+abbrev pub key_word : Heap → ℕ → ℕ → ℕ
+key_word heap at pair = beside_by heap (reference_in (word_at heap (at + store_slot))) (2 * pair)
+
+-- and that of its value
+abbrev pub pair_word : Heap → ℕ → ℕ → ℕ
+pair_word heap at pair = beside_by heap (reference_in (word_at heap (at + store_slot))) (2 * pair + 1)
+
+-- which of so many pairs has the key word, from a pair on
+abbrev pub pair_from : Heap → ℕ → ℕ → ℕ → ℕ → Option ℕ
+pair_from heap at key pair zero = None
+pair_from heap at key pair (suc more) =
+    if key_word heap at pair == key then Some pair else pair_from heap at key (suc pair) more
+
+-- which pair of the weak map at an address has the key word
+abbrev pub pair_of : Heap → ℕ → ℕ → Option ℕ
+pair_of heap at key = pair_from heap at key 0 (capacity_at heap at)
+
+-- A key that is new: a table where the map has none, or one that would be too full, and a box where the value is wide. A key
+-- that is there: a box where the value is wide and the entry's is in none.
+abbrev pub wput_need_by : Heap → ℕ → Bool → Option ℕ → ℕ
+wput_need_by heap at wide None = table_need (capacity_at heap at) (count_at heap at) + box_need wide
+wput_need_by heap at wide (Some pair) = box_need (wide && not (is_box_word heap (pair_word heap at pair)))
+
+-- `wput` of a key word to the weak map at an address
+abbrev pub wput_need_at : Heap → ℕ → ℕ → Bool → ℕ
+wput_need_at heap at key wide = wput_need_by heap at wide (pair_of heap at key)
+
+-- whether a weak map stands at an address
+abbrev pub is_weak_at : Heap → ℕ → Bool
+is_weak_at heap at = shape_at heap at == weak_shape
+
+-- `wput` to what a root refers to, where that is a weak map
+abbrev pub wput_need : Heap → Option ℕ → ℕ → Bool → ℕ
+wput_need heap None key wide = 0
+wput_need heap (Some at) key wide = if is_weak_at heap at then wput_need_at heap at key wide else 0
+
+-- the word of a key, where an operand stands for an object
+abbrev pub key_of : Heap → Operand → ℕ
+key_of heap (operand.Int v) = 0
+key_of heap operand.Undefined = 0
+key_of heap (operand.Var x) = word_at heap (root_at heap.space x)
+
 -- the words of a list's own cell: its header, the slot for its store, and its length
 abbrev pub list_words : ℕ
 list_words = 3
+
+-- the words of a weak map's own cell: its header, the slot for its table, and its count
+abbrev pub weak_words : ℕ
+weak_words = 3
 
 -- How many words a command allocates on a heap.
 abbrev pub need_of : Heap → Command → ℕ
@@ -198,6 +257,9 @@ need_of heap (command.Push x v) =
     push_need heap (reference_in (word_at heap (root_at heap.space x))) (is_wide_operand heap v)
 need_of heap (command.Put x i v) =
     put_need heap (reference_in (word_at heap (root_at heap.space x))) (element_of heap i) (is_wide_operand heap v)
+need_of heap (command.Weak x) = weak_words
+need_of heap (command.WPut m k v) =
+    wput_need heap (reference_in (word_at heap (root_at heap.space m))) (key_of heap k) (is_wide_operand heap v)
 need_of heap _ = 0
 
 -- The heap has not so many words more: survivors, used words and these are over the words of the young generation.

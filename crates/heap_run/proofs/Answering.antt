@@ -164,7 +164,8 @@ Answers-unopened words input old new faults_old faults_new ended line none comes
     record { answer = unopened line; kept = sym none; comes = comes; taken = taken }
 
 -- the same of a source that was read
-pub Runs-unopened : (sizes : Sizes) (bytes : List ℕ) (old new : List ℕ → Type 0) (faults_old faults_new : ℕ) (ended : Ended)
+pub Runs-unopened : (sizes : Sizes) (bytes : List ℕ) (old new : List ℕ → Type 0) (faults_old faults_new : ℕ)
+    (ended : Ended)
     (line : LastLine) → ended.kept ≡ None
     → ((words : List (List ℕ)) (input : Input) → AsksToRun words sizes → ReadsAll input bytes
     → Comes words input (unopened line))
@@ -207,7 +208,8 @@ Comes-refused sizes bytes stop line is refusal words input asks reads =
 
 -- a run whose source was read, under the words that ask for it
 pub Answers-runs : (words : List (List ℕ)) (input : Input) (bytes : List ℕ) (sizes : Sizes)
-    (old new : List ℕ → Type 0) (faults_old faults_new : ℕ) (ended : Ended) → AsksToRun words sizes → ReadsAll input bytes
+    (old new : List ℕ → Type 0) (faults_old faults_new : ℕ) (ended : Ended) → AsksToRun words sizes
+    → ReadsAll input bytes
     → Runs sizes bytes old new faults_old faults_new ended → Answers words input old new faults_old faults_new ended
 Answers-runs words input bytes sizes old new faults_old faults_new ended asks reads r =
     record { answer = r.answer; kept = r.kept; comes = r.comes words input asks reads; taken = r.taken }

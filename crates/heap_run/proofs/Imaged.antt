@@ -1,5 +1,6 @@
 -- What holds of a run on a heap holds of its image.
-use Rattle.std.proofs.Common.{◌≡◌, ℕ, ◌+◌, List, [], ◌∷◌, length, Option, Some, None, ap, ◌∙◌, sym, subst, inl, inr, IsTrue}
+use Rattle.std.proofs.Common.{◌≡◌, ℕ, ◌+◌, List, [], ◌∷◌, length, Option, Some, None, ap, ◌∙◌, sym}
+use Rattle.std.proofs.Common.{subst, inl, inr, IsTrue}
 use Rattle.std.proofs.Common.{nat_lt}
 use Rattle.heap_command.specs.declared.command.Command.{Command}
 use Rattle.heap_command.specs.Executed.{Executed}
@@ -14,7 +15,8 @@ use Rattle.collector.specs.ImageLaws.{ImagesShow, ImagesKeepStores, ImagesNeedAs
 use Rattle.heap_script.specs.declared.finished.How.{How}
 use Rattle.heap_script.specs.declared.finished.How.TheVariants as how
 use Rattle.heap_script.specs.declared.finished.Finished.{Finished}
-use Rattle.heap_script.specs.Runs.{left_after, Reached, HasSpent, IsFull, IsFullFor, IsFullAt, ComesTo, FailedAt, Writes, Finishes}
+use Rattle.heap_script.specs.Runs.{left_after, Reached, HasSpent, IsFull, IsFullFor, IsFullAt, ComesTo, FailedAt, Writes}
+use Rattle.heap_script.specs.Runs.{Finishes}
 use Rattle.heap_run.proofs.ExecutedNames.{NamesBelow, AllBelow, left_below}
 
 -- the laws of images
@@ -66,8 +68,11 @@ full_for : {heap image : Heap} (graph : Graph) (need fields : ℕ) (command : Op
     → IsImageOf heap image → NamesBelow heap.space.variables fields command → IsFullFor heap graph need command
     → IsFullFor image graph need command
 full_for graph need fields None laws whole is below full = full
-full_for {heap = heap} {image = image} graph need fields (Some command) laws whole is below (need-is, full) =
-    (need-is ∙ sym (laws.need heap image command fields whole is below), as_full {heap = heap} {image = image} graph need is full)
+full_for {heap = heap} {image = image} graph need fields (Some command) laws whole is below (need-is, full) = (
+  need-is ∙ sym (laws.need heap image command fields whole is below),
+  as_full {heap = heap} {image = image} graph need is
+      full,
+)
 
 -- so at the first of the lines that are left
 full_at : {heap image : Heap} (graph : Graph) (line need fields : ℕ) (lines : List Executed) → Laws → Whole heap
@@ -89,7 +94,8 @@ comes_imaged {script = script} {heap = heap} {image = image} {n = n} (how.HeapFu
     (sym r.variables) (left_below script n numbered) in
     record {
       goes_on = comes.goes_on;
-      full = full_at {heap = heap} {image = image} r.so_far.graph line need fields (left_after script n) laws r.shown.whole is below
+      full = full_at {heap = heap} {image = image} r.so_far.graph line need fields (left_after script n) laws r.shown.whole is
+          below
           comes.full;
     }
 comes_imaged (how.SinkFault need) line laws numbered is r comes = comes

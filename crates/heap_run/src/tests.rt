@@ -2,6 +2,7 @@
 ghost use Rattle.std.specs.Prelude.{◌≤◌};
 
 use crate::{Ended, MemSink, MemSource, OpenGate, run};
+use std::process::Abort;
 use std::test::Fail;
 use std::thread::Threads;
 
@@ -10,6 +11,8 @@ mod fields;
 mod images;
 mod limits;
 mod lists;
+mod trims;
+mod weaks;
 
 /// The heap of a run, as far as tests look at it.
 #[derive(Clone, Copy, Debug, PartialEq, Eq)]
@@ -79,6 +82,20 @@ fn came_by<R: Threads + Sync + AllocGlobal>(
     })
 }
 
+/// Checks what each script writes, and that it ends with this status.
+fn check_rows<R: Abort + Threads + Sync + AllocGlobal>(
+    rt: &R,
+    rows: &[(&str, &str)],
+    status: u8,
+) -> Result<(), Fail> {
+    for (script, written) in rows {
+        let came = came(rt, script.as_bytes(), SURE)?;
+        assert_eq!(rt; came.written.as_slice(), written.as_bytes(), "{script}");
+        assert_eq!(rt; came.status, status, "{script}");
+    }
+    Ok(())
+}
+
 fn seen_of(ended: &Ended) -> Option<KeptSeen> {
     match &ended.kept {
         Some(kept) => Some(KeptSeen {
@@ -130,7 +147,7 @@ fn scripts_write_their_values_and_their_last_line(rt: HostRuntime) -> Result<(),
             "bad script 4 count\n",
             2,
         ),
-        ("weak x", "bad script 1 notbuilt\n", 2),
+        ("scavenge", "bad script 1 notbuilt\n", 2),
         ("make x", "bad script 1 command\n", 2),
         ("print 007", "bad script 1 value\n", 2),
         ("new x 9", "bad script 1 integer\n", 2),
@@ -172,7 +189,7 @@ fn the_kept_heap_counts_executed_lines(rt: HostRuntime) -> Result<(), Fail> {
         ("new x 1\nset x a 5\nset y b 6", seen(2, 3, 0)),
         ("repeat 0\nprint 1\nend\nprint 2", seen(2, 0, 0)),
         ("repeat 6000\nnew x 8\nend", seen(1_639, 2, 10)),
-        ("weak x", None),
+        ("scavenge", None),
     ];
     for (script, wanted) in table {
         assert_eq!(rt;

@@ -1,5 +1,6 @@
 -- A command allocates at most as many words as a cell may have.
-use Rattle.std.proofs.Common.{◌≡◌, ℕ, ◌+◌, ◌-◌, ◌≤◌, Bool, true, false, List, [], length, Option, Some, None, ◌&&◌, not}
+use Rattle.std.proofs.Common.{◌≡◌, ℕ, suc, ◌+◌, ◌-◌, ◌*◌, ◌≤◌, Bool, true, false, List, [], length, Option, Some}
+use Rattle.std.proofs.Common.{None, ◌&&◌, not}
 use Rattle.std.proofs.Common.{arith, refl, sym, subst, inl, inr, cond, nat_lt, slice_get, ◌==◌}
 use Rattle.std.proofs.Math.Nat.{max-le, min-le_left}
 use Rattle.std.proofs.Math.ListN.{get_or-eq_default}
@@ -21,6 +22,8 @@ use Rattle.tagged_word.specs.Readings.{reference_in}
 use Rattle.heap_model.specs.Needs.{box_need, grown, store_need, new_field_need, field_need, set_need_by, set_need, need_of}
 use Rattle.heap_model.specs.Needs.{capacity_at, count_at, grown_list, list_store_need, is_list_at, push_need}
 use Rattle.heap_model.specs.Needs.{element_word, element_of, put_need}
+use Rattle.heap_model.specs.Needs.{pairs_most, grown_table, pair_word, pair_of, wput_need_by, wput_need_at, is_weak_at}
+use Rattle.heap_model.specs.Needs.{wput_need, key_of}
 use Rattle.heap_model.specs.Needs.{word_at, shape_at, path_at, index_of, is_wide_operand, is_raw_after, is_box_word, field_word}
 
 -- a box has two words
@@ -48,7 +51,8 @@ path_few paths shape are =
     let at : ℕ = shape - first_path_shape in
     elim (cases_lt at (length paths)) [
       | inl below ↦ (All-get_or IsPath paths at none below are.are.each).short
-      | inr past ↦ subst (λ (path : Path). length path.fields ≤ fields_most) (sym (get_or-eq_default paths none past)) (omega arith)
+      | inr past ↦ subst (λ (path : Path). length path.fields ≤ fields_most) (sym (get_or-eq_default paths none past))
+          (omega arith)
     ]
 
 -- a field that is new needs few words
@@ -111,6 +115,31 @@ replace_few heap (Some at) element wide =
     replaced_few (is_list_at heap at && nat_lt element (count_at heap at))
     (wide && not (is_box_word heap (element_word heap at element)))
 
+-- a weak map's table is made with at most as many pairs as one may have
+table_few : (over : Bool) (capacity : ℕ) → cond over (store_head + 2 * grown_table capacity) 0 ≤ 1026
+table_few true capacity = omega (arith, min-le_left pairs_most (grown capacity))
+table_few false capacity = omega arith
+
+-- what `wput` needs, by whether a pair has the key: a table and a box at most
+wput_by_few : (heap : Heap) (at : ℕ) (wide : Bool) (found : Option ℕ) → wput_need_by heap at wide found ≤ 1028
+wput_by_few heap at wide None =
+    let table = table_few (nat_lt (capacity_at heap at) (2 * suc (count_at heap at))) (capacity_at heap at) in
+    omega (arith, table, box_few wide)
+wput_by_few heap at wide (Some pair) =
+    let few = box_few (wide && not (is_box_word heap (pair_word heap at pair))) in
+    omega (arith, few)
+
+-- nothing is needed where no weak map stands
+where_few : (is : Bool) (need : ℕ) → need ≤ 1028 → cond is need 0 ≤ 1028
+where_few true need few = few
+where_few false need few = omega arith
+
+-- what `wput` needs of what a root refers to
+wput_few : (heap : Heap) (at : Option ℕ) (key : ℕ) (wide : Bool) → wput_need heap at key wide ≤ 1028
+wput_few heap None key wide = omega arith
+wput_few heap (Some at) key wide =
+    where_few (is_weak_at heap at) (wput_need_at heap at key wide) (wput_by_few heap at wide (pair_of heap at key))
+
 -- each command needs few words
 pub need_few : (heap : Heap) (fields : ℕ) (command : Command) → AreShapes heap.paths
     → IsWithin heap.space.variables fields command → need_of heap command ≤ cell_words_most
@@ -124,5 +153,9 @@ need_few heap fields (command.Push x v) are within =
 need_few heap fields (command.Put x i v) are within =
     let found = reference_in (word_at heap (root_at heap.space x)) in
     let few = replace_few heap found (element_of heap i) (is_wide_operand heap v) in
+    omega (arith, few)
+need_few heap fields (command.WPut m k v) are within =
+    let found = reference_in (word_at heap (root_at heap.space m)) in
+    let few = wput_few heap found (key_of heap k) (is_wide_operand heap v) in
     omega (arith, few)
 need_few heap fields _ are within = omega arith

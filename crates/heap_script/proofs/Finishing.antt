@@ -64,24 +64,42 @@ paused_at script heap waiting LineLimit line n old mid faults_old faults_mid oth
 
 -- what waited was written
 pub Finishes-written : (script : ScriptText) (heap : Heap) (waiting : List ℕ) (how : How) (line n : ℕ)
-    (old mid new : List ℕ → Type 0) (faults_old faults_mid faults_new : ℕ) → ((need : ℕ) → how ≡ SinkFault need → ⊥)
+    (old mid new : List ℕ → Type 0) (faults_old faults_mid faults_new : ℕ)
+    → ((need : ℕ) → how ≡ SinkFault need → ⊥)
     → Pauses script heap waiting (finished_by how line n) old mid faults_old faults_mid
     → Appends mid new waiting → faults_new ≡ faults_mid
     → Finishes script heap (finished_by how line n) old new faults_old faults_new
 Finishes-written script heap waiting End line n old mid new faults_old faults_mid faults_new other p wrote same =
-    record { reached = p.reached; spent = spent_all p.spends; writes = (p.halts.0, Appends-handed p.halts.1 wrote, same ∙ p.halts.2) }
+    record {
+      reached = p.reached;
+      spent = spent_all p.spends;
+      writes = (p.halts.0, Appends-handed p.halts.1 wrote, same ∙ p.halts.2);
+    }
 Finishes-written script heap waiting (Fault word) line n old mid new faults_old faults_mid faults_new other p wrote same =
-    record { reached = p.reached; spent = spent_all p.spends; writes = (p.halts.0, Appends-handed p.halts.1 wrote, same ∙ p.halts.2) }
+    record {
+      reached = p.reached;
+      spent = spent_all p.spends;
+      writes = (p.halts.0, Appends-handed p.halts.1 wrote, same ∙ p.halts.2);
+    }
 Finishes-written script heap waiting (HeapFull need) line n old mid new faults_old faults_mid faults_new other p wrote same =
-    record { reached = p.reached; spent = spent_all p.spends; writes = (p.halts.0, Appends-handed p.halts.1 wrote, same ∙ p.halts.2) }
+    record {
+      reached = p.reached;
+      spent = spent_all p.spends;
+      writes = (p.halts.0, Appends-handed p.halts.1 wrote, same ∙ p.halts.2);
+    }
 Finishes-written script heap waiting (SinkFault need) line n old mid new faults_old faults_mid faults_new other p wrote same =
     absurd (other need refl)
 Finishes-written script heap waiting LineLimit line n old mid new faults_old faults_mid faults_new other p wrote same =
-    record { reached = p.reached; spent = spent_all p.spends; writes = (p.halts.0, Appends-handed p.halts.1 wrote, same ∙ p.halts.2) }
+    record {
+      reached = p.reached;
+      spent = spent_all p.spends;
+      writes = (p.halts.0, Appends-handed p.halts.1 wrote, same ∙ p.halts.2);
+    }
 
 -- writing what waited failed
 pub Finishes-failed : (script : ScriptText) (heap : Heap) (waiting : List ℕ) (how : How) (line n : ℕ)
-    (old mid new : List ℕ → Type 0) (faults_old faults_mid faults_new : ℕ) → ((need : ℕ) → how ≡ SinkFault need → ⊥)
+    (old mid new : List ℕ → Type 0) (faults_old faults_mid faults_new : ℕ)
+    → ((need : ℕ) → how ≡ SinkFault need → ⊥)
     → Pauses script heap waiting (finished_by how line n) old mid faults_old faults_mid
     → CutsOff mid new waiting → Rose faults_mid faults_new
     → Finishes script heap (finished_by (SinkFault (need_at how)) line n) old new faults_old faults_new

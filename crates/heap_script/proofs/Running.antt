@@ -1,5 +1,6 @@
 -- What holds of a run between two of its lines, and how a line carries it on.
-use Rattle.std.proofs.Common.{◌≡◌, ℕ, suc, zero, ◌+◌, ◌<◌, List, [], ◌∷◌, ◌++◌, length, take, drop, Option, Some, ◌≤◌}
+use Rattle.std.proofs.Common.{◌≡◌, ℕ, suc, zero, ◌+◌, ◌<◌, List, [], ◌∷◌, ◌++◌, length, take, drop}
+use Rattle.std.proofs.Common.{Option, Some, ◌≤◌}
 use Rattle.std.proofs.Common.{None, Ok, refl, sym, ap, subst, ◌∙◌, add-one, add-zero, append-nil, arith}
 use Rattle.std.proofs.Common.{false, inl, inr}
 use Rattle.std.proofs.lemmas.Bool.{cases_lt}
@@ -245,7 +246,8 @@ same_space heap after graph (Some command) names text (next, does-is, shown, roo
 
 -- a line was executed
 pub Running-line : (script : ScriptText) (heap after : HeapState) (objects : ℕ) (waiting : List ℕ)
-    (old new : List ℕ → Type 0) (at at' : ℕ) (ts ts' : List ℕ) (n number : ℕ) (command : Option Command) (text : List ℕ)
+    (old new : List ℕ → Type 0) (at at' : ℕ) (ts ts' : List ℕ) (n number : ℕ) (command : Option Command)
+    (text : List ℕ)
     → (r : Running script heap objects waiting old new at ts n) → n < lines_most
     → Goes script.lines at' ts' (left_after script n) (executed number command)
     → after.spare ≡ heap.spare

@@ -146,8 +146,8 @@ Writes script heap finished so_far old new faults_old faults_new came =
     ComesTo script heap finished.executed so_far came finished.line
     × Appends old new so_far.bytes × (faults_new ≡ faults_old)
 
--- The run of a script: how far it came, what it spent, how it ended, and what the sink took, which may have taken these bytes before
--- and after, with so many faults.
+-- The run of a script: how far it came, what it spent, how it ended, and what the sink took, which may have taken these
+-- bytes before and after, with so many faults.
 pub record Finishes (script : ScriptText) (heap : Heap) (finished : Finished)
     (old new : List ℕ → Type 0) (faults_old faults_new : ℕ) : Type 0 where
   pub reached : Reached script heap finished.executed

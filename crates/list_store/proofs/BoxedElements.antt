@@ -31,7 +31,7 @@ use Rattle.heap_model.proofs.OneOwner.{names_store}
 use Rattle.write_barrier.specs.Mains.{Mutator, heap_of, MainShows}
 use Rattle.object_cells.specs.declared.content.Content.TheVariants as content
 use Rattle.object_cells.specs.declared.stores.Store.{Store}
-use Rattle.object_cells.specs.Capacities.{CapacitiesBecome}
+use Rattle.object_cells.specs.Capacities.{ChangesObject}
 use Rattle.object_cells.specs.CellWrites.{IsWrittenBeside}
 use Rattle.object_cells.specs.Contents.{next_at}
 use Rattle.object_cells.specs.ElementChanges.{WritesList, ElementComes}
@@ -382,13 +382,14 @@ module _ {old new : Mutator} {graph : Graph} {at slot count : ℕ} {list : ListO
       (ap (λ (m : Mutator). m.seat.phase) puts_it ∙ known.shows.quiet) writes (element_refills puts_element)
 
   -- each store has as many slots as before
-  pub box_keeps : CapacitiesBecome (heap_of old) (heap_of new) cell.at (capacity_at (heap_of old) cell.at)
+  pub box_keeps : ChangesObject (heap_of old) (heap_of new) cell.at (capacity_at (heap_of old) cell.at)
   box_keeps =
       let size : cell.size ≡ 3 =
       sym (words_are_size known.shown.has) ∙ words_by_kind kind.List known.shown.has known.shown.shows.of_kind in
       list_capacities_stay (heap_of old) (heap_of new) cell others [] (record {
         whole = known.shows.shows.whole;
         writes = writes;
+        belong = puts_element.belong;
         kinds = λ one among. absurd (none_in one among);
       }) (kept (cell.at + store_slot) (not_of_list (cell.at + store_slot)
       (record { from = omega arith; below = omega (arith, size) })))

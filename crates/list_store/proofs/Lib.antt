@@ -1,10 +1,10 @@
-mod ListCells
+pub mod ListCells
 mod PushNeeds
-mod ElementsRead
-mod Places
+pub mod ElementsRead
+pub mod Places
 mod ListWriting
 mod ElementValues
-mod WrittenSlots
+pub mod WrittenSlots
 mod PushedToNewStore
 mod PushOutcomes
 mod PutWords

@@ -21,13 +21,18 @@ use Rattle.list_store.specs.Pushes.{IsListReady}
 use Rattle.list_store.proofs.ListCells.{ListShown, count_shown, store_has_room}
 use Rattle.list_store.proofs.ElementsRead.{slot_read}
 
--- what was found of an index is what it names in the list
+-- what was found of an index below one number is what is found below a number that is the same
+pub named_below : (most wanted : ℕ) (index : ℤ) (found : Option ℕ) → wanted ≡ most → FitsSigned w64 index
+    → found ≡ below most (to_z w64 (of_z w64 index)) → below wanted index ≡ found
+named_below most wanted index found same fits is =
+    ap (λ n. below n index) same ∙ ap (below most) (sym (to_z-of_z w64 index fits)) ∙ sym is
+
+-- so what was found of it is what it names in the list
 pub index_named : {heap : Heap} {at : ℕ} {list : ListObject} (count : ℕ) (index : ℤ) (found : Option ℕ)
     → ListShown heap at list → count ≡ count_at heap at → FitsSigned w64 index
     → found ≡ below count (to_z w64 (of_z w64 index)) → below (length list.elements) index ≡ found
-index_named count index found shown counted fits is =
-    ap (λ n. below n index) (sym (counted ∙ count_shown shown)) ∙ ap (below count) (sym (to_z-of_z w64 index fits))
-    ∙ sym is
+index_named {list = list} count index found shown counted fits is =
+    named_below count (length list.elements) index found (sym (counted ∙ count_shown shown)) fits is
 
 -- a place of the list has a slot, which stands before the marks
 pub record PlaceStands (main : Mutator) (store : Store) (place : ℕ) : Type 0 where

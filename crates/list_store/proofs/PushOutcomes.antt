@@ -10,7 +10,7 @@ use Rattle.nursery.specs.Young.{HasRoom}
 use Rattle.handle_roots.specs.declared.held.Held.{Held}
 use Rattle.heap_model.specs.Needs.{capacity_at}
 use Rattle.write_barrier.specs.Mains.{Mutator, heap_of}
-use Rattle.object_cells.specs.Capacities.{CapacitiesBecome}
+use Rattle.object_cells.specs.Capacities.{ChangesObject}
 use Rattle.object_cells.specs.Uses.{UsesMore}
 use Rattle.object_cells.proofs.HeldNeeds.{wide_is}
 use Rattle.object_cells.proofs.NewElements.{pushed_elements_are_new}
@@ -52,10 +52,13 @@ has_pushed {old} {new} {at = at} {count} {value = value} {what} known is few siz
       few = few;
       room = subst (HasRoom old.young) need pushes.room;
       uses = subst (UsesMore old new) need (record { space = pushes.words.space; young = pushes.words.young });
-      stores = subst (CapacitiesBecome heap (heap_of new) at) (sym kept)
-          (subst (λ a. CapacitiesBecome heap (heap_of new) a (capacity_at heap a)) known.shown.stands
+      changes = subst (ChangesObject heap (heap_of new) at) (sym kept)
+          (subst (λ a. ChangesObject heap (heap_of new) a (capacity_at heap a)) known.shown.stands
           (slot_keeps known (pushed_elements count known is few) can.is room (omega (arith, room)) pushes));
       shows = slot_shown known (pushed_elements count known is few) can.is room (omega (arith, room)) pushes;
+      held = value;
+      holds = known.held.shows;
+      puts = subst (λ n. PushesAt old new at n value) is (PushesAt.to_store store can room pushes);
     }
 has_pushed {old} {new} {at = at} {count} {value = value} {what} known is few sizes
     (PushesAt.to_new_store store can full pushes) =
@@ -70,8 +73,11 @@ has_pushed {old} {new} {at = at} {count} {value = value} {what} known is few siz
       few = few;
       room = subst (HasRoom old.young) need pushes.room;
       uses = subst (UsesMore old new) need (record { space = pushes.words.space; young = pushes.words.young });
-      stores = subst (CapacitiesBecome heap (heap_of new) at) (sym grows)
-          (subst (λ a. CapacitiesBecome heap (heap_of new) a (grown_list count)) known.shown.stands
+      changes = subst (ChangesObject heap (heap_of new) at) (sym grows)
+          (subst (λ a. ChangesObject heap (heap_of new) a (grown_list count)) known.shown.stands
           (to_new_store_becomes known can is few full pushes sizes));
       shows = to_new_store_shown known can is few full pushes;
+      held = value;
+      holds = known.held.shows;
+      puts = subst (λ n. PushesAt old new at n value) is (PushesAt.to_new_store store can full pushes);
     }

@@ -31,7 +31,7 @@ use Rattle.heap_model.proofs.WordsStay.{PlacesStay}
 use Rattle.write_barrier.specs.Mains.{Mutator, heap_of, MainShows}
 use Rattle.object_cells.specs.declared.content.Content.TheVariants as content
 use Rattle.object_cells.specs.declared.stores.Store.{Store}
-use Rattle.object_cells.specs.Capacities.{CapacitiesBecome}
+use Rattle.object_cells.specs.Capacities.{ChangesObject}
 use Rattle.object_cells.specs.Contents.{next_at}
 use Rattle.object_cells.specs.ElementChanges.{WritesList, ElementComes}
 use Rattle.object_cells.specs.Made.{with_content, content_need, content_word, beside_content}
@@ -486,10 +486,11 @@ module _ {old new : Mutator} {graph : Graph} {at count : ℕ} {list : ListObject
 
   -- the list has as many slots as the store that was made, and each other object as many as before
   pub to_new_store_becomes : AreWithin old.seat.space.sizes old.seat.space.variables
-      → CapacitiesBecome (heap_of old) (heap_of new) cell.at capacity
+      → ChangesObject (heap_of old) (heap_of new) cell.at capacity
   to_new_store_becomes sizes =
       list_capacities_grow (heap_of old) (heap_of new) cell [] made other (record {
         whole = known.shows.shows.whole;
         writes = writes;
+        belong = λ one among. absurd (none_in one among);
         kinds = made_kinds;
       }) (first_in other boxes) refl (omega (arith, ends, within, marks_fit old.seat.space sizes)) named

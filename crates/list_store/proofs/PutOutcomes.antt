@@ -21,7 +21,7 @@ use Rattle.heap_model.proofs.CellsApart.{IsOfCell, cells_apart}
 use Rattle.heap_model.proofs.CellWords.{words_by_kind, words_are_size}
 use Rattle.write_barrier.specs.Mains.{Mutator, heap_of}
 use Rattle.object_cells.specs.declared.stores.Store.{Store}
-use Rattle.object_cells.specs.Capacities.{CapacitiesBecome}
+use Rattle.object_cells.specs.Capacities.{ChangesObject}
 use Rattle.object_cells.specs.Contents.{next_at, box_in, filling_of, filling_need}
 use Rattle.object_cells.specs.Made.{IsStoreAt, with_content, content_need, content_word, beside_content, is_wide_held}
 use Rattle.object_cells.specs.HeldValues.{is_wide}
@@ -37,7 +37,7 @@ use Rattle.object_cells.proofs.UnusedWords.{cell_is_used, next_before_segments}
 use Rattle.object_cells.proofs.WordsTold.{cell_fits}
 use Rattle.heap_model.specs.Needs.{element_word, put_need_at}
 use Rattle.list_store.specs.ListChanges.{HasPut}
-use Rattle.list_store.specs.Pushes.{WritesSlot}
+use Rattle.list_store.specs.Pushes.{WritesSlot, FillsElement}
 use Rattle.list_store.proofs.BoxedElements.{box_shown, box_keeps, room_for_none, same_young}
 use Rattle.list_store.proofs.ElementsRead.{SlotRead, slot_read}
 use Rattle.list_store.proofs.PutWords.{PutBy, value_put, set_there}
@@ -133,10 +133,10 @@ module _ {old : Mutator} {graph : Graph} {at : ℕ} {list : ListObject} {value :
 pub has_put : {old new : Mutator} {graph : Graph} {at : ℕ} {list : ListObject} {value : Held} {what : Value} (store : Store)
     (place : ℕ) → Changing old graph at list value what → IsStoreAt (heap_of old) at store → place < store.capacity
     → place < length list.elements → length list.elements ≤ list_most → length list.elements ≤ store.capacity
-    → AreWithin old.seat.space.sizes old.seat.space.variables
+    → AreWithin old.seat.space.sizes old.seat.space.variables → FillsElement old new (place_at store place) value
     → PutBy old new (place_at store place) (word_at (heap_of old) (place_at store place)) (beside_content value)
     → HasPut old new graph at list place what
-has_put {old} {new} {at = at} {list} {value} {what} store place known is_store below there few enough sizes
+has_put {old} {new} {at = at} {list} {value} {what} store place known is_store below there few enough sizes fills
     (PutBy.slot room words needs) =
     let heap = heap_of old in
     let need = sym needs ∙ put_need store place known is_store below sizes in
@@ -156,11 +156,16 @@ has_put {old} {new} {at = at} {list} {value} {what} store place known is_store b
     record {
       room = subst (HasRoom old.young) need room;
       uses = subst (UsesMore old new) need (record { space = words.space; young = words.young });
-      stores = subst (λ a. CapacitiesBecome heap (heap_of new) a (capacity_at heap a)) known.shown.stands
+      changes = subst (λ a. ChangesObject heap (heap_of new) a (capacity_at heap a)) known.shown.stands
           (slot_keeps known becomes is_store below enough pushes);
       shows = slot_shown known becomes is_store below enough pushes;
+      store = store;
+      is_store = is_store;
+      held = value;
+      holds = known.held.shows;
+      puts = fills;
     }
-has_put {old} {new} {at = at} {list} {value} {what} store place known is_store below there few enough sizes
+has_put {old} {new} {at = at} {list} {value} {what} store place known is_store below there few enough sizes fills
     (PutBy.of_box box v boxed found same) =
     let heap = heap_of old in
     let w : ℕ = get_or known.shown.shows.slots place 0 in
@@ -180,7 +185,12 @@ has_put {old} {new} {at = at} {list} {value} {what} store place known is_store b
         space = ap (λ (m : Mutator). m.seat.space) same;
         young = same_young w known becomes is_store below enough refl read.holds box_of boxed same;
       });
-      stores = subst (λ a. CapacitiesBecome heap (heap_of new) a (capacity_at heap a)) known.shown.stands
+      changes = subst (λ a. ChangesObject heap (heap_of new) a (capacity_at heap a)) known.shown.stands
           (box_keeps w known becomes is_store below enough refl read.holds box_of boxed same);
       shows = box_shown w known becomes is_store below enough refl read.holds box_of boxed same;
+      store = store;
+      is_store = is_store;
+      held = value;
+      holds = known.held.shows;
+      puts = fills;
     }

@@ -34,7 +34,7 @@ use Rattle.heap_model.proofs.WordsStay.{PlacesStay}
 use Rattle.write_barrier.specs.Mains.{Mutator, heap_of, MainShows}
 use Rattle.object_cells.specs.declared.content.Content.TheVariants as content
 use Rattle.object_cells.specs.declared.stores.Store.{Store}
-use Rattle.object_cells.specs.Capacities.{CapacitiesBecome}
+use Rattle.object_cells.specs.Capacities.{ChangesObject}
 use Rattle.object_cells.specs.CellWrites.{IsWrittenBeside}
 use Rattle.object_cells.specs.Contents.{next_at}
 use Rattle.object_cells.specs.ElementChanges.{WritesList, ElementComes, AreNewElements}
@@ -444,10 +444,11 @@ module _ {old new : Mutator} {graph : Graph} {at slot count : ℕ} {list : ListO
       (pushes.words.phase ∙ known.shows.quiet) writes (element_refills puts_element)
 
   -- each store has as many slots as before
-  pub slot_keeps : CapacitiesBecome (heap_of old) (heap_of new) cell.at (capacity_at (heap_of old) cell.at)
+  pub slot_keeps : ChangesObject (heap_of old) (heap_of new) cell.at (capacity_at (heap_of old) cell.at)
   slot_keeps =
       list_capacities_stay (heap_of old) (heap_of new) cell (other ∷ []) made (record {
         whole = known.shows.shows.whole;
         writes = writes;
+        belong = puts_element.belong;
         kinds = λ one among. inr (made_boxed (beside_content value) (next_at old) one among);
       }) slot_stays

@@ -1,5 +1,6 @@
 -- What the calls on the elements of a list do.
-use Rattle.std.specs.Prelude.{◌≡◌, ℕ, ◌<◌, ◌≤◌, [], ◌∷◌, ◌++◌, length, Some, None, slice_get, slice_set, ℤ}
+use Rattle.tagged_word.specs.Cells.{store_head}
+use Rattle.std.specs.Prelude.{◌≡◌, ℕ, ◌+◌, ◌<◌, ◌≤◌, [], ◌∷◌, ◌++◌, length, Some, None, slice_get, slice_set, ℤ}
 use Rattle.std.specs.Prelude.{Result, Ok, Err}
 use Rattle.object_graph.specs.declared.value.Value.{Value}
 use Rattle.object_graph.specs.Graphs.{Graph, ListObject}
@@ -11,9 +12,12 @@ use Rattle.heap_model.specs.Needs.{capacity_at, push_need_at, put_need_at}
 use Rattle.write_barrier.specs.Mains.{Mutator, heap_of, MainShows}
 use Rattle.object_cells.specs.ListObjects.{IsListAt}
 use Rattle.object_cells.specs.HeldValues.{IsValueHeld, is_wide}
+use Rattle.object_cells.specs.declared.stores.Store.{Store}
+use Rattle.object_cells.specs.Made.{IsStoreAt}
 use Rattle.object_cells.specs.Uses.{UsesMore}
-use Rattle.object_cells.specs.Capacities.{CapacitiesBecome}
+use Rattle.object_cells.specs.Capacities.{ChangesObject}
 use Rattle.list_store.specs.Growth.{push_capacity_at}
+use Rattle.list_store.specs.Pushes.{PushesAt, FillsElement}
 use Rattle.list_store.specs.declared.stop.PushStop.{PushStop}
 use Rattle.list_store.specs.declared.stop.PushStop.TheVariants as push
 use Rattle.list_store.specs.declared.stop.PutStop.{PutStop}
@@ -30,14 +34,17 @@ pub record IsShownSetting (main : Mutator) (at : ℕ) (held : Held) : Type 0 whe
   pub is_held : IsValueHeld main graph held value
 
 -- How a value comes to be the last element of the list at the address: it allocates what that needs, for which there is
--- room, and the heap shows the graph in which it is. The list's store is made anew where it is full or absent; no other
--- object's is.
+-- room, and the heap shows the graph in which it is. Which words are put is said: only words of the list change, and those
+-- that it allocates, a store and behind it a box. The store is made anew where it is full or absent; no other object's is.
 pub record HasPushed (old new : Mutator) (graph : Graph) (at : ℕ) (list : ListObject) (value : Value) : Type 0 where
   pub few : length list.elements < list_most
   pub room : HasRoom old.young (push_need_at (heap_of old) at (is_wide value))
   pub uses : UsesMore old new (push_need_at (heap_of old) at (is_wide value))
-  pub stores : CapacitiesBecome (heap_of old) (heap_of new) at (push_capacity_at (heap_of old) at)
+  pub changes : ChangesObject (heap_of old) (heap_of new) at (push_capacity_at (heap_of old) at)
   pub shows : MainShows new (relist graph list (list.elements ++ value ∷ []))
+  pub held : Held
+  pub holds : ShowsHeld (heap_of old) held (Some value)
+  pub puts : PushesAt old new at (length list.elements) held
 
 -- `push`: the value becomes the last element; or the list has as many as it may have, or there is no room, in this order,
 -- and nothing changes.
@@ -56,12 +63,18 @@ abbrev pub IsOutside : ListObject → ℤ → Type 0
 IsOutside list index = below (length list.elements) index ≡ None
 
 -- How the element at a place of the list at the address comes to be a value: it allocates what that needs, for which there
--- is room, and the heap shows the graph in which it is. Each store stays.
+-- is room, and the heap shows the graph in which it is. Which words are put is said: that of the element's slot and of a box
+-- that is made, or the integer of the box that stands there. Each store keeps its capacity.
 pub record HasPut (old new : Mutator) (graph : Graph) (at : ℕ) (list : ListObject) (place : ℕ) (value : Value) : Type 0 where
   pub room : HasRoom old.young (put_need_at (heap_of old) at place (is_wide value))
   pub uses : UsesMore old new (put_need_at (heap_of old) at place (is_wide value))
-  pub stores : CapacitiesBecome (heap_of old) (heap_of new) at (capacity_at (heap_of old) at)
+  pub changes : ChangesObject (heap_of old) (heap_of new) at (capacity_at (heap_of old) at)
   pub shows : MainShows new (relist graph list (slice_set list.elements place value))
+  pub store : Store
+  pub is_store : IsStoreAt (heap_of old) at store
+  pub held : Held
+  pub holds : ShowsHeld (heap_of old) held (Some value)
+  pub puts : FillsElement old new (store.at + (store_head + place)) held
 
 -- `put`: the element that an index names becomes the value; or it names none, or there is no room, in this order, and
 -- nothing changes.

@@ -15,13 +15,13 @@ use write_barrier::Main;
 pub(crate) const ELEMENTS_MOST: u32 = 1_000;
 
 /// The offset of a list's length.
-pub(crate) const COUNT: u32 = 2;
+pub const COUNT: u32 = 2;
 
 // How many slots the first store of a list has.
 const FIRST_CAPACITY: u32 = 4;
 
 /// How many elements the list at an address has: at most 1,000.
-pub(crate) fn count_of(main: &Main, list: u32) -> u32
+pub fn count_of(main: &Main, list: u32) -> u32
     requires whole { IsWhole main.now }
     requires there { IsListCellAt (heap_of main.now) list }
     ensures counted { result ≡ needs.count_at (heap_of main.now) list }
@@ -32,8 +32,9 @@ pub(crate) fn count_of(main: &Main, list: u32) -> u32
     main.word(list + COUNT) as u32
 }
 
-/// Which of so many elements an index names: none where it is below 0, or not below their number.
-pub(crate) fn place_of(count: u32, index: i64) -> Option<u32>
+/// The number that an integer is, if it is below a count: which of so many elements an index names.
+/// There is none where it is below 0, or not below the count.
+pub fn place_of(count: u32, index: i64) -> Option<u32>
     ensures { result ≡ below count index }
 {
     let Ok(place) = u32::try_from(index) else {

@@ -1,9 +1,10 @@
 -- What holds of each free start, from a walk along the list of starts.
-use Rattle.std.proofs.Common.{ℕ, inl, inr, ◌<◌, ◌≡◌, ◌&&◌, Bool, true, false, not, IsTrue, List, length, get_or, refl, sym, subst, ◌∙◌, ◌↔◌}
+use Rattle.std.proofs.Common.{ℕ, inl, inr, ◌<◌, ◌≡◌, Bool, true, false, IsTrue, List, length, get_or, refl, sym, subst, ◌∙◌, ◌↔◌}
 use Rattle.std.specs.List.{Contains}
 use Rattle.std.proofs.lemmas.List.{get_or_default}
 use Rattle.seat_steps.specs.Lists.{is_in}
 use Rattle.seat_steps.proofs.Joining.{in_found, found_in, decided}
+use Rattle.mark_laws.proofs.Stores.{free_is}
 use Rattle.mark_world.specs.declared.views.MainView.{MainView}
 use Rattle.mark_world.specs.Pages.{is_free, EachFree}
 
@@ -11,19 +12,11 @@ use Rattle.mark_world.specs.Pages.{is_free, EachFree}
 abbrev pub FreeBelow : MainView → List ℕ → ℕ → (ℕ → Type 0) → Type 0
 FreeBelow main list count P = (k : ℕ) → k < count → IsTrue (is_free main (get_or list k 0)) → P (get_or list k 0)
 
--- of two tests that both hold the first holds
-first_of_both : (a b : Bool) → (a && b) ≡ true → a ≡ true
-first_of_both true b e = refl
-first_of_both false b e = cc
-
--- a free start is a start
-pub free_is_start : (main : MainView) (at : ℕ) → IsTrue (is_free main at) → Contains main.starts at
-free_is_start main at free = in_found main.starts at (first_of_both (is_in main.starts at) (not (is_in main.mine at)) free)
-
 -- what holds of each of all starts that is free holds of each free start
-pub each_of_starts : (main : MainView) (P : ℕ → Type 0) → FreeBelow main main.starts (length main.starts) P → EachFree main P
+pub each_of_starts : (main : MainView) (P : ℕ → Type 0)
+    → FreeBelow main main.starts (length main.starts) P → EachFree main P
 each_of_starts main P each start free =
-    let c = free_is_start main start free in
+    let c = (free_is main start free).0 in
     let same : get_or main.starts c.0 0 ≡ start = get_or_default main.starts c.0 0 start c.1 ∙ c.2 in
     subst P same (each c.0 c.1 (subst (λ s. IsTrue (is_free main s)) (sym same) free))
 
@@ -36,7 +29,8 @@ same_test list at false tells = elim (decided (is_in list at)) [
 ]
 
 -- what holds of each of all starts that is free tells a test of free starts that passed
-pub all_passed : (main : MainView) (P : ℕ → Type 0) (list : List ℕ) (count : ℕ) → list ≡ main.starts → count ≡ length list
+pub all_passed : (main : MainView) (P : ℕ → Type 0) (list : List ℕ) (count : ℕ)
+    → list ≡ main.starts → count ≡ length list
     → FreeBelow main list count P → IsTrue true ↔ EachFree main P
 all_passed main P list count is all each =
     let there : FreeBelow main main.starts (length main.starts) P =

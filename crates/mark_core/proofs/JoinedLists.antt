@@ -1,5 +1,6 @@
 -- Lists that others join, as far as a walk along these has come.
-use Rattle.std.proofs.Common.{ℕ, ◌<◌, ◌+◌, ◌≡◌, List, length, get_or, drop, ap, sym, drop-cons, add-one, map, subst, arith}
+use Rattle.std.proofs.Common.{ℕ, ◌<◌, ◌+◌, ◌≡◌, List, length, get_or, drop, ap, sym, drop-cons, add-one, map, subst}
+use Rattle.std.proofs.Common.{arith}
 use Rattle.std.proofs.lemmas.List.{length-map, get_or-map}
 use Rattle.mark_world.specs.declared.snap.SnapSlot.{SnapSlot}
 use Rattle.seat_steps.specs.Lists.{joined}
@@ -20,7 +21,8 @@ next_target_joins old list items i l = rw (add-one i) (ap (targets_joined old li
 
 -- and the target of the next slot's word
 pub next_slot_joins : (old : ℕ) (list : List ℕ) (slots : List SnapSlot) (i : ℕ) (d : SnapSlot) → i < length slots
-    → targets_joined old (joined_by list (target old (get_or slots i d).word)) (drop (i + 1) (map (λ slot. slot.word) slots))
+    → targets_joined old (joined_by list (target old (get_or slots i d).word))
+    (drop (i + 1) (map (λ slot. slot.word) slots))
     ≡ targets_joined old list (drop i (map (λ slot. slot.word) slots))
 next_slot_joins old list slots i d l =
     let word : SnapSlot → ℕ = λ slot. slot.word in

@@ -1,5 +1,5 @@
 pub mod FreeStarts
 pub mod JoinedLists
 pub mod SlotWalks
+pub mod Walks
 pub mod Passing
-pub mod Moments

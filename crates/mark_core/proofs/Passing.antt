@@ -1,6 +1,7 @@
 -- What holds of each offset of a list, from a walk over numbers that passes each of the list.
 use Rattle.std.proofs.Common.{ℕ, ◌<◌, ◌+◌, ◌≡◌, ◌==◌, ◌↔◌, inl, inr, Bool, true, IsTrue, List, length, get_or, map, All}
-use Rattle.std.proofs.Common.{Some, None, refl, sym, ap, subst, ◌∙◌, arith, [], ◌∷◌, ◌||◌, ◌&&◌, ◌⊎◌, not, if◌then◌else◌, Option}
+use Rattle.std.proofs.Common.{Some, None, refl, sym, ap, subst, ◌∙◌, arith, [], ◌∷◌, ◌||◌, ◌&&◌, ◌⊎◌, not}
+use Rattle.std.proofs.Common.{if◌then◌else◌, Option}
 use Rattle.std.proofs.lemmas.Bool.{cases_lt}
 use Rattle.std.proofs.lemmas.List.Elements.{Contains-get_or}
 use Rattle.std.specs.List.{Contains, list_any}
@@ -11,7 +12,8 @@ use Rattle.tagged_word.specs.Layouts.{IsLayout, IsLayoutOfKind, HasInObjectSlots
 use Rattle.tagged_word.proofs.Members.{in_cases}
 use Rattle.tagged_word.proofs.Offsets.{in_object_is}
 use Rattle.mark_world.specs.Naming.{is_in_page, known_size}
-use Rattle.tagged_word.specs.Cells.{cell_size, cell_words_most, has_length, in_object_offsets, marks_by_length, store_slot}
+use Rattle.tagged_word.specs.Cells.{cell_size, cell_words_most, has_length, in_object_offsets, marks_by_length}
+use Rattle.tagged_word.specs.Cells.{store_slot}
 use Rattle.tagged_word.specs.Cells.{tagged_offsets, tagged_offsets_of}
 use Rattle.tagged_word.proofs.Cells.{size_bounds, slot_within, tagged_is_scavenged}
 use Rattle.seat_steps.specs.Lists.{is_in}
@@ -32,7 +34,8 @@ pass_more list P count before here k l c = elim (cases_lt k count) [
 ]
 
 -- where the walk passes all of the list, it holds of each
-pub all_pass : (list : List ℕ) (P : ℕ → Type 0) (count : ℕ) → All (λ x. x < count) list → PassBelow list P count → All P list
+pub all_pass : (list : List ℕ) (P : ℕ → Type 0) (count : ℕ)
+    → All (λ x. x < count) list → PassBelow list P count → All P list
 all_pass list P count short each k d l = each (get_or list k d) (short k d l) (Contains-get_or list k d l)
 
 -- what holds of each holds of a number of the list
@@ -69,8 +72,10 @@ size_there start None e = cc
 size_there start (Some s) e = (s, refl)
 
 -- where marking asks for the size, it is the cell's
-short_if_asked : (start : ℕ) (layout : LayoutWord) (long : ℕ) → IsLayout layout → known_size layout long ≡ cell_size layout long
-    → is_in_page start (known_size layout long) ≡ true → All (λ offset. offset < cell_words_most) (tagged_offsets layout long)
+short_if_asked : (start : ℕ) (layout : LayoutWord) (long : ℕ)
+    → IsLayout layout → known_size layout long ≡ cell_size layout long
+    → is_in_page start (known_size layout long) ≡ true
+    → All (λ offset. offset < cell_words_most) (tagged_offsets layout long)
 short_if_asked start layout long is asked there =
     let s = size_there start (known_size layout long) there in
     sized_short layout long s.0 is (sym asked ∙ s.1)
@@ -97,7 +102,8 @@ none_pass xs count e k d l = absurd (omega (arith, l, ap length e))
 
 -- the tagged slots of a cell that is named lie within a page's words
 pub named_short : (start : ℕ) (layout : LayoutWord) (long : ℕ) → IsLayout layout
-    → is_in_page start (known_size layout long) ≡ true → All (λ offset. offset < cell_words_most) (tagged_offsets layout long)
+    → is_in_page start (known_size layout long) ≡ true
+    → All (λ offset. offset < cell_words_most) (tagged_offsets layout long)
 named_short start layout long is there = elim (asked_or_none layout.kind layout long refl) [
   | inl asked ↦ short_if_asked start layout long is asked there
   | inr none ↦ none_pass (tagged_offsets layout long) cell_words_most none
@@ -114,5 +120,7 @@ plain_short layout is plain k d l =
     subst (λ k. Contains (tagged_offsets_of k layout 0) offset) plain in_list in
     elim (in_cases store_slot (in_object_offsets layout) offset plainly) [
       | inl first ↦ omega (arith, first)
-      | inr other ↦ let place = in_object_is layout offset other in omega (arith, place.used, place.behind, slots.used, slots.cap)
+      | inr other ↦
+          let place = in_object_is layout offset other in
+          omega (arith, place.used, place.behind, slots.used, slots.cap)
     ]

@@ -1,6 +1,7 @@
 -- The slots of a cell as a walk along its offsets comes to them.
 use Rattle.std.proofs.Common.{ℕ, suc, ◌<◌, ◌≤◌, ◌+◌, ◌≡◌, ◌≢◌, ◌==◌, ◌||◌, inl, inr, true, false, cond, nat_lt}
-use Rattle.std.proofs.Common.{List, [], ◌∷◌, ◌++◌, map, filter, length, get_or, Some, refl, ap, sym, ◌∙◌, arith, if◌then◌else◌, All}
+use Rattle.std.proofs.Common.{List, [], ◌∷◌, ◌++◌, map, filter, length, get_or, Some, refl, ap, sym, ◌∙◌, arith}
+use Rattle.std.proofs.Common.{if◌then◌else◌, All}
 use Rattle.std.proofs.lemmas.Bool.{cases_lt}
 use Rattle.std.proofs.lemmas.Bool.Decides.{nat_tests}
 use Rattle.std.specs.List.Sorted.{IsStrictlyIncreasing}
@@ -69,7 +70,8 @@ absent k x (y ∷ ys) h l =
 below_behind : (k x : ℕ) (xs : List ℕ) → x < k → below (k + 1) xs ≡ below k xs ++ itself xs k
     → below (k + 1) (x ∷ xs) ≡ below k (x ∷ xs) ++ itself (x ∷ xs) k
 below_behind k x xs early rest =
-    rw (passes x (k + 1) (omega arith), passes x k early, differs x k (λ e. absurd (omega arith))) (ap (λ ys. x ∷ ys) rest)
+    rw (passes x (k + 1) (omega arith), passes x k early, differs x k (λ e. absurd (omega arith)))
+    (ap (λ ys. x ∷ ys) rest)
 
 -- the first is above it
 below_before : (k x : ℕ) (xs : List ℕ) → IsStrictlyIncreasing (x ∷ xs) → k < x
@@ -135,7 +137,8 @@ put_none f xs k values h so_far out =
     ∙ ap (map f) (sym (below_next k xs h))
 
 -- the tagged slots of a cell that is read lie in it
-pub slots_inside : (words layouts : List ℕ) (at bound : ℕ) (cell : Reading) → read_cell words layouts at bound ≡ Some cell
+pub slots_inside : (words layouts : List ℕ) (at bound : ℕ) (cell : Reading)
+    → read_cell words layouts at bound ≡ Some cell
     → All (λ offset. offset < cell.size) (slots_of cell)
 slots_inside words layouts at bound cell e k d l =
     let reads = cell_from words layouts at bound cell e in

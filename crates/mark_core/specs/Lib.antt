@@ -3,3 +3,5 @@ pub mod Names
 pub mod Sureness
 pub mod Runs
 pub mod Asking
+pub mod Truth
+pub mod Calm

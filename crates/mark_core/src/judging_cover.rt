@@ -17,8 +17,8 @@ fn is_to_visit(world: &World, at: u32) -> bool
         .any(|view| has(view.visit.as_slice(), at))
 }
 
-// Whether a cell is covered.
-fn is_covered(world: &World, at: u32) -> bool
+/// Whether a cell is covered.
+pub(crate) fn is_covered(world: &World, at: u32) -> bool
     ensures { IsTrue result ↔ IsCovered world.now at }
 {
     if colour_at(world.colours.as_slice(), at) != 0 {

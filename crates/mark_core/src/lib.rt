@@ -7,9 +7,17 @@
 
 mod cells;
 mod conditions;
+mod judging;
+mod judging_board;
+mod judging_cells;
 mod judging_cover;
+mod judging_free;
+mod judging_grey;
 mod judging_slots;
+mod judging_snaps;
+mod judging_views;
 mod learning;
+mod learning_helper;
 mod lists;
 mod naming;
 mod possible;
@@ -20,6 +28,7 @@ mod steps;
 #[cfg(test)]
 mod tests;
 
+pub use judging::{is_fresh, is_sound};
 pub use judging_slots::is_settled;
 pub use possible::is_possible;
 pub use runs::replay;

@@ -24,6 +24,13 @@ pub(crate) fn has(list: &[u32], at: u32) -> bool
     is_in(list, at)
 }
 
+/// Whether a list is empty.
+pub(crate) fn is_empty<T: Copy>(list: &Items<T>) -> bool
+    ensures { IsTrue result ↔ (list.now ≡ []) }
+{
+    list.count() == 0
+}
+
 /// The old address that a word refers to.
 pub(crate) fn target(old: u32, word: u64) -> Option<u32>
     ensures { result ≡ target old word }

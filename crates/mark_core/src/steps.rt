@@ -5,7 +5,8 @@ ghost use Rattle.mark_world.specs.Steps.{helper_learns, helper_spot};
 ghost use Rattle.mark_core.specs.Spots.{FitsSpot};
 ghost use Rattle.mark_world.specs.Moments.{after, after_main, after_helper, after_return};
 
-use crate::learning::{learn_helper, learn_main, take_back};
+use crate::learning::{learn_main, take_back};
+use crate::learning_helper::learn_helper;
 use crate::spots::{actor, becomes, helper_spot, main_spot, put, word_of};
 use mark_world::{Actor, Event, HelperView, Views, World};
 use std::alloc::Global;

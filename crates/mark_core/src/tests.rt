@@ -1,11 +1,16 @@
-//! Events on small worlds. The expected values are worked out by hand.
+//! Small worlds, and what is done with them. The tests stand in the modules: their expected values are
+//! worked out by hand.
 
-use crate::{apply, is_possible, is_settled, replay};
-use mark_world::{Event, HelperView, MainView, Views, World};
+use crate::{apply, is_fresh, is_possible, is_sound, replay};
+use mark_world::{Event, MainView, Views, World};
 use seat_steps::{Items, StepStop, empty_board};
-use std::alloc::{AllocError, Global};
+use std::alloc::Global;
 use std::test::Fail;
 use tagged_word::NoMemory;
+
+mod edges;
+mod judges;
+mod runs;
 
 // The words of a page.
 const PAGE: u32 = 2048;
@@ -75,11 +80,6 @@ const LIST: Start<'static> = Start {
     born: &[0, 3],
 };
 
-// Whether so many seats were lent, and none is out.
-fn are_back(world: &World, seats: usize) -> bool {
-    world.helpers.count() == seats && world.helpers.as_slice().iter().all(|view| !view.out)
-}
-
 // The events by which helper 0 reads the header and the layout of cell 0.
 const BEGUN: [Event; 4] = [
     Event::Lend {},
@@ -134,129 +134,11 @@ fn stop_of(end: Result<World, StepStop>) -> Option<u64> {
     }
 }
 
-#[test]
-fn a_settling_visits_only_where_it_won(rt: HostRuntime) -> Result<(), Fail> {
-    let shade = Event::ShadeMain { at: 3 };
-    let blacken = Event::Blacken { at: 0 };
-    let rows: [([Event; 5], &[u32]); 2] = [
-        ([LOAD_STORE, blacken, SETTLE, shade, RETURN], &[]),
-        ([LOAD_STORE, SETTLE, blacken, shade, RETURN], &[3]),
-    ];
-    for (events, owed) in rows {
-        let end = end_of(rt.alloc(), &LIST, &BEGUN, &events)?;
-        assert_eq!(rt; end.colours.get(0), Some(2));
-        assert_eq!(rt; end.colours.get(3), Some(1));
-        assert_eq!(rt; end.main.mine.as_slice(), [0].as_slice());
-        assert_eq!(rt; end.main.sure.as_slice(), [0, 3].as_slice());
-        assert_eq!(rt; end.main.grey.as_slice(), [3].as_slice());
-        assert_eq!(rt; end.main.owed.as_slice(), owed);
-        assert_eq!(rt; is_settled(&end), owed.is_empty());
-        assert!(rt; are_back(&end, 1));
-    }
-    Ok(())
-}
-
-#[test]
-fn a_snap_is_settled_when_it_is_read_out(rt: HostRuntime) -> Result<(), Fail> {
-    let end = end_of(rt.alloc(), &LIST, &BEGUN, &[SETTLE]);
-    assert_eq!(rt; stop_of(end), Some(4));
-    Ok(())
-}
-
-#[test]
-fn cells_go_over_the_board(rt: HostRuntime) -> Result<(), Fail> {
-    let helper = 0;
-    let events = [
-        Event::Lend {},
-        Event::ShadeMain { at: 0 },
-        Event::GiveMain { place: 0, at: 0 },
-        Event::Take { helper, place: 0 },
-        Event::LoadHeader { helper, cell: 0 },
-        Event::LoadLayout { helper },
-        LOAD_STORE,
-        SETTLE,
-        Event::ShadeHelper { helper, at: 3 },
-        Event::Give {
-            helper,
-            place: 1,
-            at: 3,
-        },
-        Event::Take { helper, place: 1 },
-        Event::LoadHeader { helper, cell: 3 },
-        Event::LoadLayout { helper },
-        Event::LoadLength { helper },
-        SETTLE,
-        RETURN,
-    ];
-    let end = end_of(rt.alloc(), &LIST, &[], &events)?;
-    assert_eq!(rt; end.colours.get(0), Some(2));
-    assert_eq!(rt; end.colours.get(3), Some(2));
-    assert_eq!(rt; end.main.grey.count(), 0);
-    assert_eq!(rt; end.main.mine.count(), 0);
-    assert!(rt; end.board.as_slice().iter().all(|word| *word == 0));
-    assert!(rt; are_back(&end, 1));
-    Ok(())
-}
-
 // The words of a plain cell whose slot is raw.
 const RAW: [u64; 7] = [74, 3, 5_000_000_000, 14, 0, 30, 2043];
 
-#[test]
-fn a_raw_slot_is_tagged_when_its_target_is_sure(rt: HostRuntime) -> Result<(), Fail> {
-    let store = Event::StoreSlot { at: 2, word: 13 };
-    let change = Event::StoreHeader { at: 0, word: 70 };
-    let start = plain(&RAW);
-    let events = [
-        store,
-        Event::ShadeMain { at: 3 },
-        change,
-        LOAD_STORE,
-        SETTLE,
-    ];
-    let end = end_of(rt.alloc(), &start, &BEGUN, &events)?;
-    for view in end.helpers.as_slice() {
-        let last = view.last.as_ref();
-        assert_eq!(rt; last.map(|snap| snap.header), Some(74));
-        assert_eq!(rt; last.map(|snap| snap.slots.count()), Some(1));
-    }
-    let unsure = [store, change, LOAD_STORE, SETTLE];
-    assert_eq!(rt;
-        stop_of(end_of(rt.alloc(), &start, &BEGUN, &unsure)),
-        Some(5)
-    );
-    Ok(())
-}
-
 // The words of a plain cell whose slot is tagged.
 const TAGGED: [u64; 7] = [70, 3, 13, 14, 0, 30, 2043];
-
-#[test]
-fn a_tagged_slot_is_raw_only_in_a_cell_made_black(rt: HostRuntime) -> Result<(), Fail> {
-    let store = Event::StoreOwned {
-        at: 2,
-        word: 5_000_000_000,
-    };
-    let change = Event::StoreOwned { at: 0, word: 74 };
-    let start = plain(&TAGGED);
-    let events = [
-        Event::Blacken { at: 0 },
-        store,
-        change,
-        LOAD_STORE,
-        LOAD_FIELD,
-        SETTLE,
-    ];
-    let end = end_of(rt.alloc(), &start, &BEGUN, &events)?;
-    assert_eq!(rt; end.colours.get(0), Some(2));
-    for view in end.helpers.as_slice() {
-        assert_eq!(rt; view.visit.count(), 0);
-    }
-    assert_eq!(rt;
-        stop_of(end_of(rt.alloc(), &start, &BEGUN, &[store])),
-        Some(4)
-    );
-    Ok(())
-}
 
 // A list of object 0 at 0, its store of two slots at 3, a plain cell of no slots at 7, and a gap.
 const TRIMMED: Start<'static> = Start {
@@ -266,90 +148,52 @@ const TRIMMED: Start<'static> = Start {
     born: &[0, 3, 7],
 };
 
-#[test]
-fn a_store_is_trimmed_from_the_left(rt: HostRuntime) -> Result<(), Fail> {
-    let events = [
-        Event::ShadeMain { at: 0 },
-        Event::Blacken { at: 3 },
-        Event::ShadeMain { at: 7 },
-        Event::NewBlack { at: 4 },
-        Event::StoreOwned { at: 4, word: 14 },
-        Event::StoreOwned { at: 5, word: 1 },
-        Event::StoreSlot { at: 1, word: 17 },
-        Event::ShadeMain { at: 4 },
-        Event::StoreOwned { at: 2, word: 1 },
-        Event::StoreOwned { at: 3, word: 26 },
-    ];
-    let end = end_of(rt.alloc(), &TRIMMED, &[], &events)?;
-    for (i, word) in [6u64, 17, 1, 26, 14, 1, 3].iter().enumerate() {
-        assert_eq!(rt; end.words.get(i), Some(*word), "{i}");
-    }
-    assert_eq!(rt; end.main.mine.as_slice(), [3, 4].as_slice());
-    assert!(rt; is_settled(&end));
-    let early = end_of(rt.alloc(), &TRIMMED, &[], &[Event::NewBlack { at: 4 }]);
-    assert_eq!(rt; stop_of(early), Some(0));
-    Ok(())
+// Whether a cycle may begin with a world. No clause says it, so that proofs of tests need not read it.
+fn may_begin(world: &World) -> bool {
+    is_fresh(world)
 }
 
-#[test]
-fn what_is_possible_ends_at_the_ends_of_lists(rt: HostRuntime) -> Result<(), Fail> {
-    let mut world = world_of(rt.alloc(), &LIST, PAGE, SHAPES)?;
-    apply(rt.alloc(), &mut world, Event::ShadeMain { at: 0 })?;
-    let rows = [
-        (Event::GiveMain { place: 63, at: 0 }, true),
-        (Event::GiveMain { place: 64, at: 0 }, false),
-        (Event::TakeMain { place: 63 }, true),
-        (Event::TakeMain { place: 64 }, false),
-        (Event::StoreOwned { at: 2047, word: 5 }, true),
-        (Event::StoreOwned { at: 2048, word: 5 }, false),
-        (
-            Event::AddLayout {
-                shape: 8199,
-                word: 1,
-            },
-            true,
-        ),
-        (
-            Event::AddLayout {
-                shape: 8200,
-                word: 1,
-            },
-            false,
-        ),
-        (Event::AddLayout { shape: 7, word: 1 }, false),
-    ];
-    for (event, possible) in rows {
-        assert_eq!(rt; is_possible(&world, event), possible);
-    }
-    for _ in 0..7 {
-        assert!(rt; is_possible(&world, Event::Lend {}));
-        apply(rt.alloc(), &mut world, Event::Lend {})?;
-    }
-    assert!(rt; !is_possible(&world, Event::Lend {}));
-    Ok(())
+// Whether a world is sound. No clause says it either.
+fn is_well(world: &World) -> bool {
+    is_sound(world)
 }
 
-#[test]
-fn a_length_past_the_page_names_no_cell(rt: HostRuntime) -> Result<(), Fail> {
-    let long = Start {
-        words: &[6, 13, 0, 14, u64::MAX, 0, 0],
-        paths: &[],
-        starts: &[0, 3],
-        born: &[0, 3],
-    };
-    let helper = 0;
-    let begun = [
-        Event::Lend {},
-        Event::ShadeMain { at: 3 },
-        Event::LoadHeader { helper, cell: 3 },
-        Event::LoadLayout { helper },
-        Event::LoadLength { helper },
-    ];
-    assert_eq!(rt;
-        stop_of(end_of(rt.alloc(), &long, &begun, &[LOAD_FIELD])),
-        Some(5)
-    );
-    let end = end_of(rt.alloc(), &long, &begun, &[SETTLE])?;
-    assert_eq!(rt; end.colours.get(3), Some(2));
-    Ok(())
+// Whether an event is possible, and the world is sound after it. It is carried out.
+fn steps_well(alloc: Global, world: &mut World, event: Event) -> Result<bool, NoMemory> {
+    let possible = is_possible(world, event);
+    apply(alloc, world, event)?;
+    Ok(possible && is_well(world))
+}
+
+// Whether a cycle may begin with a world, each of the events is possible at its moment, and the world
+// is sound at each.
+fn stays_well(alloc: Global, start: &World, events: &[Event]) -> Result<bool, NoMemory> {
+    let mut world = start.copied(alloc)?;
+    for event in events {
+        if !steps_well(alloc, &mut world, *event)? {
+            return Ok(false);
+        }
+    }
+    Ok(may_begin(start))
+}
+
+// The end of a run of which that holds; an error where it does not.
+fn well_run(alloc: Global, start: &World, events: &[Event]) -> Result<World, Fail> {
+    if !stays_well(alloc, start, events)? {
+        return Err(Fail::from("a world of the run is not sound"));
+    }
+    Ok(replay(alloc, start, events)?)
+}
+
+// The end of events after those that begin a snap of cell 0, of a start of a whole page, if that holds.
+fn sound_end(
+    alloc: Global,
+    start: &Start<'_>,
+    begun: &[Event],
+    rest: &[Event],
+) -> Result<World, Fail> {
+    let world = world_of(alloc, start, PAGE, SHAPES)?;
+    let mut events = begun.to_vec(alloc)?;
+    events.extend_from_slice(rest)?;
+    well_run(alloc, &world, events.as_slice())
 }

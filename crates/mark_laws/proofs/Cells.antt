@@ -1,7 +1,6 @@
--- Each free start reads its cell as before, through each step of the mutator but a change of a header.
-use Rattle.std.proofs.Common.{ℕ, ◌+◌, ◌≤◌, ◌≡◌, ◌≢◌, ◌&&◌, ◌||◌, ◌∙◌, ◌⊎◌, inl}
-use Rattle.std.proofs.Common.{inr, Bool, true, false, not, IsTrue, List, min}
-use Rattle.std.proofs.Common.{slice_set, slice_get, Option, Some, refl, sym, ap, subst, arith}
+-- Each free start reads its cell as before, through each step of the mutator but a store of its own header.
+use Rattle.std.proofs.Common.{ℕ, ◌+◌, ◌≤◌, ◌≡◌, ◌≢◌, ◌&&◌, ◌||◌, ◌∙◌, ◌⊎◌, inl, inr, Bool, true, false, not, IsTrue}
+use Rattle.std.proofs.Common.{List, min, slice_set, slice_get, Option, Some, refl, sym, ap, subst, arith}
 use Rattle.std.proofs.lemmas.Bool.Decides.{nat_tests}
 use Rattle.tagged_word.specs.declared.layout.Kind.{Kind}
 use Rattle.tagged_word.specs.declared.layout.Kind.TheVariants as kind
@@ -14,13 +13,16 @@ use Rattle.seat_steps.specs.Lists.{is_in}
 use Rattle.mark_world.specs.declared.event.Event.{Event}
 use Rattle.mark_world.specs.declared.event.Event.TheVariants as event
 use Rattle.mark_world.specs.declared.world.World.{World}
-use Rattle.mark_world.specs.Pages.{EachFree, cell_at, is_free, is_head, is_head_of, is_inside, leaves_alone, offset_in}
-use Rattle.mark_world.specs.Pages.{page_end, slots_of}
+use Rattle.mark_world.specs.Pages.{EachFree, cell_at, is_free, is_head, is_head_of, is_inside, leaves_alone}
+use Rattle.mark_world.specs.Pages.{offset_in, page_end, slots_of}
 use Rattle.mark_world.specs.Conditions.{MayMain}
 use Rattle.mark_world.specs.Moments.{after_main}
 use Rattle.mark_world.specs.Covering.{cell_of}
+use Rattle.mark_world.specs.Soundness.{HasCells}
 use Rattle.mark_laws.specs.Cells.{StoresHeader}
 use Rattle.mark_laws.proofs.Reading.{slice_get_other, store_keeps}
+use Rattle.mark_laws.proofs.Slots.{outside_no_head}
+use Rattle.mark_laws.proofs.Stores.{header_outside}
 
 -- what is not inside, or quiet, is no head
 quiet_no_head : (inside head slot : Bool) → (not inside || (not head && not slot)) ≡ true → (inside && head) ≡ false
@@ -35,11 +37,6 @@ alone_no_head : (start : ℕ) (cell : Reading) (at : ℕ) → leaves_alone start
 alone_no_head start cell at e =
     quiet_no_head (is_inside start (Some cell) at) (is_head cell (offset_in start at))
     (is_in (slots_of cell) (offset_in start at)) e
-
--- a word that is not inside is no head
-outside_no_head : (inside head : Bool) → inside ≡ false → (inside && head) ≡ false
-outside_no_head true head e = cc
-outside_no_head false head e = refl
 
 -- behind the cell's end no word is inside
 behind_outside : (start : ℕ) (cell : Reading) (at : ℕ) → start + cell.size ≤ at
@@ -58,7 +55,8 @@ kind_some kind.Filler = omega arith
 kind_some kind.Gap = omega arith
 
 -- a layout word that goes where 0 stands leaves each cell
-layout_keeps : (words layouts : List ℕ) (start bound shape word : ℕ) (cell : Reading) → slice_get layouts shape ≡ Some 0
+pub layout_keeps : (words layouts : List ℕ) (start bound shape word : ℕ) (cell : Reading)
+    → slice_get layouts shape ≡ Some 0
     → read_cell words layouts start bound ≡ Some cell
     → read_cell words (slice_set layouts shape word) start bound ≡ Some cell
 layout_keeps words layouts start bound shape word cell unused e =
@@ -79,7 +77,7 @@ layout_keeps words layouts start bound shape word cell unused e =
     }
 
 -- a word that goes where no helper visits is no head
-owned_no_head : (world : World) (at start : ℕ) → IsTrue (is_free world.main start) → (cell : Reading)
+pub owned_no_head : (world : World) (at start : ℕ) → IsTrue (is_free world.main start) → (cell : Reading)
     → cell_of world start ≡ Some cell
     → (world.old ≤ at) ⊎ EachFree world.main
     (λ s. leaves_alone s (cell_at world.old world.words world.layouts s) at ≡ true)
@@ -87,23 +85,26 @@ owned_no_head : (world : World) (at start : ℕ) → IsTrue (is_free world.main 
 owned_no_head world at start free cell e (inl young) =
     let ends : start + cell.size ≤ min world.old (page_end start) =
     (cell_from world.words world.layouts start (min world.old (page_end start)) cell e).ends in
-    outside_no_head (is_inside start (Some cell) at) (is_head cell (offset_in start at))
+    outside_no_head start cell at
     (behind_outside start cell at (omega (arith, ends, young)))
 owned_no_head world at start free cell e (inr alone) =
     alone_no_head start cell at (subst (λ (c : Option Reading). leaves_alone start c at ≡ true) e (alone start free))
 
--- a cell is read as before through a step of the mutator that stores no header
-pub main_cells : (world : World) (of : Event) → MayMain world.old world.words world.layouts world.main of
-    → (StoresHeader of → ⊥)
-    → (start : ℕ) → IsTrue (is_free world.main start) → (cell : Reading) → cell_of world start ≡ Some cell
-    → cell_of (after_main world of) start ≡ Some cell
-main_cells world (event.StoreSlot at word) may other start free cell e =
+-- a cell is read as before through a step of the mutator but a store of its header
+pub main_cells : (world : World) (of : Event) → HasCells world
+    → MayMain world.old world.words world.layouts world.main of
+    → (start : ℕ) → (StoresHeader of start → ⊥) → IsTrue (is_free world.main start) → (cell : Reading)
+    → cell_of world start ≡ Some cell → cell_of (after_main world of) start ≡ Some cell
+main_cells world (event.StoreSlot at word) cells may start other free cell e =
     store_keeps world.words world.layouts start (min world.old (page_end start)) at word cell e
     (subst (λ (c : Option Reading). is_head_of start c at ≡ false) e (may.no_head start free))
-main_cells world (event.StoreOwned at word) may other start free cell e =
+main_cells world (event.StoreOwned at word) cells may start other free cell e =
     store_keeps world.words world.layouts start (min world.old (page_end start)) at word cell e
     (owned_no_head world at start free cell e may.alone)
-main_cells world (event.StoreHeader at word) may other start free cell e = absurd (other tt)
-main_cells world (event.AddLayout shape word) may other start free cell e =
+main_cells world (event.StoreHeader at word) cells may start other free cell e =
+    store_keeps world.words world.layouts start (min world.old (page_end start)) at word cell e
+    (outside_no_head start cell at
+    (header_outside world at word start cell cells may free e (λ same. other (sym same))))
+main_cells world (event.AddLayout shape word) cells may start other free cell e =
     layout_keeps world.words world.layouts start (min world.old (page_end start)) shape word cell may.unused e
-main_cells world _ may other start free cell e = e
+main_cells world _ cells may start other free cell e = e

@@ -33,7 +33,8 @@ raised_there : (list : List ℕ) (at word : ℕ) → slice_index list at ≤ wor
 raised_there list at word more a e = elim (cases_lt at (length list)) [
   | inl within ↦
       let there : slice_index (slice_set list at word) at ≡ word = get_or-set_same list at word 0 within in
-      subst (λ (k : ℕ). slice_index list k ≤ slice_index (slice_set list at word) k) (sym e) (omega (arith, there, more))
+      subst (λ (k : ℕ). slice_index list k ≤ slice_index (slice_set list at word) k) (sym e)
+      (omega (arith, there, more))
   | inr past ↦
       let none : slice_index list a ≡ 0 = get_or_past list a 0 (omega arith) in
       omega (arith, none)
@@ -97,7 +98,8 @@ layout_of_raises (Some snap) found word = layout_raises (header_in snap.header) 
 
 -- nor does a step of a helper
 helper_raises : (world : World) (view : HelperView) (of : Event)
-    → RaisesSpot (helper_spot view of) (word_at world (helper_spot view of)) (becomes of (word_at world (helper_spot view of)))
+    → RaisesSpot (helper_spot view of) (word_at world (helper_spot view of))
+    (becomes of (word_at world (helper_spot view of)))
 helper_raises world view (event.ShadeHelper number at) = shaded_rises (slice_index world.colours at)
 helper_raises world view (event.Settle number) = settle_raises world number view.snap
 helper_raises world view (event.LoadLayout number) =

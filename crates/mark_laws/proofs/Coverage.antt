@@ -1,7 +1,8 @@
 -- What is covered stays covered.
 use Rattle.std.proofs.Common.{ℕ, ◌<◌, ◌≡◌, ◌≢◌, ◌==◌, ◌⊎◌, ◌∷◌, inl, inr, Bool, true, false}
 use Rattle.std.proofs.Common.{IsTrue, List, [], length}
-use Rattle.std.proofs.Common.{slice_get, slice_index, slice_set, Option, Some, None, IsSome, IsSomeAnd, All, Any, Contains}
+use Rattle.std.proofs.Common.{slice_get, slice_index, slice_set, Option, Some, None, IsSome, IsSomeAnd, All, Any}
+use Rattle.std.proofs.Common.{Contains}
 use Rattle.std.proofs.Common.{refl, sym, ap, subst, ◌∙◌, arith}
 use Rattle.std.proofs.Common.{if◌then◌else◌, is_some, eqb-true, eq-eqb}
 use Rattle.std.proofs.lemmas.Bool.Decides.{nat_tests}
@@ -31,7 +32,7 @@ use Rattle.mark_world.specs.Soundness.{HasCells, HasLists, HasSizes, HasViewList
 use Rattle.mark_world.specs.Lineage.{Born}
 use Rattle.mark_laws.proofs.Colours.{helper_rises, step_rises}
 use Rattle.mark_laws.proofs.Starts.{start_old}
-use Rattle.mark_laws.proofs.Joins.{all_keep, all_there, any_through, joined_by_keeps, of_get, targets_keep, view_there}
+use Rattle.mark_laws.proofs.Joins.{all_keep, all_there, any_through, joined_by_keeps, of_get, targets_keep, some_and}
 
 -- shading leaves no cell white
 shaded_not_white : (colour : ℕ) → shaded colour ≡ 0 → ⊥
@@ -41,7 +42,8 @@ shaded_not_white colour e = grind (arith, nat_tests)
 pub shaded_coloured : (colours : List ℕ) (at : ℕ) → at < length colours
     → slice_index (slice_set colours at (shaded (slice_index colours at))) at ≢ white
 shaded_coloured colours at within is_white =
-    let there : slice_index (slice_set colours at (shaded (slice_index colours at))) at ≡ shaded (slice_index colours at) =
+    let there : slice_index (slice_set colours at (shaded (slice_index colours at))) at
+    ≡ shaded (slice_index colours at) =
     get_or-set_same colours at (shaded (slice_index colours at)) 0 within in
     shaded_not_white (slice_index colours at) (sym there ∙ is_white)
 
@@ -67,7 +69,8 @@ black_keeps old owed words false at c = targets_keep old owed words at c
 main_owes : (world : World) (of : Event) → HasSizes world → HasCells world
     → MayMain world.old world.words world.layouts world.main of → (at : ℕ) → Contains world.main.owed at
     → (colour_of (after_main world of) at ≢ white) ⊎ Contains (after_main world of).main.owed at
-main_owes world (event.StoreSlot a word) sizes cells may at c = inr (joined_by_keeps world.main.owed (target world.old word) at c)
+main_owes world (event.StoreSlot a word) sizes cells may at c =
+    inr (joined_by_keeps world.main.owed (target world.old word) at c)
 main_owes world (event.ShadeMain a) sizes cells may at c =
     left_or_coloured world.main.owed world.colours a at
     (start_old world sizes cells a (All-contains (Contains world.main.starts) world.main.born a cells.born may)) c
@@ -77,7 +80,8 @@ main_owes world (event.Blacken a) sizes cells may at c =
 main_owes world _ sizes cells may at c = inr c
 
 -- a word that is put leaves the views
-pub with_word_views : (world : World) (spot : Option Spot) (word : ℕ) → (with_word world spot word).helpers ≡ world.helpers
+pub with_word_views : (world : World) (spot : Option Spot) (word : ℕ)
+    → (with_word world spot word).helpers ≡ world.helpers
 with_word_views world None word = refl
 with_word_views world (Some (Spot.Heap a)) word = refl
 with_word_views world (Some (Spot.Layout a)) word = refl
@@ -136,7 +140,8 @@ helper_visits world number view (event.ShadeHelper n a) may one old at c =
 helper_visits world number view _ may one old at c = inl c
 
 -- a step of a helper keeps what is covered
-helper_covers : (world : World) (number : ℕ) (of : Event) (view : HelperView) → slice_get world.helpers number ≡ Some view
+helper_covers : (world : World) (number : ℕ) (of : Event) (view : HelperView)
+    → slice_get world.helpers number ≡ Some view
     → MayHelper view of → (IsSome view.snap → view.visit ≡ [])
     → ((a : ℕ) → Contains view.visit a → a < length world.colours)
     → ((at : ℕ) → colour_of world at ≢ white → colour_of (after_helper world number of (Some view)) at ≢ white)
@@ -160,14 +165,16 @@ return_covers : (world : World) (number : ℕ) (view : HelperView) → slice_get
 return_covers world number view there at (inl coloured) = inl coloured
 return_covers world number view there at (inr (inl owed)) = inr (inl (all_keep world.main.owed view.visit at owed))
 return_covers world number view there at (inr (inr visit)) =
-    elim (any_through (λ v. Contains v.visit at) (Contains (all_joined world.main.owed view.visit) at) world.helpers number view
+    elim (any_through (λ v. Contains v.visit at) (Contains (all_joined world.main.owed view.visit) at) world.helpers
+    number view
     returned there (λ visits. inr (all_there world.main.owed view.visit at visits)) visit) [
       | inl some ↦ inr (inr some)
       | inr owed ↦ inr (inl owed)
     ]
 
 -- lending a seat keeps what is covered
-lend_covers : (world : World) (of : Event) (at : ℕ) → IsCovered world at → IsCovered (after_step world of Actor.Lends) at
+lend_covers : (world : World) (of : Event) (at : ℕ) → IsCovered world at
+    → IsCovered (after_step world of Actor.Lends) at
 lend_covers world of at (inl coloured) = inl coloured
 lend_covers world of at (inr (inl owed)) = inr (inl owed)
 lend_covers world of at (inr (inr (k, view, l, e, visits))) = inr (inr (
@@ -184,7 +191,7 @@ step_of_helper : (world : World) (number : ℕ) (of : Event) → HasSizes world 
     → IsSomeAnd (slice_get world.helpers number) (MayStep world of) → (at : ℕ) → IsCovered world at
     → IsCovered (after_helper world number of (slice_get world.helpers number)) at
 step_of_helper world number of sizes cells lists born may at covered =
-    let v = view_there (MayStep world of) (slice_get world.helpers number) may in
+    let v = some_and (MayStep world of) (slice_get world.helpers number) may in
     let view : HelperView = v.0 in
     let has : HasViewLists world view = of_get (HasViewLists world) world.helpers number view v.1 lists.helpers in
     let visits : All (λ a. Contains world.main.born a) view.visit =
@@ -201,7 +208,7 @@ step_of_helper world number of sizes cells lists born may at covered =
 step_of_return : (world : World) (number : ℕ) → IsSomeAnd (slice_get world.helpers number) (λ view. IsTrue view.out)
     → (at : ℕ) → IsCovered world at → IsCovered (after_return world number (slice_get world.helpers number)) at
 step_of_return world number may at covered =
-    let v = view_there (λ view. IsTrue view.out) (slice_get world.helpers number) may in
+    let v = some_and (λ view. IsTrue view.out) (slice_get world.helpers number) may in
     subst (λ (o : Option HelperView). IsCovered (after_return world number o) at) (sym v.1)
     (return_covers world number v.0 v.1 at covered)
 
@@ -213,7 +220,8 @@ step_covers world of Actor.Mutator sizes cells lists born may =
     main_covers world of sizes cells may
     (λ a coloured is_white. coloured (let rise = step_rises world of Actor.Mutator sizes a in
     let none : colour_of world a ≡ 0 = omega (arith, rise, is_white) in none))
-step_covers world of (Actor.Helper number) sizes cells lists born may = step_of_helper world number of sizes cells lists born may
+step_covers world of (Actor.Helper number) sizes cells lists born may =
+    step_of_helper world number of sizes cells lists born may
 step_covers world of Actor.Lends sizes cells lists born may = lend_covers world of
 step_covers world of (Actor.Returns number) sizes cells lists born may = step_of_return world number may
 

@@ -65,7 +65,8 @@ reached_black world sound drained at reached =
 -- a covered cell is reached
 pub covered_reached : (world : World) → HasLists world → IsDrained world → world.main.owed ≡ [] → (at : ℕ)
     → IsCovered world at → IsReached world at
-covered_reached world lists drained none at (inl coloured) = record { start = lists.coloured at coloured; coloured = coloured }
+covered_reached world lists drained none at (inl coloured) =
+    record { start = lists.coloured at coloured; coloured = coloured }
 covered_reached world lists drained none at (inr (inl owed)) = absurd (in_none world.main.owed at none owed)
 covered_reached world lists drained none at (inr (inr visit)) = absurd (none_to_visit world lists drained at visit)
 
@@ -94,8 +95,8 @@ all_reached : (world : World) → Sound world → Settled world → IsDrained wo
     → IsReached world at
 all_reached world sound settled drained _ (Reached.start at reached) = reached
 all_reached world sound settled drained _ (Reached.slot from at offset cell before reads there refers) =
-    next_reached world sound settled drained from at offset cell (all_reached world sound settled drained from before) reads
-    there refers
+    next_reached world sound settled drained from at offset cell
+    (all_reached world sound settled drained from before) reads there refers
 
 -- each old cell that is reached is black
 pub reached_is_black : (world : World) → Sound world → Settled world → IsDrained world → MarksAll world

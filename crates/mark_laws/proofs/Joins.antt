@@ -1,8 +1,8 @@
 -- Lists that others join keep what they have.
 use Rattle.std.proofs.Common.{ℕ, ◌+◌, ◌<◌, ◌≡◌, ◌≢◌, ◌==◌, ◌⊎◌, inl, inr, List, [], ◌∷◌}
 use Rattle.std.proofs.Common.{length, get_or, set, slice_get, Option, Some, None}
-use Rattle.std.proofs.Common.{All, Any, Contains, IfSome, IsSomeAnd, true, false, slice_index, eqb-true, eq-eqb, refl, sym}
-use Rattle.std.proofs.Common.{ap, subst, ◌∙◌, arith}
+use Rattle.std.proofs.Common.{All, Any, Contains, IfSome, IsSomeAnd, true, false, slice_index, eqb-true, eq-eqb, refl}
+use Rattle.std.proofs.Common.{sym, ap, subst, ◌∙◌, arith}
 use Rattle.std.proofs.lemmas.Bool.{cases_lt}
 use Rattle.std.proofs.lemmas.List.{get_or-set_same, get_or-set_other, length-set}
 use Rattle.std.proofs.lemmas.Option.{slice_get-get_or, slice_get_within}
@@ -48,8 +48,13 @@ all_there list (a ∷ rest) at c = elim (in_cases a rest at c) [
 any_other : (P : HelperView → Type 0) (views : List HelperView) (number : ℕ) (after : HelperView) (k : ℕ)
     (view : HelperView)
     → k < length views → get_or views k view ≡ view → P view → k ≢ number → Any P (set views number after)
-any_other P views number after k view l e holds other =
-    (k, view, omega (arith, length-set views number after, l), get_or-set_other views number k after view other ∙ e, holds)
+any_other P views number after k view l e holds other = (
+  k,
+  view,
+  omega (arith, length-set views number after, l),
+  get_or-set_other views number k after view other ∙ e,
+  holds,
+)
 
 -- the view that changes has a successor
 any_same : (P : HelperView → Type 0) (Q : Type 0) (views : List HelperView) (number : ℕ) (before after : HelperView)
@@ -72,8 +77,8 @@ any_same P Q views number before after there step k view l e holds same =
     ]
 
 -- one of some views is the one that changes, and then its successor is one, or something else holds; or it is another
-pub any_through : (P : HelperView → Type 0) (Q : Type 0) (views : List HelperView) (number : ℕ) (before after : HelperView)
-    → slice_get views number ≡ Some before → (P before → P after ⊎ Q) → Any P views
+pub any_through : (P : HelperView → Type 0) (Q : Type 0) (views : List HelperView) (number : ℕ)
+    (before after : HelperView) → slice_get views number ≡ Some before → (P before → P after ⊎ Q) → Any P views
     → Any P (set views number after) ⊎ Q
 any_through P Q views number before after there step (k, view, l, e, holds) = elim (cases_lt k number) [
   | inl below ↦ inl (any_other P views number after k view l e holds (λ same. absurd (omega (arith, same))))
@@ -92,11 +97,10 @@ of_get P views number view there each =
     let is : get_or views number view ≡ view = some_same (slice_get-get_or views number view within) there in
     subst P is (each number view within)
 
--- the view of a helper that there is
-pub view_there : (P : HelperView → Type 0) (o : Option HelperView) → IsSomeAnd o P → (view : HelperView)
-    × (o ≡ Some view) × P view
-view_there P None h = absurd h
-view_there P (Some view) h = (view, refl, h)
+-- where something is known of a value, there is one
+pub some_and : {X : Type 0} (P : X → Type 0) (o : Option X) → IsSomeAnd o P → (x : X) × (o ≡ Some x) × P x
+some_and P None h = absurd h
+some_and P (Some x) h = (x, refl, h)
 
 -- what holds of the target of a word holds of this target
 pub of_target : (old word at : ℕ) (P : ℕ → Type 0) → target old word ≡ Some at → OfTarget old word P → P at

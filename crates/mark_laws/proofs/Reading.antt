@@ -59,7 +59,8 @@ cell_stays words layouts start bound at word cell e apart =
       known = reads.known;
       is_layout = reads.is_layout;
       of_shape = reads.of_shape;
-      second = second_stays words start at word (has_length cell.layout.kind) (Some cell.length) apart.length reads.second;
+      second = second_stays words start at word (has_length cell.layout.kind) (Some cell.length) apart.length
+          reads.second;
       sized = reads.sized;
       ends = reads.ends;
       there = omega (arith, reads.there, length-set words at word);

@@ -21,14 +21,15 @@ use Rattle.mark_world.specs.declared.snap.Snap.{Snap}
 use Rattle.mark_world.specs.declared.views.HelperView.{HelperView}
 use Rattle.mark_world.specs.declared.views.MainView.{MainView}
 use Rattle.mark_world.specs.declared.world.World.{World}
-use Rattle.mark_world.specs.Steps.{actor, becomes, black, helper_learns, helper_spot, layout_spot, main_learns, main_spot}
+use Rattle.mark_world.specs.Steps.{actor, becomes, black, helper_learns, helper_spot, layout_spot, main_learns}
+use Rattle.mark_world.specs.Steps.{main_spot}
 use Rattle.mark_world.specs.Steps.{settled, shaded}
 use Rattle.mark_world.specs.Conditions.{MayHelper, MayMain}
 use Rattle.mark_world.specs.Moments.{after, after_helper, after_return, after_step, IsReached, MayStep, Possible}
 use Rattle.mark_world.specs.Moments.{PossibleStep, with_word, word_at}
 use Rattle.mark_world.specs.Soundness.{HasLists, HasSizes, HasViewLists}
 use Rattle.mark_laws.proofs.Colours.{each_colour}
-use Rattle.mark_laws.proofs.Joins.{of_get, view_there}
+use Rattle.mark_laws.proofs.Joins.{of_get, some_and}
 
 -- a word leaves the sizes right at a spot: a colour is one of three, and a word of the board is one of a board
 abbrev SizedSpot : Option Spot → ℕ → Type 0
@@ -42,6 +43,7 @@ with_word_sized : (world : World) (spot : Option Spot) (word : ℕ) → HasSizes
 with_word_sized world None word sizes fits = sizes
 with_word_sized world (Some (Spot.Heap at)) word sizes fits = record {
   pages = sizes.pages;
+  addresses = sizes.addresses;
   words = omega (arith, sizes.words, length-set world.words at word);
   colours = sizes.colours;
   three = sizes.three;
@@ -50,6 +52,7 @@ with_word_sized world (Some (Spot.Heap at)) word sizes fits = record {
 }
 with_word_sized world (Some (Spot.Layout shape)) word sizes fits = record {
   pages = sizes.pages;
+  addresses = sizes.addresses;
   words = sizes.words;
   colours = sizes.colours;
   three = sizes.three;
@@ -58,6 +61,7 @@ with_word_sized world (Some (Spot.Layout shape)) word sizes fits = record {
 }
 with_word_sized world (Some (Spot.Colour at)) word sizes fits = record {
   pages = sizes.pages;
+  addresses = sizes.addresses;
   words = sizes.words;
   colours = length-set world.colours at word ∙ sizes.colours;
   three = All-set (λ (colour : ℕ). colour ≤ black) world.colours at word fits sizes.three;
@@ -66,6 +70,7 @@ with_word_sized world (Some (Spot.Colour at)) word sizes fits = record {
 }
 with_word_sized world (Some (Spot.Board place)) word sizes fits = record {
   pages = sizes.pages;
+  addresses = sizes.addresses;
   words = sizes.words;
   colours = sizes.colours;
   three = sizes.three;
@@ -78,6 +83,7 @@ views_sized : (world : World) (main : MainView) (helpers : List HelperView) → 
     → HasSizes (record world { main = main; helpers = helpers })
 views_sized world main helpers sizes = record {
   pages = sizes.pages;
+  addresses = sizes.addresses;
   words = sizes.words;
   colours = sizes.colours;
   three = sizes.three;
@@ -94,42 +100,44 @@ settled_three : (colour : ℕ) → colour ≤ black → settled colour ≤ black
 settled_three colour three = grind (arith, nat_tests)
 
 -- a reached cell has an address of 32 bits
-pub reached_fits : (world : World) → HasSizes world → world.old < 2 ^ 32 → (at : ℕ) → IsReached world at → at < 2 ^ 32
-reached_fits world sizes small at reached = elim (cases_lt at (length world.colours)) [
-  | inl within ↦ omega (arith, sizes.colours)
+pub reached_fits : (world : World) → HasSizes world → (at : ℕ) → IsReached world at → at < 2 ^ 32
+reached_fits world sizes at reached = elim (cases_lt at (length world.colours)) [
+  | inl within ↦ omega (arith, sizes.colours, sizes.addresses)
   | inr past ↦ absurd (reached.coloured (get_or_past world.colours at 0 past))
 ]
 
 -- a word of the board to which a reached cell is given is one of a board
-given_sized : (world : World) → HasSizes world → world.old < 2 ^ 32 → (place at : ℕ) → place < board_words
+given_sized : (world : World) → HasSizes world → (place at : ℕ) → place < board_words
     → IsReached world at
     → IsBoardWord (becomes (event.GiveMain place at) (slice_index world.board place))
-given_sized world sizes small place at on_board reached =
-    given_is_board_word (slice_index world.board place) at (reached_fits world sizes small at reached)
+given_sized world sizes place at on_board reached =
+    given_is_board_word (slice_index world.board place) at (reached_fits world sizes at reached)
     (sizes.board.each place 0 (omega (arith, sizes.board.count)))
 
 -- a step of the mutator leaves the sizes right
-main_sized : (world : World) (of : Event) → HasSizes world → HasLists world → world.old < 2 ^ 32
+main_sized : (world : World) (of : Event) → HasSizes world → HasLists world
     → MayMain world.old world.words world.layouts world.main of
     → SizedSpot (main_spot of) (becomes of (word_at world (main_spot of)))
-main_sized world (event.ShadeMain at) sizes lists small may = shaded_three (slice_index world.colours at)
+main_sized world (event.ShadeMain at) sizes lists may = shaded_three (slice_index world.colours at)
     (each_colour world sizes at)
-main_sized world (event.Blacken at) sizes lists small may = omega arith
-main_sized world (event.NewBlack at) sizes lists small may = omega arith
-main_sized world (event.GiveMain place at) sizes lists small may =
-    given_sized world sizes small place at may.on_board (All-contains (IsReached world) world.main.grey at lists.main may.had)
-main_sized world (event.TakeMain place) sizes lists small may = inl refl
-main_sized world _ sizes lists small may = tt
+main_sized world (event.Blacken at) sizes lists may = omega arith
+main_sized world (event.NewBlack at) sizes lists may = omega arith
+main_sized world (event.GiveMain place at) sizes lists may =
+    given_sized world sizes place at may.on_board (All-contains (IsReached world) world.main.grey at lists.main may.had)
+main_sized world (event.TakeMain place) sizes lists may = inl refl
+main_sized world _ sizes lists may = tt
 
 -- the end of a snap leaves the sizes right
 settle_sized : (world : World) → HasSizes world → (snap : Option Snap)
     → SizedSpot (option_map (λ s. Spot.Colour s.cell) snap)
     (settled (word_at world (option_map (λ s. Spot.Colour s.cell) snap)))
 settle_sized world sizes None = tt
-settle_sized world sizes (Some snap) = settled_three (slice_index world.colours snap.cell) (each_colour world sizes snap.cell)
+settle_sized world sizes (Some snap) = settled_three (slice_index world.colours snap.cell)
+    (each_colour world sizes snap.cell)
 
 -- words of the heap and layout words have no part in them
-load_sized : (offset word : ℕ) (snap : Option Snap) → SizedSpot (option_map (λ s. Spot.Heap (s.cell + offset)) snap) word
+load_sized : (offset word : ℕ) (snap : Option Snap)
+    → SizedSpot (option_map (λ s. Spot.Heap (s.cell + offset)) snap) word
 load_sized offset word None = tt
 load_sized offset word (Some snap) = tt
 
@@ -145,28 +153,28 @@ layout_of_sized word (Some snap) = layout_sized word (header_in snap.header)
 
 -- nor does a step of a helper
 helper_sized : (world : World) (view : HelperView) (of : Event) → HasSizes world → HasViewLists world view
-    → world.old < 2 ^ 32
     → MayHelper view of → SizedSpot (helper_spot view of) (becomes of (word_at world (helper_spot view of)))
-helper_sized world view (event.ShadeHelper number at) sizes lists small may = shaded_three (slice_index world.colours at)
+helper_sized world view (event.ShadeHelper number at) sizes lists may = shaded_three (slice_index world.colours at)
     (each_colour world sizes at)
-helper_sized world view (event.Settle number) sizes lists small may = settle_sized world sizes view.snap
-helper_sized world view (event.Give number place at) sizes lists small may =
-    given_sized world sizes small place at may.on_board (All-contains (IsReached world) view.grey at lists.grey may.had)
-helper_sized world view (event.Take number place) sizes lists small may = inl refl
-helper_sized world view (event.LoadLayout number) sizes lists small may =
+helper_sized world view (event.Settle number) sizes lists may = settle_sized world sizes view.snap
+helper_sized world view (event.Give number place at) sizes lists may =
+    given_sized world sizes place at may.on_board (All-contains (IsReached world) view.grey at lists.grey may.had)
+helper_sized world view (event.Take number place) sizes lists may = inl refl
+helper_sized world view (event.LoadLayout number) sizes lists may =
     layout_of_sized (word_at world (option_and_then layout_spot view.snap)) view.snap
-helper_sized world view (event.LoadLength number) sizes lists small may =
-    load_sized length_offset (word_at world (option_map (λ (s : Snap). Spot.Heap (s.cell + length_offset)) view.snap)) view.snap
-helper_sized world view (event.LoadSlot number offset) sizes lists small may =
+helper_sized world view (event.LoadLength number) sizes lists may =
+    load_sized length_offset (word_at world (option_map (λ (s : Snap). Spot.Heap (s.cell + length_offset)) view.snap))
+    view.snap
+helper_sized world view (event.LoadSlot number offset) sizes lists may =
     load_sized offset (word_at world (option_map (λ (s : Snap). Spot.Heap (s.cell + offset)) view.snap)) view.snap
-helper_sized world view _ sizes lists small may = tt
+helper_sized world view _ sizes lists may = tt
 
 -- a step of a helper that may make it
-step_of_helper : (world : World) (number : ℕ) (of : Event) → HasSizes world → HasLists world → world.old < 2 ^ 32
+step_of_helper : (world : World) (number : ℕ) (of : Event) → HasSizes world → HasLists world
     → IsSomeAnd (slice_get world.helpers number) (MayStep world of)
     → HasSizes (after_helper world number of (slice_get world.helpers number))
-step_of_helper world number of sizes lists small may =
-    let v = view_there (MayStep world of) (slice_get world.helpers number) may in
+step_of_helper world number of sizes lists may =
+    let v = some_and (MayStep world of) (slice_get world.helpers number) may in
     let view : HelperView = v.0 in
     let has : HasViewLists world view = of_get (HasViewLists world) world.helpers number view v.1 lists.helpers in
     let spot : Option Spot = helper_spot view of in
@@ -174,7 +182,7 @@ step_of_helper world number of sizes lists small may =
     subst (λ (o : Option HelperView). HasSizes (after_helper world number of o)) (sym v.1)
     (views_sized (with_word world spot word) (with_word world spot word).main
     (slice_set world.helpers number (helper_learns world.old view of (word_at world spot)))
-    (with_word_sized world spot word sizes (helper_sized world view of sizes has small v.2.may)))
+    (with_word_sized world spot word sizes (helper_sized world view of sizes has v.2.may)))
 
 -- a seat that is taken back
 step_of_return : (world : World) (number : ℕ) → HasSizes world → (view : Option HelperView)
@@ -184,20 +192,21 @@ step_of_return world number sizes (Some view) =
     views_sized world (after_return world number (Some view)).main (after_return world number (Some view)).helpers sizes
 
 -- every step
-step_sized : (world : World) (of : Event) (by : Actor) → HasSizes world → HasLists world → world.old < 2 ^ 32
+pub step_sized : (world : World) (of : Event) (by : Actor) → HasSizes world → HasLists world
     → PossibleStep world of by → HasSizes (after_step world of by)
-step_sized world of Actor.Mutator sizes lists small may =
+step_sized world of Actor.Mutator sizes lists may =
     let spot : Option Spot = main_spot of in
     let word : ℕ = becomes of (word_at world spot) in
-    views_sized (with_word world spot word) (main_learns world.old world.words world.layouts world.main of (word_at world spot))
-    (with_word world spot word).helpers (with_word_sized world spot word sizes (main_sized world of sizes lists small may))
-step_sized world of (Actor.Helper number) sizes lists small may = step_of_helper world number of sizes lists small may
-step_sized world of Actor.Lends sizes lists small may =
+    views_sized (with_word world spot word)
+    (main_learns world.old world.words world.layouts world.main of (word_at world spot))
+    (with_word world spot word).helpers (with_word_sized world spot word sizes (main_sized world of sizes lists may))
+step_sized world of (Actor.Helper number) sizes lists may = step_of_helper world number of sizes lists may
+step_sized world of Actor.Lends sizes lists may =
     views_sized world world.main (after_step world of Actor.Lends).helpers sizes
-step_sized world of (Actor.Returns number) sizes lists small may = step_of_return world number sizes
+step_sized world of (Actor.Returns number) sizes lists may = step_of_return world number sizes
     (slice_get world.helpers number)
 
 -- a possible event leaves the sizes right
-pub sizes_stay : (world : World) (of : Event) → HasSizes world → HasLists world → world.old < 2 ^ 32
+pub sizes_stay : (world : World) (of : Event) → HasSizes world → HasLists world
     → Possible world of → HasSizes (after world of)
 sizes_stay world of = step_sized world of (actor of)

@@ -25,7 +25,7 @@ free_or_mine world at start = elim (decided (is_in world.main.mine at)) [
 ]
 
 -- an option that has a value is that value
-value_of : {X : Type 0} (o : Option X) → IsSome o → (x : X) × (o ≡ Some x)
+pub value_of : {X : Type 0} (o : Option X) → IsSome o → (x : X) × (o ≡ Some x)
 value_of None e = cc
 value_of (Some x) e = (x, refl)
 
@@ -41,7 +41,9 @@ read_old world at cell e =
 black_within : (colours : List ℕ) (at : ℕ) → slice_index colours at ≡ black → at < length colours
 black_within colours at is_black = elim (cases_lt at (length colours)) [
   | inl within ↦ within
-  | inr past ↦ let none : slice_index colours at ≡ 0 = get_or_past colours at 0 past in absurd (omega (arith, none, is_black))
+  | inr past ↦
+      let none : slice_index colours at ≡ 0 = get_or_past colours at 0 past in
+      absurd (omega (arith, none, is_black))
 ]
 
 -- a published cell is old

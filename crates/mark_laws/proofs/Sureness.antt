@@ -1,6 +1,7 @@
 -- What the mutator is sure of is covered, and stays so.
 use Rattle.std.proofs.Common.{ℕ, ◌+◌, ◌≡◌, ◌==◌, inl, inr, Bool, true, false, IsTrue, List, [], ◌∷◌, get_or}
-use Rattle.std.proofs.Common.{slice_index, slice_get, Option, Some, None, All, Contains, IfSome, suc, refl, sym, subst, arith}
+use Rattle.std.proofs.Common.{slice_index, slice_get, Option, Some, None, All, Contains, IfSome, suc, refl, sym}
+use Rattle.std.proofs.Common.{subst, arith}
 use Rattle.std.proofs.Common.{if◌then◌else◌, eqb-true}
 use Rattle.std.proofs.lemmas.List.Elements.{All-contains}
 use Rattle.tagged_word.specs.declared.reading.Reading.{Reading}
@@ -18,7 +19,8 @@ use Rattle.mark_world.specs.declared.world.World.{World}
 use Rattle.mark_world.specs.Pages.{is_free, slots_of, target, targets_joined}
 use Rattle.mark_world.specs.Steps.{actor, all_joined, becomes, black, free_slot_words, helper_spot, words_in_slots}
 use Rattle.mark_world.specs.Conditions.{MayMain}
-use Rattle.mark_world.specs.Moments.{after, after_helper, after_main, after_return, after_step, Possible, PossibleStep, word_at}
+use Rattle.mark_world.specs.Moments.{after, after_helper, after_main, after_return, after_step, Possible}
+use Rattle.mark_world.specs.Moments.{PossibleStep, word_at}
 use Rattle.mark_world.specs.Covering.{HasCovered, IsCovered, cell_of, colour_of}
 use Rattle.mark_world.specs.Soundness.{AreIn, HasBlack, HasCells, HasLists, HasSizes, HasSure}
 use Rattle.mark_world.specs.Lineage.{Born, HasBorn}
@@ -55,7 +57,8 @@ in_free world at word true free c = in_slots world at word free (cell_of world a
 in_free world at word false free c = in_none_of world at word c
 
 -- a word of the slots of a free start stands in one
-in_slot : (world : World) (at word : ℕ) → Contains (free_slot_words world.old world.words world.layouts world.main at) word
+in_slot : (world : World) (at word : ℕ)
+    → Contains (free_slot_words world.old world.words world.layouts world.main at) word
     → InSlot world at word
 in_slot world at word c = in_free world at word (is_free world.main at) refl c
 
@@ -80,19 +83,22 @@ target_covered : (world : World) (at : ℕ) → HasBlack world
     → ((a : ℕ) → IsCovered world a → IsCovered (after_main world (event.Blacken at)) a)
     → (to word : ℕ) → Contains (free_slot_words world.old world.words world.layouts world.main at) word
     → target world.old word ≡ Some to
-    → (was_black : Bool) → (colour_of world at == black) ≡ was_black → IsCovered (after_main world (event.Blacken at)) to
+    → (was_black : Bool) → (colour_of world at == black) ≡ was_black
+    → IsCovered (after_main world (event.Blacken at)) to
 target_covered world at is_covered keeps to word c refers true was =
     keeps to (slot_covered world is_covered at word to (eqb-true _ _ was) (in_slot world at word c) refers)
 target_covered world at is_covered keeps to word c refers false was =
     let words : List ℕ = free_slot_words world.old world.words world.layouts world.main at in
-    inr (inl (subst (λ (b : Bool). Contains (if b then world.main.owed else targets_joined world.old world.main.owed words)
+    inr (inl (subst (λ (b : Bool).
+    Contains (if b then world.main.owed else targets_joined world.old world.main.owed words)
     to) (sym was)
     (targets_there world.old world.main.owed words word to c refers)))
 
 -- targets that join born cells are born
 targets_born : (world : World) → Born world → (at : ℕ) → Contains world.main.born at → (list : List ℕ)
     → AreIn world.main.born list
-    → AreIn world.main.born (targets_joined world.old list (free_slot_words world.old world.words world.layouts world.main at))
+    → AreIn world.main.born
+    (targets_joined world.old list (free_slot_words world.old world.words world.layouts world.main at))
 targets_born world born at at_born list among =
     let words : List ℕ = free_slot_words world.old world.words world.layouts world.main at in
     all_from (Contains world.main.born) (targets_joined world.old list words)
@@ -120,7 +126,7 @@ target_joins P list None each there = each
 target_joins P list (Some new) each there = joined_all P list new each there
 
 -- a list of born cells, when more cells are born
-more_born : (born list : List ℕ) (new : ℕ) → AreIn born list → AreIn (joined born new) list
+pub more_born : (born list : List ℕ) (new : ℕ) → AreIn born list → AreIn (joined born new) list
 more_born born list new among = λ k d l. joined_keeps born new (get_or list k d) (among k d l)
 
 -- a step of the mutator
@@ -144,7 +150,8 @@ main_sure world (event.ShadeMain at) sizes cells sure is_covered born may keeps 
 main_sure world (event.Blacken at) sizes cells sure is_covered born may keeps =
     let words : List ℕ = free_slot_words world.old world.words world.layouts world.main at in
     record {
-      covered = all_from (IsCovered (after_main world (event.Blacken at))) (targets_joined world.old world.main.sure words)
+      covered = all_from (IsCovered (after_main world (event.Blacken at)))
+          (targets_joined world.old world.main.sure words)
           (λ to c. elim (targets_from world.old world.main.sure words to c) [
             | inl had ↦ keeps to (All-contains (IsCovered world) world.main.sure to sure.covered had)
             | inr new ↦ target_covered world at is_covered keeps to new.0 new.1 new.2 (colour_of world at == black) refl
@@ -204,13 +211,16 @@ step_sure : (world : World) (of : Event) (by : Actor) → HasSizes world → Has
     → HasSure world → HasBlack world
     → Born world → PossibleStep world of by → HasSure (after_step world of by)
 step_sure world of Actor.Mutator sizes cells lists sure is_covered born may =
-    main_sure world of sizes cells sure is_covered born may (step_covers world of Actor.Mutator sizes cells lists born may)
+    main_sure world of sizes cells sure is_covered born may
+    (step_covers world of Actor.Mutator sizes cells lists born may)
 step_sure world of (Actor.Helper number) sizes cells lists sure is_covered born may =
-    same_sure world (after_step world of (Actor.Helper number)) (helper_main world number of (slice_get world.helpers number))
+    same_sure world (after_step world of (Actor.Helper number))
+    (helper_main world number of (slice_get world.helpers number))
     sure
     (step_covers world of (Actor.Helper number) sizes cells lists born may)
 step_sure world of Actor.Lends sizes cells lists sure is_covered born may =
-    same_sure world (after_step world of Actor.Lends) refl sure (step_covers world of Actor.Lends sizes cells lists born may)
+    same_sure world (after_step world of Actor.Lends) refl sure
+    (step_covers world of Actor.Lends sizes cells lists born may)
 step_sure world of (Actor.Returns number) sizes cells lists sure is_covered born may =
     return_sure world number (slice_get world.helpers number) sure
     (λ v there. of_get (λ (w : HelperView). AreIn world.main.born w.visit) world.helpers number v there born.visits)

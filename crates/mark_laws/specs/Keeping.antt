@@ -1,16 +1,17 @@
--- What is covered stays covered, and what the mutator is sure of is.
+-- What is covered stays covered, and so do the tagged slots of black cells, and what the mutator is sure of.
 use Rattle.std.specs.Prelude.{ℕ}
 use Rattle.mark_world.specs.declared.event.Event.{Event}
 use Rattle.mark_world.specs.declared.world.World.{World}
 use Rattle.mark_world.specs.Moments.{after, Possible}
 use Rattle.mark_world.specs.Covering.{IsCovered}
-use Rattle.mark_world.specs.Soundness.{HasBlack, HasCells, HasLists, HasSizes, HasSure}
+use Rattle.mark_world.specs.Soundness.{HasBlack, HasCells, HasLists, HasSizes, HasSnaps, HasSure}
 use Rattle.mark_world.specs.Lineage.{Born}
 
 -- a cell that is covered is covered after each possible event
 abbrev pub CoveredStays : Type 0
 CoveredStays =
-    (world : World) (event : Event) → HasSizes world → HasCells world → HasLists world → Born world → Possible world event
+    (world : World) (event : Event) → HasSizes world → HasCells world → HasLists world → Born world
+    → Possible world event
     → (at : ℕ) → IsCovered world at → IsCovered (after world event) at
 
 -- after each possible event the mutator is sure only of what is covered, and that and what it owes is born
@@ -18,3 +19,9 @@ abbrev pub SureStays : Type 0
 SureStays =
     (world : World) (event : Event) → HasSizes world → HasCells world → HasLists world → HasSure world → HasBlack world
     → Born world → Possible world event → HasSure (after world event)
+
+-- after each possible event the tagged slots of black free starts are covered
+abbrev pub BlackStays : Type 0
+BlackStays =
+    (world : World) (event : Event) → HasSizes world → HasCells world → HasLists world → HasSure world → HasBlack world
+    → HasSnaps world → Born world → Possible world event → HasBlack (after world event)

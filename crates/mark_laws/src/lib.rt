@@ -4,10 +4,18 @@
 //! Invariant: none of its own.
 #![tactic(auto)]
 
+mod births;
 mod ends;
 mod keeping;
+mod runs;
+mod snapshots;
+mod soundness;
 mod steadiness;
 
+pub use births::laws_of_births;
 pub use ends::laws_of_ends;
 pub use keeping::laws_of_covering;
+pub use runs::laws_of_runs;
+pub use snapshots::laws_of_snapshots;
+pub use soundness::laws_of_soundness;
 pub use steadiness::{laws_of_cells, laws_of_steadiness};

@@ -1,11 +1,12 @@
 //! What stays through every event, and what only rises.
-ghost use Rattle.mark_laws.specs.Cells.{StoresKeepCells, CellsStay};
-ghost use Rattle.mark_laws.specs.Steadiness.{ColoursRise, SizesStay, ListsStay, GreysWait};
+ghost use Rattle.mark_laws.specs.Cells.{StoresKeepCells, CellsStay, HeadersKeepSizes, NoStartTurnsFree};
+ghost use Rattle.mark_laws.specs.Steadiness.{ColoursRise, SizesStay, CellsHold, ListsStay, GreysWait};
 
 /// What every event leaves, and where it goes one way.
 pub fn laws_of_steadiness()
     ensures rise { ColoursRise }
     ensures sizes { SizesStay }
+    ensures cells { CellsHold }
     ensures lists { ListsStay }
     ensures grey { GreysWait }
 {}
@@ -14,4 +15,6 @@ pub fn laws_of_steadiness()
 pub fn laws_of_cells()
     ensures store { StoresKeepCells }
     ensures stay { CellsStay }
+    ensures headers { HeadersKeepSizes }
+    ensures free { NoStartTurnsFree }
 {}

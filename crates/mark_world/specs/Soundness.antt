@@ -1,5 +1,5 @@
 -- The tri-colour invariant beside a mutator that changes the shapes of cells.
-use Rattle.std.specs.Prelude.{◌≡◌, ◌≢◌, ℕ, ◌+◌, ◌%◌, ◌≤◌, ◌⊎◌, false, IsTrue, List, [], All, Any, Contains}
+use Rattle.std.specs.Prelude.{◌≡◌, ◌≢◌, ℕ, ◌+◌, ◌%◌, ◌^◌, ◌<◌, ◌≤◌, ◌⊎◌, false, IsTrue, List, [], All, Any, Contains}
 use Rattle.std.specs.Prelude.{length, slice_get, slice_index, Some, None, IsSome, IfSome, IsSomeAnd}
 use Rattle.tagged_word.specs.Cells.{length_offset, marks_by_length}
 use Rattle.tagged_word.specs.Readings.{header_in, reference_in}
@@ -20,10 +20,11 @@ use Rattle.mark_world.specs.Covering.{EachSlot, HasCovered, IsCovered, cell_of, 
 abbrev pub AreIn : List ℕ → List ℕ → Type 0
 AreIn other list = All (λ at. Contains other at) list
 
--- Sizes: the words begin with whole pages. Each word of them has a colour, one of three. The board is one, and there is a
--- layout word for each shape.
+-- Sizes: the words begin with whole pages, of which an address has 32 bits. Each word of them has a colour, one of three.
+-- The board is one, and there is a layout word for each shape.
 pub record HasSizes (world : World) : Type 0 where
   pub pages : world.old % page_words ≡ 0
+  pub addresses : world.old < 2 ^ 32
   pub words : world.old ≤ length world.words
   pub colours : length world.colours ≡ world.old
   pub three : All (λ colour. colour ≤ black) world.colours

@@ -1,5 +1,6 @@
 -- `push` and `put` are carried out as the calls on elements say.
-use Rattle.std.proofs.Common.{◌≡◌, ℕ, ◌<◌, List, [], ◌∷◌, ◌++◌, Ok, Err, Some, refl, sym, ◌∙◌, ap, subst, ℤ}
+use Rattle.std.proofs.Common.{◌≡◌, ℕ, ◌<◌, List, [], ◌∷◌, ◌++◌, Ok, Err, Some, refl, sym, ◌∙◌, ap}
+use Rattle.std.proofs.Common.{subst, ℤ}
 use Rattle.std.specs.Prelude.{slice_set}
 use Rattle.std.specs.FinMap.{get}
 use Rattle.heap_command.specs.declared.command.Operand.{Operand}
@@ -95,7 +96,7 @@ push_carried {main} {new} {graph} {x} {at} {v} names putting pushed =
       subst (UsesMore main new) need pushed.uses,
       keeps_push x at v
           (root_refers x at list.number putting.shows putting.below putting.known.bound putting.stands.place
-          putting.stands.reached) pushed.stores,
+          putting.stands.reached) pushed.changes,
     )
 
 -- and one that was not
@@ -140,7 +141,7 @@ put_carried {main} {new} {graph} {x} {at} {v} names i n putting below index puts
       has_put.shows,
       subst (HasRoom main.young) need has_put.room,
       subst (UsesMore main new) need has_put.uses,
-      keeps_as_many (Put x i v) at (λ other. refl) has_put.stores,
+      keeps_as_many (Put x i v) at (λ other. refl) has_put.changes,
     )
 
 -- and one that was not

@@ -101,7 +101,7 @@ set_carried {main} {new} {graph} {x} {at} {v} names f setting sets =
       subst (UsesMore main new) need sets.uses,
       keeps_set x f at v
           (root_refers x at setting.plain.number setting.shows setting.below setting.known.bound setting.stands.place
-          setting.stands.reached) sets.stores,
+          setting.stands.reached) sets.changes,
     )
 
 -- and one that was not

@@ -96,7 +96,7 @@ taken_by {main} {new} {graph} {x} {at} names f None taking is taken =
       shows_still (taken.none is) taking.shows,
       room_for_none taking.shows,
       taken.uses,
-      keeps_as_many (Del x f) at (λ other. refl) taken.stores,
+      keeps_as_many (Del x f) at (λ other. refl) taken.changes,
     )
 taken_by {main} {new} {graph} {x} {at} names f (Some value) taking is taken =
     let plain = taking.plain in
@@ -108,7 +108,7 @@ taken_by {main} {new} {graph} {x} {at} names f (Some value) taking is taken =
       taken.shows.shows,
       room_for_none taking.shows,
       taken.uses,
-      keeps_as_many (Del x f) at (λ other. refl) taken.stores,
+      keeps_as_many (Del x f) at (λ other. refl) taken.changes,
     )
 
 -- a field that was taken out, or was not there

@@ -1,13 +1,13 @@
 -- How many slots the property stores of objects have after each command.
 use Rattle.std.proofs.Common.{◌≡◌, ℕ, suc, ◌<◌, ◌==◌, true, false, List, [], inl, inr, Some, cond}
-use Rattle.std.proofs.Common.{refl, sym, ◌∙◌, ap, subst, arith, eq-eqb}
+use Rattle.std.proofs.Common.{sym, ◌∙◌, ap, subst, arith, eq-eqb}
 use Rattle.std.proofs.lemmas.Bool.{cases_eq}
 use Rattle.std.proofs.lemmas.Bool.Decides.{nat_tests}
 use Rattle.tagged_word.specs.Cells.{store_slot}
 use Rattle.tagged_word.specs.Readings.{reference_in}
 use Rattle.tagged_word.proofs.Members.{one_in, first_in}
 use Rattle.heap_command.specs.declared.command.Command.{Command}
-use Rattle.heap_command.specs.declared.command.Command.TheVariants.{Set, Push}
+use Rattle.heap_command.specs.declared.command.Command.TheVariants.{Set, Push, Shift, Trunc, WPut}
 use Rattle.heap_command.specs.declared.command.Operand.{Operand}
 use Rattle.cell_layout.specs.declared.cell.Cell.{Cell}
 use Rattle.handle_roots.specs.declared.held.Held.{Held}
@@ -16,17 +16,20 @@ use Rattle.heap_model.specs.Heaps.{Heap, words_of_cell}
 use Rattle.heap_model.specs.Slots.{undefined_word, IsPlace}
 use Rattle.heap_model.specs.Kinds.{HasWord}
 use Rattle.heap_model.specs.Wholeness.{Whole}
-use Rattle.heap_model.specs.Needs.{word_at, capacity_at}
+use Rattle.heap_model.specs.Needs.{word_at, capacity_at, element_of, key_of}
 use Rattle.heap_model.specs.Laws.{bound}
 use Rattle.heap_model.proofs.BoundHeaps.{none_in, bound_moves}
 use Rattle.heap_model.proofs.Fates.{CellsMove, cells_move, places_stay}
 use Rattle.heap_model.proofs.PlacesBefore.{place_before}
 use Rattle.write_barrier.specs.Mains.{Mutator, heap_of}
-use Rattle.object_cells.specs.Capacities.{CapacitiesBecome, set_capacity_at}
+use Rattle.object_cells.specs.Capacities.{ChangesObject, set_capacity_at}
 use Rattle.object_cells.proofs.CellsRead.{word_stands}
 use Rattle.object_cells.proofs.KeptCapacities.{kept_where_none_went, capacity_of_none}
 use Rattle.list_store.specs.Growth.{push_capacity_at}
-use Rattle.mutator.specs.Capacities.{KeepsStores, capacity_set, capacity_pushed, capacity_after}
+use Rattle.array_trim.specs.Trims.{shifted_capacity_at, truncated_capacity_at}
+use Rattle.ephemeron_table.specs.Growth.{put_capacity_at}
+use Rattle.mutator.specs.Capacities.{KeepsStores, capacity_set, capacity_pushed, capacity_shifted, capacity_truncated}
+use Rattle.mutator.specs.Capacities.{capacity_after, capacity_entered}
 use Rattle.mutator.proofs.NewCells.{NewCell, cell_of, IsFresh}
 use Rattle.mutator.proofs.PutCells.{next_at, IsPutCell}
 
@@ -68,7 +71,7 @@ keeps_bound {heap} command x one below whole keeps = record {
 
 -- so it is where an object keeps its own
 pub keeps_as_many : {old new : Heap} (command : Command) (at : ℕ) → KeepsCapacities old command
-    → CapacitiesBecome old new at (capacity_at old at) → KeepsStores old new command
+    → ChangesObject old new at (capacity_at old at) → KeepsStores old new command
 keeps_as_many {old} {new} command at keeps stores = record {
   stood = λ number other place.
       elim (cases_eq other at) [
@@ -86,7 +89,7 @@ KeepsOthers heap command at capacity =
 
 -- and where it comes to have that
 keeps_others : {old new : Heap} (command : Command) (at : ℕ) (capacity : ℕ → ℕ)
-    → KeepsOthers old command at capacity → CapacitiesBecome old new at (capacity at) → KeepsStores old new command
+    → KeepsOthers old command at capacity → ChangesObject old new at (capacity at) → KeepsStores old new command
 keeps_others {old} {new} command at capacity by_root stores = record {
   stood = λ number other place.
       let set : ℕ = capacity other in
@@ -106,17 +109,44 @@ keeps_others {old} {new} command at capacity by_root stores = record {
 
 -- a field was set of the object to which the variable's root refers
 pub keeps_set : {old new : Heap} (x name at : ℕ) (v : Operand) → reference_in (word_at old (root_at old.space x)) ≡ Some at
-    → CapacitiesBecome old new at (set_capacity_at old at name) → KeepsStores old new (Set x name v)
+    → ChangesObject old new at (set_capacity_at old at name) → KeepsStores old new (Set x name v)
 keeps_set {old} x name at v refers stores =
     keeps_others (Set x name v) at (λ other. set_capacity_at old other name)
     (λ other. ap (λ found. capacity_set old found name other) refers) stores
 
 -- an element was pushed to the list to which it refers
 pub keeps_push : {old new : Heap} (x at : ℕ) (v : Operand) → reference_in (word_at old (root_at old.space x)) ≡ Some at
-    → CapacitiesBecome old new at (push_capacity_at old at) → KeepsStores old new (Push x v)
+    → ChangesObject old new at (push_capacity_at old at) → KeepsStores old new (Push x v)
 keeps_push {old} x at v refers stores =
     keeps_others (Push x v) at (push_capacity_at old)
     (λ other. ap (λ found. capacity_pushed old found other) refers) stores
+
+-- the first elements, so many, went of the list to which it refers
+pub keeps_shift : {old new : Heap} (x at gone : ℕ) (n : Operand)
+    → reference_in (word_at old (root_at old.space x)) ≡ Some at → element_of old n ≡ gone
+    → ChangesObject old new at (shifted_capacity_at old at gone) → KeepsStores old new (Shift x n)
+keeps_shift {old} x at gone n refers told stores =
+    keeps_others (Shift x n) at (λ other. shifted_capacity_at old other gone)
+    (λ other. ap (λ found. capacity_shifted old found (element_of old n) other) refers
+    ∙ ap (λ count. capacity_shifted old (Some at) count other) told) stores
+
+-- the first elements alone, so many, stayed of the list to which it refers
+pub keeps_trunc : {old new : Heap} (x at kept : ℕ) (n : Operand)
+    → reference_in (word_at old (root_at old.space x)) ≡ Some at → element_of old n ≡ kept
+    → ChangesObject old new at (truncated_capacity_at old at kept) → KeepsStores old new (Trunc x n)
+keeps_trunc {old} x at kept n refers told stores =
+    keeps_others (Trunc x n) at (λ other. truncated_capacity_at old other kept)
+    (λ other. ap (λ found. capacity_truncated old found (element_of old n) other) refers
+    ∙ ap (λ count. capacity_truncated old (Some at) count other) told) stores
+
+-- the entry of a key word was put in the weak map to which it refers
+pub keeps_wput : {old new : Heap} (m at key : ℕ) (k v : Operand)
+    → reference_in (word_at old (root_at old.space m)) ≡ Some at → key_of old k ≡ key
+    → ChangesObject old new at (put_capacity_at old at key) → KeepsStores old new (WPut m k v)
+keeps_wput {old} m at key k v refers told stores =
+    keeps_others (WPut m k v) at (λ other. put_capacity_at old other key)
+    (λ other. ap (λ found. capacity_entered old found (key_of old k) other) refers
+    ∙ ap (λ word. capacity_entered old (Some at) word other) told) stores
 
 -- a cell that was put has no store
 put_has_none : {heap now : Heap} {one : NewCell} → IsFresh one → IsPutCell heap now one

@@ -1,9 +1,10 @@
 -- What a call leaves, however it ends.
-use Rattle.std.proofs.Common.{◌≡◌, ℕ, ◌+◌, List, [], ◌∷◌, length, Result, Ok, Err, refl, sym, ◌∙◌, ap, subst, arith, length-append}
+use Rattle.std.proofs.Common.{◌≡◌, ℕ, ◌+◌, List, [], ◌∷◌, length, Result, Ok, Err, refl, sym, ◌∙◌, ap}
+use Rattle.std.proofs.Common.{subst, arith, length-append}
 use Rattle.heap_command.specs.declared.command.Command.{Command}
-use Rattle.heap_command.specs.declared.command.Command.TheVariants.{New, List as NewList}
+use Rattle.heap_command.specs.declared.command.Command.TheVariants.{New, List as NewList, Weak as NewWeak}
 use Rattle.object_graph.specs.declared.object.Object.{Object}
-use Rattle.object_graph.specs.declared.object.Object.TheVariants.{Plain, List as ListOf}
+use Rattle.object_graph.specs.declared.object.Object.TheVariants.{Plain, List as ListOf, Weak}
 use Rattle.object_graph.specs.Graphs.{Graph, make}
 use Rattle.object_graph.specs.Meaning.{Outcome, done, fault, does}
 use Rattle.object_graph.specs.Limits.{ideal_limits}
@@ -78,3 +79,9 @@ pub makes_list : (old new : Mutator) (graph : Graph) (x count : ℕ) (result : U
     → Carries [] old new graph (NewList x) [] (Ok result) → Makes old new (count + 1)
 makes_list old new graph x count result counted carries =
     makes_one old new graph (NewList x) x count (ListOf []) result refl counted carries
+
+-- and `weak`
+pub makes_weak : (old new : Mutator) (graph : Graph) (x count : ℕ) (result : Unit {0}) → count ≡ length graph.objects
+    → Carries [] old new graph (NewWeak x) [] (Ok result) → Makes old new (count + 1)
+makes_weak old new graph x count result counted carries =
+    makes_one old new graph (NewWeak x) x count (Weak []) result refl counted carries

@@ -26,4 +26,11 @@ pub mod ListsAt
 pub mod ListMeanings
 pub mod ListNeeds
 pub mod ElementsSet
+pub mod TrimMeanings
+pub mod ElementsTrimmed
+pub mod EmptyWeaks
+pub mod WeakMapsAt
+pub mod WeakMeanings
+pub mod WeakNeeds
+pub mod EntriesSet
 mod KeptStores

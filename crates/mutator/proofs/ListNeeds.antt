@@ -1,5 +1,6 @@
 -- How many words `push` and `put` need is told by the roots, as by the list and the values that they show.
-use Rattle.std.proofs.Common.{◌≡◌, ℕ, ◌+◌, ◌/◌, ◌<◌, ◌≤◌, suc, true, false, cond, ◌&&◌, List, length, Some, None, refl}
+use Rattle.std.proofs.Common.{◌≡◌, ℕ, ◌+◌, ◌/◌, ◌<◌, ◌≤◌, suc, true, false, cond, ◌&&◌, List}
+use Rattle.std.proofs.Common.{length, Some, None}
 use Rattle.std.proofs.Common.{sym, ◌∙◌, ap, subst, arith, inl, inr, eq-eqb, nat_le, nat_lt}
 use Rattle.std.specs.Prelude.{Option, ℤ, pos, negsuc, unwrap_or}
 use Rattle.std.specs.FinMap.{get}
@@ -21,7 +22,7 @@ use Rattle.object_graph.specs.Meaning.{list_most, below}
 use Rattle.cell_layout.specs.declared.cell.Cell.{Cell}
 use Rattle.handle_roots.specs.declared.held.Held.{Held}
 use Rattle.handle_roots.specs.declared.held.Held.TheVariants as held
-use Rattle.handle_roots.specs.Roots.{root_at, first_of, first_word}
+use Rattle.handle_roots.specs.Roots.{first_of, first_word}
 use Rattle.heap_model.specs.Heaps.{Heap, HasCell}
 use Rattle.heap_model.specs.Kinds.{count_offset}
 use Rattle.heap_model.specs.Needs.{word_at, shape_at, count_at, is_list_at, is_wide_operand, number_of, element_of}
@@ -47,6 +48,7 @@ record HasListCell (heap : Heap) (at : ℕ) (list : ListObject) : Type 0 where
   stands : cell.at ≡ at
   shows : ShowsList heap cell words list.elements
 
+-- it stands there where the heap shows the list
 list_cell : {main : Mutator} {graph : Graph} (at : ℕ) (list : ListObject) → MainShows main graph
     → IsListAt main graph at list → HasListCell (heap_of main) at list
 list_cell at list shows is =
@@ -79,7 +81,7 @@ count_told {main} at list shows is =
     (word_stands count_offset (length list.elements) found.has found.shows.counted)
 
 -- and no more than there may be
-few_elements : {main : Mutator} {graph : Graph} (at : ℕ) (list : ListObject) → MainShows main graph
+pub few_elements : {main : Mutator} {graph : Graph} (at : ℕ) (list : ListObject) → MainShows main graph
     → IsListAt main graph at list → length list.elements ≤ list_most
 few_elements {graph = graph} at list shows is =
     let count : ℕ = length graph.objects in
@@ -105,7 +107,8 @@ pub record IsPlaceNumber (count : ℕ) (n : ℤ) (place : ℕ) : Type 0 where
   pub is : n ≡ pos place
   pub within : place < count
 
-place_number : (count : ℕ) (n : ℤ) (place : ℕ) → below count n ≡ Some place → IsPlaceNumber count n place
+-- so it is, if it names one
+pub place_number : (count : ℕ) (n : ℤ) (place : ℕ) → below count n ≡ Some place → IsPlaceNumber count n place
 place_number count (pos m) place is = elim (cases_lt m count) [
   | inl within ↦
       let test : nat_le (suc m) count ≡ true = grind (arith, nat_tests) in
@@ -140,7 +143,7 @@ half_by_kind heap (held.Ref at) Undefined place is integer few = absurd is
 half_by_kind heap (held.Ref at) (Ref number) place is integer few = absurd (none-some (pos place) integer)
 
 -- which element an operand stands for is told by its root word
-element_told : {main : Mutator} {graph : Graph} (i : Operand) (value : Value) (place : ℕ) → MainShows main graph
+pub element_told : {main : Mutator} {graph : Graph} (i : Operand) (value : Value) (place : ℕ) → MainShows main graph
     → NamesBelow main.seat.space.variables i → value_of graph i ≡ Some value → integer_in value ≡ Some (pos place)
     → place ≤ list_most → element_of (heap_of main) i ≡ place
 element_told (operand.Int v) value place shows known is integer few =

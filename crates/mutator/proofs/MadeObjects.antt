@@ -1,10 +1,12 @@
 -- A heap in which an object was made and bound shows the graph in which it is.
-use Rattle.std.proofs.Common.{◌≡◌, ℕ, ◌+◌, ◌<◌, ◌≤◌, ◌^◌, List, [], length, Ok, refl, sym, ◌∙◌, ap, subst}
+use Rattle.std.proofs.Common.{◌≡◌, ℕ, ◌+◌, ◌<◌, ◌≤◌, ◌^◌, List, [], length, Ok, slice_get, sym}
+use Rattle.std.proofs.Common.{◌∙◌, ap, subst}
 use Rattle.std.proofs.Common.{arith, inl, inr}
 use Rattle.heap_command.specs.declared.command.Command.{Command}
 use Rattle.tagged_word.specs.declared.header.Header.{Header}
 use Rattle.tagged_word.specs.Headers.{IsHeader}
-use Rattle.tagged_word.specs.Shapes.{list_shape}
+use Rattle.tagged_word.specs.Shapes.{list_shape, weak_shape}
+use Rattle.tagged_word.proofs.Members.{first_in}
 use Rattle.object_graph.specs.declared.object.Object.{Object}
 use Rattle.object_graph.specs.declared.object.Object.TheVariants.{Plain, Weak, List as ListOf}
 use Rattle.object_graph.specs.Graphs.{Graph, make}
@@ -23,12 +25,18 @@ use Rattle.heap_table.specs.declared.phase.Phase.TheVariants.{Quiet}
 use Rattle.heap_table.specs.Seats.{heap_words}
 use Rattle.shape_tree.specs.Shapes.{IsShapeOf}
 use Rattle.shape_tree.specs.ShapeLayouts.{layout_word}
-use Rattle.heap_model.specs.Heaps.{Heap, words_of_cell}
+use Rattle.cell_layout.specs.declared.cell.Cell.{Cell}
+use Rattle.heap_model.specs.Heaps.{Heap, HasCell, words_of_cell}
+use Rattle.heap_model.specs.Counting.{CountsEntries}
+use Rattle.heap_model.specs.Kinds.{count_offset}
 use Rattle.heap_model.specs.Needs.{need_of}
 use Rattle.heap_model.specs.Wholeness.{HasSizes}
 use Rattle.heap_model.specs.Showing.{Shows, ShowsObject}
 use Rattle.heap_model.specs.Laws.{IsNoEntryKey, ReachesOneMore, bound}
 use Rattle.heap_model.proofs.SlotWords.{All-slice_get}
+use Rattle.heap_model.proofs.ShownObjects.{object_of_shown}
+use Rattle.heap_model.proofs.CountsStay.{HasCountOf, counts_made}
+use Rattle.heap_model.proofs.BoundHeaps.{none_in, bound_moves}
 use Rattle.heap_model.proofs.NewObjects.{new_objects_show}
 use Rattle.write_barrier.specs.Mains.{Mutator, heap_of, IsTied, MainShows, reserved, with_table, with_variable}
 use Rattle.write_barrier.specs.Values.{with_range}
@@ -39,6 +47,7 @@ use Rattle.mutator.proofs.NewCells.{NewCell, cell_of}
 use Rattle.mutator.proofs.EmptyCells.{no_fields, plain_cell, plain_fresh, plain_laid, IsEmptyCell, empty_is_sound}
 use Rattle.mutator.proofs.EmptyCells.{empty_shows}
 use Rattle.mutator.proofs.EmptyLists.{list_cell, list_fresh, list_is_sound, list_shows}
+use Rattle.mutator.proofs.EmptyWeaks.{weak_cell, weak_fresh, weak_is_sound, weak_shows}
 use Rattle.mutator.proofs.KeptStores.{KeepsCapacities, keeps_made}
 use Rattle.mutator.proofs.PutCells.{next_at, with_cell, with_cell_words, HasRoomFor, IsSoundThere, with_cell_put}
 use Rattle.mutator.proofs.Rebinding.{HoldsAnew, heap_bound}
@@ -123,6 +132,7 @@ pub record IsMade (heap : Heap) (graph : Graph) (x : ℕ) (one : NewCell) (what 
   pub sound : IsSoundThere heap one
   pub shows : let cell = cell_of (next_at heap) one in
       ShowsObject (with_cell heap one) (reach (make graph x what)) cell (words_of_cell (with_cell heap one) cell) what
+  pub counts : HasCountOf (words_of_cell (with_cell heap one) (cell_of (next_at heap) one)) what
   pub carries : one.header.object ≡ length graph.objects
 
 -- so it shows the graph in which the object is made
@@ -142,6 +152,25 @@ made_shows {old} {mid} {filled} {new} {graph} {command} {x} {at} {one} {what} sh
     (reaches_one_more shows.is_graph making) in
     subst (λ h. Shows h (make graph x what)) (sym (bound_heap shows.tied makes)) shown
 
+-- and weak maps count their entries: a cell that stood stands
+made_counts : {old mid filled new : Mutator} {graph : Graph} {command : Command} {x at : ℕ} {one : NewCell}
+    {what : Object} → MainShows old graph → IsMaking (heap_of old) graph command x one.size what
+    → MakesObject old mid filled new x at one → IsMade (heap_of old) graph x one what → x < old.seat.space.variables
+    → Shows (heap_of new) (make graph x what) → CountsEntries (heap_of new) (make graph x what)
+made_counts {old} {new = new} {graph} {x = x} {one = one} {what} shows making makes made below shown =
+    let heap : Heap = heap_of old in
+    let now : Heap = with_cell heap one in
+    let cell : Cell = cell_of (next_at heap) one in
+    let words : List ℕ = words_of_cell now cell in
+    let put = with_cell_put shows.shows.whole made.fits made.sound in
+    let stands : (other : Cell) (others : List ℕ) → HasCell now other others → HasCell (heap_of new) other others =
+    λ other others has. subst (λ h. HasCell h other others) (sym (bound_heap shows.tied makes))
+    ((bound_moves now x (held.Ref (next_at heap)) below put.whole).cells.kept other others has (none_in other)) in
+    counts_made x what shows.shows shown shows.counts (reaches_one_more shows.is_graph making)
+    (λ other others has. stands other others (put.cells.kept other others has (none_in other)))
+    (stands cell words (put.cells.comes cell (first_in cell [])))
+    (object_of_shown now (reach (make graph x what)) cell words what made.shows) made.carries made.counts
+
 -- and the command is carried out
 pub making_carried : {old mid filled new : Mutator} {graph : Graph} {command : Command} {x at : ℕ} {one : NewCell}
     {what : Object} (names : List (List ℕ)) → MainShows old graph
@@ -151,12 +180,14 @@ pub making_carried : {old mid filled new : Mutator} {graph : Graph} {command : C
 making_carried {old} {new = new} {graph} {command} {x} {at} {one} {what} names shows making makes made small below room =
     let after : Graph = make graph x what in
     let whole = made_is makes in
+    let shown = made_shows shows making makes made small below in
     let main : MainShows new after = record {
       tied = subst IsTied (sym whole) shows.tied;
       is_graph = graphs_stay ideal_limits names graph command
           after [] ideal_field_limit making.fits (making.done names) shows.is_graph;
       quiet = subst (λ (now : Mutator). now.seat.phase ≡ Quiet) (sym whole) shows.quiet;
-      shows = made_shows shows making makes made small below;
+      shows = shown;
+      counts = made_counts shows making makes made below shown;
     } in
     let uses : UsesMore old new one.size = record {
       space = ap (λ (now : Mutator). now.seat.space) whole;
@@ -189,7 +220,7 @@ plain_made {heap} {header = header} {cap} x sized is_header few shaped room carr
     } in
     let is : IsEmptyCell (with_cell heap (plain_cell header cap)) (next_at heap) header cap =
     record { shaped = shaped; words = with_cell_words fits } in
-    record { fits = fits; sound = empty_is_sound is; shows = empty_shows is; carries = carries }
+    record { fits = fits; sound = empty_is_sound is; shows = empty_shows is; counts = tt; carries = carries }
 
 -- and so is that of a list without elements
 pub list_made : {heap : Heap} {graph : Graph} {header : Header} (x : ℕ) → HasSizes heap → IsHeader header
@@ -208,5 +239,27 @@ list_made {heap} {header = header} x sized is_header shape room carries =
       fits = fits;
       sound = list_is_sound (next_at heap) header words;
       shows = list_shows (next_at heap) header words;
+      counts = tt;
+      carries = carries;
+    }
+
+-- and that of a weak map without entries
+pub weak_made : {heap : Heap} {graph : Graph} {header : Header} (x : ℕ) → HasSizes heap → IsHeader header
+    → header.shape ≡ weak_shape → heap.survivors + heap.used + 3 ≤ heap.space.sizes.young
+    → header.object ≡ length graph.objects → IsMade heap graph x (weak_cell header) (Weak [])
+weak_made {heap} {graph} {header} x sized is_header shape room carries =
+    let fits : HasRoomFor heap (weak_cell header) = record {
+      sized = sized;
+      fresh = weak_fresh header is_header;
+      known = omega (arith, shape);
+      laid = ap (layout_word heap.paths) shape;
+      room = room;
+    } in
+    let words = with_cell_words fits in
+    record {
+      fits = fits;
+      sound = weak_is_sound (next_at heap) header words;
+      shows = weak_shows (reach (make graph x (Weak []))) (next_at heap) header words;
+      counts = ap (λ (all : List ℕ). slice_get all count_offset) words;
       carries = carries;
     }

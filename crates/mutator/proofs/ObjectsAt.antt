@@ -1,5 +1,6 @@
 -- Objects by their addresses: the cell that stands there, and what it is.
-use Rattle.std.proofs.Common.{◌≡◌, ℕ, ◌+◌, ◌≤◌, ◌<◌, Bool, List, [], Some, None, slice_get, get_or, refl, sym, ◌∙◌}
+use Rattle.std.proofs.Common.{◌≡◌, ℕ, ◌+◌, ◌≤◌, ◌<◌, Bool, List, [], Some, None, slice_get, get_or}
+use Rattle.std.proofs.Common.{refl, sym, ◌∙◌}
 use Rattle.std.proofs.Common.{ap, subst, arith}
 use Rattle.std.specs.Prelude.{IsTrue, codes, option_and_then}
 use Rattle.std.proofs.lemmas.Bool.Decides.{nat_tests}

@@ -1,5 +1,6 @@
 -- Words in which a stretch was put, word by word.
-use Rattle.std.proofs.Common.{◌≡◌, ℕ, ◌+◌, ◌-◌, ◌<◌, ◌≤◌, List, [], ◌∷◌, ◌++◌, set, suc, sym, ap, append_assoc, length, take, drop, slice_get, ◌∙◌}
+use Rattle.std.proofs.Common.{◌≡◌, ℕ, ◌+◌, ◌-◌, ◌<◌, ◌≤◌, List, [], ◌∷◌, ◌++◌, set, suc}
+use Rattle.std.proofs.Common.{sym, ap, append_assoc, length, take, drop, slice_get, ◌∙◌}
 use Rattle.std.proofs.Common.{arith, rules, length-append, length-drop, length-set, drop-set-lt}
 use Rattle.std.specs.Prelude.{slice_range}
 use Rattle.std.proofs.lemmas.List.{length-take-le, places, same_lists, set_split, take_more_set}
@@ -46,7 +47,8 @@ with_range_inside words others at k within below =
     ∙ slice_get-append_right (take at words) others k (at + k) (omega (arith, length-take-le at words (omega arith)))
 
 -- those behind it stay
-pub with_range_behind : (words others : List ℕ) (at k : ℕ) → at + length others ≤ length words → at + length others ≤ k
+pub with_range_behind : (words others : List ℕ) (at k : ℕ) → at + length others ≤ length words
+    → at + length others ≤ k
     → slice_get (with_range words at others) k ≡ slice_get words k
 with_range_behind words others at k within from =
     slice_get-append_right (front words at others) (drop (at + length others) words) (k - (at + length others)) k

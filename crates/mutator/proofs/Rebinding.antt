@@ -18,10 +18,15 @@ use Rattle.handle_roots.specs.declared.held.Held.{Held}
 use Rattle.handle_roots.specs.Roots.{FitsHeld, with_root}
 use Rattle.heap_table.specs.declared.phase.Phase.TheVariants.{Quiet}
 use Rattle.heap_table.specs.Seats.{heap_words}
+use Rattle.cell_layout.specs.declared.cell.Cell.{Cell}
+use Rattle.heap_model.specs.Heaps.{Heap, HasCell}
+use Rattle.heap_model.specs.Counting.{CountsEntries}
 use Rattle.heap_model.specs.Needs.{need_of}
 use Rattle.heap_model.specs.Showing.{ShowsHeld, Shows}
 use Rattle.heap_model.specs.Laws.{ReachesNoMore, BindsAnew, bound}
+use Rattle.heap_model.proofs.BoundHeaps.{none_in, bound_moves}
 use Rattle.heap_model.proofs.BoundGraphs.{bindings_show}
+use Rattle.heap_model.proofs.CountsStay.{counts_stay}
 use Rattle.write_barrier.specs.Mains.{Mutator, heap_of, IsTied, MainShows, with_variable}
 use Rattle.object_cells.specs.Uses.{UsesMore}
 use Rattle.mutator.specs.Capacities.{KeepsStores}
@@ -77,13 +82,19 @@ pub rebound_shows : {old new : Mutator} {graph after : Graph} (names : List (Lis
     → FitsHeld one → ShowsHeld (heap_of old) one (get after.bindings x) → HoldsAnew old new x one → MainShows new after
 rebound_shows {old} {new} {graph} {after} names command text x one shows carried none fits anew below held_fits shown
     holds =
+    let heap : Heap = heap_of old in
+    let fewer : ReachesNoMore graph after = reaches_no_more names command text shows carried none in
+    let bound_shows : Shows (bound heap x one) after =
+    bindings_show heap graph after x one below shows.shows anew held_fits shown fewer in
+    let kept : (cell : Cell) (words : List ℕ) → HasCell heap cell words → HasCell (bound heap x one) cell words =
+    λ cell words has. (bound_moves heap x one below shows.shows.whole).cells.kept cell words has (none_in cell) in
     record {
       tied = subst IsTied (sym holds.held) shows.tied;
       is_graph = graphs_stay ideal_limits names graph command after text ideal_field_limit fits carried shows.is_graph;
       quiet = subst (λ (main : Mutator). main.seat.phase ≡ Quiet) (sym holds.held) shows.quiet;
-      shows = subst (λ heap. Shows heap after) (sym (heap_bound x one holds))
-          (bindings_show (heap_of old) graph after x one below shows.shows anew held_fits shown
-          (reaches_no_more names command text shows carried none));
+      shows = subst (λ heap. Shows heap after) (sym (heap_bound x one holds)) bound_shows;
+      counts = subst (λ heap. CountsEntries heap after) (sym (heap_bound x one holds))
+          (counts_stay shows.shows bound_shows shows.counts anew.objects fewer kept);
     }
 
 -- so the command is carried out, if it is one that binds a variable and needs no words

@@ -49,22 +49,33 @@ address_by_kind heap held.Undefined number is = absurd is
 address_by_kind heap (held.Int v) number is = absurd is
 address_by_kind heap (held.Ref at) number is = record { at = at; is = refl; place = is }
 
--- the root word of a variable that is bound to an object refers to its place
-pub root_refers : {main : Mutator} {graph : Graph} (x at number : ℕ) → MainShows main graph
+-- the first root word of a variable is that of an object at this address
+pub record NamesPlace (heap : Heap) (x at : ℕ) : Type 0 where
+  pub word : word_at heap (root_at heap.space x) ≡ first_word (held.Ref at)
+  pub fits : FitsHeld (held.Ref at)
+
+-- so it is of one that is bound to an object
+pub root_place : {main : Mutator} {graph : Graph} (x at number : ℕ) → MainShows main graph
     → x < main.seat.space.variables → get graph.bindings x ≡ Some (Ref number) → IsPlace (heap_of main) number at
-    → IsTrue (is_marked (reach graph) number)
-    → reference_in (word_at (heap_of main) (root_at main.seat.space x)) ≡ Some at
-root_refers {main} {graph} x at number shows known bound place reached =
+    → IsTrue (is_marked (reach graph) number) → NamesPlace (heap_of main) x at
+root_place {main} {graph} x at number shows known bound place reached =
     let heap : Heap = heap_of main in
     let binding = shows.shows.bindings x known in
     let shown = subst (ShowsHeld heap binding.held) bound binding.shows in
     let address = address_by_kind heap binding.held number (shows_by_kind binding.held (Some (Ref number)) shown) in
     let same : address.at ≡ at =
     one_address number number address.at at shows reached address.place place refl in
-    let fits : FitsHeld (held.Ref address.at) = subst FitsHeld address.is binding.holds.fits in
-    reference_to (word_at heap (root_at main.seat.space x)) address.at fits
-    (root_word binding ∙ ap first_word address.is)
-    ∙ ap (λ a. Some a) same
+    let is : binding.held ≡ held.Ref at = address.is ∙ ap (λ a. held.Ref a) same in
+    record { word = root_word binding ∙ ap first_word is; fits = subst FitsHeld is binding.holds.fits }
+
+-- and it refers to that place
+pub root_refers : {main : Mutator} {graph : Graph} (x at number : ℕ) → MainShows main graph
+    → x < main.seat.space.variables → get graph.bindings x ≡ Some (Ref number) → IsPlace (heap_of main) number at
+    → IsTrue (is_marked (reach graph) number)
+    → reference_in (word_at (heap_of main) (root_at main.seat.space x)) ≡ Some at
+root_refers {main} x at number shows known bound place reached =
+    let named = root_place x at number shows known bound place reached in
+    reference_to (word_at (heap_of main) (root_at main.seat.space x)) at named.fits named.word
 
 -- the word of a small integer is not `wide`
 small_is_not_wide : (v : ℤ) → first_of true v ≡ bits_of (Odd wide_code) → ⊥

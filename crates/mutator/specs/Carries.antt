@@ -17,8 +17,8 @@ abbrev pub field_numbers : ℕ
 field_numbers = 2 ^ 32
 
 -- The call carried the command out, and wrote the text: the heap then shows what the command means, and as many words
--- more are used as the command needs, for which there was room; property stores are made anew where the command needs
--- that alone. It stops exactly where the meaning is a fault, or where there is none and eden has not the words; both change
+-- more are used as the command needs, for which there was room; each object's store has the slots that the command
+-- gives it. It stops exactly where the meaning is a fault, or where there is none and eden has not the words; both change
 -- nothing.
 abbrev pub Carries : List (List ℕ) → Mutator → Mutator → Graph → Command → List ℕ → Result Unit Stop → Type 0
 Carries names old new graph command text (Ok _) =

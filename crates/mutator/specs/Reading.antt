@@ -2,11 +2,12 @@
 -- refers to.
 use Rattle.std.specs.Prelude.{◌≡◌, ℕ, ℤ, ◌⊎◌, Option, Some, None, Result, Ok, Err}
 use Rattle.heap_command.specs.declared.command.FaultWord.{FaultWord}
-use Rattle.heap_command.specs.declared.command.FaultWord.TheVariants.{Unbound, NotObject, NotList, NotInt}
+use Rattle.heap_command.specs.declared.command.FaultWord.TheVariants.{Unbound, NotObject, NotList, NotWeak, NotInt, BadKey}
 use Rattle.object_graph.specs.declared.value.Value.{Value}
 use Rattle.object_graph.specs.declared.value.Value.TheVariants.{Ref}
 use Rattle.object_graph.specs.Paths.{path_of}
-use Rattle.object_graph.specs.Graphs.{Graph, PlainObject, ListObject, integer_in, plain_at, list_at}
+use Rattle.object_graph.specs.Graphs.{Graph, PlainObject, ListObject, WeakObject, integer_in, object_in}
+use Rattle.object_graph.specs.Graphs.{plain_at, list_at, weak_at}
 use Rattle.shape_tree.specs.Shapes.{IsShapeOf}
 use Rattle.handle_roots.specs.declared.held.Held.{Held}
 use Rattle.handle_roots.specs.Roots.{FitsHeld}
@@ -14,6 +15,7 @@ use Rattle.write_barrier.specs.Mains.{Mutator, MainShows}
 use Rattle.object_cells.specs.PlainObjects.{IsPlainAt}
 use Rattle.object_cells.specs.ListObjects.{IsListAt}
 use Rattle.object_cells.specs.HeldValues.{IsValueHeld}
+use Rattle.ephemeron_table.specs.WeakObjects.{IsWeakAt, IsKeyAt}
 use Rattle.mutator.specs.declared.reading.Found.{Found}
 
 -- what is held stands for the value: it shows it, and a variable may hold it
@@ -71,6 +73,29 @@ pub record IsFoundList (main : Mutator) (graph : Graph) (value : Value) (at : �
 abbrev pub FindsList : Mutator → Graph → Value → Result ℕ FaultWord → Type 0
 FindsList main graph value (Ok at) = IsFoundList main graph value at
 FindsList main graph value (Err word) = (list_at graph.objects value ≡ None) × (word ≡ NotList)
+
+-- the weak map to which the value refers stands where it was found
+pub record IsFoundWeak (main : Mutator) (graph : Graph) (value : Value) (at : ℕ) : Type 0 where
+  pub weak : WeakObject
+  pub is : value ≡ Ref weak.number
+  pub refers : weak_at graph.objects value ≡ Some weak
+  pub stands : IsWeakAt main graph at weak
+
+-- the weak map to which the value refers was found; where it refers to none, the word is `notweak`
+abbrev pub FindsWeak : Mutator → Graph → Value → Result ℕ FaultWord → Type 0
+FindsWeak main graph value (Ok at) = IsFoundWeak main graph value at
+FindsWeak main graph value (Err word) = (weak_at graph.objects value ≡ None) × (word ≡ NotWeak)
+
+-- the object that is the key stands where it was found
+pub record IsFoundKey (main : Mutator) (graph : Graph) (value : Value) (at : ℕ) : Type 0 where
+  pub number : ℕ
+  pub is : value ≡ Ref number
+  pub stands : IsKeyAt main graph at number
+
+-- the object that is the key was found; where the value is none, the word is `badkey`
+abbrev pub FindsKey : Mutator → Graph → Value → Result ℕ FaultWord → Type 0
+FindsKey main graph value (Ok at) = IsFoundKey main graph value at
+FindsKey main graph value (Err word) = (object_in value ≡ None) × (word ≡ BadKey)
 
 -- the integer is the value; where it is none, the word is `notint`
 abbrev pub FindsInteger : Value → Result ℤ FaultWord → Type 0

@@ -1,4 +1,4 @@
--- Why a command stops where a field or an element is not set.
+-- Why a command stops where a field, an element or an entry is not set.
 use Rattle.heap_command.specs.declared.command.FaultWord.TheVariants as word
 use Rattle.shape_change.specs.declared.stop.FieldStop.{FieldStop}
 use Rattle.shape_change.specs.declared.stop.FieldStop.TheVariants.{FieldsFull, ShapesFull, Full}
@@ -6,6 +6,8 @@ use Rattle.list_store.specs.declared.stop.PushStop.{PushStop}
 use Rattle.list_store.specs.declared.stop.PushStop.TheVariants as push
 use Rattle.list_store.specs.declared.stop.PutStop.{PutStop}
 use Rattle.list_store.specs.declared.stop.PutStop.TheVariants as put
+use Rattle.ephemeron_table.specs.declared.stop.TableStop.{TableStop}
+use Rattle.ephemeron_table.specs.declared.stop.TableStop.TheVariants as table
 use Rattle.mutator.specs.declared.stop.Stop.{Stop}
 use Rattle.mutator.specs.declared.stop.Stop.TheVariants.{Fault, NoRoom}
 
@@ -24,3 +26,8 @@ stop_of_push (push.Full room) = NoRoom room.need
 abbrev pub stop_of_put : PutStop → Stop
 stop_of_put put.Range = Fault word.Range
 stop_of_put (put.Full room) = NoRoom room.need
+
+-- too many entries are a fault, and what is wanted of room is told
+abbrev pub stop_of_table : TableStop → Stop
+stop_of_table (table.TableFull entries) = Fault word.WeakFull
+stop_of_table (table.Full room) = NoRoom room.need

@@ -16,7 +16,9 @@ mod shapes;
 mod stop;
 #[cfg(test)]
 mod tests;
+mod trims;
 mod variables;
+mod weaks;
 mod writing;
 
 pub use fields::{del, get, set};
@@ -25,5 +27,7 @@ pub use making::new_plain;
 pub use output::{OUTPUT_BYTES, Output, ROOM};
 pub use shapes::{alike, shape};
 pub use stop::Stop;
+pub use trims::{shift, trunc};
 pub use variables::{add, drop_var, let_value};
+pub use weaks::{wdel, weak, wget, wput};
 pub use writing::{print, same};

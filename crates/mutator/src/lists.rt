@@ -1,32 +1,18 @@
 //! The commands `list`, `push`, `put` and `at`, on the elements of a list. What they do to its cells
 //! is done in `list_store`.
-ghost use Rattle.std.specs.Prelude.{◌≡◌, ℕ, ◌+◌, ◌≤◌, List, [], length};
-ghost use Rattle.tagged_word.specs.Headers.{IsHeader};
-ghost use Rattle.page_space.specs.Extents.{marks_start};
+ghost use Rattle.std.specs.Prelude.{◌≡◌, ℕ, List, [], length};
 ghost use Rattle.heap_command.specs.Commands.{IsWithin};
 ghost use Rattle.object_graph.specs.Graphs.{Graph};
-ghost use Rattle.heap_table.specs.declared.phase.Phase.TheVariants.{Quiet};
-ghost use Rattle.heap_table.specs.Seats.{heap_words};
-ghost use Rattle.write_barrier.specs.Mains.{MainShows, with_table};
-ghost use Rattle.write_barrier.specs.Values.{with_range};
+ghost use Rattle.write_barrier.specs.Mains.{MainShows};
 ghost use Rattle.mutator.specs.Carries.{Carries, field_numbers};
-ghost use Rattle.mutator.specs.Making.{empty_list};
 
+use crate::making::{COUNTED_WORDS, fill_counted};
 use crate::reading::{integer, list_found, operand, operands};
 use crate::stop::Stop;
 use handle_roots::Held;
 use heap_command::{Command, Operand};
-use tagged_word::{Header, Word, odd, shape};
+use tagged_word::{Header, shape};
 use write_barrier::Main;
-
-/// The words of a list's own cell: its header, the slot for its store, and its length.
-const LIST_WORDS: u32 = 3;
-
-/// The offset of the slot for the store.
-const STORE_SLOT: u32 = 1;
-
-/// The offset of the length.
-const LENGTH: u32 = 2;
 
 /// Binds `x` to a new list without elements. `object` is the number of objects made so far, and
 /// becomes the new one's number.
@@ -40,13 +26,13 @@ pub fn list(main: &mut Main, x: u32, object: u32) -> Result<(), Stop>
         object ≡ length graph.objects →
         Carries names main.old main.new graph (Command.List x) [] result }
 {
-    match main.reserve(LIST_WORDS) {
+    match main.reserve(COUNTED_WORDS) {
         Ok(run) => {
             let header = Header {
                 shape: shape::LIST,
                 object,
             };
-            fill_list(main, run.at, header);
+            fill_counted(main, run.at, header);
             main.hold(x, Held::Ref(run.at));
             Ok(())
         }
@@ -54,29 +40,11 @@ pub fn list(main: &mut Main, x: u32, object: u32) -> Result<(), Stop>
     }
 }
 
-// Makes the words at an address the cell of a list without elements.
-fn fill_list(main: &mut Main, at: u32, header: Header)
-    requires quiet { main.old.seat.phase ≡ Quiet }
-    requires is { IsHeader header }
-    requires within { at + LIST_WORDS ≤ marks_start main.old.seat.space }
-    ensures filled { let words = empty_list header in
-        main.new ≡ with_table main.old (with_range main.old.seat.table at words) }
-    ensures heap { let words = empty_list header in
-        heap_words main.new.seat ≡ with_range (heap_words main.old.seat) at words }
-{
-    // No address of a heap is past 32 bits.
-    let _regions = main.regions();
-    main.set_header(at, header);
-    main.write(at + STORE_SLOT, Word::odd(odd::UNDEFINED).0);
-    main.write(at + LENGTH, 0);
-    main.made(at);
-}
-
 /// Makes the value the last element of the list `x`.
 ///
 /// Stops with `unbound`, `notlist`, `listfull` where the list has 1,000 elements, or for want of room
 /// for a new store or box.
-#[inline(always)]
+#[inline(never)]
 pub fn push(main: &mut Main, x: u32, v: Operand) -> Result<(), Stop>
     requires shown { (graph : Graph) × MainShows main.old graph }
     requires within { IsWithin main.old.seat.space.variables field_numbers (Command.Push x v) }
@@ -94,7 +62,7 @@ pub fn push(main: &mut Main, x: u32, v: Operand) -> Result<(), Stop>
 ///
 /// Stops with `unbound`, `notlist`, `notint`, `range` where the index is below 0 or not below the
 /// length, or for want of room for a box.
-#[inline(always)]
+#[inline(never)]
 pub fn put(main: &mut Main, x: u32, i: Operand, v: Operand) -> Result<(), Stop>
     requires shown { (graph : Graph) × MainShows main.old graph }
     requires within { IsWithin main.old.seat.space.variables field_numbers (Command.Put x i v) }
@@ -114,7 +82,7 @@ pub fn put(main: &mut Main, x: u32, i: Operand, v: Operand) -> Result<(), Stop>
 ///
 /// Stops with `unbound`, `notlist`, `notint`, or `range` where the index is below 0 or not below the
 /// length.
-#[inline(always)]
+#[inline(never)]
 pub fn at(main: &mut Main, y: u32, x: u32, i: Operand) -> Result<(), Stop>
     requires shown { (graph : Graph) × MainShows main.old graph }
     requires within { IsWithin main.old.seat.space.variables field_numbers (Command.At y x i) }

@@ -1,4 +1,4 @@
-//! The command `new`: a new cell in eden.
+//! The command `new`: a new cell in eden. And the own cells of new lists and weak maps.
 ghost use Rattle.std.specs.Prelude.{◌≡◌, ℕ, ◌+◌, ◌≤◌, List, [], length};
 ghost use Rattle.tagged_word.specs.Headers.{IsHeader};
 ghost use Rattle.page_space.specs.Extents.{marks_start};
@@ -9,7 +9,7 @@ ghost use Rattle.heap_table.specs.Seats.{heap_words};
 ghost use Rattle.write_barrier.specs.Mains.{MainShows, with_table};
 ghost use Rattle.write_barrier.specs.Values.{with_range};
 ghost use Rattle.mutator.specs.Carries.{Carries, field_numbers};
-ghost use Rattle.mutator.specs.Making.{empty_plain};
+ghost use Rattle.mutator.specs.Making.{empty_counted, empty_plain};
 
 use crate::stop::Stop;
 use handle_roots::Held;
@@ -20,8 +20,15 @@ use write_barrier::Main;
 /// The words of a plain cell before its in-object slots.
 const PLAIN_HEAD: u32 = 2;
 
-/// The offset of the slot for the property store.
+/// The words of a list's own cell, and of a weak map's: its header, the slot for its store or table, and
+/// its length or count.
+pub(crate) const COUNTED_WORDS: u32 = 3;
+
+/// The offset of the slot for the store or the table.
 const STORE_SLOT: u32 = 1;
+
+/// The offset of the length or the count.
+const COUNT: u32 = 2;
 
 /// Binds `x` to a new plain object with `cap` slots of its own and no field. `object` is the number
 /// of objects made so far, and becomes the new one's number.
@@ -61,5 +68,23 @@ fn fill_plain(main: &mut Main, at: u32, header: Header, cap: u32)
     main.set_header(at, header);
     main.write(at + STORE_SLOT, Word::odd(odd::UNDEFINED).0);
     main.fill_holes(at + PLAIN_HEAD, cap);
+    main.made(at);
+}
+
+/// Makes the words at an address the cell of a list without elements, or of a weak map without entries.
+pub(crate) fn fill_counted(main: &mut Main, at: u32, header: Header)
+    requires quiet { main.old.seat.phase ≡ Quiet }
+    requires is { IsHeader header }
+    requires within { at + COUNTED_WORDS ≤ marks_start main.old.seat.space }
+    ensures filled { let words = empty_counted header in
+        main.new ≡ with_table main.old (with_range main.old.seat.table at words) }
+    ensures heap { let words = empty_counted header in
+        heap_words main.new.seat ≡ with_range (heap_words main.old.seat) at words }
+{
+    // No address of a heap is past 32 bits.
+    let _regions = main.regions();
+    main.set_header(at, header);
+    main.write(at + STORE_SLOT, Word::odd(odd::UNDEFINED).0);
+    main.write(at + COUNT, 0);
     main.made(at);
 }

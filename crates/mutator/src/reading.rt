@@ -7,7 +7,7 @@ ghost use Rattle.object_graph.specs.Graphs.{Graph, value_of};
 ghost use Rattle.object_graph.specs.declared.value.Value.{Value};
 ghost use Rattle.write_barrier.specs.Mains.{Mutator, MainShows};
 ghost use Rattle.mutator.specs.Reading.{StandsFor, Finds, FindsBoth, IsShownValue, FindsPlain};
-ghost use Rattle.mutator.specs.Reading.{FindsInteger, FindsList};
+ghost use Rattle.mutator.specs.Reading.{FindsInteger, FindsKey, FindsList, FindsWeak};
 
 use handle_roots::Held;
 use heap_command::{FaultWord, Operand};
@@ -121,6 +121,44 @@ fn list_found_at(main: &Main, at: u32) -> Result<u32, FaultWord>
         return Err(FaultWord::NotList);
     }
     Ok(at)
+}
+
+/// Where the cell of the weak map stands that the value refers to.
+#[inline(always)]
+pub(crate) fn weak_found(main: &Main, held: Held) -> Result<u32, FaultWord>
+    requires { IsShownValue main.now held }
+    ensures { (graph : Graph) (value : Value) → MainShows main.now graph →
+        StandsFor main.now graph value held → FindsWeak main.now graph value result }
+{
+    match held {
+        Held::Ref(at) => weak_found_at(main, at),
+        Held::Unbound | Held::Undefined | Held::Int(_) => Err(FaultWord::NotWeak),
+    }
+}
+
+// The address, where the cell of a weak map stands there.
+#[inline(always)]
+fn weak_found_at(main: &Main, at: u32) -> Result<u32, FaultWord>
+    requires { IsShownValue main.now (Held.Ref at) }
+    ensures { (graph : Graph) (value : Value) → MainShows main.now graph →
+        StandsFor main.now graph value (Held.Ref at) → FindsWeak main.now graph value result }
+{
+    if header_at(main, at).shape != shape::WEAK {
+        return Err(FaultWord::NotWeak);
+    }
+    Ok(at)
+}
+
+/// Where the cell of the object stands that is the key.
+#[inline(always)]
+pub(crate) fn key(held: Held) -> Result<u32, FaultWord>
+    ensures { (main : Mutator) (graph : Graph) (value : Value) → StandsFor main graph value held →
+        FindsKey main graph value result }
+{
+    match held {
+        Held::Ref(at) => Ok(at),
+        Held::Unbound | Held::Undefined | Held::Int(_) => Err(FaultWord::BadKey),
+    }
 }
 
 /// The integer that the value is.

@@ -1,6 +1,7 @@
 //! Why a command is not carried out: its fault, or a heap that has no room for it.
 ghost use Rattle.std.specs.Prelude.{◌≡◌};
 
+use ephemeron_table::TableStop;
 use heap_command::FaultWord;
 use list_store::{PushStop, PutStop, Range};
 use shape_change::FieldStop;
@@ -73,6 +74,30 @@ impl From<PutStop> for Stop {
             PutStop::Range => Stop::Fault(FaultWord::Range),
             PutStop::Full(room) => Stop::NoRoom { need: room.need },
         }
+    }
+}
+
+impl From<TableStop> for Stop {
+    ghost use Rattle.mutator.specs.Stops.{stop_of_table};
+
+    ghost from_gives = { λ putting stop. stop ≡ stop_of_table putting };
+
+    fn from(stop: TableStop) -> Stop {
+        match stop {
+            TableStop::TableFull { entries: _ } => Stop::Fault(FaultWord::WeakFull),
+            TableStop::Full(room) => Stop::NoRoom { need: room.need },
+        }
+    }
+}
+
+impl From<array_trim::Range> for Stop {
+    ghost use Rattle.heap_command.specs.declared.command.FaultWord.TheVariants as word;
+    ghost use Rattle.mutator.specs.declared.stop.Stop.TheVariants.{Fault};
+
+    ghost from_gives = { λ _ stop. stop ≡ Fault word.Range };
+
+    fn from(_range: array_trim::Range) -> Stop {
+        Stop::Fault(FaultWord::Range)
     }
 }
 

@@ -11,6 +11,8 @@ use std::test::Fail;
 
 mod heaps;
 mod lists;
+mod trims;
+mod weaks;
 
 fn let_to(x: u32, v: Operand) -> Command {
     LetValue { x, v }
@@ -197,7 +199,7 @@ fn an_object_has_two_words_and_one_for_each_slot(rt: HostRuntime) -> Result<(), 
     Ok(())
 }
 
-/// Commands that give `x` twelve wide fields: with its stores and boxes it comes to 68 words.
+/// Commands that give `x` twelve wide fields: with its stores and boxes it comes to 71 words.
 fn twelve_wide_fields() -> [Command; 12] {
     let mut commands = [set_to(X, A, Int(5_000_000_000)); 12];
     for f in 0..12u32 {

@@ -67,7 +67,7 @@ header_stands {heap} {cell} at word has stands there =
     same_Some _ _ (sym there ∙ ap (slice_get heap.words) (sym stands) ∙ (has_is_cell has).reads.first)
 
 -- the layout of a cell is that of its shape
-layout_stands : {heap : Heap} {cell : Cell} {words : List ℕ} → HasSizes heap → HasCell heap cell words
+pub layout_stands : {heap : Heap} {cell : Cell} {words : List ℕ} → HasSizes heap → HasCell heap cell words
     → layout_bits cell.layout ≡ layout_word heap.paths cell.header.shape
 layout_stands {heap} {cell} sized has =
     let reads = (has_is_cell has).reads in

@@ -1,20 +1,17 @@
 -- Where words of a list's own cells have changed, cells stand in rows.
-use Rattle.std.proofs.Common.{◌≡◌, [], List, IsTrue, refl, sym, ◌∙◌, ap, subst}
+use Rattle.std.proofs.Common.{◌≡◌, [], List, IsTrue, refl, sym, ◌∙◌, ap}
 use Rattle.std.proofs.lemmas.Bool.{false≢true}
 use Rattle.std.proofs.lemmas.List.{append-nil}
 use Rattle.tagged_word.specs.declared.layout.Kind.{Kind}
 use Rattle.tagged_word.specs.declared.layout.Kind.TheVariants as kind
 use Rattle.tagged_word.specs.Cells.{has_length}
-use Rattle.page_space.specs.Extents.{Space}
 use Rattle.cell_layout.specs.declared.cell.Cell.{Cell}
 use Rattle.cell_layout.specs.Cells.{IsCell}
-use Rattle.cell_layout.proofs.OneCell.{cells_stay}
 use Rattle.heap_model.specs.Heaps.{Heap}
 use Rattle.heap_model.specs.Slots.{is_object_kind}
 use Rattle.heap_model.specs.Wholeness.{Whole}
-use Rattle.heap_model.proofs.CellsApart.{has_is_cell}
 use Rattle.object_cells.specs.ElementChanges.{WritesList, WrittenListKeepsCells}
-use Rattle.object_cells.proofs.ObjectWrites.{WritesObject, same_count, layout_alike, object_keeps_cells}
+use Rattle.object_cells.proofs.ObjectWrites.{WritesObject, headed_stays, object_keeps_cells, owned_beside}
 
 -- a list has no length
 list_without : (k : Kind) → k ≡ kind.List → IsTrue (has_length k) → ⊥
@@ -23,12 +20,9 @@ list_without k list long = false≢true (ap has_length (sym list) ∙ long)
 -- the list's cell stands where it stood
 list_is_cell : {old new : Heap} {cell : Cell} {others made : List Cell} → Whole old
     → WritesList old new cell others made → IsCell new.space new.words cell
-list_is_cell {old} {new} {cell} whole writes =
-    let long = same_count whole.sized writes.sized writes.same_space in
-    let alike = layout_alike [] whole.sized writes.sized writes.same_space (writes.paths ∙ sym (append-nil old.paths))
-    writes.stood writes.header (λ has. absurd (list_without cell.layout.kind writes.list has)) in
-    let stays = cells_stay old.space old.words new.words cell (has_is_cell writes.stood) long alike in
-    subst (λ (space : Space). IsCell space new.words cell) (sym writes.same_space) stays
+list_is_cell {cell = cell} whole writes =
+    headed_stays whole.sized writes.sized writes.same_space writes.paths writes.stood writes.header
+    (λ long. list_without cell.layout.kind writes.list long)
 
 -- so a cell of the object stands in the words of its cell: its own
 pub writes_list : {old new : Heap} {cell : Cell} {others made : List Cell} → Whole old
@@ -48,7 +42,7 @@ writes_list {old} whole writes = record {
   size = refl;
   number = refl;
   is_cell = list_is_cell whole writes;
-  beside = writes.beside;
+  beside = λ other among. owned_beside (writes.beside other among);
   made_stand = writes.made_stand;
   stay = writes.stay;
 }

@@ -10,7 +10,7 @@ use Rattle.object_graph.specs.Invariants.{IsGraph, IsObject, IsValue, AreElement
 use Rattle.graph_laws.proofs.Reaches.{reach_closed}
 use Rattle.heap_model.proofs.SlotWords.{All-slice_get}
 use Rattle.object_cells.specs.HeldValues.{IsReachedValue}
-use Rattle.object_cells.specs.ElementChanges.{PushedElementsAreNew, PutElementsAreNew}
+use Rattle.object_cells.specs.ElementChanges.{AreNewElements, PushedElementsAreNew, PutElementsAreNew}
 use Rattle.object_cells.proofs.NewFields.{value_reached}
 
 -- the list is one of the graph
@@ -32,6 +32,13 @@ elements_reached graph list is there marked =
     (λ number refers below. reach_closed graph list.number (ListOf list.elements) number there marked below
     (subst (Contains list.elements) refers among)) in
     All-weaker (Contains list.elements) (IsReachedValue graph) each list.elements (All-contains_itself list.elements)
+
+-- so they are elements that it may have
+pub elements_are_new : (graph : Graph) (list : ListObject) → IsGraph graph
+    → slice_get graph.objects list.number ≡ Some (ListOf list.elements)
+    → IsTrue (is_marked (reach graph) list.number) → AreNewElements graph list.elements
+elements_are_new graph list is there marked =
+    record { are = list_is graph list is there; reached = elements_reached graph list is there marked }
 
 -- with one pushed
 pub pushed_elements_are_new : PushedElementsAreNew

@@ -1,5 +1,5 @@
 -- Where the cell of one object becomes another of it, and words of its own cells have changed, cells stand in rows.
-use Rattle.std.proofs.Common.{◌≡◌, ℕ, ◌+◌, ◌<◌, ◌≤◌, inl, inr, List, [], ◌∷◌, ◌++◌, length, IsTrue}
+use Rattle.std.proofs.Common.{◌≡◌, ℕ, ◌+◌, ◌<◌, ◌≤◌, ◌⊎◌, inl, inr, List, [], ◌∷◌, ◌++◌, length, IsTrue}
 use Rattle.std.proofs.Common.{Contains, All, map, slice_get}
 use Rattle.std.proofs.Common.{sym, ◌∙◌, ap, subst, arith}
 use Rattle.std.specs.List.{flat_map}
@@ -7,11 +7,11 @@ use Rattle.std.proofs.lemmas.Bool.{false≢true}
 use Rattle.std.proofs.lemmas.List.Concat.{flat_map_single}
 use Rattle.std.proofs.lemmas.List.Folds.{flat_map-map}
 use Rattle.std.proofs.lemmas.List.Elements.{All-cons, All-contains, All-map, All-weaker, All-contains_itself}
-use Rattle.std.proofs.lemmas.List.{map-id}
+use Rattle.std.proofs.lemmas.List.{map-id, append-nil}
 use Rattle.std.proofs.lemmas.Simd.{map-map}
 use Rattle.tagged_word.specs.declared.layout.Kind.{Kind}
 use Rattle.tagged_word.specs.declared.layout.Kind.TheVariants as kind
-use Rattle.tagged_word.specs.Cells.{has_length}
+use Rattle.tagged_word.specs.Cells.{has_length, length_offset}
 use Rattle.tagged_word.proofs.Members.{in_map, first_in, rest_in}
 use Rattle.object_graph.specs.declared.path.Path.{Path}
 use Rattle.page_space.specs.Extents.{Space, eden_start, roots_start, layouts_start, marks_start}
@@ -19,15 +19,24 @@ use Rattle.page_space.proofs.Starts.{roots_start_is, layouts_start_is}
 use Rattle.cell_layout.specs.declared.cell.Cell.{Cell}
 use Rattle.cell_layout.specs.Cells.{IsCell, IsRow}
 use Rattle.cell_layout.specs.CellLaws.{ReadsAlike}
+use Rattle.cell_layout.proofs.OneCell.{cells_stay}
 use Rattle.heap_model.specs.Heaps.{Heap, HasCell, words_of_cell}
 use Rattle.heap_model.specs.Slots.{is_object_kind}
-use Rattle.heap_model.specs.Wholeness.{Whole, HasSizes, HasRows}
+use Rattle.heap_model.specs.Wholeness.{Whole, HasSizes, HasRows, IsOwnedKind}
 use Rattle.heap_model.specs.Changes.{IsPatched, Rewrite, IsRewrite, patch_of, IsChange, CellsChange, IsNewlyUsed}
 use Rattle.heap_model.proofs.CellsApart.{has_is_cell, used_few}
 use Rattle.heap_model.proofs.LayoutsStay.{SayLayouts, layout_stays}
 use Rattle.heap_model.proofs.WordsAlike.{cell_below_roots}
 use Rattle.heap_model.proofs.Rewrites.{rewrite_by_one, rewrite_slots, rewrites_are_patches, rewrites_keep_cells}
 use Rattle.object_cells.specs.CellWrites.{IsInCell, IsWrittenBeside}
+
+-- a store, a table or a box of the old heap, of which neither the header nor the length changed
+pub record IsWrittenOwned (old new : Heap) (other : Cell) : Type 0 where
+  pub stood : HasCell old other (words_of_cell old other)
+  pub owned : IsOwnedKind other.layout.kind
+  pub header : slice_get new.words other.at ≡ slice_get old.words other.at
+  pub length : IsTrue (has_length other.layout.kind)
+      → slice_get new.words (other.at + length_offset) ≡ slice_get old.words (other.at + length_offset)
 
 -- A cell of the same object stands in the words of an object's cell. Otherwise only words of this cell and of these others
 -- have changed, words that are newly used, in which cells were made, and layout words of shapes that are new.
@@ -46,7 +55,7 @@ pub record WritesObject (old new : Heap) (cell came : Cell) (others made : List 
   pub size : came.size ≡ cell.size
   pub number : came.header.object ≡ cell.header.object
   pub is_cell : IsCell new.space new.words came
-  pub beside : (other : Cell) → Contains others other → IsWrittenBeside old new other
+  pub beside : (other : Cell) → Contains others other → IsWrittenOwned old new other
   pub made_stand : IsRow new.space new.words (eden_start old.space + old.used) (eden_start old.space + new.used) made
   pub stay : (at : ℕ) → at < layouts_start old.space → (IsInCell at cell → ⊥)
       → ((other : Cell) → Contains others other → IsInCell at other → ⊥) → (IsNewlyUsed old new at → ⊥)
@@ -73,21 +82,45 @@ layout_alike {old} {new} {cell} more sized sized_new same paths has first second
       of_shape = layout_stays old.space old.words new.words old.paths more cell sized.layouts say (has_is_cell has);
     }
 
+-- where no path is added, a cell without a length of which the header stays stands where it stood
+pub headed_stays : {old new : Heap} {cell : Cell} {words : List ℕ} → HasSizes old → HasSizes new → new.space ≡ old.space
+    → new.paths ≡ old.paths → HasCell old cell words → slice_get new.words cell.at ≡ slice_get old.words cell.at
+    → (IsTrue (has_length cell.layout.kind) → ⊥) → IsCell new.space new.words cell
+headed_stays {old} {new} {cell} sized sized_new same paths has header short =
+    let alike = layout_alike [] sized sized_new same (paths ∙ sym (append-nil old.paths)) has header
+    (λ long. absurd (short long)) in
+    let stays = cells_stay old.space old.words new.words cell (has_is_cell has) (same_count sized sized_new same) alike in
+    subst (λ (space : Space). IsCell space new.words cell) (sym same) stays
+
 -- a box has no length
-box_without : (k : Kind) → k ≡ kind.Boxed → IsTrue (has_length k) → ⊥
+pub box_without : (k : Kind) → k ≡ kind.Boxed → IsTrue (has_length k) → ⊥
 box_without k boxed long = false≢true (ap has_length (sym boxed) ∙ long)
 
--- a store or a box that was written is read as before
+-- a store or a box belongs to an object
+pub beside_is_owned : {k : Kind} → (k ≡ kind.Store) ⊎ (k ≡ kind.Boxed) → IsOwnedKind k
+beside_is_owned (inl store) = subst IsOwnedKind (sym store) tt
+beside_is_owned (inr boxed) = subst IsOwnedKind (sym boxed) tt
+
+-- so one of which neither the header nor the length changed was written as what an object owns may be
+pub owned_beside : {old new : Heap} {other : Cell} → IsWrittenBeside old new other → IsWrittenOwned old new other
+owned_beside {other = other} beside = record {
+  stood = beside.stood;
+  owned = beside_is_owned beside.of_kind;
+  header = beside.header;
+  length = λ long. elim beside.of_kind [
+    | inl store ↦ beside.length store
+    | inr boxed ↦ absurd (box_without other.layout.kind boxed long)
+  ];
+}
+
+-- what belongs to the object and was written is read as before
 beside_alike : {old new : Heap} {cell came other : Cell} {others made : List Cell} → Whole old
     → WritesObject old new cell came others made → Contains others other
     → ReadsAlike old.space old.words new.words other
 beside_alike {other = other} whole writes there =
     let beside = writes.beside other there in
     layout_alike writes.more whole.sized writes.sized writes.same_space writes.paths beside.stood beside.header
-    (λ long. elim beside.of_kind [
-      | inl store ↦ beside.length store
-      | inr boxed ↦ absurd (box_without other.layout.kind boxed long)
-    ])
+    beside.length
 
 -- the cell is rewritten by itself
 abbrev by_itself : Cell → Rewrite

@@ -12,26 +12,28 @@ use Rattle.cell_layout.specs.declared.cell.Cell.{Cell}
 use Rattle.heap_model.specs.Heaps.{Heap, words_of_cell}
 use Rattle.heap_model.specs.Slots.{is_object_kind, IsSlotWord}
 use Rattle.heap_model.specs.Kinds.{HasWord, HasNoNumber, IsStoreCell, IsBoxCell, IsSoundOf, IsSound}
-use Rattle.heap_model.specs.Wholeness.{Whole, NamesFrom}
+use Rattle.heap_model.specs.Wholeness.{Whole, NamesFrom, IsOwnedKind}
 use Rattle.heap_model.specs.Changes.{CellsChange, IsOwnOf, IsStill, IsStillBox}
+use Rattle.heap_model.proofs.OneOwner.{object_is_not_owned}
+use Rattle.object_cells.specs.CellWrites.{IsWrittenBeside}
 use Rattle.object_cells.proofs.ObjectWrites.{WritesObject}
-use Rattle.object_cells.proofs.WrittenPlaces.{IsBesideKind, beside_is_no_object}
+use Rattle.object_cells.proofs.WrittenPlaces.{IsBesideKind}
 
--- Words of one object's own cells were written in a whole heap, of which cells stand in rows again, and stores and boxes
--- were made.
+-- Words of one object's own cells were written in a whole heap, of which cells stand in rows again, and stores, tables and
+-- boxes were made.
 pub record OwnWriting (old new : Heap) (cell came : Cell) (others made : List Cell) : Type 0 where
   pub whole : Whole old
   pub writes : WritesObject old new cell came others made
   pub cells : CellsChange old new (cell ∷ others) (came ∷ others) made
   pub belong : (other : Cell) → Contains others other → (slot : ℕ) × NamesFrom old cell slot other.at
-  pub kinds : (other : Cell) → Contains made other → IsBesideKind other.layout.kind
+  pub kinds : (other : Cell) → Contains made other → IsOwnedKind other.layout.kind
 
--- what came or was made beside the object's cell is a store or a box
+-- what came or was made beside the object's cell is a store, a table or a box
 pub beside_kind : {old new : Heap} {cell came : Cell} {others made : List Cell}
     → OwnWriting old new cell came others made → (other : Cell) → Contains (others ++ made) other
-    → IsBesideKind other.layout.kind
+    → IsOwnedKind other.layout.kind
 beside_kind {others = others} {made} writing other there = elim (Contains-append_cases others made other there) [
-  | inl among ↦ (writing.writes.beside other among).of_kind
+  | inl among ↦ (writing.writes.beside other among).owned
   | inr in_made ↦ writing.kinds other in_made
 ]
 
@@ -42,9 +44,7 @@ pub came_object : {old new : Heap} {cell came : Cell} {others made : List Cell}
 came_object {came = came} {others} {made} writing one there object =
     elim (in_cases came (others ++ made) one there) [
       | inl same ↦ same
-      | inr beside ↦
-          let is = beside_kind writing one beside in
-          absurd (false≢true (sym (beside_is_no_object one.layout.kind is) ∙ object))
+      | inr beside ↦ absurd (object_is_not_owned one.layout.kind object (beside_kind writing one beside))
     ]
 
 -- all that went is the object's own
@@ -96,19 +96,31 @@ store_is_sound {heap} words no_number each = record {
       each k (get_or (drop store_head words) k 0) (slice_get-get_or (drop store_head words) k 0 below));
 }
 
--- each cell that came or was made is sound, where what the object's became is, and each store and box
-pub came_sound : {old new : Heap} {cell came : Cell} {others made : List Cell}
-    → OwnWriting old new cell came others made → IsSound new came (words_of_cell new came)
+-- each store and box that came or was made is sound where stores are and boxes are
+pub beside_sound : {old new : Heap} (others made : List Cell)
+    → ((other : Cell) → Contains others other → IsWrittenBeside old new other)
+    → ((other : Cell) → Contains made other → IsBesideKind other.layout.kind)
     → ((other : Cell) → Contains (others ++ made) other → other.layout.kind ≡ kind.Store
     → IsStoreCell new other (words_of_cell new other))
     → ((other : Cell) → Contains (others ++ made) other → other.layout.kind ≡ kind.Boxed
     → IsBoxCell other (words_of_cell new other))
+    → (one : Cell) → Contains (others ++ made) one → IsSound new one (words_of_cell new one)
+beside_sound {new = new} others made beside kinds stores boxes one there =
+    let is : IsBesideKind one.layout.kind = elim (Contains-append_cases others made one there) [
+      | inl among ↦ (beside one among).of_kind
+      | inr in_made ↦ kinds one in_made
+    ] in
+    elim is [
+      | inl store ↦ subst (λ k. IsSoundOf k new one (words_of_cell new one)) (sym store) (stores one there store)
+      | inr box ↦ subst (λ k. IsSoundOf k new one (words_of_cell new one)) (sym box) (boxes one there box)
+    ]
+
+-- each cell that came or was made is sound, where what the object's became is, and each beside it
+pub came_sound : {new : Heap} {came : Cell} (others made : List Cell) → IsSound new came (words_of_cell new came)
+    → ((other : Cell) → Contains (others ++ made) other → IsSound new other (words_of_cell new other))
     → (one : Cell) → Contains (came ∷ (others ++ made)) one → IsSound new one (words_of_cell new one)
-came_sound {new = new} {came = came} {others} {made} writing own stores boxes one there =
+came_sound {new} {came} others made own sound one there =
     elim (in_cases came (others ++ made) one there) [
       | inl same ↦ subst (λ (c : Cell). IsSound new c (words_of_cell new c)) same own
-      | inr beside ↦ elim (beside_kind writing one beside) [
-        | inl is ↦ subst (λ k. IsSoundOf k new one (words_of_cell new one)) (sym is) (stores one beside is)
-        | inr is ↦ subst (λ k. IsSoundOf k new one (words_of_cell new one)) (sym is) (boxes one beside is)
-      ]
+      | inr beside ↦ sound one beside
     ]

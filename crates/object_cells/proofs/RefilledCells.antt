@@ -21,8 +21,8 @@ use Rattle.object_cells.proofs.SlotPlaces.{behind_cap}
 use Rattle.object_cells.proofs.FieldsFound.{field_at}
 use Rattle.object_cells.proofs.FieldWords.{field_word}
 use Rattle.object_cells.proofs.NumberedSlots.{store_of}
-use Rattle.object_cells.proofs.OwnWritings.{store_is_sound, came_sound}
-use Rattle.object_cells.proofs.RefilledFields.{Refilling, own_writing, field_shown}
+use Rattle.object_cells.proofs.OwnWritings.{store_is_sound, beside_sound, came_sound}
+use Rattle.object_cells.proofs.RefilledFields.{Refilling, field_shown}
 
 -- the slots hold the fields of the path
 slots_hold : {old new : Heap} {cell : Cell} {shape : ℕ} {others made : List Cell} {before after : List Field}
@@ -100,6 +100,7 @@ store_sound {new = new} {cell} {shape} {others} {made} refilling other there is 
 pub fields_sound : {old new : Heap} {cell : Cell} {shape : ℕ} {others made : List Cell} {before after : List Field}
     → Refilling old new cell shape others made before after → (one : Cell)
     → Contains (reshaped new.paths cell shape ∷ (others ++ made)) one → IsSound new one (words_of_cell new one)
-fields_sound refilling one there =
-    came_sound (own_writing refilling) (object_sound refilling) (λ other among is. store_sound refilling other among is)
-    refilling.slots.boxes one there
+fields_sound {others = others} {made} refilling one there =
+    came_sound others made (object_sound refilling)
+    (beside_sound others made refilling.writes.beside refilling.slots.kinds
+    (λ other among is. store_sound refilling other among is) refilling.slots.boxes) one there

@@ -22,8 +22,9 @@ use Rattle.object_cells.proofs.FieldWords.{value_word}
 use Rattle.object_cells.proofs.ListSlots.{list_tagged, element_of_number, element_slot}
 use Rattle.object_cells.proofs.ListWrites.{writes_list}
 use Rattle.object_cells.proofs.NumberedSlots.{is_store_of}
+use Rattle.object_cells.proofs.ObjectWrites.{beside_is_owned}
 use Rattle.object_cells.proofs.SlotPlaces.{one_beside}
-use Rattle.object_cells.proofs.OwnWritings.{OwnWriting, store_is_sound, came_sound}
+use Rattle.object_cells.proofs.OwnWritings.{OwnWriting, store_is_sound, beside_sound, came_sound}
 use Rattle.object_cells.proofs.RefilledNames.{Refilled, refilled_own}
 use Rattle.object_cells.proofs.WrittenPlaces.{object_places_stay, object_box_stays}
 
@@ -43,7 +44,7 @@ list_writing relisting = record {
   writes = writes_list relisting.whole relisting.writes;
   cells = relisting.cells;
   belong = relisting.slots.belong;
-  kinds = relisting.slots.kinds;
+  kinds = λ other among. beside_is_owned (relisting.slots.kinds other among);
 }
 
 -- the list's cell stands in the new heap
@@ -180,9 +181,9 @@ store_sound {new = new} {cell} {others} {made} relisting other there is =
 -- so the change of cells is the list's own
 pub elements_own : {old new : Heap} {cell : Cell} {others made : List Cell} {before after : List Value}
     → Relisting old new cell others made before after → IsOwnChange old new (cell ∷ others) (cell ∷ others) made
-elements_own {new = new} {cell} relisting =
+elements_own {new = new} {cell} {others} {made} relisting =
     let sound : IsSoundOf cell.layout.kind new cell (words_of_cell new cell) =
     subst (λ k. IsSoundOf k new cell (words_of_cell new cell)) (sym relisting.writes.list) (list_is_sound relisting) in
     refilled_own (elements_refilled relisting)
-    (came_sound (list_writing relisting) sound (λ other among is. store_sound relisting other among is)
-    relisting.slots.boxes)
+    (came_sound others made sound (beside_sound others made relisting.writes.beside relisting.slots.kinds
+    (λ other among is. store_sound relisting other among is) relisting.slots.boxes))

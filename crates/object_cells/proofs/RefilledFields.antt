@@ -20,6 +20,7 @@ use Rattle.object_cells.proofs.PlainFields.{plain_sound}
 use Rattle.object_cells.proofs.FieldWords.{path_field, field_is_tagged}
 use Rattle.object_cells.proofs.CellWritesRead.{writes_object}
 use Rattle.object_cells.proofs.NumberedSlots.{slot_kind, slot_of_number}
+use Rattle.object_cells.proofs.ObjectWrites.{beside_is_owned}
 use Rattle.object_cells.proofs.OwnWritings.{OwnWriting}
 use Rattle.object_cells.proofs.RefilledNames.{Refilled}
 use Rattle.object_cells.proofs.WrittenPlaces.{written_places_stay, written_box_stays}
@@ -42,7 +43,7 @@ own_writing refilling = record {
   writes = writes_object refilling.whole refilling.writes;
   cells = refilling.cells;
   belong = refilling.slots.belong;
-  kinds = refilling.slots.kinds;
+  kinds = λ other among. beside_is_owned (refilling.slots.kinds other among);
 }
 
 -- and each word comes from where it may

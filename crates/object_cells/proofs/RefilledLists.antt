@@ -20,9 +20,9 @@ use Rattle.object_cells.proofs.ReplacedObjects.{HasReachedLinks, ReplacesCells, 
 use Rattle.object_cells.proofs.WrittenPlaces.{beside_is_no_object, went_object}
 
 -- what a list links to is what one of its elements refers to
-links_reached : (graph : Graph) (elements : List Value) → AreNewElements graph elements
+pub links_reached : (graph : Graph) (elements : List Value) → AreNewElements graph elements
     → HasReachedLinks graph (ListOf elements)
-links_reached graph elements are inside number link =
+links_reached graph elements are number link =
     All-contains (IsReachedValue graph) elements (Ref number) are.reached link
 
 -- so the heap shows the graph in which the list has these elements
@@ -35,7 +35,8 @@ written_elements_show old new graph list cell others made elements shows there c
     let rest : IsAtRest new = record { tied = tied; quiet = quiet; sized = writes.sized; rows = law.0 } in
     let relisting : Relisting before now cell others made list.elements elements =
     record { whole = whole; shown = shown; writes = writes; slots = slots; cells = law.1 } in
-    let replaces : ReplacesCells before now list.number (ListOf elements) (cell ∷ others) (cell ∷ others) made = record {
+    let replaces : ReplacesCells before now graph list.number (ListOf elements) (cell ∷ others) (cell ∷ others) made =
+    record {
       cells = law.1;
       own = elements_own relisting;
       only = λ other among object.
@@ -44,7 +45,8 @@ written_elements_show old new graph list cell others made elements shows there c
       cell = cell;
       among = first_in cell others;
       carries = carries;
-      shows = λ marks. list_shows relisting;
+      shows = λ marks reached. list_shows relisting;
+      counts = tt;
     } in
     replaced_shows list.number (ListOf elements) graph.paths shows
     (relists graph list elements shows.is_graph are.are) (writes.paths ∙ shows.shows.paths)

@@ -24,7 +24,7 @@ use Rattle.object_cells.proofs.ReplacedObjects.{HasReachedLinks, ReplacesCells, 
 -- what an object of fields links to is what one of their values refers to
 links_reached : (graph : Graph) (cap : ℕ) (fields : List Field)
     → All (λ field. IsReachedValue graph field.value) fields → HasReachedLinks graph (Plain cap fields)
-links_reached graph cap fields reached inside number link =
+links_reached graph cap fields reached number link =
     subst (IsReachedValue graph) link.2
     (All-contains (λ field. IsReachedValue graph field.value) fields link.0 reached link.1)
 
@@ -44,7 +44,8 @@ refills_are_graphs graph plain fields paths is there new added =
 -- so the heap shows it
 pub refills_show : RefillsShow
 refills_show old new graph plain fields gone came made shows there are added rest refills =
-    let replaces : ReplacesCells (heap_of old) (heap_of new) plain.number (Plain plain.cap fields) gone came made = record {
+    let replaces : ReplacesCells (heap_of old) (heap_of new) graph plain.number (Plain plain.cap fields)
+    gone came made = record {
       cells = refills.cells;
       own = refills.own;
       only = refills.only;
@@ -52,7 +53,8 @@ refills_show old new graph plain fields gone came made shows there are added res
       cell = refills.cell;
       among = refills.among;
       carries = refills.carries;
-      shows = λ marks. refills.shows;
+      shows = λ marks reached. refills.shows;
+      counts = tt;
     } in
     record {
       paths = new.paths;

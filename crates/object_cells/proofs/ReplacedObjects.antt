@@ -4,7 +4,9 @@ use Rattle.std.proofs.Common.{◌∙◌, ap, subst, Bool, arith, ◌⊎◌, inl,
 use Rattle.std.specs.Prelude.{Contains, IsTrue}
 use Rattle.std.proofs.lemmas.Bool.{false≢true}
 use Rattle.std.proofs.lemmas.Option.{none-some, same_Some}
+use Rattle.std.proofs.lemmas.List.Elements.{Contains-append_left}
 use Rattle.object_graph.specs.declared.object.Object.{Object}
+use Rattle.object_graph.specs.declared.object.Object.TheVariants as graph_object
 use Rattle.object_graph.specs.declared.path.Path.{Path}
 use Rattle.object_graph.specs.Graphs.{Graph}
 use Rattle.object_graph.specs.Reach.{is_marked, reach}
@@ -14,8 +16,11 @@ use Rattle.graph_laws.proofs.Reaches.{reach_has_bound, reach_closed, reach_least
 use Rattle.cell_layout.specs.declared.cell.Cell.{Cell}
 use Rattle.heap_model.specs.Heaps.{Heap, words_of_cell}
 use Rattle.heap_model.specs.Slots.{is_object_kind}
-use Rattle.heap_model.specs.Showing.{ShowsObject}
+use Rattle.heap_model.specs.Showing.{ShowsObject, Shows}
 use Rattle.heap_model.specs.Changes.{CellsChange, IsOwnChange, IsGraphChange}
+use Rattle.heap_model.specs.Counting.{CountsEntries}
+use Rattle.heap_model.proofs.ShownObjects.{object_of_shown}
+use Rattle.heap_model.proofs.CountsStay.{HasCountOf, count_kept, count_came}
 use Rattle.heap_model.proofs.WholeStays.{own_changes_keep_whole}
 use Rattle.heap_model.proofs.ShownGraphs.{own_changes_show}
 use Rattle.write_barrier.specs.Mains.{Mutator, heap_of, MainShows}
@@ -37,10 +42,10 @@ put_cases (first ∷ xs) (suc place) put (suc i) x there = elim (put_cases xs pl
 abbrev pub replaced : Graph → ℕ → Object → List Path → Graph
 replaced graph number object paths = record graph { objects = set graph.objects number object; paths = paths }
 
--- each object that this one links to can be reached
+-- each object that this one links to, where what can be reached is inside, can be reached
 abbrev pub HasReachedLinks : Graph → Object → Type 0
 HasReachedLinks graph object =
-    (inside : ℕ → Bool) (number : ℕ) → LinksTo inside object number → IsTrue (is_marked (reach graph) number)
+    (number : ℕ) → LinksTo (is_marked (reach graph)) object number → IsTrue (is_marked (reach graph) number)
 
 -- nothing more can be reached
 reaches_no_more : (graph : Graph) (number : ℕ) (object : Object) (paths : List Path) (other : ℕ)
@@ -54,12 +59,18 @@ reaches_no_more graph number object paths other links marked =
     let closed : IsClosed after inside = λ holder what one there held within linked.
     elim (put_cases graph.objects number object holder what there) [
       | inl old ↦ reach_closed graph holder what one old.0 held (omega (arith, long, within)) linked
-      | inr new ↦ links inside one (subst (λ (o : Object). LinksTo inside o one) (sym new.1) linked)
+      | inr new ↦ links one (subst (λ (o : Object). LinksTo inside o one) (sym new.1) linked)
     ] in
     reach_least after inside bound closed other marked
 
--- Of objects only that with this number went. One came that carries it and shows the object, and none was made.
-pub record ReplacesCells (old new : Heap) (number : ℕ) (object : Object) (gone came made : List Cell) : Type 0 where
+-- nothing is marked but what can be reached
+abbrev pub MarksReached : Graph → List Bool → Type 0
+MarksReached graph marks = (number : ℕ) → IsTrue (is_marked marks number) → IsTrue (is_marked (reach graph) number)
+
+-- Of objects only that with this number went. One came that carries it and shows the object, whatever of what could be
+-- reached still can be, and none was made.
+pub record ReplacesCells (old new : Heap) (graph : Graph) (number : ℕ) (object : Object) (gone came made : List Cell)
+    : Type 0 where
   pub cells : CellsChange old new gone came made
   pub own : IsOwnChange old new gone came made
   pub only : (cell : Cell) → Contains gone cell → IsTrue (is_object_kind cell.layout.kind) → cell.header.object ≡ number
@@ -67,20 +78,24 @@ pub record ReplacesCells (old new : Heap) (number : ℕ) (object : Object) (gone
   pub cell : Cell
   pub among : Contains came cell
   pub carries : cell.header.object ≡ number
-  pub shows : (marks : List Bool) → ShowsObject new marks cell (words_of_cell new cell) object
+  pub shows : (marks : List Bool) → MarksReached graph marks
+      → ShowsObject new marks cell (words_of_cell new cell) object
+  pub counts : HasCountOf (words_of_cell new cell) object
 
 -- the change of the graph is that of the cells
 graph_changes : {old new : Heap} (graph : Graph) (number : ℕ) (object : Object) (paths : List Path)
     {gone came made : List Cell} → new.paths ≡ paths → HasReachedLinks graph object
-    → ReplacesCells old new number object gone came made
+    → ReplacesCells old new graph number object gone came made
     → IsGraphChange old new graph (replaced graph number object paths) gone came made
 graph_changes {new = new} graph number object paths same links replaces =
     let after : Graph = replaced graph number object paths in
+    let reached : MarksReached graph (reach after) =
+    λ other marked. reaches_no_more graph number object paths other links marked in
     record {
       paths = same;
       bindings = refl;
       few = omega (arith, length-set graph.objects number object);
-      reached = λ other marked. reaches_no_more graph number object paths other links marked;
+      reached = reached;
       each = λ other what there marked.
           elim (put_cases graph.objects number object other what there) [
             | inl stays ↦ inl (record {
@@ -93,17 +108,44 @@ graph_changes {new = new} graph number object paths same links replaces =
               carries = replaces.carries ∙ sym put.0;
               shows = subst (λ (one : Object). ShowsObject new (reach after) replaces.cell
                   (words_of_cell new replaces.cell) one)
-                  put.1 (replaces.shows (reach after));
+                  put.1 (replaces.shows (reach after) reached);
             })
           ];
       numbered = λ cell there is_object. absurd (false≢true (sym (replaces.no_object cell there) ∙ is_object));
     }
 
+-- weak maps count their entries: the cells of all others stand as before
+counts_after : {old new : Heap} (graph : Graph) (number : ℕ) (object : Object) (paths : List Path)
+    {gone came made : List Cell} → Shows old graph → Shows new (replaced graph number object paths)
+    → CountsEntries old graph → HasReachedLinks graph object → ReplacesCells old new graph number object gone came made
+    → CountsEntries new (replaced graph number object paths)
+counts_after {new = new} graph number object paths {gone} {came} {made} shows shown counts links replaces other at
+    entries there marked place =
+    let after : Graph = replaced graph number object paths in
+    let reached : MarksReached graph (reach after) =
+    λ one marked. reaches_no_more graph number object paths one links marked in
+    let words : List ℕ = words_of_cell new replaces.cell in
+    elim (put_cases graph.objects number object other (graph_object.Weak entries) there) [
+      | inl old ↦ count_kept shown (record {
+        shows = shows;
+        counts = counts;
+        there = old.0;
+        marked = reached other marked;
+        stays = λ cell words has object carries.
+            replaces.cells.kept cell words has (λ went. old.1 (sym carries ∙ replaces.only cell went object));
+      }) there marked place
+      | inr put ↦
+          count_came shown there marked
+          (replaces.cells.comes replaces.cell (Contains-append_left came made replaces.cell replaces.among))
+          (object_of_shown new (reach after) replaces.cell words object (replaces.shows (reach after) reached))
+          (replaces.carries ∙ sym put.0) (subst (λ (one : Object). HasCountOf words one) put.1 replaces.counts) place
+    ]
+
 -- so the heap shows it
 pub replaced_shows : {old new : Mutator} {graph : Graph} (number : ℕ) (object : Object) (paths : List Path)
     {gone came made : List Cell} → MainShows old graph → IsGraph (replaced graph number object paths)
     → new.paths ≡ paths → HasReachedLinks graph object → IsAtRest new
-    → ReplacesCells (heap_of old) (heap_of new) number object gone came made
+    → ReplacesCells (heap_of old) (heap_of new) graph number object gone came made
     → MainShows new (replaced graph number object paths)
 replaced_shows {old} {new} {graph} number object paths {gone} {came} {made} shows is_graph same links rest replaces =
     let before : Heap = heap_of old in
@@ -112,9 +154,12 @@ replaced_shows {old} {new} {graph} number object paths {gone} {came} {made} show
     let whole = own_changes_keep_whole before now gone came made shows.shows.whole rest.sized rest.rows replaces.cells
     replaces.own in
     let change = graph_changes graph number object paths same links replaces in
+    let shown =
+    own_changes_show before now graph after gone came made shows.shows whole replaces.cells replaces.own change in
     record {
       tied = rest.tied;
       is_graph = is_graph;
       quiet = rest.quiet;
-      shows = own_changes_show before now graph after gone came made shows.shows whole replaces.cells replaces.own change;
+      shows = shown;
+      counts = counts_after graph number object paths shows.shows shown shows.counts links replaces;
     }

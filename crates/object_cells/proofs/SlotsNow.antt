@@ -45,7 +45,7 @@ reshaped_stands {new = new} {cell} {shape} {others = others} {made} puts =
     puts.cells.comes one (Contains-append_left (one ∷ others) made one (first_in one others))
 
 -- no store or table is an object
-store_is_no_object : {cell other : Cell} → cell ≡ other → IsTrue (is_object_kind cell.layout.kind)
+pub store_is_no_object : {cell other : Cell} → cell ≡ other → IsTrue (is_object_kind cell.layout.kind)
     → IsStoreKind other.layout.kind → ⊥
 store_is_no_object {other = other} same object store =
     object_is_not_owned other.layout.kind (subst (λ (one : Cell). IsTrue (is_object_kind one.layout.kind)) same object)

@@ -35,9 +35,7 @@ pub went_object : {old new : Heap} {cell came : Cell} {others made : List Cell}
     → IsTrue (is_object_kind one.layout.kind) → cell ≡ one
 went_object {cell = cell} {others = others} writes one there object = elim (in_cases cell others one there) [
   | inl same ↦ same
-  | inr among ↦
-      let none = beside_is_no_object one.layout.kind (writes.beside one among).of_kind in
-      absurd (false≢true (sym none ∙ object))
+  | inr among ↦ absurd (object_is_not_owned one.layout.kind object (writes.beside one among).owned)
 ]
 
 -- each object that went stands where it stood

@@ -1,4 +1,5 @@
--- How many slots the property stores of objects have, and what becomes of them.
+-- How many slots the stores of objects have, property stores and those of lists, and how many pairs the tables of weak
+-- maps; and what becomes of them.
 use Rattle.std.specs.Prelude.{◌≡◌, ◌≢◌, ℕ, ◌+◌, ◌-◌, ◌^◌, ◌<◌, ◌⊎◌, List, length, Contains, slice_get}
 use Rattle.std.specs.Prelude.{Option, Some, None, nat_lt, if◌then◌else◌}
 use Rattle.tagged_word.specs.declared.layout.Kind.TheVariants as kind
@@ -7,10 +8,11 @@ use Rattle.object_graph.specs.declared.path.Path.{Path}
 use Rattle.cell_layout.specs.declared.cell.Cell.{Cell}
 use Rattle.heap_model.specs.Heaps.{Heap}
 use Rattle.heap_model.specs.Slots.{reference_word, IsPlace}
-use Rattle.heap_model.specs.Wholeness.{Whole}
+use Rattle.heap_model.specs.Wholeness.{Whole, NamesFrom}
 use Rattle.heap_model.specs.Needs.{capacity_at, grown, path_at, index_of}
 use Rattle.object_cells.specs.CellWrites.{WritesCells}
 use Rattle.object_cells.specs.ElementChanges.{WritesList}
+use Rattle.object_cells.specs.OwnWords.{ChangesOwnWords}
 
 -- A store of so many slots, of which so many are used, as it is once one slot more is used: the store itself, or the one
 -- that takes its place where it is full.
@@ -32,9 +34,10 @@ set_capacity_by heap at path (Some field) = capacity_at heap at
 abbrev pub set_capacity_at : Heap → ℕ → ℕ → ℕ
 set_capacity_at heap at name = set_capacity_by heap at (path_at heap at) (index_of (path_at heap at).fields name)
 
--- The object at the address has a property store of so many slots, and each other object one of as many as before. Each
--- object stands where it stood, and none is made.
-pub record CapacitiesBecome (old new : Heap) (at capacity : ℕ) : Type 0 where
+-- Words of one object alone have changed, that at the address. It has a store of so many slots, or a table of so many pairs,
+-- and each other object one of as many as before. Each object stands where it stood, and none is made.
+pub record ChangesObject (old new : Heap) (at capacity : ℕ) : Type 0 where
+  pub words : ChangesOwnWords old new at
   pub own : capacity_at new at ≡ capacity
   pub others : (number other : ℕ) → IsPlace old number other → other ≢ at → capacity_at new other ≡ capacity_at old other
   pub stays : (number other : ℕ) → IsPlace old number other → IsPlace new number other
@@ -44,6 +47,7 @@ pub record CapacitiesBecome (old new : Heap) (at capacity : ℕ) : Type 0 where
 pub record WritesBeside (old new : Heap) (cell : Cell) (shape : ℕ) (others made : List Cell) : Type 0 where
   pub whole : Whole old
   pub writes : WritesCells old new cell shape others made
+  pub belong : (other : Cell) → Contains others other → (slot : ℕ) × NamesFrom old cell slot other.at
   pub kinds : (other : Cell) → Contains made other → (other.layout.kind ≡ kind.Store) ⊎ (other.layout.kind ≡ kind.Boxed)
 
 -- Where the word by which the object refers to its property store stays, each object keeps the capacity of its own.
@@ -51,7 +55,7 @@ abbrev pub CapacitiesStay : Type 0
 CapacitiesStay =
     (old new : Heap) (cell : Cell) (shape : ℕ) (others made : List Cell) → WritesBeside old new cell shape others made
     → slice_get new.words (cell.at + store_slot) ≡ slice_get old.words (cell.at + store_slot)
-    → CapacitiesBecome old new cell.at (capacity_at old cell.at)
+    → ChangesObject old new cell.at (capacity_at old cell.at)
 
 -- Where that word refers to a store that was made, the object has as many slots as this one.
 abbrev pub CapacitiesGrow : Type 0
@@ -59,12 +63,13 @@ CapacitiesGrow =
     (old new : Heap) (cell : Cell) (shape : ℕ) (others made : List Cell) (store : Cell)
     → WritesBeside old new cell shape others made → Contains made store → store.layout.kind ≡ kind.Store
     → store.at < 2 ^ 32 → slice_get new.words (cell.at + store_slot) ≡ Some (reference_word store.at)
-    → CapacitiesBecome old new cell.at store.length
+    → ChangesObject old new cell.at store.length
 
 -- Words of one list's own cells were written in a whole heap, and stores and boxes made.
 pub record WritesListBeside (old new : Heap) (cell : Cell) (others made : List Cell) : Type 0 where
   pub whole : Whole old
   pub writes : WritesList old new cell others made
+  pub belong : (other : Cell) → Contains others other → (slot : ℕ) × NamesFrom old cell slot other.at
   pub kinds : (other : Cell) → Contains made other → (other.layout.kind ≡ kind.Store) ⊎ (other.layout.kind ≡ kind.Boxed)
 
 -- Where the word by which the list refers to its store stays, each object keeps the capacity of its own.
@@ -72,7 +77,7 @@ abbrev pub ListCapacitiesStay : Type 0
 ListCapacitiesStay =
     (old new : Heap) (cell : Cell) (others made : List Cell) → WritesListBeside old new cell others made
     → slice_get new.words (cell.at + store_slot) ≡ slice_get old.words (cell.at + store_slot)
-    → CapacitiesBecome old new cell.at (capacity_at old cell.at)
+    → ChangesObject old new cell.at (capacity_at old cell.at)
 
 -- Where that word refers to a store that was made, the list has as many slots as this one.
 abbrev pub ListCapacitiesGrow : Type 0
@@ -80,4 +85,4 @@ ListCapacitiesGrow =
     (old new : Heap) (cell : Cell) (others made : List Cell) (store : Cell)
     → WritesListBeside old new cell others made → Contains made store → store.layout.kind ≡ kind.Store
     → store.at < 2 ^ 32 → slice_get new.words (cell.at + store_slot) ≡ Some (reference_word store.at)
-    → CapacitiesBecome old new cell.at store.length
+    → ChangesObject old new cell.at store.length

@@ -10,3 +10,4 @@ pub mod SlotChanges
 pub mod ListObjects
 pub mod ElementChanges
 pub mod Made
+pub mod OwnWords

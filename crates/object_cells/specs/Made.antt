@@ -23,7 +23,7 @@ use Rattle.object_cells.specs.declared.content.Content.TheVariants as content
 use Rattle.object_cells.specs.declared.stores.Store.{Store}
 use Rattle.object_cells.specs.Contents.{held_rep, content_of}
 
--- of all that the mutator has, only the words before the marks are others
+-- of all that the mutator has, marks and board aside, only the words of the heap are others
 pub record PutsWords (old new : Mutator) (words : List ℕ) : Type 0 where
   pub space : new.seat.space ≡ old.seat.space
   pub phase : new.seat.phase ≡ old.seat.phase

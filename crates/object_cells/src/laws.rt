@@ -25,10 +25,10 @@ pub fn laws_of_writes()
     ensures cells { WritesKeepCells }
 {}
 
-/// Where words were so written, and stores and boxes made, the object keeps the capacity of its
-/// property store where the word that refers to it stays, and has that of a store that was made
-/// where it refers to this one. Each other object keeps its capacity; each stands where it stood,
-/// and none is made.
+/// Where words were so written, of cells that belong to the object, and stores and boxes made, only
+/// words of the object have changed. It keeps the capacity of its property store where the word that
+/// refers to it stays, and has that of a store that was made where it refers to this one. Each other
+/// object keeps its capacity; each stands where it stood, and none is made.
 pub fn laws_of_capacities()
     ensures stay { CapacitiesStay }
     ensures grow { CapacitiesGrow }

@@ -1,5 +1,6 @@
 -- Homes in ascending order of their cells, when one more joins.
-use Rattle.std.proofs.Common.{ℕ, suc, ◌<◌, ◌≤◌, ◌≡◌, ◌≢◌, ◌⊎◌, inl, inr, Bool, true, false, List, [], ◌∷◌, length, nat_lt}
+use Rattle.std.proofs.Common.{ℕ, suc, ◌<◌, ◌≤◌, ◌≡◌, ◌≢◌, ◌⊎◌, inl, inr, Bool, true, false}
+use Rattle.std.proofs.Common.{List, [], ◌∷◌, length, nat_lt}
 use Rattle.std.proofs.Common.{get_or, if◌then◌else◌, arith, refl, sym, ap, subst, ◌∙◌}
 use Rattle.std.specs.List.{All, AllPairs, Contains}
 use Rattle.std.proofs.lemmas.Bool.{cases_lt}
@@ -106,7 +107,8 @@ below_joined first (home ∷ homes) new less below =
 pub joined_ascends : (homes : List Home) (new : Home) → Ascends homes → HasNoHome homes new.from
     → Ascends (with_home homes new)
 joined_ascends [] new ascend none =
-    AllPairs-cons (λ (one other : Home). one.from < other.from) new [] (All-nil (λ (one : Home). new.from < one.from)) ascend
+    AllPairs-cons (λ (one other : Home). one.from < other.from) new []
+    (All-nil (λ (one : Home). new.from < one.from)) ascend
 joined_ascends (home ∷ homes) new ascend none =
     let R : Home → Home → Type 0 = λ one other. one.from < other.from in
     let other : home.from ≢ new.from = none home (first_in home homes) in
@@ -117,7 +119,8 @@ joined_ascends (home ∷ homes) new ascend none =
     (joined_ascends homes new (rest_ascends home homes ascend) (λ one there. none one (rest_in home homes one there))))
 
 -- an element that is there is the same whatever is asked for where there is none
-same_element : (homes : List Home) (k : ℕ) (one other : Home) → k < length homes → get_or homes k one ≡ get_or homes k other
+same_element : (homes : List Home) (k : ℕ) (one other : Home) → k < length homes
+    → get_or homes k one ≡ get_or homes k other
 same_element homes k one other within =
     some_same (slice_get-get_or homes k one within) (slice_get-get_or homes k other within)
 

@@ -1,5 +1,6 @@
 -- The end of copying: where no live slot refers to a cell that is to be copied, all that was reached is renamed.
-use Rattle.std.proofs.Common.{ℕ, ◌<◌, ◌+◌, ◌^◌, ◌≡◌, List, length, get_or, Some, arith, refl, sym, ap, subst, ◌∙◌}
+use Rattle.std.proofs.Common.{ℕ, ◌<◌, ◌+◌, ◌^◌, ◌≡◌, List, length, get_or, Some, arith, refl, sym, ap}
+use Rattle.std.proofs.Common.{subst, ◌∙◌}
 use Rattle.std.specs.List.{Contains}
 use Rattle.std.proofs.lemmas.List.Elements.{Contains-get_or}
 use Rattle.tagged_word.specs.declared.word.Class.TheVariants.{Ref}
@@ -18,7 +19,8 @@ use Rattle.scav_copy.proofs.Spots.{cell_within, from_is, home_itself}
 record Ended (fixed : Fixed) (words : List ℕ) (homes : List Home) : Type 0 where
   laid : IsLaidOut fixed
   copying : Copying fixed words homes
-  none : (slot place cell : ℕ) → StoodAt fixed homes slot place → RefersTo words slot cell → Contains fixed.cells cell → ⊥
+  none : (slot place cell : ℕ) → StoodAt fixed homes slot place → RefersTo words slot cell → Contains fixed.cells cell
+      → ⊥
 
 -- a cell with a home has an address that a reference may have
 from_fits : {fixed : Fixed} {words : List ℕ} {homes : List Home} (home : Home) → Ended fixed words homes

@@ -38,14 +38,16 @@ same_header e (HasHeader.forwarded home there of is) = HasHeader.forwarded home 
 same_header e (HasHeader.unmoved none is) = HasHeader.unmoved none (e ∙ is)
 
 -- a word of a room is no word of a cell
-room_is_no_cell : {fixed : Fixed} (at cell offset : ℕ) → IsLaidOut fixed → IsInRooms fixed at → Contains fixed.cells cell
+room_is_no_cell : {fixed : Fixed} (at cell offset : ℕ) → IsLaidOut fixed → IsInRooms fixed at
+    → Contains fixed.cells cell
     → offset < size_of fixed cell → cell + offset ≢ at
 room_is_no_cell {fixed} at cell offset laid in_room there less same =
     laid.cell_in_no_room at (cell, there, within_by cell (size_of fixed cell) offset at less same) in_room
 
 -- a word in no home copy is none of this copy
 free_is_no_copy : (fixed : Fixed) (homes : List Home) (at : ℕ) (home : Home) (offset : ℕ)
-    → (IsInCopies fixed homes at → ⊥) → Contains homes home → offset < size_of fixed home.from → home.to + offset ≢ at
+    → (IsInCopies fixed homes at → ⊥) → Contains homes home → offset < size_of fixed home.from
+    → home.to + offset ≢ at
 free_is_no_copy fixed homes at home offset free there less same =
     free (home, there, within_by home.to (size_of fixed home.from) offset at less same)
 
@@ -67,7 +69,8 @@ rooms_may_be_filled fixed words homes at word laid copying in_room free = record
   apart = copying.apart;
   headers = λ cell there.
       let other : cell ≢ at = λ same.
-      laid.cell_in_no_room at (cell, there, subst (IsWithin cell (size_of fixed cell)) same (cell_itself cell laid there))
+      laid.cell_in_no_room at
+      (cell, there, subst (IsWithin cell (size_of fixed cell)) same (cell_itself cell laid there))
       in_room in
       same_header (elsewhere words at word cell other) (copying.headers cell there);
   bodies = λ cell offset there low high.

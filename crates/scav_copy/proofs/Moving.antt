@@ -1,5 +1,6 @@
 -- A cell that gets a home: its words stand there, and its header becomes the reference to them.
-use Rattle.std.proofs.Common.{ℕ, ◌<◌, ◌≤◌, ◌+◌, ◌≡◌, ◌≢◌, ◌⊎◌, inl, inr, List, length, set, get_or, IsSome, arith, refl, sym, ap}
+use Rattle.std.proofs.Common.{ℕ, ◌<◌, ◌≤◌, ◌+◌, ◌≡◌, ◌≢◌, ◌⊎◌, inl, inr, List, length, set}
+use Rattle.std.proofs.Common.{get_or, IsSome, arith, refl, sym, ap}
 use Rattle.std.proofs.Common.{subst, ◌∙◌}
 use Rattle.std.specs.List.{Contains}
 use Rattle.std.proofs.lemmas.List.{length-set, get_or-set_same}
@@ -31,7 +32,8 @@ more_homes {homes} new (IsKeptOrRenamed.renamed home there was is) =
     IsKeptOrRenamed.renamed home (old_in homes new home there) was is
 
 -- a fact of the new home and of each old one is one of all
-each_home : (P : Home → Type 0) (homes : List Home) (new : Home) → P new → ((home : Home) → Contains homes home → P home)
+each_home : (P : Home → Type 0) (homes : List Home) (new : Home) → P new
+    → ((home : Home) → Contains homes home → P home)
     → (home : Home) → Contains (with_home homes new) home → P home
 each_home P homes new is others home there =
     elim (joined_is homes new home there) [ inl same ↦ subst P same is | inr among ↦ others home among ]
@@ -149,7 +151,8 @@ new_live {fixed} {words} {homes} {new} slot place offset moving has to from =
     ∙ ap (λ (at : ℕ). get_or fixed.before at 0) from)
 
 -- the header of a cell is the reference to its home, or as before
-header_moved : {fixed : Fixed} {words : List ℕ} {homes : List Home} {new : Home} (cell : ℕ) → Moving fixed words homes new
+header_moved : {fixed : Fixed} {words : List ℕ} {homes : List Home} {new : Home} (cell : ℕ)
+    → Moving fixed words homes new
     → Contains fixed.cells cell → (cell ≡ new.from) ⊎ (cell ≢ new.from)
     → HasHeader fixed (moved words new) (with_home homes new) cell
 header_moved {fixed} {words} {homes} {new} cell moving there (inl same) =
@@ -198,7 +201,8 @@ cells_may_move fixed words homes cell to laid copying reached none copy =
           copy_stays home offset moving there less
           ∙ each_home (λ one. offset < size_of fixed one.from → (Contains (offsets_of fixed one.from) offset → ⊥)
           → get_or words (one.to + offset) 0 ≡ get_or fixed.before (one.from + offset) 0) homes new
-          (λ within no. copy.whole offset within) (λ one among. copying.copied one offset among) home there less no_slot;
+          (λ within no. copy.whole offset within)
+          (λ one among. copying.copied one offset among) home there less no_slot;
       live = λ slot place stood. live_moved slot place moving stood;
       outside = λ at no_cell no_slot no_room.
           let other : at ≢ cell = λ same.

@@ -1,5 +1,6 @@
 -- Live slots: the one place where each stood, what they refer to, and the reference to a home that one gets.
-use Rattle.std.proofs.Common.{ℕ, ◌<◌, ◌≤◌, ◌+◌, ◌≡◌, ◌≢◌, ◌⊎◌, inl, inr, List, length, set, get_or, Some, arith, sym, ap}
+use Rattle.std.proofs.Common.{ℕ, ◌<◌, ◌≤◌, ◌+◌, ◌≡◌, ◌≢◌, ◌⊎◌, inl, inr, List, length, set}
+use Rattle.std.proofs.Common.{get_or, Some, arith, sym, ap}
 use Rattle.std.proofs.Common.{subst, ◌∙◌}
 use Rattle.std.specs.List.{Contains}
 use Rattle.std.proofs.lemmas.Bool.{cases_lt}
@@ -41,9 +42,11 @@ one_place one other first second slot here place same e f g h =
 pub one_origin : LiveSlotsHaveOneOrigin
 one_origin fixed words homes slot one other laid copying (StoodAt.itself there same) (StoodAt.itself also is) =
     sym same ∙ is
-one_origin fixed words homes slot one other laid copying (StoodAt.itself there same) (StoodAt.in_cell home offset among is e f) =
+one_origin fixed words homes slot one other laid copying (StoodAt.itself there same)
+    (StoodAt.in_cell home offset among is e f) =
     absurd (slot_in_no_copy slot home laid copying there among (slot_in_copy fixed home offset slot is e))
-one_origin fixed words homes slot one other laid copying (StoodAt.in_cell home offset among is e f) (StoodAt.itself there same) =
+one_origin fixed words homes slot one other laid copying (StoodAt.in_cell home offset among is e f)
+    (StoodAt.itself there same) =
     absurd (slot_in_no_copy slot home laid copying there among (slot_in_copy fixed home offset slot is e))
 one_origin fixed words homes slot one other laid copying
     (StoodAt.in_cell home offset among is e f) (StoodAt.in_cell second further also has g h) =
@@ -52,7 +55,8 @@ one_origin fixed words homes slot one other laid copying
     (slot_in_copy fixed second further slot has g)) e g f h
 
 -- a cell that stood in a live slot is reached
-pub origin_reached : {fixed : Fixed} {words : List ℕ} {homes : List Home} (slot place cell : ℕ) → Copying fixed words homes
+pub origin_reached : {fixed : Fixed} {words : List ℕ} {homes : List Home} (slot place cell : ℕ)
+    → Copying fixed words homes
     → StoodAt fixed homes slot place → RefersTo fixed.before place cell → Contains fixed.cells cell → Reached fixed cell
 origin_reached {fixed} slot place cell copying (StoodAt.itself there same) refers is =
     Reached.by_slot slot cell there (subst (λ (at : ℕ). RefersTo fixed.before at cell) (sym same) refers) is
@@ -62,7 +66,8 @@ origin_reached {fixed} slot place cell copying (StoodAt.in_cell home offset ther
 
 -- a word that refers to one of the cells is as it was
 not_renamed : {fixed : Fixed} {words : List ℕ} {homes : List Home} {old new : ℕ} (cell : ℕ) → IsLaidOut fixed
-    → Copying fixed words homes → Contains fixed.cells cell → reference_in new ≡ Some cell → IsKeptOrRenamed homes old new
+    → Copying fixed words homes → Contains fixed.cells cell → reference_in new ≡ Some cell
+    → IsKeptOrRenamed homes old new
     → new ≡ old
 not_renamed cell laid copying is refers (IsKeptOrRenamed.kept same) = same
 not_renamed {new = new} cell laid copying is refers (IsKeptOrRenamed.renamed home there was now) =
@@ -105,7 +110,8 @@ redirected {fixed} {words} {homes} slot place home other origin laid copying sto
     let there : slot < length words =
     subst (λ (long : ℕ). slot < long) (sym copying.long) (live_is_there slot place laid copying stood) in
     IsKeptOrRenamed.renamed home among
-    (ap (λ (at : ℕ). get_or fixed.before at 0) origins ∙ (reference_from (get_or fixed.before place 0) home.from refers).1)
+    (ap (λ (at : ℕ). get_or fixed.before at 0) origins
+    ∙ (reference_from (get_or fixed.before place 0) home.from refers).1)
     (ap (λ (at : ℕ). get_or (set words slot word) at 0) same ∙ get_or-set_same words slot word 0 there)
 redirected {words = words} slot place home other origin laid copying stood among refers also (inr apart) =
     same_word (elsewhere words slot (bits_of (Ref home.to)) other apart) (copying.live other origin also)

@@ -1,5 +1,6 @@
 -- Places of a scavenge: words of cells, of rooms and of home copies, and live slots among them.
-use Rattle.std.proofs.Common.{ℕ, ◌<◌, ◌≤◌, ◌+◌, ◌^◌, ◌≡◌, ◌≢◌, List, [], length, set, get_or, Option, Some, None, IsSome}
+use Rattle.std.proofs.Common.{ℕ, ◌<◌, ◌≤◌, ◌+◌, ◌^◌, ◌≡◌, ◌≢◌, List, [], length, set, get_or}
+use Rattle.std.proofs.Common.{Option, Some, None, IsSome}
 use Rattle.std.proofs.Common.{arith, refl, sym, subst, ◌∙◌}
 use Rattle.std.specs.List.{Contains}
 use Rattle.std.proofs.lemmas.List.{get_or-set_other}
@@ -11,7 +12,9 @@ use Rattle.tagged_word.proofs.Cells.{size_bounds, slot_within, some_same}
 use Rattle.tagged_word.proofs.CellReadings.{cell_from}
 use Rattle.tagged_word.proofs.Readings.{reference_to}
 use Rattle.scav_copy.specs.declared.places.Home.{Home}
-use Rattle.scav_copy.specs.Places.{Fixed, last_address, cell_before, words_in, offsets_in, size_of, offsets_of, IsWithin, IsOfCell}
+use Rattle.scav_copy.specs.Places.{Fixed, last_address, cell_before, words_in, offsets_in, size_of, offsets_of}
+use Rattle.scav_copy.specs.Places.{IsWithin}
+use Rattle.scav_copy.specs.Places.{IsOfCell}
 use Rattle.scav_copy.specs.Places.{IsInCopy, IsInCells, IsInRooms, IsLaidOut, StoodAt}
 use Rattle.scav_copy.specs.Renamings.{Reached}
 use Rattle.scav_copy.specs.Copies.{Copying, IsKeptOrRenamed}
@@ -104,8 +107,14 @@ pub copy_in_room : {fixed : Fixed} {words : List ℕ} {homes : List Home} (home 
     → Copying fixed words homes → Contains homes home → IsInCopy fixed home at → IsInRooms fixed at
 copy_in_room {fixed} home at copying there has =
     let housed = copying.housed home there in
-    let lies = housed.1 in
-    (housed.0, lies.among, record { from = omega (arith, has.from, lies.from); below = omega (arith, has.below, lies.ends) })
+    let lies = housed.1 in (
+      housed.0,
+      lies.among,
+      record {
+        from = omega (arith, has.from, lies.from);
+        below = omega (arith, has.below, lies.ends);
+      },
+    )
 
 -- a live slot is no word of a cell that is to be copied
 pub live_in_no_cell : {fixed : Fixed} {words : List ℕ} {homes : List Home} (slot place : ℕ) → IsLaidOut fixed
@@ -132,7 +141,8 @@ home_fits {fixed} home laid copying there =
     omega (arith, inside, laid.addressed)
 
 -- the reference to a home refers to no cell that is to be copied
-pub home_is_no_cell : {fixed : Fixed} {words : List ℕ} {homes : List Home} (home : Home) (word cell : ℕ) → IsLaidOut fixed
+pub home_is_no_cell : {fixed : Fixed} {words : List ℕ} {homes : List Home} (home : Home) (word cell : ℕ)
+    → IsLaidOut fixed
     → Copying fixed words homes → Contains homes home → word ≡ bits_of (Ref home.to) → reference_in word ≡ Some cell
     → Contains fixed.cells cell → ⊥
 home_is_no_cell {fixed} home word cell laid copying there e refers is =
@@ -142,7 +152,8 @@ home_is_no_cell {fixed} home word cell laid copying there e refers is =
     (copy_in_room home home.to copying there (home_itself home laid copying there))
 
 -- a word other than the one that is stored stays
-pub elsewhere : (words : List ℕ) (at word other : ℕ) → other ≢ at → get_or (set words at word) other 0 ≡ get_or words other 0
+pub elsewhere : (words : List ℕ) (at word other : ℕ) → other ≢ at
+    → get_or (set words at word) other 0 ≡ get_or words other 0
 elsewhere words at word other apart = get_or-set_other words at other word 0 apart
 
 -- what is as it was or renamed is so by an equal word

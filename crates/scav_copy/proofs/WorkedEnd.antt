@@ -1,5 +1,6 @@
 -- The worked scavenge.
-use Rattle.std.proofs.Common.{ℕ, zero, suc, ◌<◌, ◌≤◌, ◌+◌, ◌≡◌, ◌≢◌, ◌⊎◌, inl, inr, List, [], ◌∷◌, get_or, set}
+use Rattle.std.proofs.Common.{ℕ, zero, suc, ◌<◌, ◌≤◌, ◌+◌, ◌≡◌, ◌≢◌, ◌⊎◌, inl, inr, List}
+use Rattle.std.proofs.Common.{[], ◌∷◌, get_or, set}
 use Rattle.std.proofs.Common.{arith, refl, sym, ap, subst, ◌∙◌}
 use Rattle.std.specs.List.{Contains}
 use Rattle.tagged_word.proofs.Members.{one_in, first_in, rest_in, in_cases}
@@ -15,6 +16,7 @@ pub list_size : size_of worked 0 ≡ 3
 unfolding cell_before
 list_size = refl
 
+-- the slot of the list that a scavenge visits is the one behind its header
 list_offsets : offsets_of worked 0 ≡ 1 ∷ []
 unfolding cell_before
 list_offsets = refl
@@ -52,9 +54,11 @@ copied_words (suc (suc (suc k))) less = absurd (omega arith)
 slots_renamed : (slot : ℕ) → (4 ≡ slot) ⊎ Contains (5 ∷ []) slot
     → IsRenamed (list_home 8 ∷ []) (get_or words_before slot 0) (get_or words_after slot 0)
 slots_renamed slot (inl e) =
-    subst (λ (s : ℕ). IsRenamed (list_home 8 ∷ []) (get_or words_before s 0) (get_or words_after s 0)) e (renamed_list 33 refl)
+    subst (λ (s : ℕ). IsRenamed (list_home 8 ∷ []) (get_or words_before s 0) (get_or words_after s 0)) e
+    (renamed_list 33 refl)
 slots_renamed slot (inr there) =
-    subst (λ (s : ℕ). IsRenamed (list_home 8 ∷ []) (get_or words_before s 0) (get_or words_after s 0)) (one_in 5 slot there)
+    subst (λ (s : ℕ). IsRenamed (list_home 8 ∷ []) (get_or words_before s 0) (get_or words_after s 0))
+    (one_in 5 slot there)
     (renamed_list 33 refl)
 
 -- the end is a renaming
@@ -97,6 +101,7 @@ in_first at from below =
     let other : Room = record { worker = 1; from = 16; to = 20 } in
     (one, first_in one (other ∷ []), record { from = from; below = below })
 
+-- the second worker's room is from 16 to 20
 in_second : (at : ℕ) → 16 ≤ at → at < 20 → IsInRooms worked at
 in_second at from below =
     let one : Room = record { worker = 0; from = 8; to = 12 } in
@@ -107,18 +112,23 @@ in_second at from below =
 abbrev after_17 : List ℕ
 after_17 = set words_before 17 3
 
+-- the header of the second copy
 abbrev after_16 : List ℕ
 after_16 = set after_17 16 21474836486
 
+-- the slot of the first copy
 abbrev after_9 : List ℕ
 after_9 = set after_16 9 3
 
+-- its header
 abbrev after_8 : List ℕ
 after_8 = set after_9 8 21474836486
 
+-- the second slot outside, renamed
 abbrev after_5 : List ℕ
 after_5 = set after_8 5 33
 
+-- the first slot outside, renamed
 abbrev after_4 : List ℕ
 after_4 = set after_5 4 33
 
@@ -136,8 +146,10 @@ worked_outside at no_cell no_slot no_room =
     unstored at (λ same. no_cell (in_list at (omega arith)))
     (λ same. no_slot (subst (Contains (4 ∷ 5 ∷ [])) (sym same) (first_in 4 (5 ∷ []))))
     (λ same. no_slot (subst (Contains (4 ∷ 5 ∷ [])) (sym same) (rest_in 4 (5 ∷ []) 5 (first_in 5 []))))
-    (λ same. no_room (in_first at (omega arith) (omega arith))) (λ same. no_room (in_first at (omega arith) (omega arith)))
-    (λ same. no_room (in_second at (omega arith) (omega arith))) (λ same. no_room (in_second at (omega arith) (omega arith)))
+    (λ same. no_room (in_first at (omega arith) (omega arith)))
+    (λ same. no_room (in_first at (omega arith) (omega arith)))
+    (λ same. no_room (in_second at (omega arith) (omega arith)))
+    (λ same. no_room (in_second at (omega arith) (omega arith)))
 
 -- the end is as it was worked
 pub end_is_worked : EndIsWorked

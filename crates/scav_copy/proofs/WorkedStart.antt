@@ -1,5 +1,6 @@
 -- The worked scavenge names each address for one thing.
-use Rattle.std.proofs.Common.{ℕ, ◌<◌, ◌≤◌, ◌≡◌, ◌⊎◌, inl, inr, [], ◌∷◌, IsSome, arith, refl, sym, ap, subst, ◌∙◌}
+use Rattle.std.proofs.Common.{ℕ, ◌<◌, ◌≤◌, ◌≡◌, ◌⊎◌, inl, inr, [], ◌∷◌, IsSome, arith, refl}
+use Rattle.std.proofs.Common.{sym, ap, subst, ◌∙◌}
 use Rattle.std.specs.List.{Contains}
 use Rattle.tagged_word.proofs.Members.{one_in, in_cases}
 use Rattle.scav_copy.specs.declared.places.Room.{Room}
@@ -28,13 +29,15 @@ slot_cases : (slot : ℕ) → (4 ≡ slot) ⊎ Contains (5 ∷ []) slot → (4 �
 slot_cases slot (inl e) = (omega (arith, e), omega (arith, e))
 slot_cases slot (inr there) = let e : 5 ≡ slot = one_in 5 slot there in (omega (arith, e), omega (arith, e))
 
+-- so it is between 4 and 5
 slot_is : (slot : ℕ) → Contains (4 ∷ 5 ∷ []) slot → (4 ≤ slot) × (slot ≤ 5)
 slot_is slot there = slot_cases slot (in_cases 4 (5 ∷ []) slot there)
 
--- the rooms
+-- the room of the first worker
 abbrev first_room : Room
 first_room = record { worker = 0; from = 8; to = 12 }
 
+-- and the one of the second worker
 abbrev second_room : Room
 second_room = record { worker = 1; from = 16; to = 20 }
 
@@ -60,7 +63,8 @@ of_second room at e inside =
     (omega (arith, from, inside.from), omega (arith, to, inside.below))
 
 -- an address of a room
-room_at : (room : Room) (at : ℕ) → (first_room ≡ room) ⊎ (second_room ≡ room) → IsInRoom room at → (8 ≤ at) × (at < 20)
+room_at : (room : Room) (at : ℕ) → (first_room ≡ room) ⊎ (second_room ≡ room) → IsInRoom room at → (8 ≤ at)
+    × (at < 20)
 room_at room at (inl e) inside =
     let bounds = of_first room at e inside in (bounds.0, omega (arith, bounds.1))
 room_at room at (inr e) inside =

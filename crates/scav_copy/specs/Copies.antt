@@ -1,5 +1,6 @@
 -- What holds between two steps of a scavenge.
-use Rattle.std.specs.Prelude.{◌≡◌, ◌≢◌, ℕ, ◌+◌, ◌<◌, ◌≤◌, List, [], ◌∷◌, length, Contains, AllPairs, slice_index}
+use Rattle.std.specs.Prelude.{◌≡◌, ◌≢◌, ℕ, ◌+◌, ◌<◌, ◌≤◌, List, [], ◌∷◌, length, Contains}
+use Rattle.std.specs.Prelude.{AllPairs, slice_index}
 use Rattle.std.specs.Prelude.{nat_lt, if◌then◌else◌}
 use Rattle.tagged_word.specs.declared.word.Class.TheVariants.{Ref}
 use Rattle.tagged_word.specs.Words.{bits_of}
@@ -48,8 +49,8 @@ AreApart fixed homes =
     (one other : Home) (at : ℕ) → Contains homes one → Contains homes other → IsInCopy fixed one at
     → IsInCopy fixed other at → one ≡ other
 
--- Words in which some cells have homes: each is reached, and its copy has room and words of its own. Cells are as before but
--- for headers that refer to homes. Copies are their cells, and live slots are as before or renamed.
+-- Words in which some cells have homes: each is reached, and its copy has room and words of its own. Cells are as
+-- before but for headers that refer to homes. Copies are their cells, and live slots are as before or renamed.
 pub record Copying (fixed : Fixed) (words : List ℕ) (homes : List Home) : Type 0 where
   pub long : length words ≡ length fixed.before
   pub ascend : AllPairs (λ one other. one.from < other.from) homes

@@ -17,7 +17,8 @@ RoomsMayBeFilled =
     (fixed : Fixed) (words : List ℕ) (homes : List Home) (at word : ℕ) → IsLaidOut fixed → Copying fixed words homes
     → IsInRooms fixed at → (IsInCopies fixed homes at → ⊥) → Copying fixed (slice_set words at word) homes
 
--- the header of a cell that was reached and has no home may become the reference to its words, where these stand in a room
+-- the header of a cell that was reached and has no home may become the reference to its words, where these stand in a
+-- room
 abbrev pub CellsMayMove : Type 0
 CellsMayMove =
     (fixed : Fixed) (words : List ℕ) (homes : List Home) (cell to : ℕ) → IsLaidOut fixed → Copying fixed words homes
@@ -50,10 +51,11 @@ LiveSlotsStayLive =
     (fixed : Fixed) (homes : List Home) (new : Home) (slot place : ℕ) → StoodAt fixed homes slot place
     → StoodAt fixed (with_home homes new) slot place
 
--- Where no live slot refers to one of the cells, all that was reached was copied and renamed, and nothing outside changed.
--- Each home copy lies in one room and shares no word with another.
+-- Where no live slot refers to one of the cells, all that was reached was copied and renamed, and nothing outside
+-- changed. Each home copy lies in one room and shares no word with another.
 abbrev pub EndIsRenaming : Type 0
 EndIsRenaming =
     (fixed : Fixed) (words : List ℕ) (homes : List Home) → IsLaidOut fixed → Copying fixed words homes
-    → ((slot place cell : ℕ) → StoodAt fixed homes slot place → RefersTo words slot cell → Contains fixed.cells cell → ⊥)
+    → ((slot place cell : ℕ) → StoodAt fixed homes slot place → RefersTo words slot cell → Contains fixed.cells cell
+    → ⊥)
     → Renaming fixed words homes × Outside fixed words × AreHoused fixed homes × AreApart fixed homes

@@ -1,13 +1,15 @@
--- What no step of a scavenge changes, and the places in it: words of cells, of rooms and of home copies, and live slots.
-use Rattle.std.specs.Prelude.{◌≡◌, ℕ, ◌+◌, ◌<◌, ◌≤◌, ◌^◌, List, [], length, Contains, Option, None, Some, IsSome}
+-- What no step of a scavenge changes, and the places in it: words of cells, of rooms and of home copies, and live
+-- slots.
+use Rattle.std.specs.Prelude.{◌≡◌, ℕ, ◌+◌, ◌<◌, ◌≤◌, ◌^◌, List, [], length, Contains, Option, None}
+use Rattle.std.specs.Prelude.{Some, IsSome}
 use Rattle.tagged_word.specs.declared.reading.Reading.{Reading}
 use Rattle.tagged_word.specs.Cells.{scavenge_offsets}
 use Rattle.tagged_word.specs.Readings.{read_cell}
 use Rattle.scav_copy.specs.declared.places.Home.{Home}
 use Rattle.scav_copy.specs.declared.places.Room.{Room}
 
--- what stays as it is: the words before, a layout word for each shape, the cells that are to be copied, the slots outside
--- that may refer to them, and the rooms that copies may fill
+-- what stays as it is: the words before, a layout word for each shape, the cells that are to be copied, the slots
+-- outside that may refer to them, and the rooms that copies may fill
 pub record Fixed : Type 0 where
   pub before : List ℕ
   pub layouts : List ℕ
@@ -85,8 +87,8 @@ pub record IsLaidOut (fixed : Fixed) : Type 0 where
   pub slot_in_no_room : (at : ℕ) → Contains fixed.slots at → IsInRooms fixed at → ⊥
   pub cell_in_no_room : (at : ℕ) → IsInCells fixed at → IsInRooms fixed at → ⊥
 
--- The slot is live, and its word stood at this place before: one of `slots` stood where it is, and a slot of a home copy
--- in the cell.
+-- The slot is live, and its word stood at this place before: one of `slots` stood where it is, and a slot of a home
+-- copy in the cell.
 pub data StoodAt (fixed : Fixed) (homes : List Home) (slot place : ℕ) : Type 0 where
   itself : Contains fixed.slots slot → slot ≡ place → StoodAt fixed homes slot place
   in_cell : (home : Home) (offset : ℕ) → Contains homes home → Contains (offsets_of fixed home.from) offset

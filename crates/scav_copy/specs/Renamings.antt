@@ -1,4 +1,5 @@
--- What a scavenge comes to: all that was reached stands at its home, references to it were renamed, and nothing else changed.
+-- What a scavenge comes to: all that was reached stands at its home, references to it were renamed, and nothing else
+-- changed.
 use Rattle.std.specs.Prelude.{◌≡◌, ◌≢◌, ℕ, ◌+◌, ◌<◌, List, Contains, AllPairs, slice_index, Some, ◌↔◌}
 use Rattle.tagged_word.specs.declared.word.Class.TheVariants.{Ref}
 use Rattle.tagged_word.specs.Words.{bits_of}
@@ -10,7 +11,8 @@ use Rattle.scav_copy.specs.Places.{Fixed, size_of, offsets_of, IsInCells, IsInRo
 abbrev pub RefersTo : List ℕ → ℕ → ℕ → Type 0
 RefersTo words at cell = reference_in (slice_index words at) ≡ Some cell
 
--- the cell is one of `cells`, and a way of references led to it before: from a slot outside, through slots of such cells
+-- the cell is one of `cells`, and a way of references led to it before: from a slot outside, through slots of such
+-- cells
 pub data Reached (fixed : Fixed) : ℕ → Type 0 where
   by_slot : (slot cell : ℕ) → Contains fixed.slots slot → RefersTo fixed.before slot cell
       → Contains fixed.cells cell → Reached fixed cell
@@ -27,8 +29,8 @@ pub data IsRenamed (homes : List Home) (old new : ℕ) : Type 0 where
 abbrev pub HasOneHomeEach : List Home → Type 0
 HasOneHomeEach homes = AllPairs (λ one other. (one.from ≢ other.from) × (one.to ≢ other.to)) homes
 
--- Exactly the cells that were reached have homes. A home copy is its cell, with its slots renamed, and the slots outside are
--- renamed.
+-- Exactly the cells that were reached have homes. A home copy is its cell, with its slots renamed, and the slots
+-- outside are renamed.
 pub record Renaming (fixed : Fixed) (words : List ℕ) (homes : List Home) : Type 0 where
   pub one_each : HasOneHomeEach homes
   pub survivors : (cell : ℕ) → ((home : Home) × Contains homes home × (home.from ≡ cell)) ↔ Reached fixed cell

@@ -1,5 +1,6 @@
 -- How often an address stands in what is to be done, on the board, and among the homes.
-use Rattle.std.proofs.Common.{ℕ, suc, ◌<◌, ◌≤◌, ◌+◌, ◌^◌, ◌≡◌, ◌≢◌, ◌==◌, ◌⊎◌, inl, inr, Bool, true, false, not, cond, List, []}
+use Rattle.std.proofs.Common.{ℕ, suc, ◌<◌, ◌≤◌, ◌+◌, ◌^◌, ◌≡◌, ◌≢◌, ◌==◌, ◌⊎◌, inl}
+use Rattle.std.proofs.Common.{inr, Bool, true, false, not, cond, List, []}
 use Rattle.std.proofs.Common.{◌∷◌, ◌++◌, length, get_or, set, slice_get, Option, Some, arith, refl}
 use Rattle.std.proofs.Common.{sym, ap, subst, ◌∙◌, eq-eqb, eqb-true}
 use Rattle.std.specs.List.{Contains, AllPairs, count_by}
@@ -34,7 +35,8 @@ pub count_first : {X : Type 0} (p : X → Bool) (x : X) (xs : List X) → count_
 count_first p x xs = sum_by-cons (λ x. one (p x)) x xs
 
 -- the count of what is put behind
-pub count_behind : {X : Type 0} (p : X → Bool) (xs : List X) (x : X) → count_by p (xs ++ x ∷ []) ≡ count_by p xs + one (p x)
+pub count_behind : {X : Type 0} (p : X → Bool) (xs : List X) (x : X)
+    → count_by p (xs ++ x ∷ []) ≡ count_by p xs + one (p x)
 count_behind p xs x =
     sum_by-append (λ x. one (p x)) xs (x ∷ []) ∙ ap (λ (n : ℕ). count_by p xs + n) (count_first p x [] ∙ omega arith)
 
@@ -64,7 +66,8 @@ is_counted p (y ∷ xs) x there t =
     ]
 
 -- where nothing passes, nothing is counted
-pub none_counted : {X : Type 0} (p : X → Bool) (xs : List X) → ((x : X) → Contains xs x → p x ≡ false) → count_by p xs ≡ 0
+pub none_counted : {X : Type 0} (p : X → Bool) (xs : List X) → ((x : X) → Contains xs x → p x ≡ false)
+    → count_by p xs ≡ 0
 none_counted p [] none = refl
 none_counted p (x ∷ xs) none =
     let e : count_by p (x ∷ xs) ≡ one (p x) + count_by p xs = count_first p x xs in
@@ -90,7 +93,8 @@ times_left list a =
     (λ x there. not_equal x a (λ same. left_out list a (subst (Contains (left list a)) same there)))
 
 -- the count of the rest, if the first leaves or stays
-left_first : (x at a : ℕ) (xs : List ℕ) → at ≢ a → times a (left xs at) ≡ times a xs → (x == at) ≡ true ⊎ (x == at) ≡ false
+left_first : (x at a : ℕ) (xs : List ℕ) → at ≢ a → times a (left xs at) ≡ times a xs → (x == at) ≡ true
+    ⊎ (x == at) ≡ false
     → times a (left (x ∷ xs) at) ≡ times a (x ∷ xs)
 left_first x at a xs other rest (inl same) =
     let not_a : (x == a) ≡ false = not_equal x a (λ e. other (sym (eqb-true _ _ same) ∙ e)) in
@@ -99,7 +103,8 @@ left_first x at a xs other rest (inl same) =
     ap (λ (b : Bool). times a (cond (not b) (x ∷ left xs at) (left xs at))) same ∙ rest ∙ omega (arith, e, zero)
 left_first x at a xs other rest (inr apart) =
     ap (λ (b : Bool). times a (cond (not b) (x ∷ left xs at) (left xs at))) apart
-    ∙ count_first (λ y. y == a) x (left xs at) ∙ ap (λ (n : ℕ). one (x == a) + n) rest ∙ sym (count_first (λ y. y == a) x xs)
+    ∙ count_first (λ y. y == a) x (left xs at) ∙ ap (λ (n : ℕ). one (x == a) + n) rest
+    ∙ sym (count_first (λ y. y == a) x xs)
 
 -- others stand as often
 pub times_stay : (list : List ℕ) (at a : ℕ) → at ≢ a → times a (left list at) ≡ times a list
@@ -117,7 +122,8 @@ todo_set a workers worker view new e =
     ∙ sum_by-set (λ (v : WorkerView). times a v.todo) workers worker new view within
 
 -- one worker has to do no more than all
-pub todo_one : (a : ℕ) (workers : List WorkerView) (worker : ℕ) (view : WorkerView) → slice_get workers worker ≡ Some view
+pub todo_one : (a : ℕ) (workers : List WorkerView) (worker : ℕ) (view : WorkerView) → slice_get workers worker
+    ≡ Some view
     → times a view.todo ≤ todo_times a workers
 todo_one a workers worker view e =
     let all : todo_times a (set workers worker lent_view) + times a view.todo ≡ todo_times a workers + 0 =
@@ -130,7 +136,8 @@ refers_once a word = one (is_address a (reference_in word))
 
 -- the board, when one of its words changes
 pub board_set : (a : ℕ) (board : List ℕ) (place word : ℕ) → place < length board
-    → board_times a (set board place word) + refers_once a (get_or board place 0) ≡ board_times a board + refers_once a word
+    → board_times a (set board place word) + refers_once a (get_or board place 0)
+    ≡ board_times a board + refers_once a word
 board_set a board place word within = sum_by-set (λ (w : ℕ). refers_once a w) board place word 0 within
 
 -- a word of the board counts no more than the board

@@ -1,5 +1,6 @@
 -- What the tests of a possible event say.
-use Rattle.std.proofs.Common.{ℕ, ◌<◌, ◌≤◌, ◌+◌, ◌-◌, ◌≡◌, ◌==◌, ◌&&◌, inl, inr, Bool, true, false, List, length, get_or}
+use Rattle.std.proofs.Common.{ℕ, ◌<◌, ◌≤◌, ◌+◌, ◌-◌, ◌≡◌, ◌==◌, ◌&&◌, inl, inr, Bool, true}
+use Rattle.std.proofs.Common.{false, List, length, get_or}
 use Rattle.std.proofs.Common.{nat_le, Option, Some, None, arith, refl, sym, ap, subst, ◌∙◌, eqb-true}
 use Rattle.std.specs.List.{Contains, range_with_len}
 use Rattle.std.proofs.lemmas.Bool.{and_parts, or_cases}
@@ -12,7 +13,8 @@ use Rattle.seat_steps.proofs.Joining.{in_found}
 use Rattle.scav_copy.specs.declared.places.Home.{Home}
 use Rattle.scav_copy.specs.declared.places.Room.{Room}
 use Rattle.scav_copy.specs.Places.{Fixed, size_of, offsets_of, IsWithin, IsInCopy, StoodAt}
-use Rattle.scav_core.specs.Possible.{is_copied_slot, is_live, is_beside, is_free, is_in_room, is_in_own_room, stands_at, is_home}
+use Rattle.scav_core.specs.Possible.{is_copied_slot, is_live, is_beside, is_free, is_in_room, is_in_own_room, stands_at}
+use Rattle.scav_core.specs.Possible.{is_home}
 use Rattle.scav_core.proofs.Tested.{same_at}
 
 -- a test that finds one number at most another says so
@@ -74,7 +76,8 @@ beside_apart fixed first many home at t has within =
 
 -- words that are found free share none with a home copy
 pub free_apart : (fixed : Fixed) (homes : List Home) (first many : ℕ) (home : Home) (at : ℕ)
-    → is_free fixed homes first many ≡ true → Contains homes home → IsInCopy fixed home at → IsWithin first many at → ⊥
+    → is_free fixed homes first many ≡ true → Contains homes home → IsInCopy fixed home at → IsWithin first many at
+    → ⊥
 free_apart fixed homes first many home at t there has within =
     let test : Home → Bool = λ home. is_beside fixed first many home in
     beside_apart fixed first many home at
@@ -104,7 +107,8 @@ in_own_room rooms worker first many t =
     }
 
 -- each word that is found is that of the list
-pub each_same : (words : List ℕ) (first : ℕ) (header : ℕ) (body : List ℕ) (k : ℕ) → stands_at words first header body ≡ true
+pub each_same : (words : List ℕ) (first : ℕ) (header : ℕ) (body : List ℕ) (k : ℕ)
+    → stands_at words first header body ≡ true
     → k < length body → get_or words (first + 1 + k) 0 ≡ get_or body k 0
 each_same words first header body k t less =
     let parts = and_parts _ _ t in
@@ -112,7 +116,8 @@ each_same words first header body k t less =
     let within : k < length range = omega (arith, length-range_with_len 0 (length body)) in
     let is : get_or range k 0 ≡ k = get_or-range_with_len 0 (length body) k 0 less ∙ omega arith in
     let test : ℕ → Bool = same_at words (first + 1) body in
-    let passes = All-get_or (λ (offset : ℕ). test offset ≡ true) range k 0 within (AllPass-from_list_all test range parts.1) in
+    let passes = All-get_or (λ (offset : ℕ). test offset ≡ true) range k 0 within
+    (AllPass-from_list_all test range parts.1) in
     eqb-true _ _ (subst (λ (offset : ℕ). test offset ≡ true) is passes)
 
 -- and the header stands before them

@@ -1,5 +1,6 @@
 -- Events that a worker knows to be possible by its own view.
-use Rattle.std.proofs.Common.{ℕ, ◌<◌, ◌≤◌, ◌+◌, ◌-◌, ◌≡◌, ◌==◌, ◌&&◌, Bool, true, length, slice_get}
+use Rattle.std.proofs.Common.{ℕ, ◌<◌, ◌≤◌, ◌+◌, ◌-◌, ◌≡◌, ◌==◌, ◌&&◌, Bool, true, length}
+use Rattle.std.proofs.Common.{slice_get}
 use Rattle.std.proofs.Common.{Option, Some, is_none, nat_lt, nat_le, arith, refl, sym, ap, subst, ◌∙◌, eq-eqb, eqb-true}
 use Rattle.std.specs.List.{Contains, list_any}
 use Rattle.std.proofs.lemmas.Bool.{and_from, or_right, true≢false}
@@ -21,12 +22,14 @@ use Rattle.scav_core.specs.declared.workers.Job.{Job}
 use Rattle.scav_core.specs.declared.workers.WorkerView.{WorkerView}
 use Rattle.scav_core.specs.declared.world.World.{World}
 use Rattle.scav_core.specs.Worlds.{fixed_of}
-use Rattle.scav_core.specs.Possible.{is_copied_slot, is_live, is_part, words_wanted, job_is, header_is, may, may_by, may_load_header}
+use Rattle.scav_core.specs.Possible.{is_copied_slot, is_live, is_part, words_wanted, job_is, header_is, may, may_by}
+use Rattle.scav_core.specs.Possible.{may_load_header}
 use Rattle.scav_core.specs.Possible.{may_load_body, may_redirect, is_home}
 use Rattle.scav_core.specs.Underway.{times, todo_times, board_times, home_times, HasReadCell, IsJob, HasJob, Underway}
-use Rattle.scav_core.specs.Reliance.{IsOutAt, HeadersMayBeLoaded, BodiesMayBeLoaded, SlotsMayBeRedirected, TodoMayBeLoaded}
+use Rattle.scav_core.specs.Reliance.{IsOutAt, HeadersMayBeLoaded, BodiesMayBeLoaded, SlotsMayBeRedirected}
+use Rattle.scav_core.specs.Reliance.{TodoMayBeLoaded}
 use Rattle.scav_core.proofs.Counting.{todo_one, is_counted, counted}
-use Rattle.scav_core.proofs.Exchanging.{header_no_reference}
+use Rattle.scav_core.proofs.Redirecting.{header_no_reference}
 use Rattle.scav_core.proofs.Keeping.{view_in}
 use Rattle.scav_core.proofs.Loading.{none_wanted}
 use Rattle.scav_core.proofs.Wanted.{wanted, part_within}
@@ -98,7 +101,8 @@ home_is : {world : World} (home : Home) → Underway world → Contains world.ho
     → is_home world.homes (reference_in (bits_of (Ref home.to))) ≡ true
 home_is {world} home underway there =
     let (k, less, e) = there in
-    ap (is_home world.homes) (reference_to (bits_of (Ref home.to)) home.to (home_fits home underway.laid underway.copying there) refl)
+    ap (is_home world.homes)
+    (reference_to (bits_of (Ref home.to)) home.to (home_fits home underway.laid underway.copying there) refl)
     ∙ list_any_at (λ (one : Home). one.to == home.to) world.homes k home less
     (eq-eqb _ _ (ap (λ (one : Home). one.to) e))
 
@@ -126,17 +130,20 @@ redirects_may world worker view job header address underway out e refers =
 
 -- a slot of a home copy is found live
 slot_is_live : (world : World) (home : Home) (at offset : ℕ) → Contains world.homes home → home.to ≡ at
-    → Contains (offsets_of (fixed_of world) home.from) offset → is_live (fixed_of world) world.homes (at + offset) ≡ true
+    → Contains (offsets_of (fixed_of world) home.from) offset → is_live (fixed_of world) world.homes (at + offset)
+    ≡ true
 slot_is_live world home at offset (k, less, e) to is =
     let fixed = fixed_of world in
     let behind : nat_le home.to (at + offset) ≡ true = grind (arith, nat_tests) in
     let same : offset ≡ at + offset - home.to = omega arith in
     let found : is_in (offsets_of fixed home.from) (at + offset - home.to) ≡ true =
-    subst (λ (k : ℕ). is_in (offsets_of fixed home.from) k ≡ true) same (found_in (offsets_of fixed home.from) offset is) in
+    subst (λ (k : ℕ). is_in (offsets_of fixed home.from) k ≡ true) same
+    (found_in (offsets_of fixed home.from) offset is) in
     or_right (is_in world.slots (at + offset)) (list_any (λ home. is_copied_slot fixed (at + offset) home) world.homes)
     (list_any_at (λ (one : Home). is_copied_slot fixed (at + offset) one) world.homes k home less
     (ap (λ (one : Home). is_copied_slot fixed (at + offset) one) e
-    ∙ and_from (nat_le home.to (at + offset)) (is_in (offsets_of fixed home.from) (at + offset - home.to)) behind found))
+    ∙ and_from (nat_le home.to (at + offset))
+    (is_in (offsets_of fixed home.from) (at + offset - home.to)) behind found))
 
 -- what a worker has to do is a home copy
 todo_is_home : {world : World} (worker : ℕ) (view : WorkerView) (at : ℕ) → Underway world
@@ -145,7 +152,8 @@ todo_is_home : {world : World} (worker : ℕ) (view : WorkerView) (at : ℕ) →
 todo_is_home {world} worker view at underway stood there =
     let some : 1 ≤ times at view.todo = is_counted (λ x. x == at) view.todo at there (eq-eqb at at refl) in
     let part : times at view.todo ≤ todo_times at world.workers = todo_one at world.workers worker view stood in
-    let whole : todo_times at world.workers + board_times at world.board ≡ home_times at world.homes = underway.work at in
+    let whole : todo_times at world.workers + board_times at world.board
+    ≡ home_times at world.homes = underway.work at in
     counted (λ (home : Home). home.to == at) world.homes (omega (arith, some, part, whole))
 
 -- each of its slots may be read
@@ -164,7 +172,8 @@ todo_may world worker view at underway stood out idle there =
           ap (may_by world (LoadSlot worker slot)) stood
           ∙ and_from view.out (may world (LoadSlot worker slot) view) out
           (and_from (is_none view.job && is_live (fixed_of world) world.homes slot) (nat_lt slot (length world.words))
-          (and_from (is_none view.job) (is_live (fixed_of world) world.homes slot) (ap (λ (o : Option Job). is_none o) idle)
+          (and_from (is_none view.job) (is_live (fixed_of world) world.homes slot)
+          (ap (λ (o : Option Job). is_none o) idle)
           (slot_is_live world home at offset found.1 to is))
           (in_words slot underway (live_is_there slot (home.from + offset) underway.laid underway.copying stands))),
     )

@@ -1,5 +1,6 @@
 -- Each event keeps a scavenge underway, and so does each list of them.
-use Rattle.std.proofs.Common.{ℕ, ◌<◌, ◌+◌, ◌≡◌, inl, inr, Bool, true, false, List, [], ◌∷◌, ◌++◌, length, get_or, set}
+use Rattle.std.proofs.Common.{ℕ, ◌<◌, ◌+◌, ◌≡◌, inl, inr, Bool, true, false, List, [], ◌∷◌, ◌++◌}
+use Rattle.std.proofs.Common.{length, get_or, set}
 use Rattle.std.proofs.Common.{slice_get, Option, Some, None, nat_lt, arith, refl, sym, ap, subst, ◌∙◌}
 use Rattle.std.specs.List.{Contains}
 use Rattle.std.proofs.lemmas.Bool.{and_parts, true≢false}
@@ -29,10 +30,10 @@ use Rattle.scav_core.specs.Worlds.{fixed_of, lent_view}
 use Rattle.scav_core.specs.Views.{touched, loaded_view, with_header, with_word}
 use Rattle.scav_core.specs.Steps.{word_found, stepped, stepped_by, worker_of, after}
 use Rattle.scav_core.specs.Possible.{may, may_by, is_possible, is_place}
-use Rattle.scav_core.specs.Runs.{after_all}
 use Rattle.scav_core.specs.Underway.{times, todo_times, board_times, home_times, is_address, IsLogged, HasJob, Underway}
-use Rattle.scav_core.specs.WorldLaws.{FreshIsUnderway, EventsKeepUnderway, ListsKeepUnderway, FixedStays}
-use Rattle.scav_core.proofs.Exchanging.{forwarded, redirected}
+use Rattle.scav_core.specs.WorldLaws.{FreshIsUnderway, EventsKeepUnderway, ListsKeepUnderway}
+use Rattle.scav_core.proofs.Exchanging.{forwarded}
+use Rattle.scav_core.proofs.Redirecting.{redirected}
 use Rattle.scav_core.proofs.Handing.{given_away, taken}
 use Rattle.scav_core.proofs.Keeping.{Keeps, kept, changed, view_in}
 use Rattle.scav_core.proofs.Loading.{made, reading, slot_loaded, header_loaded, body_loaded}
@@ -49,9 +50,11 @@ pub record Owes (world next : World) (worker : ℕ) : Type 0 where
   pub is : next ≡ changed world words homes board worker new
 
 -- an event of a worker pays what it owes, if it does so for each view that the worker may have
-by_view : (world : World) (worker : ℕ) (event : Event) (view : Option WorkerView) → slice_get world.workers worker ≡ view
+by_view : (world : World) (worker : ℕ) (event : Event) (view : Option WorkerView) → slice_get world.workers worker
+    ≡ view
     → may_by world event view ≡ true
-    → ((view : WorkerView) → slice_get world.workers worker ≡ Some view → view.out ≡ true → may world event view ≡ true
+    → ((view : WorkerView) → slice_get world.workers worker ≡ Some view → view.out ≡ true
+    → may world event view ≡ true
     → Owes world (stepped world worker event view (word_found world (touched view event))) worker)
     → Owes world (stepped_by world worker event view) worker
 by_view world worker event None e t keeps = cc
@@ -67,24 +70,28 @@ paid {words = words} {homes} {board} {old = old} {new} keeps =
 -- a word that is stored as it was found changes nothing
 same_words : (world : World) (worker : ℕ) (old new : WorkerView) (at : ℕ)
     → Keeps world world.words world.homes world.board worker old new
-    → Owes world (changed world (set world.words at (get_or world.words at 0)) world.homes world.board worker new) worker
+    → Owes world (changed world (set world.words at (get_or world.words at 0)) world.homes world.board worker new)
+    worker
 same_words world worker old new at keeps =
     paid (subst (λ (words : List ℕ). Keeps world words world.homes world.board worker old new)
     (sym (set-get_or world.words at 0)) keeps)
 
 -- the event of a worker that has this view pays what it owes
 abbrev Steps : World → ℕ → Event → WorkerView → Type 0
-Steps world worker event view = Owes world (stepped world worker event view (word_found world (touched view event))) worker
+Steps world worker event view = Owes world
+    (stepped world worker event view (word_found world (touched view event))) worker
 
 -- a worker ends
-returned : {world : World} (worker : ℕ) (view : WorkerView) → Underway world → slice_get world.workers worker ≡ Some view
+returned : {world : World} (worker : ℕ) (view : WorkerView) → Underway world → slice_get world.workers worker
+    ≡ Some view
     → Steps world worker (event.Return worker) view
 returned {world} worker view underway stood =
     paid (reading {new = record view { out = false }} underway stood refl
     (underway.logs view (view_in world.workers worker view stood)) (λ out. absurd (true≢false (sym out))))
 
 -- a worker reads a header
-header_step : {world : World} (worker : ℕ) (out : Bool) (job : Option Job) (todo : List ℕ) (log : List Note) → Underway world
+header_step : {world : World} (worker : ℕ) (out : Bool) (job : Option Job) (todo : List ℕ) (log : List Note)
+    → Underway world
     → slice_get world.workers worker ≡ Some (made out job todo log) → out ≡ true
     → may world (event.LoadHeader worker) (made out job todo log) ≡ true
     → Steps world worker (event.LoadHeader worker) (made out job todo log)
@@ -96,7 +103,8 @@ header_step {world} worker out (Some job) todo log underway stood is t =
     (view_in world.workers worker (made out (Some job) todo log) stood) is t)
 
 -- a worker reads the next word of a cell
-body_step : {world : World} (worker : ℕ) (out : Bool) (job : Option Job) (todo : List ℕ) (log : List Note) → Underway world
+body_step : {world : World} (worker : ℕ) (out : Bool) (job : Option Job) (todo : List ℕ) (log : List Note)
+    → Underway world
     → slice_get world.workers worker ≡ Some (made out job todo log) → out ≡ true
     → may world (event.LoadBody worker) (made out job todo log) ≡ true
     → Steps world worker (event.LoadBody worker) (made out job todo log)
@@ -141,7 +149,8 @@ empty_times a = none_counted (λ word. is_address a (reference_in word)) empty_b
     (All-contains (λ (w : ℕ). w ≡ 0) empty_board word (All-replicate (λ (w : ℕ). w ≡ 0) board_words 0 refl) there))
 
 -- what is put behind leaves those before it
-pub slice_get_before : {X : Type 0} (xs : List X) (x : X) (k : ℕ) → k < length xs → slice_get (xs ++ x ∷ []) k ≡ slice_get xs k
+pub slice_get_before : {X : Type 0} (xs : List X) (x : X) (k : ℕ) → k < length xs
+    → slice_get (xs ++ x ∷ []) k ≡ slice_get xs k
 slice_get_before xs x k less =
     let more : k < length (xs ++ x ∷ []) = omega (arith, less, length-append xs (x ∷ [])) in
     slice_get-get_or (xs ++ x ∷ []) k x more
@@ -158,11 +167,13 @@ lent {world} underway = record {
       ≡ todo_times a world.workers + todo_times a (lent_view ∷ []) =
       sum_by-append (λ (view : WorkerView). times a view.todo) world.workers (lent_view ∷ []) in
       let none : todo_times a (lent_view ∷ []) ≡ 0 = refl in
-      let before : todo_times a world.workers + board_times a world.board ≡ home_times a world.homes = underway.work a in
+      let before : todo_times a world.workers + board_times a world.board
+      ≡ home_times a world.homes = underway.work a in
       omega (arith, all, none, before);
   logs = λ view there. elim (Contains-push_cases world.workers lent_view view there) [
     | inl old ↦ underway.logs view old
-    | inr same ↦ subst (IsLogged (fixed_of world) world.words world.homes) same (λ slot loaded. absurd (none_in _ loaded))
+    | inr same ↦ subst (IsLogged (fixed_of world) world.words world.homes) same
+        (λ slot loaded. absurd (none_in _ loaded))
   ];
   jobs = λ view there. elim (Contains-push_cases world.workers lent_view view there) [
     | inl old ↦ underway.jobs view old
@@ -182,12 +193,14 @@ pub data Comes (world : World) (event : Event) : Type 0 where
 pub comes : (world : World) (event : Event) → Underway world → is_possible world event ≡ true → Comes world event
 comes world event.Look underway t = Comes.of_main refl refl refl underway (λ worker within. refl)
 comes world event.Lend underway t =
-    Comes.of_main refl refl refl (lent underway) (λ worker within. slice_get_before world.workers lent_view worker within)
+    Comes.of_main refl refl refl (lent underway)
+    (λ worker within. slice_get_before world.workers lent_view worker within)
 comes world (event.Return worker) underway t =
     Comes.of_worker worker refl (by_view world worker (event.Return worker) (slice_get world.workers worker) refl t
     (λ view stood out may. returned worker view underway stood))
 comes world (event.LoadSlot worker slot) underway t =
-    Comes.of_worker worker refl (by_view world worker (event.LoadSlot worker slot) (slice_get world.workers worker) refl t
+    Comes.of_worker worker refl
+    (by_view world worker (event.LoadSlot worker slot) (slice_get world.workers worker) refl t
     (λ view stood out may. same_words world worker view
     (loaded_view world.cells view slot (get_or world.words slot 0)) slot
     (slot_loaded worker slot view.out view.job view.todo view.log underway stood
@@ -199,7 +212,8 @@ comes world (event.LoadBody worker) underway t =
     Comes.of_worker worker refl (by_view world worker (event.LoadBody worker) (slice_get world.workers worker) refl t
     (λ view stood out may. body_step worker view.out view.job view.todo view.log underway stood out may))
 comes world (event.CopyWord worker at word) underway t =
-    Comes.of_worker worker refl (by_view world worker (event.CopyWord worker at word) (slice_get world.workers worker) refl t
+    Comes.of_worker worker refl
+    (by_view world worker (event.CopyWord worker at word) (slice_get world.workers worker) refl t
     (λ view stood out may. paid
     (word_copied worker at word view underway stood (view_in world.workers worker view stood) may)))
 comes world (event.Forward worker to) underway t =
@@ -209,7 +223,8 @@ comes world (event.Redirect worker) underway t =
     Comes.of_worker worker refl (by_view world worker (event.Redirect worker) (slice_get world.workers worker) refl t
     (λ view stood out may. redirect_step worker view.out view.job view.todo view.log underway stood out may))
 comes world (event.Give worker place at) underway t =
-    Comes.of_worker worker refl (by_view world worker (event.Give worker place at) (slice_get world.workers worker) refl t
+    Comes.of_worker worker refl
+    (by_view world worker (event.Give worker place at) (slice_get world.workers worker) refl t
     (λ view stood out may.
     let parts = and_parts (is_place world place) (is_in view.todo at) may in
     paid (given_away worker place at view.out view.job view.todo view.log underway stood
@@ -242,7 +257,8 @@ fresh_is_underway world fresh =
     record {
       laid = fresh.laid;
       copying = subst (λ (homes : List Home). Copying (fixed_of world) world.words homes) (sym fresh.homes)
-          (subst (λ (words : List ℕ). Copying (fixed_of world) words []) (sym fresh.words) (start_is_copying (fixed_of world)));
+          (subst (λ (words : List ℕ). Copying (fixed_of world) words []) (sym fresh.words)
+          (start_is_copying (fixed_of world)));
       board = subst IsBoard (sym fresh.board) empty_is_board;
       work = λ a.
           let views : todo_times a world.workers ≡ 0 = ap (todo_times a) fresh.workers in
@@ -252,30 +268,3 @@ fresh_is_underway world fresh =
       logs = λ view there. absurd (no_views view there);
       jobs = λ view there. absurd (no_views view there);
     }
-
--- no event of a worker changes what is fixed
-fixed_by : (world : World) (worker : ℕ) (event : Event) (view : Option WorkerView)
-    → fixed_of (stepped_by world worker event view) ≡ fixed_of world
-fixed_by world worker event None = refl
-fixed_by world worker event (Some view) = refl
-
--- nor does any other
-pub fixed_stays : FixedStays
-fixed_stays world event.Look = refl
-fixed_stays world event.Lend = refl
-fixed_stays world (event.Return worker) = fixed_by world worker (event.Return worker) (slice_get world.workers worker)
-fixed_stays world (event.LoadSlot worker slot) = fixed_by world worker (event.LoadSlot worker slot) (slice_get world.workers worker)
-fixed_stays world (event.LoadHeader worker) = fixed_by world worker (event.LoadHeader worker) (slice_get world.workers worker)
-fixed_stays world (event.LoadBody worker) = fixed_by world worker (event.LoadBody worker) (slice_get world.workers worker)
-fixed_stays world (event.CopyWord worker at word) =
-    fixed_by world worker (event.CopyWord worker at word) (slice_get world.workers worker)
-fixed_stays world (event.Forward worker to) = fixed_by world worker (event.Forward worker to) (slice_get world.workers worker)
-fixed_stays world (event.Redirect worker) = fixed_by world worker (event.Redirect worker) (slice_get world.workers worker)
-fixed_stays world (event.Give worker place at) =
-    fixed_by world worker (event.Give worker place at) (slice_get world.workers worker)
-fixed_stays world (event.Take worker place) = fixed_by world worker (event.Take worker place) (slice_get world.workers worker)
-
--- nor does a list of them
-pub fixed_after : (world : World) (events : List Event) → fixed_of (after_all world events) ≡ fixed_of world
-fixed_after world [] = refl
-fixed_after world (event ∷ events) = fixed_after (after world event) events ∙ fixed_stays world event

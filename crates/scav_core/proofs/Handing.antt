@@ -1,6 +1,8 @@
 -- Copies that workers hand to one another over the board.
-use Rattle.std.proofs.Common.{ℕ, ◌<◌, ◌≤◌, ◌+◌, ◌^◌, ◌≡◌, ◌≢◌, ◌==◌, ◌⊎◌, inl, inr, Bool, true, false, List, [], ◌∷◌, ◌++◌, length}
-use Rattle.std.proofs.Common.{get_or, set, slice_get, Option, Some, None, if◌then◌else◌, arith, refl, ap, subst, ◌∙◌, eq-eqb}
+use Rattle.std.proofs.Common.{ℕ, ◌<◌, ◌≤◌, ◌+◌, ◌^◌, ◌≡◌, ◌≢◌, ◌==◌, ◌⊎◌, inl, inr}
+use Rattle.std.proofs.Common.{Bool, true, false, List, [], ◌∷◌, ◌++◌, length}
+use Rattle.std.proofs.Common.{get_or, set, slice_get, Option, Some, None, if◌then◌else◌, arith, refl, ap, subst}
+use Rattle.std.proofs.Common.{◌∙◌, eq-eqb}
 use Rattle.std.proofs.Common.{eqb-true}
 use Rattle.std.specs.List.{Contains}
 use Rattle.tagged_word.specs.declared.word.Class.TheVariants.{Ref}
@@ -20,8 +22,11 @@ use Rattle.scav_core.specs.declared.workers.WorkerView.{WorkerView}
 use Rattle.scav_core.specs.declared.world.World.{World}
 use Rattle.scav_core.specs.Worlds.{fixed_of}
 use Rattle.scav_core.specs.Views.{given_view, taken_view}
-use Rattle.scav_core.specs.Underway.{times, todo_times, board_times, home_times, is_address, IsShared, IsLogged, HasJob, Underway}
-use Rattle.scav_core.proofs.Counting.{one, todo_set, todo_one, board_set, board_one, refers_once, refers_to, times_joined, times_left}
+use Rattle.scav_core.specs.Underway.{times, todo_times, board_times, home_times, is_address, IsShared, IsLogged, HasJob}
+use Rattle.scav_core.specs.Underway.{Underway}
+use Rattle.scav_core.proofs.Counting.{one, todo_set, todo_one, board_set, board_one, refers_once, refers_to}
+use Rattle.scav_core.proofs.Counting.{times_joined}
+use Rattle.scav_core.proofs.Counting.{times_left}
 use Rattle.scav_core.proofs.Counting.{times_stay, is_counted, counted, home_once, not_equal}
 use Rattle.scav_core.proofs.Keeping.{IsChange, Keeps, nothing_changes, loaded_before}
 use Rattle.scav_core.proofs.Loading.{made}
@@ -33,7 +38,8 @@ once {world} a underway =
 
 -- where the views keep their jobs, and the board and what is to be done stay shared, an event owes no more
 handed : {world : World} {worker : ℕ} {old new : WorkerView} {board : List ℕ} → Underway world
-    → slice_get world.workers worker ≡ Some old → IsBoard board → IsShared (set world.workers worker new) board world.homes
+    → slice_get world.workers worker ≡ Some old → IsBoard board
+    → IsShared (set world.workers worker new) board world.homes
     → IsLogged (fixed_of world) world.words world.homes new
     → (new.out ≡ true → HasJob (fixed_of world) world.homes new.job)
     → Keeps world world.words world.homes board worker old new
@@ -61,7 +67,10 @@ just_once : {world : World} {worker place at : ℕ} {view : WorkerView} → Givi
 just_once {world} {worker} {place} {at} {view} giving =
     let some : 1 ≤ times at view.todo = is_counted (λ x. x == at) view.todo at giving.listed (eq-eqb at at refl) in
     let part : times at view.todo ≤ todo_times at world.workers = todo_one at world.workers worker view giving.stood in
-    let whole : todo_times at world.workers + board_times at world.board ≡ home_times at world.homes = giving.underway.work at in
+    let whole : todo_times at world.workers + board_times at world.board
+    ≡ home_times at world.homes =
+    giving.underway.work
+    at in
     let most : home_times at world.homes ≤ 1 = once at giving.underway in
     omega (arith, some, part, whole, most)
 
@@ -70,7 +79,10 @@ given_fits : {world : World} {worker place at : ℕ} {view : WorkerView} → Giv
 given_fits {world} {worker} {place} {at} {view} giving =
     let single : times at view.todo ≡ 1 = just_once giving in
     let part : times at view.todo ≤ todo_times at world.workers = todo_one at world.workers worker view giving.stood in
-    let whole : todo_times at world.workers + board_times at world.board ≡ home_times at world.homes = giving.underway.work at in
+    let whole : todo_times at world.workers + board_times at world.board
+    ≡ home_times at world.homes =
+    giving.underway.work
+    at in
     let found = counted (λ (home : Home). home.to == at) world.homes (omega (arith, single, part, whole)) in
     let fits = home_fits found.0 giving.underway.laid giving.underway.copying found.1 in
     subst (λ (x : ℕ). x < 2 ^ 32) (eqb-true _ _ found.2) fits
@@ -88,12 +100,14 @@ times_given a at list single (inr other) =
     omega (arith, is, stays)
 
 -- the copy went from the worker to the board
-work_given : {world : World} {worker place at : ℕ} {view : WorkerView} (new : WorkerView) → Giving world worker place at view
+work_given : {world : World} {worker place at : ℕ} {view : WorkerView} (new : WorkerView)
+    → Giving world worker place at view
     → get_or world.board place 0 ≡ 0 → new.todo ≡ left view.todo at
     → IsShared (set world.workers worker new) (set world.board place (bits_of (Ref at))) world.homes
 work_given {world} {worker} {place} {at} {view} new giving zero is a =
     let board : List ℕ = set world.board place (bits_of (Ref at)) in
-    let all : todo_times a (set world.workers worker new) + times a view.todo ≡ todo_times a world.workers + times a new.todo =
+    let all : todo_times a (set world.workers worker new) + times a view.todo
+    ≡ todo_times a world.workers + times a new.todo =
     todo_set a world.workers worker view new giving.stood in
     let todo : times a new.todo ≡ times a (left view.todo at) = ap (times a) is in
     let given : times a (left view.todo at) + one (at == a) ≡ times a view.todo =
@@ -103,25 +117,32 @@ work_given {world} {worker} {place} {at} {view} new giving zero is a =
     board_set a world.board place (bits_of (Ref at)) giving.there in
     let was : refers_once a (get_or world.board place 0) ≡ 0 = ap (refers_once a) zero in
     let now : refers_once a (bits_of (Ref at)) ≡ one (at == a) = refers_to a at (given_fits giving) in
-    let before : todo_times a world.workers + board_times a world.board ≡ home_times a world.homes = giving.underway.work a in
+    let before : todo_times a world.workers + board_times a world.board
+    ≡ home_times a world.homes =
+    giving.underway.work a in
     omega (arith, all, todo, given, set_it, was, now, before)
 
 -- where the word is not 0, all stays
-work_kept : {world : World} {worker place at : ℕ} {view : WorkerView} (new : WorkerView) → Giving world worker place at view
+work_kept : {world : World} {worker place at : ℕ} {view : WorkerView} (new : WorkerView)
+    → Giving world worker place at view
     → new.todo ≡ view.todo
     → IsShared (set world.workers worker new) (set world.board place (get_or world.board place 0)) world.homes
 work_kept {world} {worker} {place} {at} {view} new giving is a =
     let word : ℕ = get_or world.board place 0 in
-    let all : todo_times a (set world.workers worker new) + times a view.todo ≡ todo_times a world.workers + times a new.todo =
+    let all : todo_times a (set world.workers worker new) + times a view.todo
+    ≡ todo_times a world.workers + times a new.todo =
     todo_set a world.workers worker view new giving.stood in
     let todo : times a new.todo ≡ times a view.todo = ap (times a) is in
     let set_it : board_times a (set world.board place word) + refers_once a word
     ≡ board_times a world.board + refers_once a word = board_set a world.board place word giving.there in
-    let before : todo_times a world.workers + board_times a world.board ≡ home_times a world.homes = giving.underway.work a in
+    let before : todo_times a world.workers + board_times a world.board
+    ≡ home_times a world.homes =
+    giving.underway.work a in
     omega (arith, all, todo, set_it, before)
 
 -- what a giver has to do, and the board, by whether the word is 0
-work_by : {world : World} {worker place at : ℕ} (out : Bool) (job : Option Job) (todo : List ℕ) (log : List Note) (b : Bool)
+work_by : {world : World} {worker place at : ℕ} (out : Bool) (job : Option Job) (todo : List ℕ) (log : List Note)
+    (b : Bool)
     → Giving world worker place at (made out job todo log) → (get_or world.board place 0 == 0) ≡ b
     → IsShared (set world.workers worker (made out job (if b then left todo at else todo)
     (log ++ note.Gave place (get_or world.board place 0) ∷ [])))
@@ -132,10 +153,11 @@ work_by {world} {worker} {place} {at} out job todo log true giving e =
 work_by {world} {worker} {place} {at} out job todo log false giving e =
     work_kept (made out job todo (log ++ note.Gave place (get_or world.board place 0) ∷ [])) giving refl
 
--- what a slot's note is not
+-- the note of a give is not that a slot was read
 not_gave : (place found slot : ℕ) → note.Gave place found ≡ note.Loaded slot → ⊥
 not_gave place found slot e = cc
 
+-- nor is that of a take
 not_took : (place found slot : ℕ) → note.Took place found ≡ note.Loaded slot → ⊥
 not_took place found slot e = cc
 
@@ -162,7 +184,8 @@ none_todo : {world : World} (worker place x : ℕ) (view : WorkerView) → Under
 none_todo {world} worker place x view underway stood there e =
     let some : refers_once x (get_or world.board place 0) ≡ 1 =
     ap (λ (o : Option ℕ). one (is_address x o)) e ∙ ap one (eq-eqb x x refl) in
-    let part : refers_once x (get_or world.board place 0) ≤ board_times x world.board = board_one x world.board place there in
+    let part : refers_once x (get_or world.board place 0) ≤ board_times x world.board =
+    board_one x world.board place there in
     let own : times x view.todo ≤ todo_times x world.workers = todo_one x world.workers worker view stood in
     let whole : todo_times x world.workers + board_times x world.board ≡ home_times x world.homes = underway.work x in
     let most : home_times x world.homes ≤ 1 = once x underway in
@@ -184,11 +207,13 @@ work_taken : {world : World} (worker place : ℕ) (view new : WorkerView) → Un
     → IsShared (set world.workers worker new) (set world.board place 0) world.homes
 work_taken {world} worker place view new underway stood there is a =
     let found : ℕ = get_or world.board place 0 in
-    let all : todo_times a (set world.workers worker new) + times a view.todo ≡ todo_times a world.workers + times a new.todo =
+    let all : todo_times a (set world.workers worker new) + times a view.todo
+    ≡ todo_times a world.workers + times a new.todo =
     todo_set a world.workers worker view new stood in
     let todo : times a new.todo ≡ times a view.todo + refers_once a found =
     ap (times a) is ∙ times_taken worker place a view (reference_in found) underway stood there refl in
-    let set_it : board_times a (set world.board place 0) + refers_once a found ≡ board_times a world.board + refers_once a 0 =
+    let set_it : board_times a (set world.board place 0) + refers_once a found
+    ≡ board_times a world.board + refers_once a 0 =
     board_set a world.board place 0 there in
     let none : refers_once a 0 ≡ 0 = refl in
     let before : todo_times a world.workers + board_times a world.board ≡ home_times a world.homes = underway.work a in
@@ -203,7 +228,8 @@ pub taken : {world : World} (worker place : ℕ) (out : Bool) (job : Option Job)
 taken {world} worker place out job todo log underway stood inside there =
     let found : ℕ = get_or world.board place 0 in
     handed underway stood (board_taken world.board place underway.board)
-    (work_taken worker place (made out job todo log) (taken_view (made out job todo log) place found) underway stood there refl)
+    (work_taken worker place (made out job todo log)
+    (taken_view (made out job todo log) place found) underway stood there refl)
     (λ slot loaded. underway.logs (made out job todo log) inside slot
     (loaded_before log (note.Took place found) slot (not_took place found slot) loaded))
     (underway.jobs (made out job todo log) inside)

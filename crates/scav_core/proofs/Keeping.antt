@@ -1,5 +1,6 @@
 -- What an event leaves of the views of workers, once it keeps the words and homes in order.
-use Rattle.std.proofs.Common.{ℕ, ◌<◌, ◌+◌, ◌≡◌, ◌≢◌, ◌⊎◌, inl, inr, true, List, [], ◌∷◌, ◌++◌, length, get_or, set}
+use Rattle.std.proofs.Common.{ℕ, ◌<◌, ◌+◌, ◌≡◌, ◌≢◌, ◌⊎◌, inl, inr, true, List, [], ◌∷◌}
+use Rattle.std.proofs.Common.{◌++◌, length, get_or, set}
 use Rattle.std.proofs.Common.{slice_get, Option, Some, None, arith, sym, ap, subst, ◌∙◌}
 use Rattle.std.specs.List.{Contains}
 use Rattle.std.proofs.lemmas.List.{length-set, get_or-set_other, get_or-set_same}
@@ -75,12 +76,14 @@ still_job (Some job) stays is = record {
 }
 
 -- a list with one element in the place of another has no others
-in_set_at : {X : Type 0} (xs : List X) (i k : ℕ) (new x : X) → i < length xs → k < length xs → get_or (set xs i new) k x ≡ x
+in_set_at : {X : Type 0} (xs : List X) (i k : ℕ) (new x : X) → i < length xs → k < length xs
+    → get_or (set xs i new) k x ≡ x
     → (k ≡ i) ⊎ (k ≢ i) → (new ≡ x) ⊎ Contains xs x
 in_set_at xs i k new x there within e (inl same) =
     inl (sym (get_or-set_same xs i new x there) ∙ ap (λ (j : ℕ). get_or (set xs i new) j x) (sym same) ∙ e)
 in_set_at xs i k new x there within e (inr other) = inr (k, within, sym (get_or-set_other xs i k new x other) ∙ e)
 
+-- so it is wherever the element stands
 pub in_set : {X : Type 0} (xs : List X) (i : ℕ) (new x : X) → i < length xs → Contains (set xs i new) x
     → (new ≡ x) ⊎ Contains xs x
 in_set xs i new x there (k, l, e) =
@@ -98,11 +101,13 @@ abbrev pub changed : World → List ℕ → List Home → List ℕ → ℕ → W
 changed world words homes board worker view =
     record world { words = words; homes = homes; board = board; workers = set world.workers worker view }
 
--- What an event of a worker makes of words and homes: nothing; a word of an own room that is in no home copy; the header of
--- a cell without home, which gets one in an own room; or a live slot, which gets the home of the cell that it referred to.
+-- What an event of a worker makes of words and homes: nothing; a word of an own room that is in no home copy; the
+-- header of a cell without home, which gets one in an own room; or a live slot, which gets the home of the cell that it
+-- referred to.
 pub data IsChange (world : World) (words : List ℕ) (homes : List Home) (worker : ℕ) : Type 0 where
   unchanged : words ≡ world.words → homes ≡ world.homes → IsChange world words homes worker
-  storing : (at word : ℕ) (room : Room) → words ≡ set world.words at word → homes ≡ world.homes → Contains world.rooms room
+  storing : (at word : ℕ) (room : Room) → words ≡ set world.words at word → homes ≡ world.homes
+      → Contains world.rooms room
       → room.worker ≡ worker → IsInRoom room at → (IsInCopies (fixed_of world) world.homes at → ⊥)
       → IsChange world words homes worker
   moving : (home : Home) (room : Room) → words ≡ set world.words home.from (bits_of (Ref home.to))
@@ -114,7 +119,8 @@ pub data IsChange (world : World) (words : List ℕ) (homes : List Home) (worker
       → Contains world.homes home → IsChange world words homes worker
 
 -- what an event owes
-pub record Keeps (world : World) (words : List ℕ) (homes : List Home) (board : List ℕ) (worker : ℕ) (old new : WorkerView)
+pub record Keeps (world : World) (words : List ℕ) (homes : List Home) (board : List ℕ) (worker : ℕ)
+    (old new : WorkerView)
     : Type 0 where
   pub stood : slice_get world.workers worker ≡ Some old
   pub change : IsChange world words homes worker
@@ -127,7 +133,8 @@ pub record Keeps (world : World) (words : List ℕ) (homes : List Home) (board :
 
 -- a world stays underway in an event that pays it
 pub kept : {world : World} {words : List ℕ} {homes : List Home} {board : List ℕ} {worker : ℕ} {old new : WorkerView}
-    → Underway world → Keeps world words homes board worker old new → Underway (changed world words homes board worker new)
+    → Underway world → Keeps world words homes board worker old new
+    → Underway (changed world words homes board worker new)
 kept {world} {words} {homes} {board} {worker} {old} {new} underway keeps =
     let within : worker < length world.workers = slice_get_within world.workers worker old keeps.stood in
     record {
@@ -156,7 +163,8 @@ pub same_work : (world : World) (worker : ℕ) (old new : WorkerView) → slice_
     → new.todo ≡ old.todo → IsShared world.workers world.board world.homes
     → IsShared (set world.workers worker new) world.board world.homes
 same_work world worker old new e same shared a =
-    let all : todo_times a (set world.workers worker new) + times a old.todo ≡ todo_times a world.workers + times a new.todo =
+    let all : todo_times a (set world.workers worker new) + times a old.todo
+    ≡ todo_times a world.workers + times a new.todo =
     todo_set a world.workers worker old new e in
     let equal : times a new.todo ≡ times a old.todo = ap (times a) same in
     let before : todo_times a world.workers + board_times a world.board ≡ home_times a world.homes = shared a in

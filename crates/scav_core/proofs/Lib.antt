@@ -8,8 +8,11 @@ pub mod Keeping
 pub mod Loading
 pub mod Moving
 pub mod Exchanging
+pub mod Redirecting
 pub mod Handing
+pub mod Unchanged
 pub mod Events
 pub mod Outcomes
+pub mod Forwarding
 pub mod Relying
 pub mod Enabling

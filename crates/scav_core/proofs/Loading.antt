@@ -1,6 +1,9 @@
 -- Events that read: a slot, a header, the words behind it.
-use Rattle.std.proofs.Common.{ℕ, ◌<◌, ◌≤◌, ◌+◌, ◌≡◌, ◌⊎◌, inl, inr, Bool, true, false, List, [], ◌∷◌, ◌++◌}
-use Rattle.std.proofs.Common.{length, get_or, slice_get, Option, Some, None, is_none, nat_lt, arith, refl, sym, ap, subst, ◌∙◌}
+use Rattle.std.proofs.Common.{ℕ, ◌<◌, ◌≤◌, ◌+◌, ◌≡◌, ◌⊎◌, inl, inr, Bool, true, false, List, []}
+use Rattle.std.proofs.Common.{◌∷◌, ◌++◌}
+use Rattle.std.proofs.Common.{length, get_or, slice_get, Option, Some, None, is_none, nat_lt, arith, refl, sym, ap}
+use Rattle.std.proofs.Common.{subst}
+use Rattle.std.proofs.Common.{◌∙◌}
 use Rattle.std.specs.List.{Contains}
 use Rattle.std.specs.Option.{option_and_then}
 use Rattle.std.proofs.lemmas.Bool.{and_parts, cases_Bool, cases_lt, true≢false}
@@ -26,14 +29,16 @@ use Rattle.scav_core.specs.declared.workers.WorkerView.{WorkerView}
 use Rattle.scav_core.specs.declared.world.World.{World}
 use Rattle.scav_core.specs.Worlds.{fixed_of}
 use Rattle.scav_core.specs.Views.{job_for, job_at, with_header, with_word, loaded_view}
-use Rattle.scav_core.specs.Possible.{is_live, is_part, words_wanted, header_is, may_load_slot, may_load_header, may_load_body}
+use Rattle.scav_core.specs.Possible.{is_live, is_part, words_wanted, header_is, may_load_slot, may_load_header}
+use Rattle.scav_core.specs.Possible.{may_load_body}
 use Rattle.scav_core.specs.Underway.{IsQuiet, IsAt, IsRead, HasReadCell, IsJob, HasJob, IsLogged, Underway}
 use Rattle.scav_core.proofs.Enabled.{three_parts, live_stood}
 use Rattle.scav_core.proofs.Keeping.{IsChange, Keeps, nothing_changes, same_work}
 use Rattle.scav_core.proofs.Wanted.{wanted, part_within}
 
 -- where an event changes neither words nor homes nor what is to be done, its view is what it owes
-pub reading : {world : World} {worker : ℕ} {old new : WorkerView} → Underway world → slice_get world.workers worker ≡ Some old
+pub reading : {world : World} {worker : ℕ} {old new : WorkerView} → Underway world
+    → slice_get world.workers worker ≡ Some old
     → new.todo ≡ old.todo → IsLogged (fixed_of world) world.words world.homes new
     → (new.out ≡ true → HasJob (fixed_of world) world.homes new.job)
     → Keeps world world.words world.homes world.board worker old new
@@ -74,7 +79,8 @@ given_at true job slot t e = e
 given_at false job slot t e = cc
 
 -- a slot that refers to no cell, or to none of those, is quiet
-at_or_quiet : (fixed : Fixed) (words : List ℕ) (slot : ℕ) (address : Option ℕ) → reference_in (get_or words slot 0) ≡ address
+at_or_quiet : (fixed : Fixed) (words : List ℕ) (slot : ℕ) (address : Option ℕ)
+    → reference_in (get_or words slot 0) ≡ address
     → IsAt (option_and_then (λ cell. job_for fixed.cells slot cell) address) slot ⊎ IsQuiet fixed words slot
 at_or_quiet fixed words slot None e = inr (λ cell refers there. let f : None ≡ Some cell = sym e ∙ refers in cc)
 at_or_quiet fixed words slot (Some at) e =
@@ -92,7 +98,8 @@ given_job : {world : World} (b : Bool) (slot place cell : ℕ) → Underway worl
 given_job false slot place cell underway stood refers there = tt
 given_job {world} true slot place cell underway stood refers there =
     let among : Contains world.cells cell = there refl in
-    let law = as_before (fixed_of world) world.words world.homes slot place cell underway.laid underway.copying stood refers
+    let law = as_before (fixed_of world) world.words world.homes slot place cell underway.laid underway.copying stood
+    refers
     among in
     record {
       place = place;
@@ -122,7 +129,8 @@ made out job todo log = record { out = out; job = job; todo = todo; log = log }
 -- a slot is read
 pub slot_loaded : {world : World} (worker slot : ℕ) (out : Bool) (job : Option Job) (todo : List ℕ) (log : List Note)
     → Underway world → slice_get world.workers worker ≡ Some (made out job todo log)
-    → (view_in : Contains world.workers (made out job todo log)) → may_load_slot world slot (made out job todo log) ≡ true
+    → (view_in : Contains world.workers (made out job todo log)) → may_load_slot world slot (made out job todo log)
+    ≡ true
     → Keeps world world.words world.homes world.board worker (made out job todo log)
     (loaded_view world.cells (made out job todo log) slot (get_or world.words slot 0))
 slot_loaded {world} worker slot out (Some job) todo log underway stood inside may =
@@ -161,7 +169,8 @@ job_header : {world : World} (job : Job) → Underway world → IsJob (fixed_of 
 job_header {world} job underway is unread (HasReadCell.nothing none empty) =
     let some : 1 ≤ size_of (fixed_of world) job.cell = some_words job.cell underway.laid is.among in
     subst (λ (body : List ℕ). HasReadCell (fixed_of world) world.homes
-    (record { slot = job.slot; cell = job.cell; header = Some (get_or world.words job.cell 0); body = body })) (sym empty)
+    (record { slot = job.slot; cell = job.cell; header = Some (get_or world.words job.cell 0); body = body }))
+    (sym empty)
     (header_read job.slot job.cell some (underway.copying.headers job.cell is.among))
 job_header job underway is unread (HasReadCell.some header within same) =
     absurd (true≢false (sym unread ∙ ap (λ (o : Option ℕ). is_none o) header))
@@ -169,7 +178,8 @@ job_header job underway is unread (HasReadCell.forwarded home there of header) =
     absurd (true≢false (sym unread ∙ ap (λ (o : Option ℕ). is_none o) header))
 
 -- a job with another header or body is one, if it has read that
-pub read_on : {fixed : Fixed} {homes : List Home} {job : Job} (header : Option ℕ) (body : List ℕ) → IsJob fixed homes job
+pub read_on : {fixed : Fixed} {homes : List Home} {job : Job} (header : Option ℕ) (body : List ℕ)
+    → IsJob fixed homes job
     → HasReadCell fixed homes (record job { header = header; body = body })
     → IsJob fixed homes (record job { header = header; body = body })
 read_on header body is read =
@@ -208,7 +218,8 @@ next_same {world} job underway is less =
 
 -- a word of a list with one more is one of the list, or the last
 body_more : (before : List ℕ) (first : ℕ) (body : List ℕ) (word : ℕ)
-    → ((k : ℕ) → k < length body → get_or body k 0 ≡ get_or before (first + k) 0) → word ≡ get_or before (first + length body) 0
+    → ((k : ℕ) → k < length body → get_or body k 0 ≡ get_or before (first + k) 0)
+    → word ≡ get_or before (first + length body) 0
     → (k : ℕ) → k < length (body ++ word ∷ []) → get_or (body ++ word ∷ []) k 0 ≡ get_or before (first + k) 0
 body_more before first body word same last k less =
     elim (cases_lt k (length body)) [
@@ -232,12 +243,14 @@ job_body {world} job underway is may (HasReadCell.some header within same) =
     let fixed = fixed_of world in
     let next : ℕ = job.cell + 1 + length job.body in
     let word : ℕ = get_or world.words next 0 in
-    let t : is_part (words_wanted world.layouts (get_or world.before job.cell 0) job.body) (1 + length job.body) ≡ true =
+    let t : is_part (words_wanted world.layouts (get_or world.before job.cell 0) job.body) (1 + length job.body)
+    ≡ true =
     ap (λ (o : Option ℕ). header_is o
     (λ head. is_part (words_wanted world.layouts head job.body) (1 + length job.body))) (sym header) ∙ may in
     let less : 1 + length job.body < size_of fixed job.cell =
     part_within (words_wanted world.layouts (get_or world.before job.cell 0) job.body) (size_of fixed job.cell) job.body
-    (wanted fixed job.cell (get_or world.before job.cell 0) job.body (underway.laid.cells_are job.cell is.among) refl same)
+    (wanted fixed job.cell (get_or world.before job.cell 0) job.body
+    (underway.laid.cells_are job.cell is.among) refl same)
     t in
     let long : length (job.body ++ word ∷ []) ≡ length job.body + 1 = length-append job.body (word ∷ []) in
     HasReadCell.some header (omega (arith, long, less))
@@ -260,5 +273,6 @@ body_loaded {world} worker out job todo log underway stood inside is may =
     reading underway stood refl
     (λ slot there. same_slot (λ at. at) (underway.logs (made out (Some job) todo log) inside slot there))
     (λ still. read_on job.header (job.body ++ word ∷ []) has (job_body job underway has
-    (and_parts (header_is job.header (λ header. is_part (words_wanted world.layouts header job.body) (1 + length job.body)))
+    (and_parts (header_is job.header
+    (λ header. is_part (words_wanted world.layouts header job.body) (1 + length job.body)))
     (nat_lt (job.cell + 1 + length job.body) (length world.words)) may).0 has.read))

@@ -18,13 +18,15 @@ use Rattle.scav_core.specs.Worlds.{fixed_of}
 use Rattle.scav_core.specs.Possible.{is_free, is_in_own_room, is_copy, is_whole, stands_at, words_wanted, may_copy_word}
 use Rattle.scav_core.specs.Underway.{IsQuiet}
 use Rattle.scav_core.specs.Underway.{Underway}
-use Rattle.scav_core.proofs.Enabled.{three_parts, five_parts, IsInOwnRoom, free_apart, in_own_room, each_same, first_same}
+use Rattle.scav_core.proofs.Enabled.{three_parts, five_parts, IsInOwnRoom, free_apart, in_own_room, each_same}
+use Rattle.scav_core.proofs.Enabled.{first_same}
 use Rattle.scav_core.proofs.Keeping.{Stays, IsChange, Keeps, still_read, still_job, same_work}
 use Rattle.scav_core.proofs.Loading.{none_wanted}
 use Rattle.scav_core.proofs.Wanted.{wanted, whole_size}
 
 -- words that lie in a room of a worker are words of a room
-in_rooms : (fixed : Fixed) (worker first many at : ℕ) → IsInOwnRoom fixed.rooms worker first many → IsWithin first many at
+in_rooms : (fixed : Fixed) (worker first many at : ℕ) → IsInOwnRoom fixed.rooms worker first many
+    → IsWithin first many at
     → IsInRooms fixed at
 in_rooms fixed worker first many at own within = (
   own.room,
@@ -50,14 +52,16 @@ word_copied {world} worker at word view underway stood inside may =
     let parts = three_parts (is_in_own_room world.rooms worker at 1) (is_free fixed world.homes at 1)
     (nat_lt at (length world.words)) may in
     let itself : IsWithin at 1 at = record { from = omega arith; below = omega arith } in
-    let in_room : IsInRooms fixed at = in_rooms fixed worker at 1 at (in_own_room world.rooms worker at 1 parts.0) itself in
+    let in_room : IsInRooms fixed at = in_rooms fixed worker at 1 at
+    (in_own_room world.rooms worker at 1 parts.0) itself in
     let free : IsInCopies fixed world.homes at → ⊥ = λ copy.
     free_apart fixed world.homes at 1 copy.0 at parts.1 copy.1 copy.2 itself in
     let stays : Stays fixed world.words (set world.words at word) world.homes world.homes = record {
       homes_stay = λ home there. there;
       live = λ slot place live. live;
       quiet = λ slot place live quiet.
-          quiet_elsewhere fixed world.words at word slot (free_is_not_live at slot place underway.laid in_room free live) quiet;
+          quiet_elsewhere fixed world.words at word slot
+          (free_is_not_live at slot place underway.laid in_room free live) quiet;
     } in
     record {
       stood = stood;
@@ -112,13 +116,15 @@ copy_at {world} worker to job copied = record {
 
 -- a header of before that was read, and the words behind it, that stand in an own room are a copy
 pub copied_by : {world : World} (worker to : ℕ) (job : Job) → Underway world → Contains world.cells job.cell
-    → ((offset : ℕ) → offset < length job.body → get_or job.body offset 0 ≡ get_or world.before (job.cell + 1 + offset) 0)
+    → ((offset : ℕ) → offset < length job.body
+    → get_or job.body offset 0 ≡ get_or world.before (job.cell + 1 + offset) 0)
     → is_copy world worker to (get_or world.before job.cell 0) job.body ≡ true → Copied world worker to job
 copied_by {world} worker to job underway among same may =
     let fixed = fixed_of world in
     let header : ℕ = get_or world.before job.cell 0 in
     let wants = words_wanted world.layouts header job.body in
-    let parts = five_parts (is_whole wants (1 + length job.body)) (nat_le (to + (1 + length job.body)) (length world.words))
+    let parts = five_parts (is_whole wants (1 + length job.body))
+    (nat_le (to + (1 + length job.body)) (length world.words))
     (is_in_own_room world.rooms worker to (1 + length job.body)) (is_free fixed world.homes to (1 + length job.body))
     (stands_at world.words to header job.body) may in
     record {

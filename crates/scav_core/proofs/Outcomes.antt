@@ -12,7 +12,8 @@ use Rattle.scav_core.specs.Runs.{ArePossible, after_all}
 use Rattle.scav_core.specs.Underway.{IsLogged, Underway}
 use Rattle.scav_core.specs.WorldLaws.{HasHeaders, HasCopies, IsCopying, IsOutside, HasWork, HasLogs, IsRenamedWhenDone}
 use Rattle.scav_core.specs.WorldLaws.{UnderwayHasFacts}
-use Rattle.scav_core.proofs.Events.{fresh_is_underway, lists_keep, fixed_after}
+use Rattle.scav_core.proofs.Events.{fresh_is_underway, lists_keep}
+use Rattle.scav_core.proofs.Unchanged.{fixed_after}
 
 -- a world that events made of a fresh one
 pub record Outcome (start world : World) : Type 0 where
@@ -57,7 +58,7 @@ is_outside out = (copying_of out).outside
 
 -- each copy is to be done once
 pub has_work : {start world : World} → Outcome start world → HasWork world
-has_work out = out.underway.work
+has_work out = record { board = out.underway.board; once = out.underway.work }
 
 -- logs say what was done
 pub has_logs : {start world : World} → Outcome start world → HasLogs start world

@@ -1,33 +1,32 @@
 -- What stays for a worker, whatever event comes.
-use Rattle.std.proofs.Common.{ℕ, ◌<◌, ◌+◌, ◌≡◌, ◌≢◌, ◌⊎◌, inl, inr, Bool, true, false, List, length, get_or, set, slice_get}
-use Rattle.std.proofs.Common.{Option, Some, None, if◌then◌else◌, arith, refl, sym, ap, subst, ◌∙◌}
+use Rattle.std.proofs.Common.{ℕ, ◌<◌, ◌+◌, ◌≡◌, ◌≢◌, ◌⊎◌, inl, inr, true, List}
+use Rattle.std.proofs.Common.{length, get_or, set, slice_get}
+use Rattle.std.proofs.Common.{Some, arith, sym, ap, subst, ◌∙◌}
 use Rattle.std.specs.List.{Contains}
 use Rattle.std.proofs.lemmas.List.{get_or-set_same, get_or-set_other, length-set}
 use Rattle.std.proofs.lemmas.Option.{slice_get-get_or}
 use Rattle.tagged_word.specs.declared.word.Class.TheVariants.{Ref}
 use Rattle.tagged_word.specs.Words.{bits_of}
-use Rattle.tagged_word.proofs.Cells.{some_same}
 use Rattle.tagged_word.proofs.Readings.{reference_from}
 use Rattle.scav_copy.specs.declared.places.Home.{Home}
 use Rattle.scav_copy.specs.declared.places.Room.{Room}
-use Rattle.scav_copy.specs.Places.{size_of, IsInRoom, IsInCopies, IsOfCell, StoodAt}
+use Rattle.scav_copy.specs.Places.{IsInRoom, IsInCopies, IsOfCell, StoodAt}
 use Rattle.scav_copy.specs.Renamings.{RefersTo}
-use Rattle.scav_copy.specs.Copies.{IsKeptOrRenamed, LiesInRoom}
-use Rattle.scav_copy.proofs.Ascending.{old_in, joined_is, one_home}
+use Rattle.scav_copy.specs.Copies.{IsKeptOrRenamed}
+use Rattle.scav_copy.proofs.Ascending.{old_in, one_home}
 use Rattle.scav_copy.proofs.Filling.{free_is_not_live}
 use Rattle.scav_copy.proofs.Redirecting.{equal_or_not, one_origin}
 use Rattle.scav_copy.proofs.Spots.{elsewhere, live_in_no_cell, live_is_there, cell_itself, from_is}
 use Rattle.scav_core.specs.declared.event.Event.{Event}
-use Rattle.scav_core.specs.declared.event.Event.TheVariants as variant
-use Rattle.scav_core.specs.declared.workers.Job.{Job}
 use Rattle.scav_core.specs.declared.workers.WorkerView.{WorkerView}
 use Rattle.scav_core.specs.declared.world.World.{World}
 use Rattle.scav_core.specs.Worlds.{fixed_of}
-use Rattle.scav_core.specs.Views.{touched, is_as_read, home_at, home_made}
-use Rattle.scav_core.specs.Steps.{worker_of, word_found, homes_after, stepped_by, after}
+use Rattle.scav_core.specs.Steps.{worker_of, after}
 use Rattle.scav_core.specs.Underway.{Underway}
-use Rattle.scav_core.specs.Reliance.{IsForwarded, IsRedirected, StaysFor, EventsStayFor}
+use Rattle.scav_core.specs.Possible.{is_possible}
+use Rattle.scav_core.specs.Reliance.{IsRedirected, StaysFor, EventsStayFor}
 use Rattle.scav_core.proofs.Events.{Owes, Comes, comes, events_keep}
+use Rattle.scav_core.proofs.Forwarding.{no_home_or, forwarded_by}
 use Rattle.scav_core.proofs.Keeping.{IsChange}
 
 -- homes stay
@@ -58,7 +57,8 @@ stored_elsewhere words others at word other e apart =
 -- a live slot that is stored to becomes the reference to the home
 redirects : {world : World} (words : List ℕ) (slot place : ℕ) (home : Home) (other origin : ℕ) → Underway world
     → words ≡ set world.words slot (bits_of (Ref home.to)) → StoodAt (fixed_of world) world.homes slot place
-    → RefersTo world.before place home.from → Contains world.homes home → StoodAt (fixed_of world) world.homes other origin
+    → RefersTo world.before place home.from → Contains world.homes home
+    → StoodAt (fixed_of world) world.homes other origin
     → IsKeptOrRenamed world.homes (get_or world.before origin 0) (get_or world.words other 0)
     → (other ≡ slot) ⊎ (other ≢ slot)
     → (get_or words other 0 ≡ get_or world.words other 0)
@@ -76,7 +76,8 @@ redirects {world} words slot place home other origin underway e stood refers amo
     inr (
       home,
       among,
-      same ∙ ap (λ (at : ℕ). get_or world.before at 0) origins ∙ (reference_from (get_or world.before place 0) home.from refers).1,
+      same ∙ ap (λ (at : ℕ). get_or world.before at 0) origins
+          ∙ (reference_from (get_or world.before place 0) home.from refers).1,
       ap (λ (all : List ℕ). get_or all other 0) e
           ∙ ap (λ (at : ℕ). get_or (set world.words slot (bits_of (Ref home.to))) at 0) here
           ∙ get_or-set_same world.words slot (bits_of (Ref home.to)) 0 there,
@@ -93,7 +94,8 @@ redirects {world} words slot place home other origin underway e stood refers amo
     sym was ∙ ap (λ (at : ℕ). get_or world.before at 0) origins
     ∙ (reference_from (get_or world.before place 0) home.from refers).1 in
     let cells : one.from ≡ home.from = omega (arith, from) in
-    let to : one.to ≡ home.to = ap (λ (x : Home). x.to) (one_home world.homes one home underway.copying.ascend there among cells) in
+    let to : one.to ≡ home.to = ap (λ (x : Home). x.to)
+    (one_home world.homes one home underway.copying.ascend there among cells) in
     inl (ap (λ (all : List ℕ). get_or all other 0) e
     ∙ ap (λ (at : ℕ). get_or (set world.words slot (bits_of (Ref home.to))) at 0) here
     ∙ get_or-set_same world.words slot (bits_of (Ref home.to)) 0 room
@@ -143,10 +145,12 @@ rooms_stay : {world : World} {words : List ℕ} {homes : List Home} {worker : �
     → (IsInCopies (fixed_of world) world.homes at → ⊥) → worker ≢ room.worker
     → get_or words at 0 ≡ get_or world.words at 0
 rooms_stay room at underway (IsChange.unchanged e f) there inside free other = ap (λ (all : List ℕ). get_or all at 0) e
-rooms_stay {world} {words} room at underway (IsChange.storing place word own e f among is within clear) there inside free
+rooms_stay {world} {words} room at underway
+    (IsChange.storing place word own e f among is within clear) there inside free
     other =
     stored_elsewhere world.words words place word at e (λ same.
-    let one : room ≡ own = underway.laid.one_room room own place there among (subst (IsInRoom room) same inside) within in
+    let one : room ≡ own = underway.laid.one_room room own place there among
+    (subst (IsInRoom room) same inside) within in
     other (sym is ∙ ap (λ (r : Room). r.worker) (sym one)))
 rooms_stay {world} {words} room at underway (IsChange.moving new own e f is none of lies) there inside free other =
     stored_elsewhere world.words words new.from (bits_of (Ref new.to)) at e (λ same.
@@ -166,110 +170,11 @@ views_stay workers worker new other within apart =
     ∙ ap (λ (v : WorkerView). Some v) (get_or-set_other workers worker other new new apart)
     ∙ sym (slice_get-get_or workers other new within)
 
--- a new home is made by the worker in whose room it lies
-new_by : {world : World} {words : List ℕ} {homes : List Home} {worker : ℕ} (home : Home) → IsChange world words homes worker
-    → Contains homes home → Contains world.homes home
-    ⊎ ((room : Room) × (room.worker ≡ worker)
-    × LiesInRoom (fixed_of world) room home.to (size_of (fixed_of world) home.from))
-new_by home (IsChange.unchanged e f) there = inl (subst (λ (all : List Home). Contains all home) f there)
-new_by home (IsChange.storing at word room e f among own inside free) there =
-    inl (subst (λ (all : List Home). Contains all home) f there)
-new_by home (IsChange.renaming slot place one e f stood refers among) there =
-    inl (subst (λ (all : List Home). Contains all home) f there)
-new_by {world} home (IsChange.moving new room e f is none own lies) there =
-    elim (joined_is world.homes new home (subst (λ (all : List Home). Contains all home) f there)) [
-      | inl same ↦ inr (
-        room,
-        own,
-        subst (λ (one : Home).
-            LiesInRoom (fixed_of world) room one.to (size_of (fixed_of world) one.from)) same lies,
-      )
-      | inr old ↦ inl old
-    ]
-
--- an event of a worker that is no exchange makes no home
-no_home : (world : World) (worker : ℕ) (event : Event) (view : Option WorkerView)
-    → ((view : WorkerView) (found : ℕ) → home_made view event found ≡ None)
-    → (stepped_by world worker event view).homes ≡ world.homes
-no_home world worker event None none = refl
-no_home world worker event (Some view) none =
-    ap (homes_after world.homes) (none view (word_found world (touched view event)))
-
--- an event makes no home, or is an exchange
-no_home_or : (world : World) (event : Event) → ((after world event).homes ≡ world.homes)
-    ⊎ ((worker : ℕ) × (to : ℕ) × (event ≡ variant.Forward worker to))
-no_home_or world variant.Look = inl refl
-no_home_or world variant.Lend = inl refl
-no_home_or world (variant.Return worker) = inl (no_home world worker (variant.Return worker) (slice_get world.workers worker) (λ view found. refl))
-no_home_or world (variant.LoadSlot worker slot) =
-    inl (no_home world worker (variant.LoadSlot worker slot) (slice_get world.workers worker) (λ view found. refl))
-no_home_or world (variant.LoadHeader worker) =
-    inl (no_home world worker (variant.LoadHeader worker) (slice_get world.workers worker) (λ view found. refl))
-no_home_or world (variant.LoadBody worker) = inl (no_home world worker (variant.LoadBody worker) (slice_get world.workers worker) (λ view found. refl))
-no_home_or world (variant.CopyWord worker at word) =
-    inl (no_home world worker (variant.CopyWord worker at word) (slice_get world.workers worker) (λ view found. refl))
-no_home_or world (variant.Forward worker to) = inr (worker, to, refl)
-no_home_or world (variant.Redirect worker) =
-    inl (no_home world worker (variant.Redirect worker) (slice_get world.workers worker) (λ view found. refl))
-no_home_or world (variant.Give worker place at) =
-    inl (no_home world worker (variant.Give worker place at) (slice_get world.workers worker) (λ view found. refl))
-no_home_or world (variant.Take worker place) =
-    inl (no_home world worker (variant.Take worker place) (slice_get world.workers worker) (λ view found. refl))
-
--- a home that a job gets stands where it is said to
-home_at_to : (homes : List Home) (job : Option Job) (to : ℕ) (home : Home)
-    → Contains (homes_after homes (home_at job to)) home → Contains homes home ⊎ (home.to ≡ to)
-home_at_to homes None to home there = inl there
-home_at_to homes (Some job) to home there = elim (joined_is homes (record { from = job.cell; to = to }) home there) [
-  | inl same ↦ inr (ap (λ (h : Home). h.to) (sym same))
-  | inr old ↦ inl old
-]
-
--- so it is where the job gets one only by a test
-home_if_to : (is : Bool) (homes : List Home) (job : Option Job) (to : ℕ) (home : Home)
-    → Contains (homes_after homes (if is then home_at job to else None)) home → Contains homes home ⊎ (home.to ≡ to)
-home_if_to false homes job to home there = inl there
-home_if_to true homes job to home there = home_at_to homes job to home there
-
--- a home that an exchange makes stands at the address of the exchange
-exchanged_to : (world : World) (worker to : ℕ) (home : Home) (view : Option WorkerView)
-    → Contains (stepped_by world worker (variant.Forward worker to) view).homes home
-    → Contains world.homes home ⊎ (home.to ≡ to)
-exchanged_to world worker to home None there = inl there
-exchanged_to world worker to home (Some view) there =
-    home_if_to (is_as_read view.job (word_found world (touched view (variant.Forward worker to)))) world.homes view.job to
-    home there
-
--- what an exchange of a worker makes lies in its room, at the address of the exchange
-forwarded_by : {world : World} {words : List ℕ} {homes : List Home} (event : Event) (worker : ℕ) (home : Home)
-    → worker_of event ≡ Some worker → homes ≡ (after world event).homes → IsChange world words homes worker
-    → Contains homes home
-    → ((after world event).homes ≡ world.homes) ⊎ ((worker : ℕ) × (to : ℕ) × (event ≡ variant.Forward worker to))
-    → Contains world.homes home ⊎ IsForwarded world event home
-forwarded_by event worker home of e change there (inl none) =
-    inl (subst (λ (all : List Home). Contains all home) (e ∙ none) there)
-forwarded_by {world} event worker home of e change there (inr (other, to, is)) =
-    let made : Contains (after world (variant.Forward other to)).homes home =
-    subst (λ (one : Event). Contains (after world one).homes home) is (subst (λ (all : List Home). Contains all home) e there)
-    in
-    let by : Contains world.homes home ⊎ (home.to ≡ to) =
-    exchanged_to world other to home (slice_get world.workers other) made in
-    elim (new_by home change there) [
-      | inl old ↦ inl old
-      | inr (room, own, lies) ↦ elim by [
-        | inl old ↦ inl old
-        | inr at ↦
-            let same : worker ≡ other = some_same of (ap worker_of is) in
-            let exchange : event ≡ variant.Forward other home.to =
-            is ∙ ap (λ (k : ℕ). variant.Forward other k) (sym at) in
-            inr (record { worker = other; exchange = exchange; room = room; own = own ∙ same; lies = lies })
-      ]
-    ]
-
 -- what an event of a worker leaves for others
 worker_stays : {world : World} {event : Event} (worker : ℕ) → Underway world → Underway (after world event)
-    → worker_of event ≡ Some worker → Owes world (after world event) worker → StaysFor world (after world event) event
-worker_stays {world} {event} worker underway after_it of owes =
+    → is_possible world event ≡ true → worker_of event ≡ Some worker → Owes world (after world event) worker
+    → StaysFor world (after world event) event
+worker_stays {world} {event} worker underway after_it may of owes =
     let next : World = after world event in
     let change = owes.keeps.change in
     let words : owes.words ≡ next.words = ap (λ (w : World). w.words) (sym owes.is) in
@@ -278,10 +183,11 @@ worker_stays {world} {event} worker underway after_it of owes =
     record {
       homes_stay = λ home there. subst (λ (all : List Home). Contains all home) homes (homes_stay home change there);
       new_homes = λ home there.
-          forwarded_by event worker home of homes change (subst (λ (all : List Home). Contains all home) (sym homes) there)
-          (no_home_or world event);
+          forwarded_by event worker home may of homes change
+          (subst (λ (all : List Home). Contains all home) (sym homes) there) (no_home_or world event);
       live_stay = λ slot place stood.
-          subst (λ (all : List Home). StoodAt (fixed_of world) all slot place) homes (live_stay slot place change stood);
+          subst (λ (all : List Home). StoodAt (fixed_of world) all slot place) homes
+          (live_stay slot place change stood);
       live_words = λ slot place stood.
           subst (λ (all : List ℕ). (get_or all slot 0 ≡ get_or world.words slot 0)
           ⊎ IsRedirected world.homes (get_or world.words slot 0) (get_or all slot 0)) words
@@ -321,12 +227,12 @@ main_stays {world} {event} words homes views = record {
 }
 
 -- what an event leaves, by what it comes to
-stays_by : {world : World} {event : Event} → Underway world → Underway (after world event) → Comes world event
-    → StaysFor world (after world event) event
-stays_by underway after_it (Comes.of_main main words homes under views) = main_stays words homes views
-stays_by underway after_it (Comes.of_worker worker of owes) = worker_stays worker underway after_it of owes
+stays_by : {world : World} {event : Event} → Underway world → Underway (after world event)
+    → is_possible world event ≡ true → Comes world event → StaysFor world (after world event) event
+stays_by underway after_it may (Comes.of_main main words homes under views) = main_stays words homes views
+stays_by underway after_it may (Comes.of_worker worker of owes) = worker_stays worker underway after_it may of owes
 
 -- each event that is possible leaves that
 pub events_stay : EventsStayFor
 events_stay world event underway t =
-    stays_by underway (events_keep world event underway t) (comes world event underway t)
+    stays_by underway (events_keep world event underway t) t (comes world event underway t)

@@ -1,5 +1,6 @@
 -- Lists of events, one after the other.
-use Rattle.std.proofs.Common.{ℕ, ◌<◌, ◌+◌, ◌≡◌, true, List, [], ◌∷◌, ◌++◌, length, take, get_or, refl, ap, sym, subst, ◌∙◌}
+use Rattle.std.proofs.Common.{ℕ, ◌<◌, ◌+◌, ◌≡◌, true, List, [], ◌∷◌, ◌++◌, length, take, get_or}
+use Rattle.std.proofs.Common.{refl, ap, sym, subst, ◌∙◌}
 use Rattle.std.proofs.lemmas.List.{take_more}
 use Rattle.scav_core.specs.declared.event.Event.{Event}
 use Rattle.scav_core.specs.declared.world.World.{World}

@@ -1,6 +1,8 @@
 -- What the tests of the code tell.
-use Rattle.std.proofs.Common.{ℕ, ◌<◌, ◌≤◌, ◌+◌, ◌-◌, ◌≡◌, ◌==◌, ◌↔◌, ◌&&◌, Bool, true, false, IsTrue, List}
-use Rattle.std.proofs.Common.{length, get_or, nat_le, Some, Option, arith, refl, sym, ap, ◌∙◌, inl, inr, eq-eqb, eqb-true}
+use Rattle.std.proofs.Common.{ℕ, ◌<◌, ◌≤◌, ◌+◌, ◌-◌, ◌≡◌, ◌==◌, ◌↔◌, ◌&&◌, Bool, true}
+use Rattle.std.proofs.Common.{false, IsTrue, List}
+use Rattle.std.proofs.Common.{length, get_or, nat_le, Some, Option, arith, refl, sym, ap, ◌∙◌, inl, inr, eq-eqb}
+use Rattle.std.proofs.Common.{eqb-true}
 use Rattle.std.specs.List.{Contains, list_all, range_with_len}
 use Rattle.std.proofs.lemmas.Bool.Decides.{nat_tests}
 use Rattle.std.proofs.lemmas.List.Elements.{All-from_get_or}

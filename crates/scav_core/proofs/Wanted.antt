@@ -1,6 +1,7 @@
 -- How many words a worker wants of a cell that stands as before.
 use Rattle.std.proofs.Common.{ℕ, ◌<◌, ◌≤◌, ◌+◌, ◌≡◌, Bool, true, false, List, [], ◌∷◌, length, get_or}
-use Rattle.std.proofs.Common.{slice_get, Option, Some, None, IsSome, nat_lt, if◌then◌else◌, arith, refl, sym, ap, subst, ◌∙◌, eqb-true}
+use Rattle.std.proofs.Common.{slice_get, Option, Some, None, IsSome, nat_lt, if◌then◌else◌, arith, refl, sym, ap, subst}
+use Rattle.std.proofs.Common.{◌∙◌, eqb-true}
 use Rattle.std.specs.Option.{option_and_then}
 use Rattle.std.proofs.lemmas.Bool.Decides.{nat_tests}
 use Rattle.std.proofs.lemmas.Option.{slice_get_within, get_or_from_slice_get, slice_get-get_or}
@@ -79,7 +80,8 @@ reads_wanted words layouts cell bound header body r reads e same =
     ap (option_and_then (λ (h : Header). option_and_then
     (λ (l : LayoutWord). wanted_by l (length_by (has_length l.kind) (slice_get body 0)))
     (shape_layout layouts h.shape))) head
-    ∙ ap (option_and_then (λ (l : LayoutWord). wanted_by l (length_by (has_length l.kind) (slice_get body 0)))) layout in
+    ∙ ap (option_and_then (λ (l : LayoutWord). wanted_by l (length_by (has_length l.kind) (slice_get body 0)))) layout
+    in
     subst (λ (o : Option ℕ). IsWanted o r.size body) (sym is)
     (wanted_at r.layout r.length r.size second body b refl reads.second reads.sized
     (λ k less has.
@@ -106,7 +108,8 @@ pub wanted : (fixed : Fixed) (cell header : ℕ) (body : List ℕ) → IsSome (c
     → ((k : ℕ) → k < length body → get_or body k 0 ≡ get_or fixed.before (cell + 1 + k) 0)
     → IsWanted (words_wanted fixed.layouts header body) (size_of fixed cell) body
 unfolding cell_before
-wanted fixed cell header body is e same = wanted_by_reading fixed cell header body (cell_before fixed cell) refl is e same
+wanted fixed cell header body is e same = wanted_by_reading fixed cell header body
+    (cell_before fixed cell) refl is e same
 
 -- more words are wanted than were read only where the cell has more
 pub part_within : (wanted : Option ℕ) (size : ℕ) (body : List ℕ) → IsWanted wanted size body

@@ -1,5 +1,6 @@
 -- Which events are possible in a world.
-use Rattle.std.specs.Prelude.{ℕ, ◌+◌, ◌-◌, ◌==◌, ◌&&◌, ◌||◌, Bool, true, false, List, length, slice_get, slice_index}
+use Rattle.std.specs.Prelude.{ℕ, ◌+◌, ◌-◌, ◌==◌, ◌&&◌, ◌||◌, Bool, true, false, List, length, slice_get}
+use Rattle.std.specs.Prelude.{slice_index}
 use Rattle.std.specs.Prelude.{Option, Some, None, is_none, nat_lt, nat_le}
 use Rattle.std.specs.List.{list_any, list_all, range_with_len}
 use Rattle.std.specs.Option.{option_and_then}
@@ -50,8 +51,8 @@ abbrev pub wanted_by : LayoutWord → Option ℕ → Option ℕ
 wanted_by layout None = Some 2
 wanted_by layout (Some long) = cell_size layout long
 
--- How many words of the cell are to be read that a header names, and for a store, a table and a gap the word behind it. There
--- is no number where they name no layout, or no size of a cell; a forwarding word names none.
+-- How many words of the cell are to be read that a header names, and for a store, a table and a gap the word behind it.
+-- There is no number where they name no layout, or no size of a cell; a forwarding word names none.
 abbrev pub words_wanted : List ℕ → ℕ → List ℕ → Option ℕ
 words_wanted layouts header body =
     option_and_then (λ head. option_and_then
@@ -103,9 +104,11 @@ may_load_body world job =
 -- whether a word may be stored: it is one of the worker's own room, and of no home copy
 abbrev pub may_copy_word : World → ℕ → ℕ → Bool
 may_copy_word world worker at =
-    is_in_own_room world.rooms worker at 1 && is_free (fixed_of world) world.homes at 1 && nat_lt at (length world.words)
+    is_in_own_room world.rooms worker at 1 && is_free (fixed_of world) world.homes at 1
+    && nat_lt at (length world.words)
 
--- whether a header and a body are a whole cell, and stand from an address on in one room of the worker's and in no home copy
+-- whether a header and a body are a whole cell, and stand from an address on in one room of the worker's and in no home
+-- copy
 abbrev pub is_copy : World → ℕ → ℕ → ℕ → List ℕ → Bool
 is_copy world worker to header body =
     is_whole (words_wanted world.layouts header body) (1 + length body)

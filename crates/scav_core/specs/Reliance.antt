@@ -1,5 +1,6 @@
 -- What a worker may rely on, whatever event comes.
-use Rattle.std.specs.Prelude.{◌≡◌, ◌≢◌, ℕ, ◌+◌, ◌<◌, ◌⊎◌, true, List, length, Contains, slice_index, slice_get, Some, None}
+use Rattle.std.specs.Prelude.{◌≡◌, ◌≢◌, ℕ, ◌+◌, ◌<◌, ◌⊎◌, true, List, length, Contains}
+use Rattle.std.specs.Prelude.{slice_index, slice_get, Some, None}
 use Rattle.tagged_word.specs.declared.word.Class.TheVariants.{Ref}
 use Rattle.tagged_word.specs.Words.{bits_of}
 use Rattle.tagged_word.specs.Readings.{reference_in}
@@ -17,10 +18,21 @@ use Rattle.scav_core.specs.Steps.{worker_of, after}
 use Rattle.scav_core.specs.Possible.{is_part, words_wanted, is_possible}
 use Rattle.scav_core.specs.Underway.{Underway}
 
--- the event is an exchange for this home's address, by the worker in whose room the home lies
+-- a worker that is out, with its view and its job
+pub record IsOutAt (world : World) (worker : ℕ) (view : WorkerView) (job : Job) : Type 0 where
+  pub stood : slice_get world.workers worker ≡ Some view
+  pub is_out : view.out ≡ true
+  pub at : view.job ≡ Some job
+
+-- The event is an exchange for this home's address, by a worker that is out. The home is that of the cell of its job,
+-- and lies in its room.
 pub record IsForwarded (world : World) (event : Event) (home : Home) : Type 0 where
   pub worker : ℕ
   pub exchange : event ≡ Forward worker home.to
+  pub view : WorkerView
+  pub job : Job
+  pub by : IsOutAt world worker view job
+  pub cell : home.from ≡ job.cell
   pub room : Room
   pub own : room.worker ≡ worker
   pub lies : LiesInRoom (fixed_of world) room home.to (size_of (fixed_of world) home.from)
@@ -30,9 +42,9 @@ abbrev pub IsRedirected : List Home → ℕ → ℕ → Type 0
 IsRedirected homes old new =
     (home : Home) × Contains homes home × (old ≡ bits_of (Ref home.from)) × (new ≡ bits_of (Ref home.to))
 
--- Homes stay, and a new one is made by the worker in whose room it lies. Live slots stay, and a word there changes from the
--- reference to a cell to that to its home alone. Forwarding words stay, and so do the words of home copies but for their
--- slots. Other words of a room change by its worker alone, and so does each view.
+-- Homes stay, and a new one is made by a worker in a room of its own, for the cell of its job. Live slots stay, and a
+-- word there changes from the reference to a cell to that to its home alone. Forwarding words stay, and so do the words
+-- of home copies but for their slots. Other words of a room change by its worker alone, and so does each view.
 pub record StaysFor (old new : World) (event : Event) : Type 0 where
   pub homes_stay : (home : Home) → Contains old.homes home → Contains new.homes home
   pub new_homes : (home : Home) → Contains new.homes home → Contains old.homes home ⊎ IsForwarded old event home
@@ -57,12 +69,6 @@ abbrev pub EventsStayFor : Type 0
 EventsStayFor =
     (world : World) (event : Event) → Underway world → is_possible world event ≡ true
     → StaysFor world (after world event) event
-
--- a worker that is out, with its view and its job
-pub record IsOutAt (world : World) (worker : ℕ) (view : WorkerView) (job : Job) : Type 0 where
-  pub stood : slice_get world.workers worker ≡ Some view
-  pub is_out : view.out ≡ true
-  pub at : view.job ≡ Some job
 
 -- a worker that has a job with no header may read the header
 abbrev pub HeadersMayBeLoaded : Type 0

@@ -1,5 +1,7 @@
--- What holds of a scavenge between two events: no copy is lost, doubled or torn, and each has its slots to be done once.
-use Rattle.std.specs.Prelude.{◌≡◌, ℕ, ◌+◌, ◌<◌, ◌≤◌, ◌==◌, ◌⊎◌, Bool, true, false, List, [], length, Contains, slice_index}
+-- What holds of a scavenge between two events: no copy is lost, doubled or torn, and each has its slots to be done
+-- once.
+use Rattle.std.specs.Prelude.{◌≡◌, ℕ, ◌+◌, ◌<◌, ◌≤◌, ◌==◌, ◌⊎◌, Bool, true, false, List, []}
+use Rattle.std.specs.Prelude.{length, Contains, slice_index}
 use Rattle.std.specs.Prelude.{Option, Some, None}
 use Rattle.std.specs.List.{sum_by, count_by}
 use Rattle.tagged_word.specs.declared.word.Class.TheVariants.{Ref}
@@ -37,7 +39,8 @@ board_times address board = count_by (λ word. is_address address (reference_in 
 abbrev pub home_times : ℕ → List Home → ℕ
 home_times address homes = count_by (λ home. home.to == address) homes
 
--- What is to be done and the board together hold each home copy just once, and nothing else: no two stand at one address.
+-- What is to be done and the board together hold each home copy just once, and nothing else: no two stand at one
+-- address.
 abbrev pub IsShared : List WorkerView → List ℕ → List Home → Type 0
 IsShared workers board homes =
     (address : ℕ) → todo_times address workers + board_times address board ≡ home_times address homes
@@ -57,8 +60,8 @@ pub record IsRead (fixed : Fixed) (words : List ℕ) (homes : List Home) (job : 
   pub stood : StoodAt fixed homes slot place
   pub done : IsAt job slot ⊎ IsQuiet fixed words slot
 
--- What a job has read of its cell: nothing; its header and first words, as before; or, for a header, the reference to its
--- home.
+-- What a job has read of its cell: nothing; its header and first words, as before; or, for a header, the reference to
+-- its home.
 pub data HasReadCell (fixed : Fixed) (homes : List Home) (job : Job) : Type 0 where
   nothing : job.header ≡ None → job.body ≡ [] → HasReadCell fixed homes job
   some : job.header ≡ Some (slice_index fixed.before job.cell) → 1 + length job.body ≤ size_of fixed job.cell

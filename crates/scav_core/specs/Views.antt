@@ -1,6 +1,7 @@
--- An event of one worker, by what its view, the event and the word that it found say: the word that it touches, that word
--- afterwards, the view afterwards, and the home that it makes.
-use Rattle.std.specs.Prelude.{ℕ, ◌+◌, ◌==◌, Bool, false, List, [], ◌∷◌, ◌++◌, length, Option, Some, None, if◌then◌else◌}
+-- An event of one worker, by what its view, the event and the word that it found say: the word that it touches, that
+-- word afterwards, the view afterwards, and the home that it makes.
+use Rattle.std.specs.Prelude.{ℕ, ◌+◌, ◌==◌, Bool, false, List, [], ◌∷◌, ◌++◌, length, Option, Some, None}
+use Rattle.std.specs.Prelude.{if◌then◌else◌}
 use Rattle.std.specs.Option.{option_and_then}
 use Rattle.tagged_word.specs.declared.word.Class.TheVariants.{Ref}
 use Rattle.tagged_word.specs.Words.{bits_of}
@@ -21,7 +22,8 @@ abbrev pub touched_by : (Job → ℕ) → Option Job → Touch
 touched_by place None = touch.Nothing
 touched_by place (Some job) = touch.Word (place job)
 
--- the word that an event touches: a slot, the header or the next word of the cell, a word of the room, or one of the board
+-- the word that an event touches: a slot, the header or the next word of the cell, a word of the room, or one of the
+-- board
 abbrev pub touched : WorkerView → Event → Touch
 touched view event.Look = touch.Nothing
 touched view event.Lend = touch.Nothing

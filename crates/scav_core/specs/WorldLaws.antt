@@ -1,5 +1,6 @@
 -- What holds after every list of events.
 use Rattle.std.specs.Prelude.{◌≡◌, ℕ, ◌+◌, ◌<◌, true, List, Contains, slice_index}
+use Rattle.seat_steps.specs.Boards.{IsBoard}
 use Rattle.scav_copy.specs.declared.places.Home.{Home}
 use Rattle.scav_copy.specs.Places.{size_of, offsets_of, StoodAt}
 use Rattle.scav_copy.specs.Renamings.{RefersTo, Reached, HasOneHomeEach, Renaming, Outside}
@@ -32,13 +33,14 @@ ListsKeepUnderway =
 abbrev pub FixedStays : Type 0
 FixedStays = (world : World) (event : Event) → fixed_of (after world event) ≡ fixed_of world
 
--- No cell has two homes; the header of each cell is the reference to its home, or where it has none, the word of before.
+-- No cell has two homes; the header of each cell is the reference to its home, or where it has none, the word of
+-- before.
 pub record HasHeaders (start world : World) : Type 0 where
   pub one_each : HasOneHomeEach world.homes
   pub each : (cell : ℕ) → Contains start.cells cell → HasHeader (fixed_of start) world.words world.homes cell
 
--- Each home copy is that of a cell that was reached. It lies in one room, and shares no word with another. It is the cell,
--- with its slots as before or renamed.
+-- Each home copy is that of a cell that was reached. It lies in one room, and shares no word with another. It is the
+-- cell, with its slots as before or renamed.
 pub record HasCopies (start world : World) : Type 0 where
   pub reached : (home : Home) → Contains world.homes home → Reached (fixed_of start) home.from
   pub housed : AreHoused (fixed_of start) world.homes
@@ -51,8 +53,8 @@ pub record HasCopies (start world : World) : Type 0 where
       → IsKeptOrRenamed world.homes (slice_index start.before (home.from + offset))
       (slice_index world.words (home.to + offset))
 
--- The words and homes are copying: beside all of this, what stands behind the headers of the cells is as before, and each
--- slot is as before or renamed.
+-- The words and homes are copying: beside all of this, what stands behind the headers of the cells is as before, and
+-- each slot is as before or renamed.
 abbrev pub IsCopying : World → World → Type 0
 IsCopying start world = Copying (fixed_of start) world.words world.homes
 
@@ -60,9 +62,11 @@ IsCopying start world = Copying (fixed_of start) world.words world.homes
 abbrev pub IsOutside : World → World → Type 0
 IsOutside start world = Outside (fixed_of start) world.words
 
--- what is to be done and the board together hold each home copy just once, and nothing else
-abbrev pub HasWork : World → Type 0
-HasWork world = IsShared world.workers world.board world.homes
+-- Each word of the board is 0 or a reference; what is to be done and the board together hold each home copy just once,
+-- and nothing else.
+pub record HasWork (world : World) : Type 0 where
+  pub board : IsBoard world.board
+  pub once : IsShared world.workers world.board world.homes
 
 -- Each slot that a log says was read is live, and refers to none of the cells, unless its worker is at it.
 abbrev pub HasLogs : World → World → Type 0

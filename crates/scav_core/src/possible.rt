@@ -4,7 +4,8 @@ ghost use Rattle.std.specs.List.{list_all, list_any, range_with_len};
 ghost use Rattle.tagged_word.specs.Cells.{has_length, length_by};
 ghost use Rattle.scav_core.specs.Possible.{words_wanted, is_part, is_whole, stands_at};
 ghost use Rattle.scav_core.specs.Possible.{job_is, header_is, may_load_header, may_load_body};
-ghost use Rattle.scav_core.specs.Possible.{is_copy, may_forward, is_home, may_redirect, is_place, may_load_slot, may_copy_word};
+ghost use Rattle.scav_core.specs.Possible.{is_copy, may_forward, is_home, may_redirect, is_place, may_load_slot};
+ghost use Rattle.scav_core.specs.Possible.{may_copy_word};
 ghost use Rattle.scav_core.specs.Possible.{may, may_main, is_possible};
 
 use crate::event::Event;

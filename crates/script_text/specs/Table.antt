@@ -83,4 +83,4 @@ same_keyword a b = bytes_eq (keyword_text a) (keyword_text b)
 
 -- the commands that are not built
 abbrev pub unbuilt_today : Row Keyword
-unbuilt_today = Weak ∷ Shift ∷ Trunc ∷ WPut ∷ WGet ∷ WDel ∷ Scavenge ∷ Mark ∷ Finish ∷ Gc ∷ Census ∷ []
+unbuilt_today = Scavenge ∷ Mark ∷ Finish ∷ Gc ∷ Census ∷ []

@@ -236,7 +236,7 @@ fn a_command_is_judged_by_the_table_before_its_operands(rt: HostRuntime) -> Resu
         b"# c\n\n\tnew x 8\t\nset  x f 1 \r\nget y x f\nlet z y\nrepeat 2\nadd z 1\nend\nsame z y\ndrop z\nprint y #";
     let script = parse(rt.alloc(), built).expect(&rt, "the source is a script");
     assert_eq!(rt; script.lines().len(), 10);
-    match parse(rt.alloc(), b"weak x y") {
+    match parse(rt.alloc(), b"scavenge x") {
         Ok(_) => assert!(rt; false, "the source is refused"),
         Err(stop) => assert_eq!(rt;
             stop,

@@ -1,5 +1,5 @@
--- The board: words over which seats hand cells to one another. Each is 0 or the reference to a cell. What a step does to a
--- word and to its seat's list is a function of the word that it finds there.
+-- The board: words over which seats hand cells to one another. Each is 0 or the reference to a cell. What a step does
+-- to a word and to its seat's list is a function of the word that it finds there.
 use Rattle.std.specs.Prelude.{◌≡◌, ◌≢◌, ℕ, ◌<◌, ◌^◌, ◌==◌, List, length, slice_set, slice_index, replicate, Option}
 use Rattle.std.specs.Prelude.{Some, None, All, ◌⊎◌, IsSome, if◌then◌else◌}
 use Rattle.tagged_word.specs.declared.word.Class.TheVariants.{Ref}
@@ -60,6 +60,10 @@ LostGiveChangesNothing = (list : List ℕ) (found address : ℕ) → found ≢ 0
 abbrev pub GivenIsTaken : Type 0
 GivenIsTaken = (list : List ℕ) (address : ℕ) → address < 2 ^ 32
     → taker_joined list (given_word 0 address) ≡ joined list address
+
+-- what was found is 0 once it is taken, so one who takes it next joins nothing
+abbrev pub TakenIsEmptied : Type 0
+TakenIsEmptied = (list : List ℕ) (found : ℕ) → (taken_word found ≡ 0) × (taker_joined list (taken_word found) ≡ list)
 
 -- where the word is 0, a take changes neither the word nor the list
 abbrev pub TakenOfNoneChangesNothing : Type 0

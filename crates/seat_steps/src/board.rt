@@ -2,7 +2,7 @@
 ghost use Rattle.std.specs.Prelude.{◌≡◌, ◌<◌, length, slice_index, slice_set, IfOk, OnOk, OnErr};
 ghost use Rattle.seat_steps.specs.Boards.{given_word, giver_left, taken_word, taker_joined};
 ghost use Rattle.seat_steps.specs.Boards.{GivenStands, LostGiveChangesNothing, GivenIsTaken};
-ghost use Rattle.seat_steps.specs.Boards.{TakenOfNoneChangesNothing, BoardsStayBoards};
+ghost use Rattle.seat_steps.specs.Boards.{TakenIsEmptied, TakenOfNoneChangesNothing, BoardsStayBoards};
 ghost use Rattle.seat_steps.specs.Boards.{empty_board, EmptyIsBoard};
 
 use crate::items::Items;
@@ -64,6 +64,7 @@ pub fn laws_of_boards()
     ensures given_stands { GivenStands }
     ensures lost_give { LostGiveChangesNothing }
     ensures given_is_taken { GivenIsTaken }
+    ensures taken_is_emptied { TakenIsEmptied }
     ensures taken_of_none { TakenOfNoneChangesNothing }
     ensures empty_is_board { EmptyIsBoard }
     ensures boards_stay_boards { BoardsStayBoards }

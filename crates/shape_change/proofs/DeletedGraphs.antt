@@ -28,7 +28,7 @@ use Rattle.write_barrier.specs.Mains.{Mutator, heap_of, MainShows}
 use Rattle.object_cells.specs.CellsAt.{IsHeaderAt}
 use Rattle.object_cells.specs.PlainObjects.{IsPlainAt, ShowsRefilled}
 use Rattle.object_cells.specs.Uses.{UsesMore}
-use Rattle.object_cells.specs.Capacities.{CapacitiesBecome}
+use Rattle.object_cells.specs.Capacities.{ChangesObject}
 use Rattle.shape_change.specs.FieldChanges.{HasDeletedField, DeletesField}
 use Rattle.shape_change.specs.Deletions.{TakesOut, TakingOut}
 use Rattle.object_cells.proofs.FieldsFound.{no_value, value_found}
@@ -41,7 +41,7 @@ use Rattle.shape_change.proofs.FullPaths.{full_of_paths}
 use Rattle.shape_change.proofs.DeletedSlots.{Deleting}
 use Rattle.shape_change.proofs.DeletedCame.{slot_stays}
 use Rattle.shape_change.proofs.DeletedCells.{others_of, deleted_writes}
-use Rattle.shape_change.proofs.DeletedHeaps.{deleted_refills}
+use Rattle.shape_change.proofs.DeletedHeaps.{deleted_refills, store_belongs}
 use Rattle.shape_change.proofs.ShownFields.{shown_cell, FieldFound}
 
 -- no word more is used
@@ -85,14 +85,15 @@ deleting_of old new graph object plain header slot name shows is header_at found
 stores_stay : (old new : Mutator) (graph : Graph) (object : ℕ) (plain : PlainObject) (header : Header) (slot name : ℕ)
     → MainShows old graph → IsPlainAt old graph object plain → IsHeaderAt (heap_of old) object header
     → FieldFound old object plain header slot name → TakesOut old new object header slot
-    → CapacitiesBecome (heap_of old) (heap_of new) object (capacity_at (heap_of old) object)
+    → ChangesObject (heap_of old) (heap_of new) object (capacity_at (heap_of old) object)
 stores_stay old new graph object plain header slot name shows is header_at found taken =
     let shown = shown_cell old graph object plain header shows is header_at in
     let deleting = deleting_of old new graph object plain header slot name shows is header_at found taken in
-    subst (λ n. CapacitiesBecome (heap_of old) (heap_of new) n (capacity_at (heap_of old) n)) shown.at
+    subst (λ n. ChangesObject (heap_of old) (heap_of new) n (capacity_at (heap_of old) n)) shown.at
     (capacities_stay (heap_of old) (heap_of new) shown.cell deleting.taken.next (others_of deleting) [] (record {
       whole = deleting.whole;
       writes = deleted_writes deleting;
+      belong = λ other there. store_belongs deleting other there;
       kinds = λ other there. absurd (none_in other there);
     }) (slot_stays deleting))
 
@@ -127,7 +128,7 @@ field_deleted old new graph object plain header slot name (Ok done) shows is hea
     record {
       none = λ none. absurd (none-some found.field.value (sym none ∙ value));
       uses = uses_none old new taken.space taken.young;
-      stores = stores_stay old new graph object plain header slot name shows is header_at found taken;
+      changes = stores_stay old new graph object plain header slot name shows is header_at found taken;
       shows = field_less old new graph object plain header slot name shows is header_at found taken;
     }
 field_deleted old new graph object plain header slot name (Err full) shows is header_at found refused = (
@@ -170,7 +171,8 @@ none_deleted main graph object plain header name shows is header_at none =
     record {
       none = λ _. refl;
       uses = uses_none main main refl refl;
-      stores = record {
+      changes = record {
+        words = λ word below not_own not_new. refl;
         own = refl;
         others = λ number other place apart. refl;
         stays = λ number other place. place;

@@ -22,7 +22,7 @@ use Rattle.shape_change.proofs.DeletedCame.{slots_now}
 use Rattle.shape_change.proofs.DeletedFields.{path_now, slot_comes, slot_shows, rest_is_hole}
 
 -- the object names its store
-store_belongs : {old new : Mutator} {cell : Cell} {slot : ℕ} {fields : List Field}
+pub store_belongs : {old new : Mutator} {cell : Cell} {slot : ℕ} {fields : List Field}
     (deleting : Deleting old new cell slot fields) (other : Cell) → Contains (others_of deleting) other
     → (at : ℕ) × NamesFrom (heap_of old) cell at other.at
 store_belongs {old} {cell = cell} deleting other there =

@@ -14,7 +14,7 @@ use Rattle.write_barrier.specs.Mains.{Mutator, heap_of}
 use Rattle.object_cells.specs.PlainObjects.{ShowsRefilled}
 use Rattle.object_cells.specs.HeldValues.{is_wide}
 use Rattle.object_cells.specs.Uses.{UsesMore}
-use Rattle.object_cells.specs.Capacities.{CapacitiesBecome, set_capacity_at}
+use Rattle.object_cells.specs.Capacities.{ChangesObject, set_capacity_at}
 use Rattle.shape_change.specs.FieldChanges.{HasSetField}
 use Rattle.shape_change.specs.Additions.{AddsField}
 use Rattle.object_cells.specs.Made.{is_wide_held}
@@ -39,7 +39,7 @@ module _ {old new : Mutator} {graph : Graph} {plain : PlainObject} {object : ℕ
   -- so it is where so many words were reserved as it needs
   set_by : (need capacity : ℕ) → set_need_at (heap_of old) object name (is_wide_held value) ≡ need
       → HasRoom old.young need → UsesMore old new need → set_capacity_at (heap_of old) object name ≡ capacity
-      → CapacitiesBecome (heap_of old) (heap_of new) known.cell.at capacity
+      → ChangesObject (heap_of old) (heap_of new) known.cell.at capacity
       → ShowsRefilled new graph plain (with_field plain.fields name what)
       → HasSetField old new graph object plain name what
   set_by need capacity is room uses is_capacity stores shows =
@@ -49,9 +49,9 @@ module _ {old new : Mutator} {graph : Graph} {plain : PlainObject} {object : ℕ
         few = lacks_none known;
         room = subst (HasRoom old.young) same room;
         uses = subst (UsesMore old new) same uses;
-        stores = subst (λ a. CapacitiesBecome (heap_of old) (heap_of new) a (set_capacity_at (heap_of old) object name))
+        changes = subst (λ a. ChangesObject (heap_of old) (heap_of new) a (set_capacity_at (heap_of old) object name))
             known.stands
-            (subst (CapacitiesBecome (heap_of old) (heap_of new) known.cell.at) (sym is_capacity) stores);
+            (subst (ChangesObject (heap_of old) (heap_of new) known.cell.at) (sym is_capacity) stores);
         shows = shows;
       }
 

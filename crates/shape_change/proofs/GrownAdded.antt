@@ -27,7 +27,7 @@ use Rattle.object_cells.specs.declared.stores.Store.{Store}
 use Rattle.object_cells.specs.SlotChanges.{ComesFrom}
 use Rattle.object_cells.specs.PlainObjects.{ShowsRefilled}
 use Rattle.object_cells.specs.Made.{beside_content}
-use Rattle.object_cells.specs.Capacities.{CapacitiesBecome}
+use Rattle.object_cells.specs.Capacities.{ChangesObject}
 use Rattle.object_cells.specs.Contents.{next_at}
 use Rattle.object_cells.proofs.CellsRead.{fits_address}
 use Rattle.object_cells.proofs.KeptCapacities.{capacities_grow}
@@ -156,7 +156,7 @@ module _ {old new : Mutator} {graph : Graph} {plain : PlainObject} {object : ℕ
 
   -- the object's property store has as many slots as the new one
   pub grown_becomes : AreWithin old.seat.space.sizes old.seat.space.variables
-      → CapacitiesBecome (heap_of old) (heap_of new) growing.known.cell.at (grown store.capacity)
+      → ChangesObject (heap_of old) (heap_of new) growing.known.cell.at (grown store.capacity)
   grown_becomes within =
       let known = growing.known in
       let boxes = made_boxes (beside_content value) (box_at old store) in
@@ -164,5 +164,10 @@ module _ {old new : Mutator} {graph : Graph} {plain : PlainObject} {object : ℕ
       let fits = fits_address {space = old.seat.space} {at = next_at old} (omega (arith, ends)) within in
       capacities_grow (heap_of old) (heap_of new) known.cell growing.adds.next [] (made_cells old value store)
       (new_store growing)
-      (record { whole = known.shows.shows.whole; writes = writes growing; kinds = adds_slot.kinds })
+      (record {
+        whole = known.shows.shows.whole;
+        writes = writes growing;
+        belong = adds_slot.belong;
+        kinds = adds_slot.kinds;
+      })
       (first_in (new_store growing) boxes) refl (omega (arith, fits)) (refers_new growing)

@@ -3,7 +3,7 @@ use Rattle.std.proofs.Common.{◌≡◌, ℕ, ◌+◌, ◌<◌, true, [], length
 use Rattle.std.specs.Prelude.{slice_set}
 use Rattle.std.proofs.lemmas.Bool.Decides.{nat_tests}
 use Rattle.tagged_word.specs.declared.header.Header.{Header}
-use Rattle.tagged_word.specs.Cells.{plain_head}
+use Rattle.tagged_word.specs.Cells.{plain_head, store_slot}
 use Rattle.object_graph.specs.declared.value.Value.{Value}
 use Rattle.object_graph.specs.declared.value.Rep.TheVariants as rep
 use Rattle.object_graph.specs.Values.{rep_of}
@@ -22,7 +22,7 @@ use Rattle.object_cells.specs.Contents.{next_at}
 use Rattle.shape_change.specs.Additions.{AddsOwn, AddsPath, added_path, count_of, own_content, with_shape}
 use Rattle.object_cells.specs.Made.{content_word}
 use Rattle.heap_model.specs.Needs.{capacity_at}
-use Rattle.object_cells.specs.Capacities.{CapacitiesBecome}
+use Rattle.object_cells.specs.Capacities.{ChangesObject}
 use Rattle.object_cells.proofs.KeptCapacities.{one_keeps}
 use Rattle.object_cells.proofs.WrittenPlaces.{written_places_stay}
 use Rattle.object_cells.proofs.HeldNeeds.{new_value_held}
@@ -152,6 +152,8 @@ pub own_keeps : {old new : Mutator} {graph : Graph} {plain : PlainObject} {objec
     {value : Held} {what : Value} (known : Adding old graph plain object header name value what)
     → count_of old.paths header.shape < (shape_path old.paths header.shape).cap
     → AddsOwn old new object header name value
-    → CapacitiesBecome (heap_of old) (heap_of new) known.cell.at (capacity_at (heap_of old) known.cell.at)
+    → ChangesObject (heap_of old) (heap_of new) known.cell.at (capacity_at (heap_of old) known.cell.at)
 own_keeps known own adds =
-    one_keeps (own_adding known own adds).adds.puts (λ other there. absurd (none_in other there))
+    one_keeps (own_adding known own adds).adds.puts
+    (λ other among. (known.cell.at + store_slot, ((own_adding known own adds).adds.place.stores other among).named))
+    (λ other there. absurd (none_in other there))

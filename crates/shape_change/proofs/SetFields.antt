@@ -24,7 +24,7 @@ use Rattle.nursery.specs.Young.{Young}
 use Rattle.write_barrier.specs.Mains.{Mutator, heap_of, IsTied}
 use Rattle.object_cells.specs.PlainObjects.{ShowsRefilled}
 use Rattle.object_cells.specs.Refills.{AreNewFields}
-use Rattle.object_cells.specs.Capacities.{CapacitiesBecome}
+use Rattle.object_cells.specs.Capacities.{ChangesObject}
 use Rattle.object_cells.specs.Contents.{next_at}
 use Rattle.object_cells.proofs.CellWrites.{writes_keep_cells}
 use Rattle.object_cells.proofs.KeptCapacities.{one_keeps}
@@ -84,7 +84,7 @@ sets_one {old} {mid} {new} {slot = slot} {plain} {what} next at word need others
 pub record ShowsSet {old : Mutator} {graph : Graph} {object slot : ℕ} {plain : PlainObject} {what : Value} {name : ℕ}
     (s : Setting old graph object slot plain what name) (new : Mutator) : Type 0 where
   pub shows : ShowsRefilled new graph plain (with_field plain.fields name what)
-  pub stores : CapacitiesBecome (heap_of old) (heap_of new) s.cell.at (capacity_at (heap_of old) s.cell.at)
+  pub changes : ChangesObject (heap_of old) (heap_of new) s.cell.at (capacity_at (heap_of old) s.cell.at)
 
 -- so it is
 pub field_shown : {old mid new : Mutator} {graph : Graph} {object slot next at word need : ℕ} {plain : PlainObject}
@@ -111,5 +111,5 @@ field_shown {old} {new = new} {graph} {slot = slot} {next} {plain = plain} {what
       shows = subst (ShowsRefilled new graph plain) (sym same)
           (written_fields_show old new graph plain s.cell next others made fields s.shows s.is.object s.carries s.cap
           shown new_fields added tied quiet sets.puts.writes (refills_slots sets fills));
-      stores = one_keeps sets.puts fills.kinds;
+      changes = one_keeps sets.puts (refills_slots sets fills).belong fills.kinds;
     }

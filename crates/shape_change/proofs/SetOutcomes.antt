@@ -27,7 +27,7 @@ use Rattle.object_cells.specs.declared.content.Filling.TheVariants as filling
 use Rattle.shape_change.specs.declared.place.Place.{Place}
 use Rattle.object_cells.specs.HeldValues.{is_wide}
 use Rattle.object_cells.specs.Uses.{UsesMore}
-use Rattle.object_cells.specs.Capacities.{CapacitiesBecome, set_capacity_at, set_capacity_by}
+use Rattle.object_cells.specs.Capacities.{ChangesObject, set_capacity_at, set_capacity_by}
 use Rattle.shape_change.specs.FieldChanges.{HasSetField}
 use Rattle.object_cells.specs.Contents.{box_in, next_at, filling_of, filling_at, filling_need, filled}
 use Rattle.shape_change.specs.Fillings.{FillsSlot, FillsWider}
@@ -168,13 +168,13 @@ has_set_field {old} {new = new} {graph} {object} {plain = plain} {what} {name} p
     let used = subst P (sym need) (ready.room, uses) in
     let at_object = subst (λ a. P (set_need_at (heap_of old) a name (is_wide what))) s.stands used in
     let shown = fill_shown at word next content s fills ready shape head in
-    let Q : ℕ → ℕ → Type 0 = λ a n. CapacitiesBecome (heap_of old) (heap_of new) a n in
+    let Q : ℕ → ℕ → Type 0 = λ a n. ChangesObject (heap_of old) (heap_of new) a n in
     record {
       few = λ lacks. name_is_there s lacks;
       room = at_object.0;
       uses = at_object.1;
-      stores = subst (λ a. Q a (set_capacity_at (heap_of old) a name)) s.stands
-          (subst (Q s.cell.at) (sym (setting_capacity s)) shown.stores);
+      changes = subst (λ a. Q a (set_capacity_at (heap_of old) a name)) s.stands
+          (subst (Q s.cell.at) (sym (setting_capacity s)) shown.changes);
       shows = shown.shows;
     }
 

@@ -6,7 +6,7 @@ use Rattle.std.proofs.lemmas.Bool.{false≢true}
 use Rattle.std.proofs.lemmas.Bool.Decides.{nat_tests}
 use Rattle.std.proofs.lemmas.List.Elements.{Contains-append_right}
 use Rattle.tagged_word.specs.declared.header.Header.{Header}
-use Rattle.tagged_word.specs.Cells.{store_head}
+use Rattle.tagged_word.specs.Cells.{store_head, store_slot}
 use Rattle.object_graph.specs.declared.value.Value.{Value}
 use Rattle.object_graph.specs.Values.{rep_of}
 use Rattle.object_graph.specs.Objects.{with_field}
@@ -36,7 +36,7 @@ use Rattle.object_cells.proofs.NumberedSlots.{IsNumbered}
 use Rattle.object_cells.proofs.OwnCells.{cell_below_layouts, beside_not_header}
 use Rattle.object_cells.proofs.StoresRead.{StoredAt, stored_at}
 use Rattle.heap_model.specs.Needs.{capacity_at}
-use Rattle.object_cells.specs.Capacities.{CapacitiesBecome}
+use Rattle.object_cells.specs.Capacities.{ChangesObject}
 use Rattle.object_cells.proofs.KeptCapacities.{one_keeps}
 use Rattle.object_cells.proofs.WrittenPlaces.{written_places_stay}
 use Rattle.object_cells.proofs.UnusedWords.{next_before_segments, cell_is_used}
@@ -230,7 +230,9 @@ module _ {old new : Mutator} {graph : Graph} {plain : PlainObject} {object : ℕ
       (λ other there. made_sound count box other holds known.fits box_stands (made_has other there) there))
 
   -- each property store has as many slots as before
-  pub store_keeps : CapacitiesBecome (heap_of old) (heap_of new) adding.known.cell.at
+  pub store_keeps : ChangesObject (heap_of old) (heap_of new) adding.known.cell.at
       (capacity_at (heap_of old) adding.known.cell.at)
   store_keeps =
-      one_keeps one.adds.puts (λ other there. inr (made_boxed (beside_content value) (next_at old) other there))
+      one_keeps one.adds.puts
+      (λ other among. (adding.known.cell.at + store_slot, (one.adds.place.stores other among).named))
+      (λ other there. inr (made_boxed (beside_content value) (next_at old) other there))

@@ -16,7 +16,7 @@ use Rattle.write_barrier.specs.Mains.{Mutator, heap_of, MainShows}
 use Rattle.object_cells.specs.PlainObjects.{IsPlainAt, ShowsRefilled, LacksPaths, LacksFields}
 use Rattle.object_cells.specs.HeldValues.{IsValueHeld, is_wide}
 use Rattle.object_cells.specs.Uses.{UsesMore}
-use Rattle.object_cells.specs.Capacities.{CapacitiesBecome, set_capacity_at}
+use Rattle.object_cells.specs.Capacities.{ChangesObject, set_capacity_at}
 use Rattle.shape_change.specs.declared.stop.FieldStop.{FieldStop}
 use Rattle.shape_change.specs.declared.stop.FieldStop.TheVariants as stop
 
@@ -30,14 +30,14 @@ pub record IsShownSetting (main : Mutator) (at : ℕ) (held : Held) : Type 0 whe
   pub is_held : IsValueHeld main graph held value
 
 -- How a field of the object at the address comes to have a value: it allocates what that needs, for which there is room,
--- and the heap shows the graph in which the field has it. Its property store is made anew where it is full or absent and
--- the field needs a slot of it; no other object's is.
+-- and the heap shows the graph in which the field has it. Only words of the object change, and those that it allocates. Its
+-- property store is made anew where it is full or absent and the field needs a slot of it; no other object's is.
 pub record HasSetField (old new : Mutator) (graph : Graph) (at : ℕ) (plain : PlainObject) (name : ℕ) (value : Value)
     : Type 0 where
   pub few : LacksFields plain name → ⊥
   pub room : HasRoom old.young (set_need_at (heap_of old) at name (is_wide value))
   pub uses : UsesMore old new (set_need_at (heap_of old) at name (is_wide value))
-  pub stores : CapacitiesBecome (heap_of old) (heap_of new) at (set_capacity_at (heap_of old) at name)
+  pub changes : ChangesObject (heap_of old) (heap_of new) at (set_capacity_at (heap_of old) at name)
   pub shows : ShowsRefilled new graph plain (with_field plain.fields name value)
 
 -- There may not be as many paths as the object with these fields needs; the refusal says how many there are, and how many
@@ -58,11 +58,11 @@ SetsField old new graph at plain name value (Err (stop.Full room)) =
     × (room.need ≡ set_need_at (heap_of old) at name (is_wide value)) × (HasRoom old.young room.need → ⊥) × (new ≡ old)
 
 -- How a field is taken out: the heap shows the graph in which the object lacks it, and nothing changes where it lacked it
--- before. Each property store stays.
+-- before. Only words of the object change, and each property store stays.
 pub record HasDeletedField (old new : Mutator) (graph : Graph) (at : ℕ) (plain : PlainObject) (name : ℕ) : Type 0 where
   pub none : field_value plain.fields name ≡ None → new ≡ old
   pub uses : UsesMore old new 0
-  pub stores : CapacitiesBecome (heap_of old) (heap_of new) at (capacity_at (heap_of old) at)
+  pub changes : ChangesObject (heap_of old) (heap_of new) at (capacity_at (heap_of old) at)
   pub shows : ShowsRefilled new graph plain (without_field plain.fields name)
 
 -- `del` of a field: it is taken out, and nothing happens where it is not there; or there are too many paths.

@@ -1,10 +1,10 @@
 -- The shape of a box is that of no other cell, so the header tells a box.
-use Rattle.std.proofs.Common.{◌≡◌, ℕ, zero, suc, ◌+◌, ◌-◌, ◌<◌, true, false, List, length, drop, Option}
+use Rattle.std.proofs.Common.{◌≡◌, ℕ, zero, suc, true, false, List, Option}
 use Rattle.std.proofs.Common.{Some, None, slice_get, unwrap_or, IsTrue, refl, sym, ◌∙◌, ap, subst, arith}
 use Rattle.std.specs.Prelude.{option_map}
 use Rattle.std.specs.Option.{option_and_then}
 use Rattle.std.proofs.lemmas.Bool.{ne_eqb, eq-eqb, false≢true}
-use Rattle.std.proofs.lemmas.Option.{same_Some, slice_get-map, slice_get_within}
+use Rattle.std.proofs.lemmas.Option.{same_Some, slice_get-map}
 use Rattle.tagged_word.specs.declared.header.Header.{Header}
 use Rattle.tagged_word.specs.declared.layout.Kind.{Kind}
 use Rattle.tagged_word.specs.declared.layout.Kind.TheVariants as kind
@@ -22,9 +22,8 @@ use Rattle.cell_layout.proofs.CellsThere.{slice_get-layouts_in}
 use Rattle.heap_model.specs.Heaps.{Heap, HasCell}
 use Rattle.heap_model.specs.Slots.{is_object_kind}
 use Rattle.heap_model.specs.Wholeness.{HasSizes}
-use Rattle.heap_model.specs.Needs.{shape_at, is_box_at, word_at}
+use Rattle.heap_model.specs.Needs.{shape_at, is_box_at}
 use Rattle.heap_model.proofs.CellsApart.{has_is_cell}
-use Rattle.heap_model.proofs.CellWords.{slice_get-take, slice_get-drop, words_are_size}
 
 -- the layout word of a path
 abbrev word_of : Path → ℕ
@@ -102,15 +101,3 @@ pub told_object : {heap : Heap} {cell : Cell} {words : List ℕ} → HasSizes he
 told_object {heap} {cell} sized has object =
     ne_eqb (shape_at heap cell.at) box_shape
     (λ same. false≢true (sym (ap is_object_kind (box_of_shape sized has (sym (shape_is has) ∙ same))) ∙ object))
-
--- the word of a cell at an offset is that of the heap
-pub word_of_cell : {heap : Heap} {cell : Cell} {words : List ℕ} (offset word : ℕ) → HasCell heap cell words
-    → slice_get words offset ≡ Some word → word_at heap (cell.at + offset) ≡ word
-word_of_cell {heap} {cell} {words} offset word has there =
-    let below : offset < length words = slice_get_within words offset word there in
-    let inside : offset < cell.at + cell.size - cell.at = omega (arith, words_are_size has) in
-    let stands : slice_get heap.words (cell.at + offset) ≡ Some word =
-    sym (slice_get-drop cell.at heap.words offset (cell.at + offset) refl)
-    ∙ sym (slice_get-take (cell.at + cell.size - cell.at) (drop cell.at heap.words) offset inside)
-    ∙ ap (λ all. slice_get all offset) has.words_are ∙ there in
-    ap (λ found. unwrap_or found 0) stands

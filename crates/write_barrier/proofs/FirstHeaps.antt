@@ -13,6 +13,7 @@ use Rattle.page_space.specs.declared.region.Region.{Region}
 use Rattle.page_space.specs.declared.region.Region.TheVariants.{Page, Eden, Segment, Root, Layout, Mark, Board, Outside}
 use Rattle.page_space.specs.Extents.{Extent}
 use Rattle.nursery.specs.Young.{Young}
+use Rattle.object_graph.specs.declared.object.Object.TheVariants.{Weak}
 use Rattle.object_graph.specs.Graphs.{start}
 use Rattle.object_graph.specs.Invariants.{IsObject, HasItsPath, IsGraph}
 use Rattle.object_graph.proofs.FirstPaths.{empty_paths_are, length-empty_paths}
@@ -137,6 +138,7 @@ started_shows main is = (
     is_graph = start_is;
     quiet = is.quiet;
     shows = first_shows main is;
+    counts = λ number at entries there marked place. absurd (none-some (Weak entries) there);
   },
   record {
     used = ap (λ (young : Young). young.used) is.young;

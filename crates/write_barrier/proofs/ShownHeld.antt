@@ -26,9 +26,10 @@ use Rattle.heap_model.specs.Needs.{word_at, is_box_at}
 use Rattle.heap_model.specs.Showing.{ShowsValue, ShowsHeld}
 use Rattle.heap_model.proofs.CellsApart.{has_is_cell}
 use Rattle.heap_model.proofs.WordClasses.{same_reference, undefined_refers_not, small_refers_not}
+use Rattle.heap_model.proofs.WordsRead.{word_of_cell}
 use Rattle.write_barrier.specs.Values.{held_at, held_of_class}
 use Rattle.write_barrier.specs.ValueLaws.{ShowsByClass, ShownValuesAreHeld}
-use Rattle.write_barrier.proofs.BoxShapes.{told_box, told_object, word_of_cell}
+use Rattle.write_barrier.proofs.BoxShapes.{told_box, told_object}
 
 -- a small integer has 64 bits
 small_fits : (v : ℤ) → IsTrue (small v) → FitsSigned w64 v

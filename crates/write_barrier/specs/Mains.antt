@@ -17,6 +17,7 @@ use Rattle.heap_table.specs.declared.phase.Phase.TheVariants.{Quiet}
 use Rattle.heap_table.specs.Seats.{Seat, heap_words}
 use Rattle.heap_model.specs.Heaps.{Heap}
 use Rattle.heap_model.specs.Showing.{Shows}
+use Rattle.heap_model.specs.Counting.{CountsEntries}
 
 -- the seat, the shapes, and the young generation
 pub record Mutator : Type 0 where
@@ -38,12 +39,14 @@ heap_of main = record {
 abbrev pub IsTied : Mutator → Type 0
 IsTied main = main.young.space ≡ main.seat.space
 
--- The parts agree, only the mutator runs, and the heap shows the graph, which is one that a script makes.
+-- The parts agree, only the mutator runs, and the heap shows the graph, which is one that a script makes. No entry of a weak
+-- map was cleared.
 pub record MainShows (main : Mutator) (graph : Graph) : Type 0 where
   pub tied : IsTied main
   pub is_graph : IsGraph graph
   pub quiet : main.seat.phase ≡ Quiet
   pub shows : Shows (heap_of main) graph
+  pub counts : CountsEntries (heap_of main) graph
 
 -- one word of the table is another
 abbrev pub with_word : Mutator → ℕ → ℕ → Mutator

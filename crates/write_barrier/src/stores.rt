@@ -40,6 +40,22 @@ impl Main {
         self.write(cell + offset, value.0);
     }
 
+    /// Puts a value in the slot of a weak table at an offset. No other word changes. It keeps nothing
+    /// alive: marking never looks at what a pair of a table refers to.
+    #[inline]
+    pub fn store_weak(&mut self, cell: u32, offset: u32, value: Word)
+        requires quiet { self.old.seat.phase ≡ Quiet }
+        requires within { cell + offset < marks_start self.old.seat.space }
+        ensures stored { self.new ≡ with_word self.old (cell + offset) value.0 }
+        ensures heap { let words = heap_words self.old.seat in
+            heap_words self.new.seat ≡ slice_set words (cell + offset) value.0 }
+    {
+        // No address of a heap is past 32 bits.
+        let _regions = self.regions();
+        let slot = cell + offset;
+        self.write(slot, value.0);
+    }
+
     /// Puts the header of a cell at an address. No other word changes.
     #[inline]
     pub fn set_header(&mut self, a: u32, header: Header)

@@ -1,6 +1,6 @@
 //! Fields in the object and in its property store, their representations, and shapes.
 
-use super::{SURE, came};
+use super::check_rows;
 use std::test::Fail;
 
 #[test]
@@ -38,12 +38,7 @@ fn fields_keep_their_values_and_representations(rt: HostRuntime) -> Result<(), F
             "7\ncap 0 a:wide\ncap 0 a:wide\n",
         ),
     ];
-    for (script, written) in table {
-        let came = came(&rt, script.as_bytes(), SURE)?;
-        assert_eq!(rt; came.written.as_slice(), written.as_bytes(), "{script}");
-        assert_eq!(rt; came.status, 0, "{script}");
-    }
-    Ok(())
+    check_rows(&rt, &table, 0)
 }
 
 #[test]
@@ -57,10 +52,5 @@ fn fields_are_of_plain_objects_that_variables_are_bound_to(rt: HostRuntime) -> R
         ("new x 0\nlet y 1\nalike x y", "fault 3 notobject\n"),
         ("new x 0\nset x a y", "fault 2 unbound\n"),
     ];
-    for (script, written) in table {
-        let came = came(&rt, script.as_bytes(), SURE)?;
-        assert_eq!(rt; came.written.as_slice(), written.as_bytes(), "{script}");
-        assert_eq!(rt; came.status, 1, "{script}");
-    }
-    Ok(())
+    check_rows(&rt, &table, 1)
 }

@@ -2,11 +2,12 @@
 
 use crate::{Ended, MemSink, MemSource, OpenGate, run};
 use heap_check::is_whole;
+use std::process::Abort;
 use std::test::Fail;
 use std::thread::Threads;
 
 /// What a run of a script under these words comes to.
-fn ended_by<R: Threads + Sync + AllocGlobal>(
+pub(super) fn ended_by<R: Threads + Sync + AllocGlobal>(
     rt: &R,
     given: &[&str],
     script: &[u8],
@@ -19,6 +20,26 @@ fn ended_by<R: Threads + Sync + AllocGlobal>(
     let mut source = MemSource::new(script.to_vec(alloc)?, 4096, Vec::new(alloc));
     let mut sink = MemSink::new(alloc, 1 << 20, 4096, Vec::new(alloc))?;
     Ok(run(rt, alloc, &words, &mut source, &mut sink, &OpenGate))
+}
+
+/// Checks the words of eden, which begins at 131,072, after a script, and how many of them are used.
+pub(super) fn check_words<R: Abort + Threads + Sync + AllocGlobal>(
+    rt: &R,
+    script: &[u8],
+    wanted: &[u64],
+) -> Result<(), Fail> {
+    let ended = ended_by(rt, &["run"], script)?;
+    let kept = ended.kept.ok_or("no heap was kept")?;
+    let words = kept.image.words.as_slice();
+    let mut at = 131_072usize;
+    for word in wanted {
+        assert_eq!(rt; words.get(at).copied(), Some(*word), "at {at}");
+        at = at.saturating_add(1);
+    }
+    assert_eq!(rt; words.get(at).copied(), Some(0));
+    assert_eq!(rt; kept.image.used as usize, wanted.len());
+    assert!(rt; is_whole(&kept.image));
+    Ok(())
 }
 
 // Eden begins at 131,072 with 64 pages, and the roots at 188,416 with 8,192 young words and two
@@ -126,7 +147,7 @@ fn the_kept_heap_has_the_sizes_of_the_words(rt: HostRuntime) -> Result<(), Fail>
 #[test]
 fn each_kept_heap_is_whole(rt: HostRuntime) -> Result<(), Fail> {
     let words = ["run", "--pages", "1", "--young", "128", "--helpers", "1"];
-    let scripts: [&[u8]; 8] = [
+    let scripts: [&[u8]; 12] = [
         b"",
         b"new x 2\nset x a 1\nset x b 5000000000\nset x c x\ndel x b\nset x c 5000000000",
         b"new x 0\nset x a 5000000000\nset x b 5000000000\nset x a x\ndel x a\ndel x b",
@@ -134,6 +155,10 @@ fn each_kept_heap_is_whole(rt: HostRuntime) -> Result<(), Fail> {
         b"new x 1\nset x a 1\nset x b 2\nset x c 3\nset x d 4\nset x e 5\nset x f 5000000000\ndel x c",
         b"list l\npush l l\npush l 5000000000\nput l 0 5000000000\nput l 1 l\nput l 0 undefined\nput l 2 0",
         b"list l\nrepeat 100\npush l 5000000000\npush l l\npush l undefined\nend",
+        b"list l\nrepeat 15\npush l 5000000000\npush l l\nshift l 1\nend\nshift l 1\ntrunc l 10\nshift l 11",
+        b"list l\nrepeat 5\npush l 5000000000\npush l 1\npush l l\ntrunc l 2\nend\nshift l 2\ntrunc l 0\npush l 7",
+        b"weak m\nrepeat 100\nnew k 0\nwput m k 5000000000\nwput m k k\nwput m m 5000000000\nend",
+        b"weak m\nnew k 1\nwput m k m\nlist l\nwput m l 5000000000\nwput m m l\nwdel m k\nwdel m m\nwput m k 1",
         b"new x 8\nset x a x\nlet y x\ndrop x\nset y b 7\nget z y c\nset z a 1",
     ];
     for script in scripts {

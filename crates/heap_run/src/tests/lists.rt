@@ -1,6 +1,6 @@
 //! Lists: their elements, the order of their faults, and the words that they need.
 
-use super::{SURE, came, came_by, seen};
+use super::{SURE, came_by, check_rows, seen};
 use std::test::Fail;
 
 #[test]
@@ -36,12 +36,7 @@ fn lists_keep_their_elements(rt: HostRuntime) -> Result<(), Fail> {
             "5000000000\n6000000000\n5000000000\n",
         ),
     ];
-    for (script, written) in table {
-        let came = came(&rt, script.as_bytes(), SURE)?;
-        assert_eq!(rt; came.written.as_slice(), written.as_bytes(), "{script}");
-        assert_eq!(rt; came.status, 0, "{script}");
-    }
-    Ok(())
+    check_rows(&rt, &table, 0)
 }
 
 #[test]
@@ -70,14 +65,22 @@ fn faults_of_lists_come_in_the_order_of_the_table(rt: HostRuntime) -> Result<(),
             "list l\npush l 5\nlet i 9223372036854775807\nat y l i",
             "fault 4 range\n",
         ),
+        (
+            "list l\npush l 5\nlet i 9223372036854775807\nput l i 1",
+            "fault 4 range\n",
+        ),
+        (
+            "list l\npush l 5\nput l -9223372036854775808 1",
+            "fault 3 range\n",
+        ),
+        ("list l\nat y l 0", "fault 2 range\n"),
         ("list l\nset l a 1", "fault 2 notobject\n"),
+        ("list l\nget y l a", "fault 2 notobject\n"),
+        ("list l\ndel l a", "fault 2 notobject\n"),
+        ("list l\nshape l", "fault 2 notobject\n"),
+        ("list l\nalike l l", "fault 2 notobject\n"),
     ];
-    for (script, written) in table {
-        let came = came(&rt, script.as_bytes(), SURE)?;
-        assert_eq!(rt; came.written.as_slice(), written.as_bytes(), "{script}");
-        assert_eq!(rt; came.status, 1, "{script}");
-    }
-    Ok(())
+    check_rows(&rt, &table, 1)
 }
 
 // A list has 3 words, its stores 2 and their slots: 4, twice as many whenever one is full, and 1,000
@@ -108,6 +111,13 @@ fn a_list_needs_a_store_where_its_own_is_full(rt: HostRuntime) -> Result<(), Fai
             "list l\npush l 1\nrepeat 100\nput l 0 5000000000\nput l 0 1\nend",
             "heap full 4\n",
             seen(84, 4, 2),
+        ),
+        // A store and a box are one run: there would be room for the store alone.
+        (
+            "64",
+            "list l\nrepeat 5\nnew x 8\nend\nnew z 2\npush l 5000000000",
+            "heap full 6\n",
+            seen(13, 6, 8),
         ),
         (
             "64",

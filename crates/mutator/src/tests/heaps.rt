@@ -1,4 +1,4 @@
-//! A heap with six variables, and what commands come to on it.
+//! A heap with seven variables, and what commands come to on it.
 ghost use Rattle.std.specs.Prelude.{◌≡◌, ◌+◌, ◌≤◌, length, IsTrue, IfOk};
 ghost use Rattle.heap_command.specs.Commands.{IsWithin, NamesBelow};
 ghost use Rattle.object_graph.specs.Graphs.{Graph, start};
@@ -8,10 +8,11 @@ ghost use Rattle.script_text.specs.Sound.{AreShort};
 
 use crate::{
     OUTPUT_BYTES, Output, ROOM, Stop, add, alike, at, del, drop_var, get, let_value, list,
-    new_plain, print, push, put, same, set, shape,
+    new_plain, print, push, put, same, set, shape, shift, trunc, wdel, weak, wget, wput,
 };
 use heap_command::Command::{
-    self, Add, Alike, At, Del, DropVar, Get, LetValue, Print, Push, Put, Same, Set, Shape,
+    self, Add, Alike, At, Del, DropVar, Get, LetValue, Print, Push, Put, Same, Set, Shape, Shift,
+    Trunc, WDel, WGet, WPut,
 };
 use heap_command::Operand::{self, Int, Undefined, Var};
 use heap_table::HeapTable;
@@ -37,7 +38,10 @@ pub(super) const W: u32 = 4;
 /// The list.
 pub(super) const L: u32 = 5;
 
-const VARIABLES: u32 = 6;
+/// The weak map.
+pub(super) const M: u32 = 6;
+
+const VARIABLES: u32 = 7;
 
 /// The fields of `SOURCE`.
 pub(super) const A: u32 = 0;
@@ -47,7 +51,7 @@ pub(super) const B: u32 = 1;
 /// A script that names the fields `a` and `b`.
 const SOURCE: &[u8] = b"set x a 1\nset x b 1\n";
 
-/// Whether the operand names none but the six variables.
+/// Whether the operand names none but the seven variables.
 fn is_known(v: Operand) -> bool
     ensures { IsTrue result → NamesBelow VARIABLES v }
 {
@@ -57,7 +61,7 @@ fn is_known(v: Operand) -> bool
     }
 }
 
-/// Whether the command is one that `carry_out` knows, on the six variables.
+/// Whether the command is one that `carry_out` knows, on the seven variables.
 fn is_within(command: Command) -> bool
     ensures { IsTrue result → IsWithin VARIABLES field_numbers command }
 {
@@ -65,6 +69,10 @@ fn is_within(command: Command) -> bool
         LetValue { x, v } | Add { x, v } | Set { x, f: _, v } | Push { x, v } => {
             x < VARIABLES && is_known(v)
         }
+        Shift { x, n } | Trunc { x, n } => x < VARIABLES && is_known(n),
+        WPut { m, k, v } => m < VARIABLES && is_known(k) && is_known(v),
+        WGet { y, m, k } => y < VARIABLES && m < VARIABLES && is_known(k),
+        WDel { m, k } => m < VARIABLES && is_known(k),
         Put { x, i, v } => x < VARIABLES && is_known(i) && is_known(v),
         At { y, x, i } => y < VARIABLES && x < VARIABLES && is_known(i),
         Get { y, x, f: _ } => y < VARIABLES && x < VARIABLES,
@@ -76,14 +84,14 @@ fn is_within(command: Command) -> bool
     }
 }
 
-/// A heap of one page and 67 young words, with six variables that are bound to nothing.
+/// A heap of one page and 70 young words, with seven variables that are bound to nothing.
 pub(super) fn opened(rt: &impl Abort, alloc: Global) -> Result<Main, Fail>
     ensures shown { IfOk result (λ main. MainShows main start) }
     ensures variables { IfOk result (λ main. main.seat.space.variables ≡ VARIABLES) }
 {
     let sizes = Sizes {
         pages: 1,
-        young: 67,
+        young: 70,
         helpers: 0,
     };
     assert!(rt; sizes.are_within(VARIABLES));
@@ -98,8 +106,8 @@ pub(super) fn opened(rt: &impl Abort, alloc: Global) -> Result<Main, Fail>
     Ok(main)
 }
 
-/// The heap with `x` and `y` bound to objects of cap 0, `z` to one of cap 1, and `l` to a list: ten
-/// words in all.
+/// The heap with `x` and `y` bound to objects of cap 0, `z` to one of cap 1, `l` to a list, and `m` to a
+/// weak map: thirteen words in all.
 fn prepared(rt: &impl Abort, alloc: Global) -> Result<Main, Fail>
     ensures shown { IfOk result (λ main. (graph : Graph) × MainShows main graph) }
     ensures variables { IfOk result (λ main. main.seat.space.variables ≡ VARIABLES) }
@@ -109,6 +117,7 @@ fn prepared(rt: &impl Abort, alloc: Global) -> Result<Main, Fail>
     new_plain(&mut main, Y, 1, 0)?;
     new_plain(&mut main, Z, 2, 1)?;
     list(&mut main, L, 3)?;
+    weak(&mut main, M, 4)?;
     Ok(main)
 }
 
@@ -136,6 +145,11 @@ fn carry_out(
         Push { x, v } => push(main, x, v),
         Put { x, i, v } => put(main, x, i, v),
         At { y, x, i } => at(main, y, x, i),
+        Shift { x, n } => shift(main, x, n),
+        Trunc { x, n } => trunc(main, x, n),
+        WPut { m, k, v } => wput(main, m, k, v),
+        WGet { y, m, k } => wget(main, y, m, k),
+        WDel { m, k } => wdel(main, m, k),
         Print { v } => print(main, v, out),
         Same { a, b } => same(main, a, b, out),
         Alike { x, y } => alike(main, x, y, out),

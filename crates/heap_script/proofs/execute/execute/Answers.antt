@@ -18,6 +18,14 @@ returns-in-List-clause-carried c = λ graph shown made. (
   written_nothing (is_ok c.counted-in-List.result) c.args.out.now,
 )
 
+pub returns-in-Weak-clause-carried : goal.returns-in-Weak-clause-carried
+returns-in-Weak-clause-carried c = λ graph shown made. (
+  [],
+  rw c.in-Weak.is
+      (rw c.counted-in-Weak.ensures.same (c.weak.ensures.carried graph c.args.script.now.fields shown made)),
+  written_nothing (is_ok c.counted-in-Weak.result) c.args.out.now,
+)
+
 pub returns-in-LetValue-clause-carried : goal.returns-in-LetValue-clause-carried
 returns-in-LetValue-clause-carried c = λ graph shown made. (
   [],
@@ -79,6 +87,41 @@ returns-in-At-clause-carried c = λ graph shown made. (
   [],
   rw c.in-At.is (c.at.ensures.carried graph c.args.script.now.fields shown),
   written_nothing (is_ok c.at.result) c.args.out.now,
+)
+
+pub returns-in-Shift-clause-carried : goal.returns-in-Shift-clause-carried
+returns-in-Shift-clause-carried c = λ graph shown made. (
+  [],
+  rw c.in-Shift.is (c.shift.ensures.carried graph c.args.script.now.fields shown),
+  written_nothing (is_ok c.shift.result) c.args.out.now,
+)
+
+pub returns-in-Trunc-clause-carried : goal.returns-in-Trunc-clause-carried
+returns-in-Trunc-clause-carried c = λ graph shown made. (
+  [],
+  rw c.in-Trunc.is (c.trunc.ensures.carried graph c.args.script.now.fields shown),
+  written_nothing (is_ok c.trunc.result) c.args.out.now,
+)
+
+pub returns-in-WPut-clause-carried : goal.returns-in-WPut-clause-carried
+returns-in-WPut-clause-carried c = λ graph shown made. (
+  [],
+  rw c.in-WPut.is (c.wput.ensures.carried graph c.args.script.now.fields shown),
+  written_nothing (is_ok c.wput.result) c.args.out.now,
+)
+
+pub returns-in-WGet-clause-carried : goal.returns-in-WGet-clause-carried
+returns-in-WGet-clause-carried c = λ graph shown made. (
+  [],
+  rw c.in-WGet.is (c.wget.ensures.carried graph c.args.script.now.fields shown),
+  written_nothing (is_ok c.wget.result) c.args.out.now,
+)
+
+pub returns-in-WDel-clause-carried : goal.returns-in-WDel-clause-carried
+returns-in-WDel-clause-carried c = λ graph shown made. (
+  [],
+  rw c.in-WDel.is (c.wdel.ensures.carried graph c.args.script.now.fields shown),
+  written_nothing (is_ok c.wdel.result) c.args.out.now,
 )
 
 pub returns-in-Print-clause-carried : goal.returns-in-Print-clause-carried

@@ -87,7 +87,7 @@ returns-in-Ok c graph one what shows is holds =
       has_put store place known c.store_of-store.ensures stands.below (omega (arith, below, counted))
           (omega (arith, counted, c.count_of.ensures.few))
           (omega (arith, counted, store_has_room store ready c.store_of-store.ensures))
-          c.regions-regions.ensures.within by,
+          c.regions-regions.ensures.within fills by,
     )
 
 pub returns-in-Err : goal.returns-in-Err

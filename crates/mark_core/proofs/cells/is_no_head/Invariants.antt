@@ -5,4 +5,5 @@ use Rattle.mark_core.proofs.FreeStarts.{FreeBelow}
 use Rattle.mark_core.proofs.cells.is_no_head.Given as goal
 
 abbrev pub invariant-loop-start : goal.invariant-loop-start
-invariant-loop-start l = FreeBelow l.world.main l.start-items l.start-index (λ start. is_head_of start (cell_of l.world start) l.at ≡ false)
+invariant-loop-start l = FreeBelow l.world.main l.start-items l.start-index
+    (λ start. is_head_of start (cell_of l.world start) l.at ≡ false)

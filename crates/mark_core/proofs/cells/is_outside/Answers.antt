@@ -3,12 +3,15 @@ use Rattle.mark_world.specs.Pages.{is_inside}
 use Rattle.mark_world.specs.Covering.{cell_of}
 use Rattle.mark_core.proofs.FreeStarts.{all_passed}
 use Rattle.mark_core.proofs.cells.is_outside.Goals as goal
-use Rattle.mark_core.proofs.cells.is_outside.Goals.{else-is_free-via-then-is_free+else-is_inside, else-is_free-via-else-is_free}
+use Rattle.mark_core.proofs.cells.is_outside.Goals.{else-is_free-via-then-is_free+else-is_inside}
+use Rattle.mark_core.proofs.cells.is_outside.Goals.{else-is_free-via-else-is_free}
 
 pub loop-start-preserved : goal.loop-start-preserved
 loop-start-preserved c = elim c.else-is_free.branch [
-  | else-is_free-via-then-is_free+else-is_inside w ↦ below_more _ _ c.loop-start.invariant (λ free. cc (w.is_inside.ensures, w.cell_of.ensures, w.if-is_inside.false))
-  | else-is_free-via-else-is_free w ↦ below_more _ _ c.loop-start.invariant (λ free. cc (c.is_free.ensures, w.if-is_free.false))
+  | else-is_free-via-then-is_free+else-is_inside w ↦
+      below_more _ _ c.loop-start.invariant (λ free. cc (w.is_inside.ensures, w.cell_of.ensures, w.if-is_inside.false))
+  | else-is_free-via-else-is_free w ↦
+      below_more _ _ c.loop-start.invariant (λ free. cc (c.is_free.ensures, w.if-is_free.false))
 ]
 
 pub returns : goal.returns

@@ -5,4 +5,5 @@ use Rattle.mark_core.proofs.FreeStarts.{FreeBelow}
 use Rattle.mark_core.proofs.cells.leaves_all_alone.Given as goal
 
 abbrev pub invariant-loop-start : goal.invariant-loop-start
-invariant-loop-start l = FreeBelow l.world.main l.start-items l.start-index (λ start. leaves_alone start (cell_of l.world start) l.at ≡ true)
+invariant-loop-start l = FreeBelow l.world.main l.start-items l.start-index
+    (λ start. leaves_alone start (cell_of l.world start) l.at ≡ true)

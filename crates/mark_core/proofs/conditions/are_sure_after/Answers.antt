@@ -12,6 +12,8 @@ returns c =
     let new_in : laid_in w.layouts c.args.word ≡ Some c.in-Some-laid_in.new =
     cc (c.in-Some-laid_in.ensures.laid, c.as_slice-3.ensures) in
     subst (λ (before : Option Laid). IsTrue c.are_sure.result
-    ↔ AreSure w.old w.words w.main c.args.at (slots_by before 0) (slots_by (laid_in w.layouts c.args.word) 0)) (sym old_in)
+    ↔ AreSure w.old w.words w.main c.args.at (slots_by before 0) (slots_by (laid_in w.layouts c.args.word) 0))
+    (sym old_in)
     (subst (λ (after : Option Laid). IsTrue c.are_sure.result
-    ↔ AreSure w.old w.words w.main c.args.at (slots_by (Some c.in-Some.old) 0) (slots_by after 0)) (sym new_in) c.are_sure.ensures)
+    ↔ AreSure w.old w.words w.main c.args.at (slots_by (Some c.in-Some.old) 0) (slots_by after 0))
+    (sym new_in) c.are_sure.ensures)

@@ -5,7 +5,8 @@ use Rattle.mark_core.proofs.conditions.may_store_header.Goals as goal
 pub returns : goal.returns
 returns c =
     let w = c.args.world.now in
-    let found : c.word_at-found.result ≡ slice_index w.words c.args.at = cc (c.word_at-found.ensures, c.as_slice.ensures) in (
+    let found : c.word_at-found.result ≡ slice_index w.words c.args.at =
+    cc (c.word_at-found.ensures, c.as_slice.ensures) in (
       λ t. record {
         place = c.may_change_at.ensures.0 c.if-not-may_change_at.false;
         safe = subst (λ (f : ℕ). IsSafe w.layouts f c.args.word) found

@@ -1,4 +1,4 @@
-use Rattle.std.proofs.Common.{ℕ, ◌<◌, List, length, get_or, subst, below_more, refl, arith}
+use Rattle.std.proofs.Common.{ℕ, ◌<◌, length, subst, below_more, refl, arith}
 use Rattle.std.proofs.lemmas.List.{get_or_default}
 use Rattle.mark_world.specs.Covering.{EachSlot}
 use Rattle.mark_core.specs.Asking.{Meets}

@@ -6,4 +6,5 @@ use Rattle.mark_core.proofs.lists.snap_targets.Given as goal
 
 abbrev pub invariant-loop-slot : goal.invariant-loop-slot
 invariant-loop-slot l =
-    targets_joined l.old l.list (drop l.slot-index (map (λ (slot : SnapSlot). slot.word) l.slot-items)) ≡ targets_joined l.old [] (read_words l.snap)
+    targets_joined l.old l.list (drop l.slot-index (map (λ (slot : SnapSlot). slot.word) l.slot-items))
+    ≡ targets_joined l.old [] (read_words l.snap)

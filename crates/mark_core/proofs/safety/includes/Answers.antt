@@ -3,15 +3,18 @@ use Rattle.std.proofs.Common.{refl, arith}
 use Rattle.mark_world.specs.Safety.{plain_slots}
 use Rattle.mark_core.proofs.Passing.{pass_more, all_pass, passes_each, plain_short}
 use Rattle.mark_core.proofs.safety.includes.Goals as goal
-use Rattle.mark_core.proofs.safety.includes.Goals.{else-is_tagged-via-then-is_tagged+else-not-is_tagged, else-is_tagged-via-else-is_tagged}
+use Rattle.mark_core.proofs.safety.includes.Goals.{else-is_tagged-via-then-is_tagged+else-not-is_tagged}
+use Rattle.mark_core.proofs.safety.includes.Goals.{else-is_tagged-via-else-is_tagged}
 
 pub loop-offset-preserved : goal.loop-offset-preserved
 loop-offset-preserved c =
-    let more = pass_more (plain_slots c.args.old) (Contains (plain_slots c.args.new)) c.loop-offset.offset c.loop-offset.invariant in
+    let more = pass_more (plain_slots c.args.old) (Contains (plain_slots c.args.new))
+    c.loop-offset.offset c.loop-offset.invariant in
     elim c.else-is_tagged.branch [
       | else-is_tagged-via-then-is_tagged+else-not-is_tagged w ↦
           more (λ tagged. w.is_tagged-then-is_tagged.ensures.0 w.if-not-is_tagged.false)
-      | else-is_tagged-via-else-is_tagged w ↦ more (λ tagged. absurd (let t = c.is_tagged.ensures.1 tagged in cc (t, w.if-is_tagged.false)))
+      | else-is_tagged-via-else-is_tagged w ↦
+          more (λ tagged. absurd (let t = c.is_tagged.ensures.1 tagged in cc (t, w.if-is_tagged.false)))
     ]
 
 pub returns-then-not-is_tagged : goal.returns-then-not-is_tagged
@@ -19,13 +22,15 @@ returns-then-not-is_tagged c = (
   λ t. cc,
   λ all.
       let tagged = c.is_tagged.ensures.0 c.if-is_tagged.true in
-      let kept = passes_each (plain_slots c.args.old) (Contains (plain_slots c.args.new)) c.loop-offset.offset all tagged in
+      let kept = passes_each (plain_slots c.args.old) (Contains (plain_slots c.args.new))
+      c.loop-offset.offset all tagged in
       cc (c.is_tagged-then-is_tagged.ensures.1 kept, c.if-not-is_tagged.true),
 )
 
 pub returns : goal.returns
 returns c = (
   λ t. all_pass (plain_slots c.args.old) (Contains (plain_slots c.args.new)) c.loop-offset.offset
-      (λ k d l. let short = plain_short c.args.old.layout c.requires.is c.requires.plain k d l in omega (arith, short)) c.loop-offset.invariant,
+      (λ k d l. let short = plain_short c.args.old.layout c.requires.is c.requires.plain k d l in omega (arith, short))
+      c.loop-offset.invariant,
   λ all. refl,
 )

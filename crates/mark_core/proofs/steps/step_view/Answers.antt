@@ -14,4 +14,5 @@ returns c = λ view there.
     ∙ ap (λ (views : List HelperView). set views c.args.helper c.learn_helper.new.view) c.replace-view.ensures.views
     ∙ set-set _ _ _ _
     ∙ ap (λ (v : HelperView). set c.args.views.now c.args.helper v) learned
-    ∙ ap (λ (v : HelperView). set c.args.views.now c.args.helper (helper_learns c.args.old v c.args.event c.args.found)) same
+    ∙ ap (λ (v : HelperView). set c.args.views.now c.args.helper
+    (helper_learns c.args.old v c.args.event c.args.found)) same

@@ -15,8 +15,8 @@ returns-in-Ok c = record {
       (record {
         run = c.in-Ok.ensures.run.at;
         taken = c.in-Ok.ensures.reserved;
-        put = c.fill_list.ensures.filled;
-        heap = c.fill_list.ensures.heap;
+        put = c.fill_counted.ensures.filled;
+        heap = c.fill_counted.ensures.heap;
         holds = record { held = c.hold.ensures.held; heap = c.hold.ensures.heap };
       })
       (list_made {header = record { shape = 1; object = c.args.object }} c.args.x shows.shows.whole.sized

@@ -56,7 +56,8 @@ returns c = record {
         integer = c.in_ok-place.ensures now graph both.second (stands_still same both.stands_second);
       } in
       let fits : SFits w64 n = search rules in
-      let puts = subst (λ (k : ℤ). PutsElement now c.put.new.main graph c.in_ok-found.found putting.list k putting.value (Ok tt))
+      let puts = subst (λ (k : ℤ). PutsElement now c.put.new.main graph c.in_ok-found.found putting.list k putting.value
+      (Ok tt))
       (to_z-of_z w64 n fits)
       (c.in_ok-put.ensures graph putting.list putting.value putting.shows putting.stands putting.held) in
       subst (λ main. Carries names main c.put.new.main graph (Put c.args.x c.args.i c.args.v) [] (Ok tt)) same
@@ -85,7 +86,8 @@ returns-in_err-put c = record {
       } in
       let fits : SFits w64 n = search rules in
       let stop = c.in_err-put.field-0.0 in
-      let puts = subst (λ (k : ℤ). PutsElement now c.put.new.main graph c.in_ok-found.found putting.list k putting.value (Err stop))
+      let puts = subst (λ (k : ℤ). PutsElement now c.put.new.main graph c.in_ok-found.found putting.list k putting.value
+      (Err stop))
       (to_z-of_z w64 n fits)
       (c.in_err-put.ensures graph putting.list putting.value putting.shows putting.stands putting.held) in
       let answer = c.from_residual-in_err-put.result in

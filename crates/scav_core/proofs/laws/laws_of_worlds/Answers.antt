@@ -1,4 +1,5 @@
-use Rattle.scav_core.proofs.Events.{fresh_is_underway, events_keep, lists_keep, fixed_stays}
+use Rattle.scav_core.proofs.Events.{fresh_is_underway, events_keep, lists_keep}
+use Rattle.scav_core.proofs.Unchanged.{fixed_stays}
 use Rattle.scav_core.proofs.Outcomes.{underway_has_facts}
 use Rattle.scav_core.proofs.laws.laws_of_worlds.Goals as goal
 

@@ -1,6 +1,7 @@
 -- Each command leaves a heap that shows a graph.
 use Rattle.std.proofs.Common.{[]}
 use Rattle.heap_command.specs.declared.command.Command.TheVariants.{LetValue, DropVar, Add, Set, Get, Del, Push, Put, At}
+use Rattle.heap_command.specs.declared.command.Command.TheVariants.{Shift, Trunc, WPut, WGet, WDel}
 use Rattle.mutator.proofs.Leaves.{leaves}
 use Rattle.mutator.proofs.StillShown.{some_still}
 use Rattle.mutator.proofs.tests.heaps.carry_out.Goals as goal
@@ -76,6 +77,46 @@ returns-in-At c =
     let left =
     leaves [] c.args.main.now c.at.new.main graph (At c.in-At.y c.in-At.x c.in-At.i) [] c.at.result
     (c.at.ensures.carried graph [] shows) shows in
+    record { shown = left.shown; variables = left.variables }
+
+pub returns-in-Shift : goal.returns-in-Shift
+returns-in-Shift c =
+    let (graph, shows) = c.requires.shown in
+    let left =
+    leaves [] c.args.main.now c.shift.new.main graph (Shift c.in-Shift.x c.in-Shift.n) [] c.shift.result
+    (c.shift.ensures.carried graph [] shows) shows in
+    record { shown = left.shown; variables = left.variables }
+
+pub returns-in-Trunc : goal.returns-in-Trunc
+returns-in-Trunc c =
+    let (graph, shows) = c.requires.shown in
+    let left =
+    leaves [] c.args.main.now c.trunc.new.main graph (Trunc c.in-Trunc.x c.in-Trunc.n) [] c.trunc.result
+    (c.trunc.ensures.carried graph [] shows) shows in
+    record { shown = left.shown; variables = left.variables }
+
+pub returns-in-WPut : goal.returns-in-WPut
+returns-in-WPut c =
+    let (graph, shows) = c.requires.shown in
+    let left =
+    leaves [] c.args.main.now c.wput.new.main graph (WPut c.in-WPut.m c.in-WPut.k c.in-WPut.v) [] c.wput.result
+    (c.wput.ensures.carried graph [] shows) shows in
+    record { shown = left.shown; variables = left.variables }
+
+pub returns-in-WGet : goal.returns-in-WGet
+returns-in-WGet c =
+    let (graph, shows) = c.requires.shown in
+    let left =
+    leaves [] c.args.main.now c.wget.new.main graph (WGet c.in-WGet.y c.in-WGet.m c.in-WGet.k) [] c.wget.result
+    (c.wget.ensures.carried graph [] shows) shows in
+    record { shown = left.shown; variables = left.variables }
+
+pub returns-in-WDel : goal.returns-in-WDel
+returns-in-WDel c =
+    let (graph, shows) = c.requires.shown in
+    let left =
+    leaves [] c.args.main.now c.wdel.new.main graph (WDel c.in-WDel.m c.in-WDel.k) [] c.wdel.result
+    (c.wdel.ensures.carried graph [] shows) shows in
     record { shown = left.shown; variables = left.variables }
 
 pub returns-in-Print-clause-shown : goal.returns-in-Print-clause-shown

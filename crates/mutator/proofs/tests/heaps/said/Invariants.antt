@@ -7,5 +7,5 @@ use Rattle.mutator.proofs.tests.heaps.said.Given as goal
 abbrev pub invariant-loop-command : goal.invariant-loop-command
 invariant-loop-command g l = record {
   shown : (graph : Graph) × MainShows l.main graph;
-  variables : l.main.seat.space.variables ≡ 6;
+  variables : l.main.seat.space.variables ≡ 7;
 }

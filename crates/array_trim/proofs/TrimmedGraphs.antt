@@ -1,0 +1,125 @@
+-- A heap in which a list was trimmed shows the graph in which the list has the elements that stay.
+use Rattle.std.proofs.Common.{◌≡◌, ℕ, ◌+◌, List, [], ◌∷◌, length, take, drop, sym, ◌∙◌, ap, subst, arith}
+use Rattle.std.proofs.Common.{length-take, length-drop}
+use Rattle.std.proofs.lemmas.List.Elements.{All-take, All-drop}
+use Rattle.tagged_word.proofs.Members.{first_in}
+use Rattle.object_graph.specs.declared.value.Value.{Value}
+use Rattle.object_graph.specs.declared.object.Object.TheVariants.{List as ListOf}
+use Rattle.object_graph.specs.Graphs.{Graph, ListObject}
+use Rattle.object_graph.specs.Invariants.{IsValue}
+use Rattle.object_graph.specs.Meaning.{relist}
+use Rattle.graph_laws.proofs.MadeGraphs.{relists}
+use Rattle.page_space.specs.Sizes.{AreWithin}
+use Rattle.nursery.specs.Young.{Young}
+use Rattle.cell_layout.specs.declared.cell.Cell.{Cell}
+use Rattle.heap_model.proofs.BoundHeaps.{none_in}
+use Rattle.write_barrier.specs.Mains.{Mutator, heap_of, MainShows}
+use Rattle.object_cells.specs.HeldValues.{IsReachedValue}
+use Rattle.object_cells.specs.Refills.{IsAtRest}
+use Rattle.object_cells.specs.Capacities.{ChangesObject}
+use Rattle.object_cells.specs.ElementChanges.{AreNewElements}
+use Rattle.object_cells.specs.ListObjects.{IsListAt}
+use Rattle.object_cells.specs.Made.{PutsWords}
+use Rattle.object_cells.specs.Uses.{UsesMore}
+use Rattle.object_cells.proofs.NewElements.{elements_are_new}
+use Rattle.object_cells.proofs.RefilledLists.{links_reached}
+use Rattle.object_cells.proofs.ReplacedObjects.{ReplacesCells, replaced_shows}
+use Rattle.list_store.proofs.ListCells.{ListShown}
+use Rattle.array_trim.specs.Trims.{HasTrimmed}
+use Rattle.array_trim.proofs.TrimmedCells.{Trimming, trimmed_cells}
+use Rattle.array_trim.proofs.TrimmedSlots.{went_object}
+use Rattle.array_trim.proofs.TrimmedLists.{list_shows, trimmed_own}
+use Rattle.array_trim.proofs.TrimmedCapacities.{trimmed_capacities}
+
+-- elements that a list may have are such without the first ones
+pub dropped_are_new : (graph : Graph) (elements : List Value) (n : ℕ) → AreNewElements graph elements
+    → AreNewElements graph (drop n elements)
+dropped_are_new graph elements n are = record {
+  are = record {
+    values = All-drop (IsValue (length graph.objects)) n elements are.are.values;
+    few = omega (arith, are.are.few, length-drop n elements);
+  };
+  reached = All-drop (IsReachedValue graph) n elements are.reached;
+}
+
+-- and so are the first ones alone
+pub taken_are_new : (graph : Graph) (elements : List Value) (n : ℕ) → AreNewElements graph elements
+    → AreNewElements graph (take n elements)
+taken_are_new graph elements n are = record {
+  are = record {
+    values = All-take (IsValue (length graph.objects)) n elements are.are.values;
+    few = omega (arith, are.are.few, length-take n elements);
+  };
+  reached = All-take (IsReachedValue graph) n elements are.reached;
+}
+
+-- the elements of a list of the graph are elements that it may have
+pub list_are_new : {main : Mutator} {graph : Graph} {at : ℕ} {list : ListObject} → MainShows main graph
+    → IsListAt main graph at list → AreNewElements graph list.elements
+list_are_new {graph = graph} {list = list} shows is = elements_are_new graph list shows.is_graph is.object is.reached
+
+-- what is known where words of a trim were put for a list that is shown
+pub record Trimmed (old new : Mutator) (graph : Graph) (at : ℕ) (list : ListObject) (after : List Value) : Type 0 where
+  pub shows : MainShows old graph
+  pub within : AreWithin old.seat.space.sizes old.seat.space.variables
+  pub shown : ListShown (heap_of old) at list
+  pub are : AreNewElements graph after
+  pub words : List ℕ
+  pub puts : PutsWords old new words
+  pub store : Cell
+  pub came : Cell
+  pub pieces : List Cell
+  pub from : ℕ
+  pub trim : Trimming (heap_of old) (heap_of new) shown.cell store came pieces list.elements after from
+
+module _ {old new : Mutator} {graph : Graph} {at : ℕ} {list : ListObject} {after : List Value}
+    (trimmed : Trimmed old new graph at list after) where
+  -- the mutator is at rest
+  at_rest : IsAtRest new
+  at_rest = record {
+    tied = ap (λ (young : Young). young.space) trimmed.puts.young ∙ trimmed.shows.tied ∙ sym trimmed.puts.space;
+    quiet = trimmed.puts.phase ∙ trimmed.shows.quiet;
+    sized = trimmed.trim.sized;
+    rows = (trimmed_cells trimmed.trim).0;
+  }
+
+  -- the list's cell shows the elements that stay, and no other object's went
+  replaces : ReplacesCells (heap_of old) (heap_of new) graph list.number (ListOf after)
+      (trimmed.shown.cell ∷ trimmed.store ∷ []) (trimmed.shown.cell ∷ trimmed.pieces) []
+  replaces = record {
+    cells = (trimmed_cells trimmed.trim).1;
+    own = trimmed_own trimmed.trim;
+    only = λ one among object.
+        ap (λ (c : Cell). c.header.object) (sym (went_object trimmed.trim one among object)) ∙ trimmed.shown.carries;
+    no_object = λ one among. absurd (none_in one among);
+    cell = trimmed.shown.cell;
+    among = first_in trimmed.shown.cell trimmed.pieces;
+    carries = trimmed.shown.carries;
+    shows = λ marks reached. list_shows trimmed.trim;
+    counts = tt;
+  }
+
+  -- so the heap shows the graph in which the list has these
+  graph_shown : MainShows new (relist graph list after)
+  graph_shown =
+      replaced_shows list.number (ListOf after) graph.paths trimmed.shows
+      (relists graph list after trimmed.shows.is_graph trimmed.are.are) (trimmed.puts.paths ∙ trimmed.shows.shows.paths)
+      (links_reached graph after trimmed.are) at_rest replaces
+
+  -- no word more is used
+  none_used : UsesMore old new 0
+  none_used =
+      let same : old.young.used ≡ old.young.used + 0 = omega arith in
+      record {
+        space = trimmed.puts.space;
+        young = trimmed.puts.young ∙ ap (λ n. record old.young { used = n }) same;
+      }
+
+  -- the list was trimmed
+  pub has_trimmed : HasTrimmed old new graph at list after trimmed.came.length
+  has_trimmed = record {
+    uses = none_used;
+    changes = subst (λ n. ChangesObject (heap_of old) (heap_of new) n trimmed.came.length) trimmed.shown.stands
+        (trimmed_capacities trimmed.trim trimmed.within);
+    shows = graph_shown;
+  }

@@ -1,0 +1,107 @@
+-- The store that begins later ends where the old one ends, and its words are put one after another.
+use Rattle.std.proofs.Common.{ℕ, ◌+◌, ◌<◌, ◌∙◌, sym, subst, arith}
+use Rattle.tagged_word.specs.Headers.{header_bits}
+use Rattle.heap_table.specs.Seats.{heap_words}
+use Rattle.heap_model.specs.Slots.{reference_word}
+use Rattle.write_barrier.specs.Values.{store_header}
+use Rattle.object_cells.specs.Made.{PutsWords}
+use Rattle.object_cells.proofs.CellsRead.{fits_address}
+use Rattle.object_cells.proofs.UnusedWords.{marks_fit}
+use Rattle.list_store.proofs.ListCells.{list_beside, slot_within, count_within, store_has_room}
+use Rattle.array_trim.specs.TrimWords.{shifted_words}
+use Rattle.array_trim.proofs.CoveredWords.{puts_none, puts_then, covers_then, marks_still}
+use Rattle.array_trim.proofs.OwnStores.{store_named, head_within}
+use Rattle.array_trim.proofs.shifting.shift_store.Goals as goal
+
+pub store_of-store-requires-clause-there : goal.store_of-store-requires-clause-there
+store_of-store-requires-clause-there c = list_beside c.requires.ready.whole.whole c.requires.ready.there
+
+pub overflow_add-start : goal.overflow_add-start
+overflow_add-start c =
+    let is = c.store_of-store.ensures in
+    let within = head_within c.store_of-store.result c.args.gone c.requires.ready is c.requires.few in
+    omega (arith, within, marks_fit c.args.main.now.seat.space c.regions-regions.ensures.within)
+
+pub made-requires-clause-within : goal.made-requires-clause-within
+made-requires-clause-within c =
+    let is = c.store_of-store.ensures in
+    let within = head_within c.store_of-store.result c.args.gone c.requires.ready is c.requires.few in
+    omega (arith, within, marks_still (puts_none c.blacken.ensures.same))
+
+pub set_header-requires-clause-within : goal.set_header-requires-clause-within
+set_header-requires-clause-within c =
+    let is = c.store_of-store.ensures in
+    let within = head_within c.store_of-store.result c.args.gone c.requires.ready is c.requires.few in
+    omega (arith, within, marks_still (puts_none (c.made.ensures.same ∙ c.blacken.ensures.same)))
+
+pub overflow_add-start-2 : goal.overflow_add-start-2
+overflow_add-start-2 c =
+    let is = c.store_of-store.ensures in
+    let within = head_within c.store_of-store.result c.args.gone c.requires.ready is c.requires.few in
+    omega (arith, within, marks_fit c.args.main.now.seat.space c.regions-regions.ensures.within)
+
+pub overflow_sub-store : goal.overflow_sub-store
+overflow_sub-store c =
+    omega (arith, store_has_room c.store_of-store.result c.requires.ready c.store_of-store.ensures, c.requires.few)
+
+pub write-requires-clause-within : goal.write-requires-clause-within
+write-requires-clause-within c =
+    let is = c.store_of-store.ensures in
+    let within = head_within c.store_of-store.result c.args.gone c.requires.ready is c.requires.few in
+    let none = puts_none (c.made.ensures.same ∙ c.blacken.ensures.same) in
+    let headed = puts_then _ _ none c.set_header.ensures.written c.set_header.ensures.heap in
+    omega (arith, within, marks_still headed)
+
+pub store-requires-clause-within : goal.store-requires-clause-within
+store-requires-clause-within c =
+    let none = puts_none (c.made.ensures.same ∙ c.blacken.ensures.same) in
+    let headed = puts_then _ _ none c.set_header.ensures.written c.set_header.ensures.heap in
+    let moved = puts_then _ _ headed c.write.ensures.written c.write.ensures.heap in
+    omega (arith, slot_within c.requires.ready.whole.whole c.requires.ready.there, marks_still moved)
+
+pub overflow_add-list : goal.overflow_add-list
+overflow_add-list c =
+    fits_address (count_within c.requires.ready.whole.whole c.requires.ready.there) c.regions-regions.ensures.within
+
+pub write-requires-2-clause-within : goal.write-requires-2-clause-within
+write-requires-2-clause-within c =
+    let none = puts_none (c.made.ensures.same ∙ c.blacken.ensures.same) in
+    let headed = puts_then _ _ none c.set_header.ensures.written c.set_header.ensures.heap in
+    let moved = puts_then _ _ headed c.write.ensures.written c.write.ensures.heap in
+    let linked = puts_then _ _ moved c.store.ensures.stored c.store.ensures.heap in
+    omega (arith, count_within c.requires.ready.whole.whole c.requires.ready.there, marks_still linked)
+
+pub cover-requires-clause-within : goal.cover-requires-clause-within
+cover-requires-clause-within c =
+    let is = c.store_of-store.ensures in
+    let within = head_within c.store_of-store.result c.args.gone c.requires.ready is c.requires.few in
+    let none = puts_none (c.made.ensures.same ∙ c.blacken.ensures.same) in
+    let headed = puts_then _ _ none c.set_header.ensures.written c.set_header.ensures.heap in
+    let moved = puts_then _ _ headed c.write.ensures.written c.write.ensures.heap in
+    let linked = puts_then _ _ moved c.store.ensures.stored c.store.ensures.heap in
+    let counted = puts_then _ _ linked c.write-2.ensures.written c.write-2.ensures.heap in
+    omega (arith, within, marks_still counted)
+
+pub returns : goal.returns
+returns c =
+    let old = c.args.main.now in
+    let store = c.store_of-store.result in
+    let start : ℕ = store.at + c.args.gone in
+    let none = puts_none (c.made.ensures.same ∙ c.blacken.ensures.same) in
+    let head = c.set_header.ensures in
+    let headed = puts_then start (header_bits store_header) none head.written head.heap in
+    let moved = puts_then (start + 1) _ headed c.write.ensures.written c.write.ensures.heap in
+    let linked = puts_then (c.args.list + 1) (reference_word start) moved
+    (rw c.reference.ensures at c.store.ensures.stored) (rw c.reference.ensures at c.store.ensures.heap) in
+    let counted = puts_then (c.args.list + 2) _ linked c.write-2.ensures.written c.write-2.ensures.heap in
+    let some : 0 < store.capacity =
+    omega (arith, store_has_room store c.requires.ready c.store_of-store.ensures, c.requires.some, c.requires.few) in
+    let all = covers_then store.at c.args.gone counted c.cover.ensures in
+    record {
+      store = store.at;
+      has = store_named store c.requires.ready c.store_of-store.ensures some;
+      puts = subst
+          (λ capacity. PutsWords old c.cover.new.main
+          (shifted_words (heap_words old.seat) c.args.list store.at capacity c.args.count c.args.gone))
+          (sym c.store_of-store.ensures.capacity) all;
+    }

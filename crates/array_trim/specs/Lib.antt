@@ -1,0 +1,3 @@
+pub mod TrimWords
+pub mod Trims
+pub mod TrimLaws

@@ -1,0 +1,66 @@
+//! The call `shift`.
+ghost use Rattle.std.specs.Prelude.{◌≤◌};
+ghost use Rattle.object_graph.specs.Graphs.{Graph, ListObject};
+ghost use Rattle.write_barrier.specs.Mains.{MainShows};
+ghost use Rattle.object_cells.specs.ListObjects.{IsListAt, IsShownList};
+ghost use Rattle.list_store.specs.Pushes.{IsListReady};
+ghost use Rattle.array_trim.specs.TrimWords.{PutsShifted};
+ghost use Rattle.array_trim.specs.Trims.{ShiftsElements};
+
+use crate::cover::{LENGTH, cover};
+use crate::laws::laws_of_trims;
+use crate::range::Range;
+use list_store::{COUNT, count_of, place_of};
+use object_cells::{STORE_SLOT, store_of};
+use tagged_word::{Header, Word, shape};
+use write_barrier::Main;
+
+// The header of a store.
+const STORE: Header = Header {
+    shape: shape::STORE,
+    object: 0,
+};
+
+// The store of the list begins so many words later. The words before it are free.
+fn shift_store(main: &mut Main, list: u32, count: u32, gone: u32)
+    requires ready { IsListReady main.old list count }
+    requires some { 1 ≤ gone }
+    requires few { gone ≤ count }
+    ensures { PutsShifted main.old main.new list count gone }
+{
+    // No address of a heap is past 32 bits.
+    let _regions = main.regions();
+    let store = store_of(main, list);
+    let start = store.at + gone;
+    // The store may not be read by marking while it moves.
+    main.blacken(store.at);
+    main.made(start);
+    main.set_header(start, STORE);
+    main.write(start + LENGTH, (store.capacity - gone) as u64);
+    main.store(list, STORE_SLOT, Word::reference(start));
+    main.write(list + COUNT, (count - gone) as u64);
+    cover(main, store.at, gone);
+}
+
+/// Takes the first `n` elements out of the list at an address. Its store begins `n` words later; no
+/// word of an element that stays is written. By 0 nothing changes.
+///
+/// # Errors
+/// The number is below 0, or over the length; nothing has changed.
+pub fn shift(main: &mut Main, list: u32, n: i64) -> Result<(), Range>
+    requires { IsShownList main.old list }
+    ensures { (graph : Graph) (one : ListObject) → MainShows main.old graph
+        → IsListAt main.old graph list one → ShiftsElements main.old main.new graph list one n result }
+{
+    // No address of a heap is past 32 bits.
+    let _regions = main.regions();
+    laws_of_trims();
+    let count = count_of(main, list);
+    let Some(gone) = place_of(count + 1, n) else {
+        return Err(Range);
+    };
+    if gone != 0 {
+        shift_store(main, list, count, gone);
+    }
+    Ok(())
+}

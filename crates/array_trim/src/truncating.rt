@@ -1,0 +1,56 @@
+//! The call `truncate`.
+ghost use Rattle.std.specs.Prelude.{◌<◌};
+ghost use Rattle.object_graph.specs.Graphs.{Graph, ListObject};
+ghost use Rattle.write_barrier.specs.Mains.{MainShows};
+ghost use Rattle.object_cells.specs.ListObjects.{IsListAt, IsShownList};
+ghost use Rattle.list_store.specs.Pushes.{IsListReady};
+ghost use Rattle.array_trim.specs.TrimWords.{PutsTruncated};
+ghost use Rattle.array_trim.specs.Trims.{TruncatesElements};
+
+use crate::cover::{LENGTH, cover};
+use crate::laws::laws_of_trims;
+use crate::range::Range;
+use list_store::{COUNT, count_of, place_of};
+use object_cells::{STORE_HEAD, store_of};
+use write_barrier::Main;
+
+// The store of the list has so many slots. The words behind them are free.
+fn truncate_store(main: &mut Main, list: u32, count: u32, kept: u32)
+    requires ready { IsListReady main.old list count }
+    requires fewer { kept < count }
+    ensures { PutsTruncated main.old main.new list kept }
+{
+    // No address of a heap is past 32 bits.
+    let _regions = main.regions();
+    let store = store_of(main, list);
+    // The store may not be read by marking while it shrinks.
+    main.blacken(store.at);
+    main.write(store.at + LENGTH, kept as u64);
+    main.write(list + COUNT, kept as u64);
+    cover(main, store.at + STORE_HEAD + kept, store.capacity - kept);
+}
+
+/// Keeps the first `n` elements of the list at an address. Its store has `n` slots then, also where
+/// it had more than elements; no word of an element that stays is written. To the present length
+/// nothing changes.
+///
+/// # Errors
+/// The number is below 0, or over the length; nothing has changed.
+pub fn truncate(main: &mut Main, list: u32, n: i64) -> Result<(), Range>
+    requires { IsShownList main.old list }
+    ensures { (graph : Graph) (one : ListObject) → MainShows main.old graph
+        → IsListAt main.old graph list one
+        → TruncatesElements main.old main.new graph list one n result }
+{
+    // No address of a heap is past 32 bits.
+    let _regions = main.regions();
+    laws_of_trims();
+    let count = count_of(main, list);
+    let Some(kept) = place_of(count + 1, n) else {
+        return Err(Range);
+    };
+    if kept != count {
+        truncate_store(main, list, count, kept);
+    }
+    Ok(())
+}

@@ -1,0 +1,182 @@
+-- An entry of a weak map was taken out.
+use Rattle.std.proofs.Common.{◌≡◌, ◌≢◌, ℕ, ◌+◌, Bool, true, false, cond, List, [], ◌∷◌, length, Some, None}
+use Rattle.std.proofs.Common.{slice_get, get_or, set, refl, sym, ◌∙◌, ap, subst, arith, add-zero, ◌==◌}
+use Rattle.std.specs.Prelude.{slice_set}
+use Rattle.std.proofs.lemmas.List.{set-get_or}
+use Rattle.std.proofs.lemmas.Option.{none-some, get_or_from_slice_get}
+use Rattle.nursery.specs.Young.{Young}
+use Rattle.object_graph.specs.declared.value.Value.{Value}
+use Rattle.object_graph.specs.declared.object.Entry.{Entry}
+use Rattle.object_graph.specs.declared.object.Object.{Object}
+use Rattle.object_graph.specs.declared.object.Object.TheVariants.{Weak}
+use Rattle.object_graph.specs.Objects.{entry_value, without_entry}
+use Rattle.object_graph.specs.Graphs.{Graph, WeakObject}
+use Rattle.object_graph.specs.Meaning.{reweave}
+use Rattle.heap_table.specs.Seats.{heap_words}
+use Rattle.heap_model.specs.Heaps.{words_of_cell}
+use Rattle.heap_model.specs.Slots.{RefersToPlace}
+use Rattle.heap_model.specs.Kinds.{HasWord, Pair, count_offset}
+use Rattle.heap_model.specs.Needs.{capacity_at, count_at}
+use Rattle.write_barrier.specs.Mains.{Mutator, heap_of, MainShows}
+use Rattle.object_cells.specs.Capacities.{ChangesObject}
+use Rattle.object_cells.specs.Uses.{UsesMore}
+use Rattle.ephemeron_table.specs.EntryChanges.{DeletesEntry}
+use Rattle.ephemeron_table.specs.WeakObjects.{IsWeakAt}
+use Rattle.ephemeron_table.specs.Pairs.{IsFilledAt}
+use Rattle.ephemeron_table.specs.PairLaws.{PutsOne, TablesStay, WrittenEntriesShow}
+use Rattle.ephemeron_table.specs.Takings.{TakesAt, pairs_of}
+use Rattle.ephemeron_table.specs.declared.reading.Table.{Table}
+use Rattle.ephemeron_table.proofs.CountedPairs.{count_filled}
+use Rattle.ephemeron_table.proofs.EntryPairs.{HasEntryPair, shown, known, some, entry_filled, entry_refers, entry_only}
+use Rattle.ephemeron_table.proofs.KnownTables.{KnownMap, count_is}
+use Rattle.ephemeron_table.proofs.TakenMaps.{refills_weak, refers_back, slot_stays, count_after}
+use Rattle.ephemeron_table.proofs.TakenPairs.{free_not_filled, same_filled}
+
+-- without an entry that has a value there is one less, by whether the first has the key
+less_by : (test : Bool) (entry : Entry) (entries : List Entry) (key : ℕ) (value : Value)
+    → cond test (Some entry.value) (entry_value entries key) ≡ Some value
+    → (entry_value entries key ≡ Some value → length (without_entry entries key) + 1 ≡ length entries)
+    → length (cond test entries (entry ∷ without_entry entries key)) + 1 ≡ length (entry ∷ entries)
+less_by true entry entries key value is rest = omega arith
+less_by false entry entries key value is rest = omega (arith, rest is)
+
+-- so it is of all
+pub length-without_entry : (entries : List Entry) (key : ℕ) (value : Value) → entry_value entries key ≡ Some value
+    → length (without_entry entries key) + 1 ≡ length entries
+length-without_entry [] key value is = absurd (none-some value is)
+length-without_entry (entry ∷ entries) key value is =
+    less_by (entry.key == key) entry entries key value is (length-without_entry entries key value)
+
+-- where no entry has the key, none is taken out, by whether the first has it
+same_by : (test : Bool) (entry : Entry) (entries : List Entry) (key : ℕ)
+    → cond test (Some entry.value) (entry_value entries key) ≡ None
+    → (entry_value entries key ≡ None → without_entry entries key ≡ entries)
+    → cond test entries (entry ∷ without_entry entries key) ≡ entry ∷ entries
+same_by true entry entries key is rest = absurd (none-some entry.value (sym is))
+same_by false entry entries key is rest = ap (λ more. entry ∷ more) (rest is)
+
+-- so they stay
+pub without_none : (entries : List Entry) (key : ℕ) → entry_value entries key ≡ None
+    → without_entry entries key ≡ entries
+without_none [] key is = refl
+without_none (entry ∷ entries) key is = same_by (entry.key == key) entry entries key is (without_none entries key)
+
+-- a graph with the entries that a weak map has is the same
+reweave_same : (graph : Graph) (weak : WeakObject) → slice_get graph.objects weak.number ≡ Some (Weak weak.entries)
+    → reweave graph weak weak.entries ≡ graph
+reweave_same graph weak is =
+    let same : get_or graph.objects weak.number (Weak weak.entries) ≡ Weak weak.entries =
+    get_or_from_slice_get graph.objects weak.number (Weak weak.entries) (Weak weak.entries) is in
+    let objects : slice_set graph.objects weak.number (Weak weak.entries) ≡ graph.objects =
+    ap (λ (what : Object). set graph.objects weak.number what) (sym same)
+    ∙ set-get_or graph.objects weak.number (Weak weak.entries) in
+    ap (λ (all : List Object). record graph { objects = all }) objects
+
+-- nothing more is used where nothing has changed
+pub uses_none : (old : Mutator) → UsesMore old old 0
+uses_none old = record {
+  space = refl;
+  young = ap (λ n. record old.young { used = n }) (sym (add-zero old.young.used));
+}
+
+-- where no entry has the key, nothing changes
+pub deletes_none : (main : Mutator) (graph : Graph) (map : ℕ) (weak : WeakObject) (number : ℕ) → MainShows main graph
+    → IsWeakAt main graph map weak → entry_value weak.entries number ≡ None
+    → DeletesEntry main main graph map weak number
+deletes_none main graph map weak number shows is none =
+    let same : reweave graph weak (without_entry weak.entries number) ≡ graph =
+    ap (reweave graph weak) (without_none weak.entries number none) ∙ reweave_same graph weak is.object in
+    record {
+      none = λ no_entry. refl;
+      uses = uses_none main;
+      changes = record {
+        words = λ word below not_own not_new. refl;
+        own = refl;
+        others = λ one other place apart. refl;
+        stays = λ one other place. place;
+        none_made = λ one other place. place;
+      };
+      shows = subst (MainShows main) (sym same) shows;
+    }
+
+-- The pair of an entry that is shown was taken out.
+pub record IsDeleting (old new : Mutator) (graph : Graph) (map key : ℕ) (weak : WeakObject) (number place : ℕ)
+    (table : Table) : Type 0 where
+  pub has : HasEntryPair old graph map key weak number place table
+  pub takes : TakesAt old new map table place
+
+module _ {old new : Mutator} {graph : Graph} {map key : ℕ} {weak : WeakObject} {number place : ℕ} {table : Table}
+    (deleting : IsDeleting old new graph map key weak number place table) where
+  -- the map, its table, and the pair
+  abbrev its : HasEntryPair old graph map key weak number place table
+  its = deleting.has
+
+  abbrev is_known : KnownMap old map table
+  is_known = known its
+
+  abbrev one : Pair
+  one = its.told.pair
+
+  -- so all pairs but this are kept
+  puts_one : PutsOne (heap_of old) (heap_of new)
+      (refills_weak is_known (some its) deleting.takes one (entry_filled its)).pairs number None
+  puts_one =
+      let takes = deleting.takes in
+      record {
+        kept = λ at pair is_filled other.
+            let apart : at ≢ place = λ same. other (subst (λ (p : Pair). RefersToPlace (heap_of old) p.key number)
+            (same_filled (pairs_of (heap_words old.seat) table) place at one pair (sym same) (entry_filled its)
+            is_filled)
+            (entry_refers its)) in
+            let kept = takes.taken.kept at pair is_filled apart in (
+              kept.0,
+              kept.1,
+              kept.2,
+              λ same. free_not_filled (pairs_of (heap_words new.seat) table) takes.hole pair takes.free
+                  (subst (λ n. IsFilledAt (pairs_of (heap_words new.seat) table) n pair) same kept.1),
+            );
+        own = λ at pair is_filled refers_now.
+            let from = takes.taken.from at pair is_filled in
+            absurd (from.1 (entry_only its (takes.taken.origin at) pair from.0
+            (refers_back is_known (some its) takes one (entry_filled its) pair.key number refers_now)));
+        shown = λ what is. absurd (none-some what is);
+        none_put = λ is pair is_filled.
+            free_not_filled (pairs_of (heap_words new.seat) table) takes.hole pair takes.free is_filled;
+      }
+
+  -- so many entries are left as are counted
+  counted : HasWord (words_of_cell (heap_of new) (shown its).cell) count_offset
+      (length (without_entry weak.entries number))
+  counted =
+      let takes = deleting.takes in
+      let all : count_at (heap_of old) map ≡ length weak.entries =
+      its.shows.counts weak.number map weak.entries its.is.object its.is.reached its.is.place in
+      let same : count_filled (pairs_of (heap_words new.seat) table) ≡ length (without_entry weak.entries number) =
+      omega (
+        arith,
+        all,
+        count_is is_known,
+        takes.taken.counted one (entry_filled its),
+        length-without_entry weak.entries number its.told.value its.told.is_entry,
+      ) in
+      subst (HasWord (words_of_cell (heap_of new) (shown its).cell) count_offset) same
+      (count_after is_known (some its) takes one (entry_filled its))
+
+  pub deletes_entry : TablesStay → WrittenEntriesShow → DeletesEntry old new graph map weak number
+  deletes_entry tables_stay entries_show =
+      let takes = deleting.takes in
+      let refills = refills_weak is_known (some its) takes one (entry_filled its) in
+      record {
+        none = λ no_entry. absurd (none-some its.told.value (sym no_entry ∙ its.told.is_entry));
+        uses = record {
+          space = takes.space;
+          young = takes.young ∙ ap (λ n. record old.young { used = n }) (sym (add-zero old.young.used));
+        };
+        changes = subst (λ at. ChangesObject (heap_of old) (heap_of new) at (capacity_at (heap_of old) at))
+            (shown its).stands (tables_stay (heap_of old) (heap_of new) (shown its).cell _ [] refills
+            (slot_stays is_known (some its) takes one (entry_filled its)));
+        shows = entries_show old new graph weak (shown its).cell _ [] number None its.shows its.is.object its.is.reached
+            its.is_key.reached (shown its).carries (shown its).shows (λ what is. absurd (none-some what is))
+            (ap (λ (y : Young). y.space) takes.young ∙ its.shows.tied ∙ sym takes.space)
+            (takes.phase ∙ its.shows.quiet) refills puts_one counted;
+      }

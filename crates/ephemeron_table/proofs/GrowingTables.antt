@@ -1,0 +1,137 @@
+-- A table that is made in the place of a map's has the next words of eden, of which no other cell has one.
+use Rattle.std.proofs.Common.{◌≡◌, ℕ, ◌+◌, ◌*◌, ◌≤◌, ◌<◌, inl, inr, List, length, Some, slice_get, refl, sym, ◌∙◌, ap, subst, arith}
+use Rattle.std.specs.Prelude.{ℤ}
+use Rattle.tagged_word.specs.Cells.{store_head}
+use Rattle.tagged_word.specs.Readings.{reference_in}
+use Rattle.page_space.specs.Extents.{Space, segments_start, marks_start}
+use Rattle.nursery.specs.Young.{HasRoom}
+use Rattle.heap_table.specs.Seats.{heap_words}
+use Rattle.heap_model.specs.Kinds.{Pair}
+use Rattle.heap_model.specs.Needs.{grown_table}
+use Rattle.write_barrier.specs.Mains.{Mutator, heap_of, reserved}
+use Rattle.object_cells.specs.declared.content.Content.{Content}
+use Rattle.object_cells.specs.declared.content.Content.TheVariants as content
+use Rattle.object_cells.specs.Contents.{next_at}
+use Rattle.object_cells.specs.Made.{PutsWords, content_need, with_content}
+use Rattle.object_cells.proofs.MadeBoxes.{length-with_content, with_content_stays}
+use Rattle.object_cells.proofs.UnusedWords.{next_before_segments, next_before_marks}
+use Rattle.ephemeron_table.specs.Movings.{CanGrow, HoldNothing, IsBesideTable, KeysMovable, MovesPairs}
+use Rattle.ephemeron_table.specs.Pairs.{IsFilledAt}
+use Rattle.ephemeron_table.specs.Puttings.{HasFree, begun_table}
+use Rattle.ephemeron_table.specs.Takings.{IsBesidePairs, IsKeyBeside, pairs_of}
+use Rattle.ephemeron_table.specs.declared.reading.Table.{Table}
+use Rattle.ephemeron_table.proofs.BegunTables.{begun_beside, begun_long, begun_nothing}
+use Rattle.ephemeron_table.proofs.CountedPairs.{count_filled}
+use Rattle.ephemeron_table.proofs.PairLists.{pairs_stay}
+use Rattle.ephemeron_table.proofs.SettledPairs.{HaveKeys, has_free}
+
+module _ {old : Mutator} {map key count : ℕ} {table : Table} (can : CanGrow old map table key count)
+    (counted : length (heap_words old.seat) ≡ marks_start old.seat.space) (at capacity box : ℕ)
+    (room : HasRoom old.young (store_head + 2 * capacity + box)) (at_is : at ≡ next_at old)
+    (capacity_is : capacity ≡ grown_table table.capacity) where
+  -- the table that is made
+  abbrev made : Table
+  made = record { at = at; capacity = capacity }
+
+  -- it and the box behind it end before the segments, and before the marks
+  pub grown_before_segments : at + (store_head + 2 * capacity + box) ≤ segments_start old.seat.space
+  grown_before_segments =
+      omega (arith, at_is, next_before_segments old (store_head + 2 * capacity + box) can.tied room)
+
+  pub grown_before_marks : at + (store_head + 2 * capacity + box) ≤ marks_start old.seat.space
+  grown_before_marks = omega (arith, at_is, next_before_marks old (store_head + 2 * capacity + box) can.tied room)
+
+  grown_within : at + (store_head + 2 * capacity) ≤ length (heap_words old.seat)
+  grown_within = omega (arith, grown_before_marks, counted)
+
+  -- it has more pairs
+  pub grown_more : table.capacity < capacity
+  grown_more = omega (arith, can.few, can.over, capacity_is)
+
+  -- the pairs of the map's table are beside it
+  pub grown_apart : IsBesideTable table made
+  grown_apart a from below = elim (can.pairs a from below) [
+    | inl used ↦ inl (omega (arith, used, at_is))
+    | inr behind ↦ inr (omega (arith, behind, grown_before_segments))
+  ]
+
+  module _ {between begun : Mutator} (is : between ≡ reserved old (store_head + 2 * capacity + box))
+      (begins : PutsWords between begun (begun_table (heap_words between.seat) made)) where
+    -- the regions stay, and the words are those with the table
+    pub begun_space : begun.seat.space ≡ old.seat.space
+    begun_space = begins.space ∙ ap (λ (main : Mutator). main.seat.space) is
+
+    pub begun_words : heap_words begun.seat ≡ begun_table (heap_words old.seat) made
+    begun_words = begins.heap ∙ ap (λ (main : Mutator). begun_table (heap_words main.seat) made) is
+
+    begun_marks : marks_start begun.seat.space ≡ marks_start old.seat.space
+    begun_marks = ap (λ (s : Space). marks_start s) begun_space
+
+    pub begun_words_long : length (heap_words begun.seat) ≡ length (heap_words old.seat)
+    begun_words_long = ap length begun_words ∙ begun_long (heap_words old.seat) made grown_within
+
+    -- what ends before the marks does so there
+    pub begun_within : at + (store_head + 2 * capacity) ≤ marks_start begun.seat.space
+    begun_within = omega (arith, grown_before_marks, begun_marks)
+
+    -- the pairs of the map's table stay
+    pub grown_pairs_stay : pairs_of (heap_words begun.seat) table ≡ pairs_of (heap_words old.seat) table
+    grown_pairs_stay =
+        pairs_stay (heap_words old.seat) (heap_words begun.seat) table (omega (arith, can.within, counted)) begun_words_long
+        (λ a from below. ap (λ all. slice_get all a) begun_words
+        ∙ begun_beside (heap_words old.seat) made grown_within a (λ low high. elim (can.pairs a from below) [
+          | inl used ↦ omega (arith, used, at_is, low)
+          | inr behind ↦ omega (arith, behind, high, grown_before_segments)
+        ]))
+
+    -- and their keys are beside the table that is made
+    pub grown_keys : KeysMovable (heap_of begun) table made
+    grown_keys place pair filled =
+        let known = can.keys place pair (subst (λ all. IsFilledAt all place pair) grown_pairs_stay filled) in (
+          known.0,
+          known.1,
+          record {
+            within = omega (arith, known.2, begun_marks);
+            beside = elim known.3 [
+              | inl used ↦ inl (omega (arith, used, at_is))
+              | inr behind ↦ inr (omega (arith, behind, grown_before_segments))
+            ];
+          },
+        )
+
+    -- whose pairs hold nothing
+    pub grown_nothing : HoldNothing (pairs_of (heap_words begun.seat) made)
+    grown_nothing =
+        subst (λ all. HoldNothing (pairs_of all made)) (sym begun_words) (begun_nothing (heap_words old.seat) made grown_within)
+
+    module _ {moved boxed : Mutator} (holds : Content) (moves : MovesPairs begun moved table made table.capacity)
+        (boxes : PutsWords moved boxed (with_content (heap_words moved.seat) holds (at + (store_head + 2 * capacity)))) where
+      boxed_long : length (heap_words boxed.seat) ≡ length (heap_words old.seat)
+      boxed_long =
+          ap length boxes.heap ∙ length-with_content (heap_words moved.seat) holds (at + (store_head + 2 * capacity))
+          ∙ moves.changes.long ∙ begun_words_long
+
+      pub boxed_within : at + (store_head + 2 * capacity) ≤ length (heap_words boxed.seat)
+      boxed_within = omega (arith, grown_within, boxed_long)
+
+      -- a box stands behind its pairs
+      pub boxed_pairs : pairs_of (heap_words boxed.seat) made ≡ pairs_of (heap_words moved.seat) made
+      boxed_pairs =
+          pairs_stay (heap_words moved.seat) (heap_words boxed.seat) made
+          (omega (arith, grown_within, moves.changes.long, begun_words_long))
+          (ap length boxes.heap ∙ length-with_content (heap_words moved.seat) holds (at + (store_head + 2 * capacity)))
+          (λ a from below. ap (λ all. slice_get all a) boxes.heap
+          ∙ with_content_stays (heap_words moved.seat) holds (at + (store_head + 2 * capacity)) a
+          (λ low high. omega (arith, low, below)))
+
+      -- so one is free
+      pub boxed_free : HasFree (heap_of boxed) made
+      boxed_free =
+          has_free boxed made boxed_within
+          (omega (arith, moves.moved.few, grown_more, ap count_filled boxed_pairs))
+
+      -- and each that holds something has a key
+      pub boxed_keys : HaveKeys (pairs_of (heap_words boxed.seat) made)
+      boxed_keys place pair filled =
+          let was = moves.moved.from place pair (subst (λ all. IsFilledAt all place pair) boxed_pairs filled) in
+          let known = grown_keys (moves.moved.origin place) pair was.0 in (known.0, known.1)

@@ -1,0 +1,249 @@
+-- What is known of a weak map and its table before words of them change.
+use Rattle.std.proofs.Common.{◌≡◌, ◌≢◌, ℕ, ◌+◌, ◌*◌, ◌≤◌, ◌<◌, inl, inr, List, length, drop, Option, Some, None}
+use Rattle.std.proofs.Common.{slice_get}
+use Rattle.std.proofs.Common.{unwrap_or, refl, sym, ◌∙◌, ap, subst, arith, length-drop}
+use Rattle.std.specs.Prelude.{option_map}
+use Rattle.std.proofs.lemmas.Bool.{cases_lt, false≢true}
+use Rattle.std.proofs.lemmas.Option.{same_Some, none-some, slice_get-map}
+use Rattle.tagged_word.specs.declared.layout.Kind.TheVariants as kind
+use Rattle.tagged_word.specs.Cells.{store_head, store_slot}
+use Rattle.tagged_word.proofs.Readings.{reference_to, reference_from}
+use Rattle.page_space.specs.Sizes.{AreWithin}
+use Rattle.cell_layout.specs.declared.cell.Cell.{Cell}
+use Rattle.linear_probing.specs.Tables.{place_after, IsFree, HoldsNumber, FindsAll}
+use Rattle.linear_probing.specs.Tables as probing
+use Rattle.heap_table.specs.Seats.{heap_words}
+use Rattle.heap_model.specs.Heaps.{Heap, HasCell, words_of_cell}
+use Rattle.heap_model.specs.Slots.{is_object_kind, RefersToPlace}
+use Rattle.heap_model.specs.Kinds.{HasWord, Pair, free_pair, HasTable, IsWeakCell, IsFoundPair, IsProbed}
+use Rattle.heap_model.specs.Kinds.{HasNoNumber, IsSoundOf, count_offset}
+use Rattle.heap_model.specs.Wholeness.{Whole, NamesFrom}
+use Rattle.heap_model.specs.Needs.{count_at}
+use Rattle.heap_model.proofs.CellsApart.{IsOfCell, first_of_cell, cells_apart}
+use Rattle.heap_model.proofs.CellWords.{words_by_kind, words_are_size}
+use Rattle.heap_model.proofs.OneOwner.{names_store}
+use Rattle.heap_model.proofs.WordClasses.{same_reference}
+use Rattle.write_barrier.specs.Mains.{Mutator, heap_of, IsTied}
+use Rattle.object_cells.proofs.CellsRead.{word_stands, cell_at_before_marks}
+use Rattle.object_cells.proofs.OwnPlaces.{has_own_words}
+use Rattle.object_cells.proofs.WordsTold.{cell_fits}
+use Rattle.ephemeron_table.specs.Probes.{IsWeakCellAt, IsTableAt, number_at}
+use Rattle.ephemeron_table.specs.Takings.{KeysBeside, IsKeyBeside, IsBesidePairs, numbers, number_of, pairs_of}
+use Rattle.ephemeron_table.specs.declared.reading.Table.{Table}
+use Rattle.ephemeron_table.proofs.ClosedPairs.{keyed_filled, length-numbers}
+use Rattle.ephemeron_table.proofs.CountedPairs.{count_filled}
+use Rattle.ephemeron_table.proofs.KeysFound.{number_is}
+use Rattle.ephemeron_table.proofs.PairLists.{pairs_are}
+use Rattle.ephemeron_table.proofs.TablesRead.{IsFoundTable, found_table, weak_sound, weak_pairs, length-pairs_in}
+
+-- The table that was read is that of the weak map at the address.
+pub record KnownMap (old : Mutator) (map : ℕ) (table : Table) : Type 0 where
+  pub tied : IsTied old
+  pub whole : Whole (heap_of old)
+  pub sizes : AreWithin old.seat.space.sizes old.seat.space.variables
+  pub there : IsWeakCellAt (heap_of old) map
+  pub is : IsTableAt (heap_of old) map table
+
+-- a number that is read of what is there
+number_there : (f : Pair → Option ℕ) (found : Option Pair) (item : Option ℕ) → option_map f found ≡ Some item
+    → (pair : Pair) × (found ≡ Some pair) × (f pair ≡ item)
+number_there f None item is = absurd (none-some item is)
+number_there f (Some pair) item is = (pair, refl, same_Some (f pair) item is)
+
+-- the number at a place is that of the pair there
+pub number_place : (heap : Heap) (pairs : List Pair) (at : ℕ) (item : Option ℕ)
+    → slice_get (numbers heap pairs) at ≡ Some item
+    → (pair : Pair) × (slice_get pairs at ≡ Some pair) × (number_of heap pair ≡ item)
+number_place heap pairs at item there =
+    number_there (number_of heap) (slice_get pairs at) item (sym (slice_get-map (number_of heap) pairs at) ∙ there)
+
+module _ {old : Mutator} {map : ℕ} {table : Table} (known : KnownMap old map table) where
+  -- the map's cell
+  abbrev pub cell : Cell
+  cell = known.there.cell
+
+  pub cell_has : HasCell (heap_of old) cell (words_of_cell (heap_of old) cell)
+  cell_has = has_own_words known.there.has
+
+  abbrev pub sound : IsWeakCell (heap_of old) known.there.words
+  sound = weak_sound known.whole known.there
+
+  -- its pairs are those that are read
+  pub within_words : table.at + (store_head + 2 * table.capacity) ≤ length (heap_words old.seat)
+  within_words = omega (arith, known.is.within, known.whole.sized.words)
+
+  pub pairs_same : pairs_of (heap_words old.seat) table ≡ sound.pairs
+  pairs_same =
+      pairs_are (heap_words old.seat) table sound.pairs within_words
+      (known.is.pairs sound.pairs (weak_pairs known.there sound))
+
+  pub pairs_long : length (pairs_of (heap_words old.seat) table) ≡ table.capacity
+  pairs_long = ap length pairs_same ∙ (known.is.pairs sound.pairs (weak_pairs known.there sound)).long
+
+  pub has_table : HasTable (heap_of old) sound.store (pairs_of (heap_words old.seat) table)
+  has_table = subst (HasTable (heap_of old) sound.store) (sym pairs_same) sound.table
+
+  pub slot_there : HasWord (words_of_cell (heap_of old) cell) store_slot sound.store
+  slot_there = subst (λ all. HasWord all store_slot sound.store) (sym known.there.has.words_are) sound.slot
+
+  -- each that holds something is found
+  pub each_found : (at : ℕ) (pair : Pair) → slice_get (pairs_of (heap_words old.seat) table) at ≡ Some pair
+      → pair ≢ free_pair → IsFoundPair (heap_of old) (pairs_of (heap_words old.seat) table) at pair
+  each_found at pair there filled =
+      elim (sound.each at pair (ap (λ all. slice_get all at) (sym pairs_same) ∙ there)) [
+        | inl free ↦ absurd (filled free)
+        | inr found ↦ subst (λ all. IsFoundPair (heap_of old) all at pair) (sym pairs_same) found
+      ]
+
+  -- so many are counted
+  pub count_is : count_at (heap_of old) map ≡ count_filled (pairs_of (heap_words old.seat) table)
+  count_is =
+      ap (λ n. count_at (heap_of old) n) (sym known.there.stands)
+      ∙ ap (λ found. unwrap_or found 0) (word_stands count_offset (count_filled sound.pairs) known.there.has sound.counted)
+      ∙ ap count_filled (sym pairs_same)
+
+  -- the words of the map's cell
+  pub of_map : (k : ℕ) → k < 3 → IsOfCell cell (map + k)
+  of_map k below = record {
+    from = omega (arith, known.there.stands);
+    below = omega (
+      arith,
+      known.there.stands,
+      below,
+      words_by_kind kind.Weak known.there.has known.there.of_kind,
+      words_are_size known.there.has,
+    );
+  }
+
+  -- the number of a pair that holds something
+  pub number_found : (pair : Pair) (number : ℕ) → RefersToPlace (heap_of old) pair.key number
+      → number_of (heap_of old) pair ≡ Some number
+  number_found pair number refers =
+      let fits : refers.at < 4294967296 =
+      subst (λ n. n < 4294967296) refers.place.stands (cell_fits known.whole.sized known.sizes refers.place.has) in
+      ap (option_map (number_at (heap_of old))) (reference_to pair.key refers.at fits refers.refers)
+      ∙ ap Some (number_is refers.place)
+
+  -- where probing comes to a pair, it comes to its number
+  probed_number : (number at : ℕ) → IsProbed (pairs_of (heap_words old.seat) table) number at
+      → probing.IsProbed (numbers (heap_of old) (pairs_of (heap_words old.seat) table)) number at
+  probed_number number at probed =
+      let pairs = pairs_of (heap_words old.seat) table in
+      let long = length-numbers (heap_of old) pairs in
+      record {
+        steps = probed.steps;
+        within = omega (arith, long, probed.within);
+        comes = probed.comes ∙ ap (λ n. place_after n number probed.steps) (sym long);
+        filled = λ before few free.
+            let here = number_place (heap_of old) pairs (place_after (length pairs) number before) None
+            (ap (λ n. slice_get (numbers (heap_of old) pairs) (place_after n number before)) (sym long) ∙ free) in
+            let filled = probed.filled before here.0 few here.1 in
+            let found = each_found (place_after (length pairs) number before) here.0 here.1 filled in
+            none-some found.number (sym here.2 ∙ number_found here.0 found.number found.filled.key);
+      }
+
+  -- a pair with a number holds something
+  pub numbered_filled : (pair : Pair) (number : ℕ) → number_of (heap_of old) pair ≡ Some number → pair ≢ free_pair
+  numbered_filled pair number is free = none-some number (ap (number_of (heap_of old)) (sym free) ∙ is)
+
+  -- so probing finds all
+  pub finds_all : FindsAll (numbers (heap_of old) (pairs_of (heap_words old.seat) table))
+  finds_all at number holds =
+      let pairs = pairs_of (heap_words old.seat) table in
+      let here = number_place (heap_of old) pairs at (Some number) holds in
+      let found = each_found at here.0 here.1 (numbered_filled here.0 number here.2) in
+      let same : found.number ≡ number =
+      same_Some found.number number (sym (number_found here.0 found.number found.filled.key) ∙ here.2) in
+      subst (λ n. probing.IsProbed (numbers (heap_of old) pairs) n at) same
+      (probed_number found.number at found.probed)
+
+  -- where probing comes to the number of a pair, it comes to the pair
+  pub probed_pair : (pairs : List Pair) (number at : ℕ) → probing.IsProbed (numbers (heap_of old) pairs) number at
+      → IsProbed pairs number at
+  probed_pair pairs number at probed =
+      let long = length-numbers (heap_of old) pairs in
+      record {
+        steps = probed.steps;
+        within = omega (arith, long, probed.within);
+        comes = probed.comes ∙ ap (λ n. place_after n number probed.steps) long;
+        filled = λ before pair few there free. probed.filled before few
+            (ap (λ n. slice_get (numbers (heap_of old) pairs) (place_after n number before)) long
+            ∙ slice_get-map (number_of (heap_of old)) pairs (place_after (length pairs) number before)
+            ∙ ap (option_map (number_of (heap_of old))) (there ∙ ap Some free));
+      }
+
+  module _ (some : 0 < table.capacity) where
+    -- the table's cell
+    pub found : IsFoundTable (heap_of old) sound.store (pairs_of (heap_words old.seat) table) table.at
+    found =
+        found_table sound.store (pairs_of (heap_words old.seat) table) table.at has_table
+        (known.is.refers sound.pairs (weak_pairs known.there sound) some)
+
+    abbrev pub other : Cell
+    other = found.cell
+
+    pub other_has : HasCell (heap_of old) other (words_of_cell (heap_of old) other)
+    other_has = has_own_words found.refers.has
+
+    pub other_long : other.length ≡ table.capacity
+    other_long =
+        omega (
+          arith,
+          pairs_long,
+          ap length found.are,
+          length-pairs_in (drop store_head found.words),
+          length-drop store_head found.words,
+          found.long,
+        )
+
+    -- what is in no table is beside the pairs
+    pub cell_beside : {one : Cell} {words : List ℕ} (a : ℕ) → HasCell (heap_of old) one words
+        → (one.layout.kind ≡ kind.Table → ⊥) → IsOfCell one a → IsBesidePairs table a
+    cell_beside {one} a has no_table of_one = elim (cases_lt a (table.at + store_head)) [
+      | inl before ↦ inl before
+      | inr from ↦ elim (cases_lt a (table.at + (store_head + 2 * table.capacity))) [
+        | inl below ↦
+            let of_other : IsOfCell other a = record {
+              from = omega (arith, from, found.stands);
+              below = omega (arith, below, found.stands, found.size, other_long);
+            } in
+            let same : one ≡ other = cells_apart a known.whole.rows has other_has of_one of_other in
+            absurd (no_table (ap (λ (c : Cell). c.layout.kind) same ∙ found.of_kind))
+        | inr behind ↦ inr behind
+      ]
+    ]
+
+    -- a weak map is no table
+    pub map_no_table : cell.layout.kind ≡ kind.Table → ⊥
+    map_no_table is =
+        let apart : kind.Weak ≡ kind.Table = sym known.there.of_kind ∙ is in
+        cc
+
+    -- so the words of the map's cell are beside the pairs
+    pub map_beside : (k : ℕ) → k < 3 → IsBesidePairs table (map + k)
+    map_beside k below = cell_beside (map + k) cell_has map_no_table (of_map k below)
+
+    -- and so are keys
+    pub keys_beside : KeysBeside (heap_of old) table
+    keys_beside place at pair there refers =
+        let key = (each_found place pair there (keyed_filled pair at refers)).filled.key in
+        let same : key.at ≡ at =
+        same_reference key.at at (sym key.refers ∙ (reference_from pair.key at refers).1) in
+        let stands = key.place.stands ∙ same in
+        subst (IsKeyBeside (heap_of old) table) stands (record {
+          within = cell_at_before_marks known.whole.sized key.place.has;
+          beside = cell_beside key.place.cell.at key.place.has
+              (λ is. false≢true (sym (ap is_object_kind is) ∙ key.place.object)) (first_of_cell key.place.has);
+        })
+
+    -- the table belongs to the map
+    pub other_belongs : NamesFrom (heap_of old) cell (cell.at + store_slot) other.at
+    other_belongs =
+        names_store sound.store cell_has (ap is_object_kind known.there.of_kind) slot_there
+        (record { refers = found.refers.refers; has = other_has }) (inr found.of_kind)
+
+    -- and has no number
+    pub other_number : HasNoNumber other
+    other_number =
+        (subst (λ k. IsSoundOf k (heap_of old) other found.words) found.of_kind
+        (known.whole.sound other found.words found.refers.has)).no_number

@@ -1,0 +1,237 @@
+-- The pair of a key that is new came to a free place of a weak map's table: so its entry is put.
+use Rattle.std.proofs.Common.{◌≡◌, ℕ, suc, ◌+◌, ◌*◌, ◌<◌, ◌≤◌, Bool, false, nat_lt}
+use Rattle.std.proofs.Common.{[], ◌∷◌, length, None, Some, Err}
+use Rattle.std.proofs.Common.{refl, sym, ◌∙◌, ap, subst, arith}
+use Rattle.std.specs.Prelude.{slice_set}
+use Rattle.std.proofs.lemmas.Bool.{cond-false}
+use Rattle.std.proofs.lemmas.Bool.Decides.{nat_tests}
+use Rattle.std.proofs.lemmas.Option.{same_Some}
+use Rattle.tagged_word.specs.Cells.{store_head}
+use Rattle.nursery.specs.Young.{Young, HasRoom}
+use Rattle.object_graph.specs.declared.value.Value.{Value}
+use Rattle.object_graph.specs.declared.value.Rep.TheVariants as rep
+use Rattle.object_graph.specs.Values.{rep_of}
+use Rattle.object_graph.specs.Objects.{with_entry}
+use Rattle.object_graph.specs.Graphs.{Graph, WeakObject}
+use Rattle.object_graph.specs.Meaning.{weak_most}
+use Rattle.object_graph.specs.Invariants.{IsValue}
+use Rattle.page_space.specs.Sizes.{AreWithin}
+use Rattle.handle_roots.specs.declared.held.Held.{Held}
+use Rattle.heap_table.specs.Seats.{heap_words}
+use Rattle.heap_model.specs.Heaps.{Heap, words_of_cell}
+use Rattle.heap_model.specs.Slots.{reference_word}
+use Rattle.heap_model.specs.Kinds.{HasWord, Pair, count_offset}
+use Rattle.heap_model.specs.Needs.{capacity_at, count_at, grown_table, box_need, wput_need_at, wput_need_by}
+use Rattle.write_barrier.specs.declared.room.NoRoom.{NoRoom}
+use Rattle.write_barrier.specs.Mains.{Mutator, heap_of, MainShows}
+use Rattle.object_cells.specs.Capacities.{ChangesObject}
+use Rattle.object_cells.specs.HeldValues.{IsValueHeld, is_wide}
+use Rattle.object_cells.specs.Made.{beside_content, content_need, RefusesRoom}
+use Rattle.object_cells.specs.Uses.{UsesMore}
+use Rattle.object_cells.proofs.HeldContents.{HoldsValue}
+use Rattle.object_cells.proofs.HeldNeeds.{new_value_held, content_need_is, wide_is}
+use Rattle.ephemeron_table.specs.EntryChanges.{HasPutEntry, PutsEntry}
+use Rattle.ephemeron_table.specs.declared.stop.TableStop.TheVariants as stop
+use Rattle.ephemeron_table.specs.Growth.{put_capacity_at, put_capacity_by}
+use Rattle.ephemeron_table.specs.PairLaws.{PutsOne, RefillsWeak, TablesStay, WrittenEntriesShow, IsNewValue}
+use Rattle.ephemeron_table.specs.WeakObjects.{IsKeyAt, IsWeakAt}
+use Rattle.ephemeron_table.specs.Probes.{EndsBy, IsTableAt}
+use Rattle.ephemeron_table.specs.declared.probing.End.TheVariants as probe_end
+use Rattle.ephemeron_table.specs.Puttings.{PutsInTable}
+use Rattle.ephemeron_table.specs.Takings.{pairs_of, numbers}
+use Rattle.ephemeron_table.specs.declared.reading.Table.{Table}
+use Rattle.linear_probing.specs.Tables.{FindsAll}
+use Rattle.ephemeron_table.proofs.CountedPairs.{count_filled}
+use Rattle.ephemeron_table.proofs.FreeKeys.{ComesToFree, below, finds_put, counted_put, not_filled}
+use Rattle.ephemeron_table.proofs.GrownEntries.{length-with_entry_new}
+use Rattle.ephemeron_table.proofs.KnownTables.{KnownMap, cell, other}
+use Rattle.ephemeron_table.proofs.NewKeys.{LacksKey, shown, known, no_pair_of, no_pair_refers}
+use Rattle.ephemeron_table.proofs.NewKeys.{entries_counted, has_entries}
+use Rattle.ephemeron_table.proofs.NewKeys.{lacks_entries, lacks_where_free}
+use Rattle.ephemeron_table.proofs.PutEntries.{puts_one}
+use Rattle.ephemeron_table.proofs.PutMaps.{refills_weak, slot_stays, count_after}
+use Rattle.ephemeron_table.proofs.PutPairs.{pair, pairs_are_now, made, some}
+
+-- no table is needed where twice the entries with one more are no more than the pairs
+table_not_full : (capacity count : ℕ) → 2 * (count + 1) ≤ capacity → nat_lt capacity (2 * suc count) ≡ false
+table_not_full capacity count fits = grind (arith, nat_tests, fits)
+
+-- so what is needed is a box
+pub need_in_table : (heap : Heap) (map : ℕ) (wide : Bool) → 2 * (count_at heap map + 1) ≤ capacity_at heap map
+    → wput_need_by heap map wide None ≡ box_need wide
+need_in_table heap map wide fits =
+    let none = cond-false (nat_lt (capacity_at heap map) (2 * suc (count_at heap map)))
+    (store_head + 2 * grown_table (capacity_at heap map)) 0
+    (table_not_full (capacity_at heap map) (count_at heap map) fits) in
+    omega (arith, none)
+
+-- and the map keeps its pairs
+pub capacity_in_table : (heap : Heap) (map : ℕ) → 2 * (count_at heap map + 1) ≤ capacity_at heap map
+    → put_capacity_by heap map None ≡ capacity_at heap map
+capacity_in_table heap map fits =
+    cond-false (nat_lt (capacity_at heap map) (2 * suc (count_at heap map))) (grown_table (capacity_at heap map))
+    (capacity_at heap map) (table_not_full (capacity_at heap map) (count_at heap map) fits)
+
+-- where a key is new and the map has as many entries as it may have, putting it is refused
+pub refuses_entry : {old : Mutator} {graph : Graph} {map key : ℕ} {weak : WeakObject} {number : ℕ} {table : Table}
+    (what : Value) (count : ℕ) → LacksKey old graph map key weak number table → count_at (heap_of old) map ≡ count
+    → weak_most ≤ count → PutsEntry old old graph map key weak number what (Err (stop.TableFull count))
+refuses_entry what count lacks counted many =
+    (lacks_entries lacks (omega (arith, counted, many)), sym counted ∙ entries_counted lacks, refl)
+
+-- The entry of a new key is to be put in the table that the map has.
+pub record FitsInTable (old : Mutator) (graph : Graph) (map key : ℕ) (weak : WeakObject) (number count : ℕ)
+    (table : Table) (value : Held) (what : Value) : Type 0 where
+  pub lacks : LacksKey old graph map key weak number table
+  pub held : IsValueHeld old graph value what
+  pub counted : count_at (heap_of old) map ≡ count
+  pub few : count < weak_most
+  pub fits : 2 * (count + 1) ≤ table.capacity
+
+module _ {old : Mutator} {graph : Graph} {map key : ℕ} {weak : WeakObject} {number count : ℕ} {table : Table}
+    {value : Held} {what : Value} (fitting : FitsInTable old graph map key weak number count table value what) where
+  stays : 2 * (count_at (heap_of old) map + 1) ≤ capacity_at (heap_of old) map
+  stays = omega (arith, fitting.fits, fitting.counted, fitting.lacks.is_table.capacity)
+
+  not_full : count_at (heap_of old) map < weak_most
+  not_full = omega (arith, fitting.few, fitting.counted)
+
+  -- so many words are needed
+  pub need_is : content_need (beside_content value)
+      ≡ wput_need_at (heap_of old) map (reference_word key) (is_wide what)
+  need_is =
+      content_need_is value ∙ ap box_need (wide_is value what fitting.held.shows)
+      ∙ sym (need_in_table (heap_of old) map (is_wide what) stays)
+      ∙ ap (wput_need_by (heap_of old) map (is_wide what)) (sym (no_pair_of fitting.lacks))
+
+  -- the map keeps its pairs
+  pub capacity_is : capacity_at (heap_of old) map ≡ put_capacity_at (heap_of old) map (reference_word key)
+  capacity_is =
+      sym (capacity_in_table (heap_of old) map stays)
+      ∙ ap (put_capacity_by (heap_of old) map) (sym (no_pair_of fitting.lacks))
+
+  -- where there is no room, putting it is refused
+  pub refuses_in_table : {new : Mutator} (room : NoRoom)
+      → RefusesRoom old new (content_need (beside_content value)) room
+      → PutsEntry old new graph map key weak number what (Err (stop.Full room))
+  refuses_in_table room refuses = (
+    has_entries fitting.lacks not_full,
+    refuses.need_is ∙ need_is,
+    λ has. refuses.lacks (subst (HasRoom old.young) refuses.need_is has),
+    refuses.same,
+  )
+
+  module _ {new : Mutator} {place : ℕ} (ends : ComesToFree old graph map key weak number place table)
+      (is : IsValue (length graph.objects) what) (puts : PutsInTable old new map table place key (count + 1) value)
+    where
+      abbrev map_known : KnownMap old map table
+      map_known = known ends.lacks
+
+      abbrev put : Pair
+      put = pair map_known (below ends) puts
+
+      holds : HoldsValue (heap_of old) false rep.Small (rep_of what) what (beside_content value)
+      holds = new_value_held false value what fitting.held.shows
+
+      all : FindsAll (numbers (heap_of old) (slice_set (pairs_of (heap_words old.seat) table) place put))
+      all = finds_put ends put refl
+
+      counted : count + 1 ≡ count_filled (slice_set (pairs_of (heap_words old.seat) table) place put)
+      counted = ap (λ n. n + 1) (sym fitting.counted) ∙ counted_put ends put refl
+
+      abbrev refills : RefillsWeak (heap_of old) (heap_of new) (cell map_known)
+          (other map_known (some map_known (below ends) puts) ∷ []) (made map_known (below ends) puts)
+      refills =
+          refills_weak map_known (below ends) puts (length graph.objects) ends.lacks.is_key.place holds is all counted
+
+      one : PutsOne (heap_of old) (heap_of new) refills.pairs number (Some what)
+      one =
+          puts_one map_known (below ends) puts (length graph.objects) ends.lacks.is_key.place holds is all counted
+          (λ at other filled refers. absurd (no_pair_refers ends.lacks at other filled refers))
+          (λ other filled. absurd (not_filled ends other filled))
+
+      -- so many entries are counted
+      counts : HasWord (words_of_cell (heap_of new) (cell map_known)) count_offset
+          (length (with_entry weak.entries number what))
+      counts =
+          let same
+          : count_filled (pairs_of (heap_words new.seat) table) ≡ length (with_entry weak.entries number what) =
+          omega (
+            arith,
+            ap count_filled (pairs_are_now map_known (below ends) puts),
+            counted,
+            fitting.counted,
+            entries_counted ends.lacks,
+            length-with_entry_new weak.entries number what ends.lacks.fresh,
+          ) in
+          subst (HasWord (words_of_cell (heap_of new) (cell map_known)) count_offset) same
+          (count_after map_known (below ends) puts (length graph.objects) ends.lacks.is_key.place holds is all counted)
+
+      -- so the entry is put
+      pub puts_new_entry : TablesStay → WrittenEntriesShow → HasPutEntry old new graph map key weak number what
+      puts_new_entry tables_stay entries_show =
+          let heap = heap_of old in
+          let weak_is = shown ends.lacks in
+          let same : ChangesObject heap (heap_of new) map (capacity_at heap map) =
+          subst (λ at. ChangesObject heap (heap_of new) at (capacity_at heap at)) weak_is.stands
+          (tables_stay heap (heap_of new) (cell map_known) _ _ refills
+          (slot_stays map_known (below ends) puts (length graph.objects) ends.lacks.is_key.place holds is all
+          counted)) in
+          record {
+            few = has_entries ends.lacks not_full;
+            room = subst (HasRoom old.young) need_is puts.room;
+            uses = subst (UsesMore old new) need_is (record { space = puts.words.space; young = puts.words.young });
+            changes = subst (ChangesObject heap (heap_of new) map) capacity_is same;
+            shows = entries_show old new graph weak (cell map_known) _ _ number (Some what) ends.lacks.shows
+                ends.lacks.is.object ends.lacks.is.reached ends.lacks.is_key.reached weak_is.carries weak_is.shows
+                (λ one is_one. subst (IsNewValue graph) (same_Some what one is_one)
+                (record { is = is; reached = fitting.held.reached }))
+                (ap (λ (y : Young). y.space) puts.words.young ∙ ends.lacks.shows.tied ∙ sym puts.words.space)
+                (puts.words.phase ∙ ends.lacks.shows.quiet) refills one counts;
+          }
+
+-- What is known of a weak map, of a key for which probing ends at a free place of its table, and of a value.
+pub record EndsFree (old : Mutator) (graph : Graph) (map key : ℕ) (weak : WeakObject) (number count place : ℕ)
+    (table : Table) (value : Held) (what : Value) : Type 0 where
+  pub fitting : FitsInTable old graph map key weak number count table value what
+  pub is_value : IsValue (length graph.objects) what
+  pub ends : EndsBy (heap_of old) table number (reference_word key) (probe_end.Free place)
+
+-- so it is where a graph is shown
+pub ends_free : {old : Mutator} {graph : Graph} {map key : ℕ} {weak : WeakObject} {number count place : ℕ}
+    {table : Table} {value : Held} {what : Value}
+    → MainShows old graph → IsWeakAt old graph map weak → IsKeyAt old graph key number
+    → IsValueHeld old graph value what → IsValue (length graph.objects) what
+    → AreWithin old.seat.space.sizes old.seat.space.variables → IsTableAt (heap_of old) map table
+    → EndsBy (heap_of old) table number (reference_word key) (probe_end.Free place)
+    → count_at (heap_of old) map ≡ count → count < weak_most → 2 * (count + 1) ≤ table.capacity
+    → EndsFree old graph map key weak number count place table value what
+ends_free shows is is_key held is_value sizes is_table ends counted few fits = record {
+  fitting = record {
+    lacks = lacks_where_free shows is is_key sizes is_table ends;
+    held = held;
+    counted = counted;
+    few = few;
+    fits = fits;
+  };
+  is_value = is_value;
+  ends = ends;
+}
+
+-- the entry is put
+pub free_key_put : {old new : Mutator} {graph : Graph} {map key : ℕ} {weak : WeakObject} {number count place : ℕ}
+    {table : Table} {value : Held} {what : Value}
+    → EndsFree old graph map key weak number count place table value what
+    → PutsInTable old new map table place key (count + 1) value → TablesStay → WrittenEntriesShow
+    → HasPutEntry old new graph map key weak number what
+free_key_put free puts =
+    puts_new_entry free.fitting (record { lacks = free.fitting.lacks; comes = free.ends.0; free = free.ends.1 })
+    free.is_value puts
+
+-- or there is no room
+pub free_key_refused : {old new : Mutator} {graph : Graph} {map key : ℕ} {weak : WeakObject} {number count place : ℕ}
+    {table : Table} {value : Held} {what : Value} (room : NoRoom)
+    → EndsFree old graph map key weak number count place table value what
+    → RefusesRoom old new (content_need (beside_content value)) room
+    → PutsEntry old new graph map key weak number what (Err (stop.Full room))
+free_key_refused room free refuses = refuses_in_table free.fitting room refuses

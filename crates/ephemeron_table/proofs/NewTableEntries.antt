@@ -1,0 +1,143 @@
+-- A weak map that has an entry of a new key in a table that was made is shown with the entry; and where there is no room.
+use Rattle.std.proofs.Common.{◌≡◌, ℕ, ◌+◌, ◌*◌, ◌≤◌, ◌<◌, List, [], length, cond, Some, false, refl, sym, ◌∙◌, ap, subst, arith}
+use Rattle.std.proofs.lemmas.Option.{same_Some}
+use Rattle.tagged_word.proofs.Members.{first_in}
+use Rattle.page_space.specs.Extents.{marks_start}
+use Rattle.nursery.specs.Young.{Young, HasRoom}
+use Rattle.object_graph.specs.declared.value.Value.{Value}
+use Rattle.object_graph.specs.declared.value.Rep.TheVariants as rep
+use Rattle.object_graph.specs.Values.{rep_of}
+use Rattle.object_graph.specs.Objects.{with_entry}
+use Rattle.object_graph.specs.Graphs.{Graph, WeakObject}
+use Rattle.object_graph.specs.Invariants.{IsValue}
+use Rattle.handle_roots.specs.Roots.{FitsHeld}
+use Rattle.handle_roots.specs.declared.held.Held.{Held}
+use Rattle.heap_model.specs.Heaps.{words_of_cell}
+use Rattle.heap_model.specs.Slots.{reference_word}
+use Rattle.heap_model.specs.Kinds.{HasWord, count_offset}
+use Rattle.heap_model.specs.Needs.{capacity_at, count_at, grown_table, pair_of, wput_need_at}
+use Rattle.write_barrier.specs.Mains.{Mutator, heap_of}
+use Rattle.write_barrier.specs.declared.room.NoRoom.{NoRoom}
+use Rattle.object_cells.specs.Contents.{next_at}
+use Rattle.object_cells.specs.HeldValues.{IsValueHeld, is_wide}
+use Rattle.object_cells.specs.Capacities.{ChangesObject}
+use Rattle.object_cells.specs.Made.{RefusesRoom, beside_content}
+use Rattle.object_cells.specs.Uses.{UsesMore}
+use Rattle.object_cells.proofs.HeldContents.{HoldsValue}
+use Rattle.object_cells.proofs.HeldNeeds.{held_is_value, new_value_held}
+use Rattle.object_cells.proofs.UnusedWords.{marks_fit, next_before_marks}
+use Rattle.ephemeron_table.specs.EntryChanges.{HasPutEntry, LacksEntries, PutsEntry}
+use Rattle.ephemeron_table.specs.Growth.{put_capacity_by}
+use Rattle.ephemeron_table.specs.Movings.{CanGrow, PutsInNewTable, new_table_need}
+use Rattle.ephemeron_table.specs.PairLaws.{RefillsWeak, TablesGrow, WrittenEntriesShow, IsNewValue}
+use Rattle.ephemeron_table.specs.declared.reading.Table.{Table}
+use Rattle.ephemeron_table.proofs.CountedPairs.{count_filled}
+use Rattle.ephemeron_table.proofs.GrownEntries.{IsGrowing, growing_can, growing_need, known, length-with_entry_new, no_pair_of}
+use Rattle.ephemeron_table.proofs.GrownEntries.{none, over_test, puts_one, shown}
+use Rattle.ephemeron_table.proofs.GrownMaps.{all_made, boxes_made, count_now, refills_weak, slot_there_now, table_made}
+use Rattle.ephemeron_table.proofs.GrownPairs.{after, before, one_more}
+use Rattle.ephemeron_table.proofs.GrownWords.{puts_weak}
+use Rattle.ephemeron_table.proofs.KnownTables.{KnownMap, cell, count_is}
+
+module _ {old : Mutator} {graph : Graph} {map key : ℕ} {weak : WeakObject} {number : ℕ} {table : Table}
+    (growing : IsGrowing old graph map key weak number table) where
+  -- so many entries are counted
+  entries_counted : count_at (heap_of old) map ≡ length weak.entries
+  entries_counted =
+      growing.shows.counts weak.number map weak.entries growing.is.object growing.is.reached growing.is.place
+
+  -- the map does not lack the entry for its number of entries
+  pub growing_few : LacksEntries weak number → ⊥
+  growing_few lacks = omega (arith, lacks.full, growing.few, entries_counted)
+
+  -- where there is no room, so many words were needed
+  pub growing_lacks : {new : Mutator} (value : Held) (what : Value) (full : NoRoom) → IsValueHeld old graph value what
+      → RefusesRoom old new (new_table_need table value) full
+      → (full.need ≡ wput_need_at (heap_of old) map (reference_word key) (is_wide what))
+      × (HasRoom old.young full.need → ⊥) × (new ≡ old)
+  growing_lacks value what full held refuses = (
+    refuses.need_is ∙ growing_need growing value what held,
+    λ room. refuses.lacks (subst (HasRoom old.young) refuses.need_is room),
+    refuses.same,
+  )
+
+  module _ {new : Mutator} {value : Held} {what : Value} (fits : FitsHeld value) (held : IsValueHeld old graph value what)
+      (puts : PutsInNewTable old new map table key (count_at (heap_of old) map + 1) value) where
+    abbrev k : KnownMap old map table
+    k = known growing
+
+    abbrev can : CanGrow old map table key (count_at (heap_of old) map)
+    can = growing_can growing
+
+    abbrev objects : ℕ
+    objects = length graph.objects
+
+    is_value : IsValue objects what
+    is_value = held_is_value value what growing.shows fits held.shows
+
+    holds : HoldsValue (heap_of old) false rep.Small (rep_of what) what (beside_content value)
+    holds = new_value_held false value what held.shows
+
+    counted : count_at (heap_of old) map + 1 ≡ count_filled (before k can puts) + 1
+    counted = ap (λ n. n + 1) (count_is k)
+
+    abbrev refills : RefillsWeak (heap_of old) (heap_of new) (cell k) [] (all_made k can puts objects growing.is_key.place
+        holds is_value counted)
+    refills = refills_weak k can puts objects growing.is_key.place holds is_value counted
+
+    -- as many entries are counted as there are with the new one
+    count_word : HasWord (words_of_cell (heap_of new) (cell k)) count_offset (length (with_entry weak.entries number what))
+    count_word =
+        let same : count_filled (after k can puts) ≡ length (with_entry weak.entries number what) =
+        omega (
+          arith,
+          one_more k can puts,
+          count_is k,
+          entries_counted,
+          length-with_entry_new weak.entries number what growing.fresh,
+        ) in
+        subst (HasWord (words_of_cell (heap_of new) (cell k)) count_offset) same
+        (count_now k can puts objects growing.is_key.place holds is_value counted)
+
+    -- the map has as many pairs as the table that was made
+    grows : TablesGrow → ChangesObject (heap_of old) (heap_of new) map (grown_table table.capacity)
+    grows tables_grow =
+        let ends = next_before_marks old (new_table_need table value) k.tied puts.room in
+        subst (λ at. ChangesObject (heap_of old) (heap_of new) at (grown_table table.capacity)) k.there.stands
+        (tables_grow (heap_of old) (heap_of new) (cell k) []
+        (all_made k can puts objects growing.is_key.place holds is_value counted)
+        (table_made k can puts objects growing.is_key.place holds is_value counted) refills
+        (first_in (table_made k can puts objects growing.is_key.place holds is_value counted)
+        (boxes_made k can puts objects growing.is_key.place holds is_value counted)) refl
+        (omega (arith, ends, marks_fit old.seat.space growing.sizes))
+        (slot_there_now k can puts objects growing.is_key.place holds is_value counted))
+
+    -- which is as many as the table has once an entry of the key was put
+    capacity_is : grown_table table.capacity ≡ put_capacity_by (heap_of old) map
+        (pair_of (heap_of old) map (reference_word key))
+    capacity_is =
+        let capacity : ℕ = capacity_at (heap_of old) map in
+        ap grown_table (sym growing.is_table.capacity)
+        ∙ ap (λ t. cond t (grown_table capacity) capacity) (sym (over_test growing))
+        ∙ ap (put_capacity_by (heap_of old) map) (sym (no_pair_of growing))
+
+    -- so the entry has the value
+    pub grown_entry : TablesGrow → WrittenEntriesShow → HasPutEntry old new graph map key weak number what
+    grown_entry tables_grow entries_show =
+        let need_is = growing_need growing value what held in
+        let words = (puts_weak k can puts).puts in
+        record {
+          few = growing_few;
+          room = subst (HasRoom old.young) need_is puts.room;
+          uses = subst (UsesMore old new) need_is (record { space = words.space; young = words.young });
+          changes = subst (ChangesObject (heap_of old) (heap_of new) map) capacity_is (grows tables_grow);
+          shows = entries_show old new graph weak (cell k) []
+              (all_made k can puts objects growing.is_key.place holds is_value counted) number (Some what)
+              growing.shows growing.is.object growing.is.reached growing.is_key.reached (shown growing).carries
+              (shown growing).shows
+              (λ put is. subst (IsNewValue graph) (same_Some what put is)
+              (record { is = is_value; reached = held.reached }))
+              (ap (λ (y : Young). y.space) words.young ∙ growing.shows.tied ∙ sym words.space)
+              (words.phase ∙ growing.shows.quiet) refills
+              (puts_one k can puts objects growing.is_key.place holds is_value counted (none growing)) count_word;
+        }

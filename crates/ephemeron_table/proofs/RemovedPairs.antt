@@ -1,0 +1,132 @@
+-- A pair of a weak map was taken out.
+use Rattle.std.proofs.Common.{◌≡◌, ◌+◌, ◌*◌, ◌≤◌, ◌⊎◌, inl, inr, unwrap_or, ℕ, ◌<◌, List, []}
+use Rattle.std.proofs.Common.{sym, ◌∙◌, ap, subst, arith, add-zero}
+use Rattle.heap_model.specs.Slots.{reference_word}
+use Rattle.std.proofs.lemmas.Option.{slice_get_within}
+use Rattle.page_space.specs.Sizes.{AreWithin}
+use Rattle.heap_table.specs.Seats.{heap_words}
+use Rattle.heap_table.specs.declared.phase.Phase.TheVariants.{Quiet}
+use Rattle.heap_model.specs.Heaps.{Heap, words_of_cell}
+use Rattle.heap_model.specs.Kinds.{Pair}
+use Rattle.tagged_word.specs.Cells.{store_head, store_slot}
+use Rattle.heap_model.specs.Needs.{capacity_at, count_at, word_at}
+use Rattle.write_barrier.specs.Mains.{Mutator, heap_of, IsTied}
+use Rattle.object_cells.specs.CellsAt.{IsWhole}
+use Rattle.object_cells.specs.Capacities.{ChangesObject}
+use Rattle.object_cells.proofs.CellsRead.{word_stands}
+use Rattle.ephemeron_table.specs.Pairs.{HasPairsAt, IsFilledAt, RemovesPair, AreWithout}
+use Rattle.ephemeron_table.specs.PairLaws.{WrittenPairsAreOwn, TablesStay}
+use Rattle.ephemeron_table.specs.Probes.{IsTableAt}
+use Rattle.ephemeron_table.specs.Takings.{TakesAt, pairs_of, IsBesidePairs}
+use Rattle.ephemeron_table.specs.declared.reading.Table.{Table}
+use Rattle.ephemeron_table.proofs.CountedPairs.{count_freed}
+use Rattle.ephemeron_table.proofs.KnownTables.{KnownMap, cell, count_is, within_words}
+use Rattle.ephemeron_table.proofs.PairLists.{pairs_are}
+use Rattle.ephemeron_table.proofs.TakenMaps.{refills_weak, slot_stays, map_has, are_after}
+
+-- the map whose pair is to be taken out is known
+pub known_map : {old : Mutator} {map : ℕ} {pairs : List Pair} (table : Table) → IsWhole old → IsTied old
+    → AreWithin old.seat.space.sizes old.seat.space.variables → HasPairsAt (heap_of old) map pairs
+    → IsTableAt (heap_of old) map table → KnownMap old map table
+known_map table whole tied sizes has is = record {
+  tied = tied;
+  whole = whole.whole;
+  sizes = sizes;
+  there = record {
+    cell = has.cell;
+    words = has.words;
+    has = has.has;
+    stands = has.stands;
+    of_kind = has.of_kind;
+  };
+  is = is;
+}
+
+-- its pairs are those that are read
+pub pairs_known : {old : Mutator} {map : ℕ} {table : Table} {pairs : List Pair} → KnownMap old map table
+    → HasPairsAt (heap_of old) map pairs → pairs_of (heap_words old.seat) table ≡ pairs
+pairs_known {old} {table = table} {pairs} known has =
+    pairs_are (heap_words old.seat) table pairs (within_words known) (known.is.pairs pairs has)
+
+pub filled_place : {old : Mutator} {map place : ℕ} {table : Table} {pairs : List Pair} {pair : Pair}
+    → KnownMap old map table → HasPairsAt (heap_of old) map pairs → IsFilledAt pairs place pair
+    → IsFilledAt (pairs_of (heap_words old.seat) table) place pair
+filled_place {place = place} {pair = pair} known has filled =
+    subst (λ all. IsFilledAt all place pair) (sym (pairs_known known has)) filled
+
+-- the place is one of the table
+pub place_below : {heap : Heap} {map place : ℕ} {pairs : List Pair} {pair : Pair} (table : Table)
+    → IsTableAt heap map table
+    → HasPairsAt heap map pairs → IsFilledAt pairs place pair → place < table.capacity
+place_below {place = place} {pairs} {pair} table is has filled =
+    omega (arith, slice_get_within pairs place pair filled.stands, (is.pairs pairs has).long)
+
+-- so some pair is counted
+pub counts_some : {old : Mutator} {map place : ℕ} {table : Table} {pairs : List Pair} {pair : Pair}
+    → KnownMap old map table → HasPairsAt (heap_of old) map pairs → IsFilledAt pairs place pair
+    → 0 < count_at (heap_of old) map
+counts_some {old} {place = place} {table} {pair = pair} known has filled =
+    let is = filled_place known has filled in
+    omega (arith, count_is known, count_freed (pairs_of (heap_words old.seat) table) place pair is.stands is.filled)
+
+-- the map refers to the table that was read
+refers_there : {old : Mutator} {map : ℕ} {table : Table} {pairs : List Pair} → KnownMap old map table
+    → HasPairsAt (heap_of old) map pairs → 0 < table.capacity
+    → word_at (heap_of old) (map + store_slot) ≡ reference_word table.at
+refers_there {old} {pairs = pairs} known has some =
+    ap (λ n. word_at (heap_of old) (n + store_slot)) (sym has.stands)
+    ∙ ap (λ found. unwrap_or found 0) (word_stands store_slot has.are.store has.has has.are.slot)
+    ∙ known.is.refers pairs has some
+
+-- a word that is none of the map's pairs is none of that table's
+beside_pairs : {old : Mutator} {map : ℕ} {table : Table} {pairs : List Pair} → (known : KnownMap old map table)
+    → HasPairsAt (heap_of old) map pairs → 0 < table.capacity → (word : ℕ)
+    → (word < table.at + store_head) ⊎ (table.at + (store_head + 2 * capacity_at (heap_of old) map) ≤ word)
+    → IsBesidePairs table word
+beside_pairs {table = table} known has some word (inl before) = inl before
+beside_pairs {table = table} known has some word (inr behind) = inr (omega (arith, behind, known.is.capacity))
+
+-- so a pair is removed
+pub removes_pair : {old new : Mutator} {map place : ℕ} {table : Table} {pairs : List Pair} {pair : Pair}
+    → (known : KnownMap old map table) → (before : List Pair) → HasPairsAt (heap_of old) map before
+    → HasPairsAt (heap_of old) map pairs → IsFilledAt pairs place pair
+    → TakesAt old new map table place → old.seat.phase ≡ Quiet → WrittenPairsAreOwn → TablesStay
+    → RemovesPair old new map place before
+removes_pair {old} {new} {map} {place} {table} {pairs} {pair} known before has there filled takes quiet are_own stay =
+    let some : 0 < table.capacity = omega (arith, place_below table known.is there filled) in
+    let is = filled_place known there filled in
+    let refills = refills_weak known some takes pair is in
+    let same : pairs_of (heap_words old.seat) table ≡ before = pairs_known known has in
+    let stands : (cell known).at ≡ map = known.there.stands in
+    record {
+      whole = record {
+        quiet = takes.phase ∙ quiet;
+        whole = (are_own (heap_of old) (heap_of new) (cell known) _ [] refills).3;
+      };
+      uses = record {
+        space = takes.space;
+        young = takes.young ∙ ap (λ n. record old.young { used = n }) (sym (add-zero old.young.used));
+      };
+      paths = takes.paths;
+      changes = subst (λ a. ChangesObject (heap_of old) (heap_of new) a (capacity_at (heap_of old) a)) stands
+          (stay (heap_of old) (heap_of new) (cell known) _ [] refills (slot_stays known some takes pair is));
+      stay = λ word not_count no_pair. takes.beside word
+          (beside_pairs known has some word (no_pair table.at (refers_there known has some))) not_count;
+      after = pairs_of (heap_words new.seat) table;
+      are = record {
+        cell = cell known;
+        words = words_of_cell (heap_of new) (cell known);
+        has = map_has known some takes pair is;
+        stands = stands;
+        of_kind = known.there.of_kind;
+        are = are_after known some takes pair is;
+      };
+      without = subst (λ all. AreWithout all (pairs_of (heap_words new.seat) table) place) same (record {
+        long = takes.taken.long;
+        origin = takes.taken.origin;
+        from = takes.taken.from;
+        apart = takes.taken.apart;
+        kept = takes.taken.kept;
+        below = λ free none. takes.below free none pair is;
+      });
+    }

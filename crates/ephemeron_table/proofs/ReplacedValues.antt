@@ -1,0 +1,161 @@
+-- The pair of an entry came to have another value: so the entry is put.
+use Rattle.std.proofs.Common.{◌≡◌, ◌≢◌, ℕ, ◌+◌, inl, inr, Bool, true, false, cond, List, [], ◌∷◌, length, Some}
+use Rattle.std.proofs.Common.{slice_get, refl, sym, ◌∙◌, ap, subst, arith, ◌==◌}
+use Rattle.std.specs.Prelude.{slice_set}
+use Rattle.std.proofs.lemmas.Bool.{cases_eq}
+use Rattle.std.proofs.lemmas.Option.{none-some, same_Some, slice_get_within}
+use Rattle.tagged_word.specs.Cells.{store_slot}
+use Rattle.nursery.specs.Young.{Young, HasRoom}
+use Rattle.object_graph.specs.declared.value.Value.{Value}
+use Rattle.object_graph.specs.declared.object.Entry.{Entry}
+use Rattle.object_graph.specs.Objects.{entry_value, with_entry}
+use Rattle.object_graph.specs.Graphs.{Graph, WeakObject}
+use Rattle.object_graph.specs.Invariants.{IsValue}
+use Rattle.object_graph.proofs.Lists.{slice_get-set_same}
+use Rattle.cell_layout.specs.declared.cell.Cell.{Cell}
+use Rattle.heap_table.specs.Seats.{heap_words}
+use Rattle.heap_model.specs.Heaps.{words_of_cell}
+use Rattle.heap_model.specs.Slots.{reference_word, RefersToPlace}
+use Rattle.heap_model.specs.Kinds.{HasWord, Pair, count_offset}
+use Rattle.heap_model.specs.Showing.{ShowsValue}
+use Rattle.heap_model.specs.Needs.{capacity_at, count_at, wput_need_at}
+use Rattle.heap_model.proofs.WordsStay.{PlacesStay}
+use Rattle.write_barrier.specs.Mains.{Mutator, heap_of}
+use Rattle.object_cells.specs.HeldValues.{IsReachedValue, is_wide}
+use Rattle.object_cells.specs.Capacities.{ChangesObject}
+use Rattle.object_cells.specs.Uses.{UsesMore}
+use Rattle.ephemeron_table.specs.EntryChanges.{HasPutEntry}
+use Rattle.ephemeron_table.specs.Growth.{put_capacity_by}
+use Rattle.ephemeron_table.specs.Pairs.{IsFilledAt}
+use Rattle.ephemeron_table.specs.PairLaws.{RefillsWeak, PutsOne, TablesStay, WrittenEntriesShow, IsNewValue}
+use Rattle.ephemeron_table.specs.Takings.{pairs_of}
+use Rattle.ephemeron_table.specs.declared.reading.Table.{Table}
+use Rattle.ephemeron_table.proofs.CountedPairs.{count_filled, count_kept}
+use Rattle.ephemeron_table.proofs.EntryPairs.{HasEntryPair, shown, known, entry_filled, entry_refers, entry_only}
+use Rattle.ephemeron_table.proofs.EntryPairs.{entry_pair_of}
+use Rattle.ephemeron_table.proofs.KeysFound.{key_filled}
+use Rattle.ephemeron_table.proofs.KnownTables.{KnownMap, cell, count_is}
+use Rattle.ephemeron_table.proofs.TakenPairs.{filled_elsewhere, still_filled, same_filled}
+
+-- with the entry of a key that has a value put there are as many, by whether the first has it
+as_many_by : (test : Bool) (entry : Entry) (entries : List Entry) (key : ℕ) (value what : Value)
+    → cond test (Some entry.value) (entry_value entries key) ≡ Some value
+    → (entry_value entries key ≡ Some value → length (with_entry entries key what) ≡ length entries)
+    → length (cond test (record { key = key; value = what } ∷ entries) (entry ∷ with_entry entries key what))
+    ≡ length (entry ∷ entries)
+as_many_by true entry entries key value what is rest = omega arith
+as_many_by false entry entries key value what is rest = omega (arith, rest is)
+
+-- so it is of all
+pub length-with_entry_there : (entries : List Entry) (key : ℕ) (value what : Value)
+    → entry_value entries key ≡ Some value → length (with_entry entries key what) ≡ length entries
+length-with_entry_there [] key value what is = absurd (none-some value is)
+length-with_entry_there (entry ∷ entries) key value what is =
+    as_many_by (entry.key == key) entry entries key value what is (length-with_entry_there entries key value what)
+
+-- Words of the map's own cells were written, so that the pair at the place came to have the value; so many words were
+-- reserved for it.
+pub record ReplacesValue (old new : Mutator) {map : ℕ} {table : Table} (known : KnownMap old map table) (place key : ℕ)
+    (what : Value) (need : ℕ) : Type 0 where
+  pub others : List Cell
+  pub made : List Cell
+  pub refills : RefillsWeak (heap_of old) (heap_of new) (cell known) others made
+  pub now : Pair
+  pub before_is : refills.pairs.before ≡ pairs_of (heap_words old.seat) table
+  pub now_is : refills.pairs.now ≡ slice_set (pairs_of (heap_words old.seat) table) place now
+  pub origin_is : (at : ℕ) → refills.pairs.origin at ≡ at
+  pub one_is : refills.pairs.one ≡ place
+  pub key_is : now.key ≡ reference_word key
+  pub shows : ShowsValue (heap_of new) now.value what
+  pub places : PlacesStay (heap_of old) (heap_of new)
+  pub back : (word number : ℕ) → RefersToPlace (heap_of new) word number → RefersToPlace (heap_of old) word number
+  pub slot_stays : slice_get (heap_words new.seat) ((cell known).at + store_slot)
+      ≡ slice_get (heap_words old.seat) ((cell known).at + store_slot)
+  pub room : HasRoom old.young need
+  pub space : new.seat.space ≡ old.seat.space
+  pub phase : new.seat.phase ≡ old.seat.phase
+  pub young : new.young ≡ record old.young { used = old.young.used + need }
+
+module _ {old new : Mutator} {graph : Graph} {map key : ℕ} {weak : WeakObject} {number place : ℕ} {table : Table}
+    {what : Value} {need : ℕ} (has : HasEntryPair old graph map key weak number place table)
+    (replaces : ReplacesValue old new (known has) place key what need) where
+  abbrev before : List Pair
+  before = pairs_of (heap_words old.seat) table
+
+  now_filled : IsFilledAt replaces.refills.pairs.now place replaces.now
+  now_filled =
+      subst (λ all. IsFilledAt all place replaces.now) (sym replaces.now_is) (record {
+        stands = slice_get-set_same before place replaces.now
+            (slice_get_within before place has.told.pair (entry_filled has).stands);
+        filled = key_filled replaces.now key replaces.key_is;
+      })
+
+  -- all pairs but that of the entry are kept
+  puts_one : PutsOne (heap_of old) (heap_of new) replaces.refills.pairs number (Some what)
+  puts_one = record {
+    kept = λ at pair filled other.
+        let was : IsFilledAt before at pair = subst (λ all. IsFilledAt all at pair) replaces.before_is filled in
+        let apart : at ≢ place = λ same. other (subst (λ (p : Pair). RefersToPlace (heap_of old) p.key number)
+        (same_filled before place at has.told.pair pair (sym same) (entry_filled has) was) (entry_refers has)) in (
+          at,
+          subst (λ all. IsFilledAt all at pair) (sym replaces.now_is)
+              (still_filled before place at replaces.now pair apart was),
+          replaces.origin_is at,
+          λ same. apart (same ∙ replaces.one_is),
+        );
+    own = λ at pair filled refers.
+        let is : IsFilledAt (slice_set before place replaces.now) at pair =
+        subst (λ all. IsFilledAt all at pair) replaces.now_is filled in
+        let same : at ≡ replaces.refills.pairs.one = elim (cases_eq at place) [
+          | inl same ↦ same ∙ sym replaces.one_is
+          | inr apart ↦ absurd (apart (entry_only has at pair
+              (filled_elsewhere before place at replaces.now pair apart is) (replaces.back pair.key number refers)))
+        ] in
+        (same, refl);
+    shown = λ value is. (
+      replaces.now,
+      subst (λ n. IsFilledAt replaces.refills.pairs.now n replaces.now) (sym replaces.one_is) now_filled,
+      record {
+        key = record { at = key; refers = replaces.key_is; place = replaces.places number key has.is_key.place };
+        value = subst (ShowsValue (heap_of new) replaces.now.value) (same_Some what value is) replaces.shows;
+      },
+    );
+    none_put = λ is. absurd (none-some what (sym is));
+  }
+
+  -- as many entries are counted
+  counted : HasWord (words_of_cell (heap_of new) (cell (known has))) count_offset
+      (length (with_entry weak.entries number what))
+  counted =
+      let all : count_at (heap_of old) map ≡ length weak.entries =
+      has.shows.counts weak.number map weak.entries has.is.object has.is.reached has.is.place in
+      let kept = count_kept before place has.told.pair replaces.now (entry_filled has).stands (entry_filled has).filled
+      (key_filled replaces.now key replaces.key_is) in
+      let same : count_filled replaces.refills.pairs.now ≡ length (with_entry weak.entries number what) =
+      ap count_filled replaces.now_is ∙ kept ∙ sym (count_is (known has)) ∙ all
+      ∙ sym (length-with_entry_there weak.entries number has.told.value what has.told.is_entry) in
+      subst (HasWord (words_of_cell (heap_of new) (cell (known has))) count_offset) same replaces.refills.pairs.counted
+
+  -- so the entry has the value
+  pub replaces_entry : TablesStay → WrittenEntriesShow → IsValue (length graph.objects) what → IsReachedValue graph what
+      → need ≡ wput_need_at (heap_of old) map (reference_word key) (is_wide what)
+      → HasPutEntry old new graph map key weak number what
+  replaces_entry tables_stay entries_show fits reached need_is =
+      let heap = heap_of old in
+      let stays : ChangesObject heap (heap_of new) map (capacity_at heap map) =
+      subst (λ at. ChangesObject heap (heap_of new) at (capacity_at heap at)) (known has).there.stands
+      (tables_stay heap (heap_of new) (cell (known has)) replaces.others replaces.made replaces.refills
+      replaces.slot_stays) in
+      record {
+        few = λ lacks. none-some has.told.value (sym lacks.fresh ∙ has.told.is_entry);
+        room = subst (HasRoom old.young) need_is replaces.room;
+        uses = subst (UsesMore old new) need_is (record { space = replaces.space; young = replaces.young });
+        changes = subst (λ found. ChangesObject heap (heap_of new) map (put_capacity_by heap map found))
+            (sym (entry_pair_of has)) stays;
+        shows = entries_show old new graph weak (cell (known has)) replaces.others replaces.made number (Some what)
+            has.shows has.is.object has.is.reached has.is_key.reached
+            (shown has).carries (shown has).shows
+            (λ value is. subst (IsNewValue graph) (same_Some what value is) (record { is = fits; reached = reached }))
+            (ap (λ (y : Young). y.space) replaces.young ∙ has.shows.tied ∙ sym replaces.space)
+            (replaces.phase ∙ has.shows.quiet) replaces.refills puts_one counted;
+      }

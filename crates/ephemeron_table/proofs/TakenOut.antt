@@ -1,0 +1,90 @@
+-- What was taken out of a weak map's table: its pair, and one of the count.
+use Rattle.std.proofs.Common.{◌≡◌, ℕ, ◌+◌, ◌-◌, ◌*◌, ◌≤◌, ◌<◌, List, length, Some, None, slice_get, unwrap_or}
+use Rattle.std.proofs.Common.{sym, ◌∙◌, ap, subst, arith, length-set}
+use Rattle.std.specs.Prelude.{slice_set}
+use Rattle.std.proofs.lemmas.List.{map-set}
+use Rattle.tagged_word.specs.Cells.{store_head}
+use Rattle.object_graph.proofs.Lists.{slice_get-set_same, slice_get-set_other}
+use Rattle.linear_probing.specs.Tables.{FindsAll}
+use Rattle.heap_table.specs.Seats.{heap_words}
+use Rattle.heap_model.specs.Kinds.{Pair, free_pair, count_offset}
+use Rattle.heap_model.specs.Needs.{count_at}
+use Rattle.write_barrier.specs.Mains.{Mutator, heap_of, with_word}
+use Rattle.object_cells.specs.Made.{PutsWords}
+use Rattle.ephemeron_table.specs.Takings.{ChangesPairs, ClosesAt, TakesAt, IsTaken, IsBesidePairs, pairs_of, numbers}
+use Rattle.ephemeron_table.specs.Takings.{number_of}
+use Rattle.ephemeron_table.specs.Takings.{with_pair, StaysBelow}
+use Rattle.ephemeron_table.specs.Pairs.{IsFilledAt}
+use Rattle.ephemeron_table.specs.declared.reading.Table.{Table}
+use Rattle.ephemeron_table.proofs.ClosedPairs.{pair_changed}
+use Rattle.ephemeron_table.proofs.PairLists.{pairs_read, pairs_now, pairs_beside}
+
+-- What is left of the pairs, and that where one was free what stands below the place stood below it.
+record IsTakenBelow (before after : List Pair) (place : ℕ) : Type 0 where
+  taken : IsTaken before after place
+  below : (free : ℕ) → slice_get before free ≡ Some free_pair → (one : Pair) → IsFilledAt before place one
+      → StaysBelow taken
+
+module _ {old closed put new : Mutator} (map at hole count : ℕ) (table : Table)
+    (within : table.at + (store_head + 2 * table.capacity) ≤ length (heap_words old.seat))
+    (counted : map + count_offset < length (heap_words old.seat)) (beside : IsBesidePairs table (map + count_offset))
+    (closes : ClosesAt old closed table at hole)
+    (puts : PutsWords closed put (with_pair (heap_words closed.seat) table.at hole free_pair))
+    (reads : slice_get (heap_words put.seat) (map + count_offset) ≡ Some count)
+    (is : new ≡ with_word put (map + count_offset) (count - 1))
+    (heap : heap_words new.seat ≡ slice_set (heap_words put.seat) (map + count_offset) (count - 1)) where
+  -- words of pairs alone changed before the count
+  changes : ChangesPairs old put table
+  changes = pair_changed table hole free_pair closes.changes closes.within puts
+
+  within_closed : table.at + (store_head + 2 * table.capacity) ≤ length (heap_words closed.seat)
+  within_closed = omega (arith, within, closes.changes.long)
+
+  within_put : table.at + (store_head + 2 * table.capacity) ≤ length (heap_words put.seat)
+  within_put = omega (arith, within, changes.long)
+
+  -- the pairs are those with the hole free
+  pairs_are_now : pairs_of (heap_words new.seat) table ≡ slice_set (pairs_of (heap_words closed.seat) table) hole free_pair
+  pairs_are_now =
+      ap (λ all. pairs_of all table) heap
+      ∙ pairs_beside (heap_words put.seat) table (map + count_offset) (count - 1) within_put beside
+      ∙ ap (λ all. pairs_of all table) puts.heap
+      ∙ pairs_now (heap_words closed.seat) table hole free_pair within_closed closes.within
+
+  -- and so are their numbers
+  numbers_are : numbers (heap_of old) (pairs_of (heap_words new.seat) table)
+      ≡ slice_set (numbers (heap_of old) (pairs_of (heap_words closed.seat) table)) hole None
+  numbers_are =
+      ap (numbers (heap_of old)) pairs_are_now
+      ∙ map-set (number_of (heap_of old)) (pairs_of (heap_words closed.seat) table) hole free_pair
+
+  -- the count that was read is that of the map
+  count_is : count ≡ count_at (heap_of old) map
+  count_is =
+      ap (λ found. unwrap_or found 0) (sym reads ∙ changes.beside (map + count_offset) beside)
+
+  left : IsTakenBelow (pairs_of (heap_words old.seat) table) (pairs_of (heap_words new.seat) table) at
+  left =
+      subst (λ pairs. IsTakenBelow (pairs_of (heap_words old.seat) table) pairs at) (sym pairs_are_now)
+      (record { taken = closes.taken; below = closes.below })
+
+  pub takes_at : TakesAt old new map table at
+  takes_at = record {
+    space = ap (λ (m : Mutator). m.seat.space) is ∙ changes.space;
+    phase = ap (λ (m : Mutator). m.seat.phase) is ∙ changes.phase;
+    paths = ap (λ (m : Mutator). m.paths) is ∙ changes.paths;
+    young = ap (λ (m : Mutator). m.young) is ∙ changes.young;
+    long = ap length heap ∙ length-set (heap_words put.seat) (map + count_offset) (count - 1) ∙ changes.long;
+    beside = λ a aside other. ap (λ all. slice_get all a) heap
+        ∙ slice_get-set_other (heap_words put.seat) (map + count_offset) a (count - 1) other ∙ changes.beside a aside;
+    counted = ap (λ all. slice_get all (map + count_offset)) heap
+        ∙ slice_get-set_same (heap_words put.seat) (map + count_offset) (count - 1) (omega (arith, counted, changes.long))
+        ∙ ap (λ n. Some (n - 1)) count_is;
+    hole = hole;
+    free = ap (λ pairs. slice_get pairs hole) pairs_are_now
+        ∙ slice_get-set_same (pairs_of (heap_words closed.seat) table) hole free_pair
+        (omega (arith, closes.within, (pairs_read (heap_words closed.seat) table within_closed).long));
+    taken = left.taken;
+    below = left.below;
+    found = λ all. subst FindsAll (sym numbers_are) (closes.found all);
+  }

@@ -1,0 +1,107 @@
+-- Words that were put in a weak map's own cells, once so many words of eden were reserved.
+use Rattle.std.proofs.Common.{◌≡◌, ℕ, ◌+◌, ◌≤◌, ◌<◌, List, length, Contains, Some, slice_get, sym, ◌∙◌, ap, subst}
+use Rattle.std.proofs.Common.{arith}
+use Rattle.tagged_word.specs.declared.layout.Kind.TheVariants as kind
+use Rattle.page_space.specs.Extents.{Space, eden_start, layouts_start, marks_start}
+use Rattle.page_space.proofs.Starts.{roots_start_is, layouts_start_is}
+use Rattle.nursery.specs.Young.{Young, HasRoom}
+use Rattle.shape_tree.specs.Shapes.{AreShapes}
+use Rattle.shape_tree.specs.ShapeLayouts.{layout_word}
+use Rattle.cell_layout.specs.declared.cell.Cell.{Cell}
+use Rattle.cell_layout.specs.Cells.{IsRow}
+use Rattle.heap_table.specs.Seats.{heap_words}
+use Rattle.heap_model.specs.Heaps.{HasCell, words_of_cell}
+use Rattle.heap_model.specs.Wholeness.{Whole, HasSizes}
+use Rattle.heap_model.proofs.CellsApart.{IsOfCell}
+use Rattle.write_barrier.specs.Mains.{Mutator, heap_of, IsTied, reserved}
+use Rattle.object_cells.specs.CellWrites.{IsInCell}
+use Rattle.object_cells.specs.Contents.{next_at}
+use Rattle.object_cells.specs.Made.{PutsWords}
+use Rattle.object_cells.proofs.OwnCells.{cell_below_layouts}
+use Rattle.object_cells.proofs.UnusedWords.{next_before_segments, cell_is_used}
+use Rattle.ephemeron_table.specs.PairWrites.{WritesWeak, IsWrittenTable}
+
+-- So many words were reserved, and then words were put: those of the map's cell, of these others, and newly used ones.
+pub record PutsWeak (old new : Mutator) (cell : Cell) (others : List Cell) (need : ℕ) (words : List ℕ) : Type 0 where
+  pub tied : IsTied old
+  pub whole : Whole (heap_of old)
+  pub has : HasCell (heap_of old) cell (words_of_cell (heap_of old) cell)
+  pub weak : cell.layout.kind ≡ kind.Weak
+  pub stood : (other : Cell) → Contains others other → HasCell (heap_of old) other (words_of_cell (heap_of old) other)
+  pub room : HasRoom old.young need
+  pub puts : PutsWords (reserved old need) new words
+  pub long : length words ≡ length (heap_words old.seat)
+  pub stay : (a : ℕ) → (IsInCell a cell → ⊥) → ((other : Cell) → Contains others other → IsInCell a other → ⊥)
+      → (next_at old ≤ a → a < next_at old + need → ⊥) → slice_get words a ≡ slice_get (heap_words old.seat) a
+
+-- a word in a cell is before the layout words
+in_cell_below : {old new : Mutator} {cell one : Cell} {others : List Cell} {need : ℕ} {words : List ℕ} (a : ℕ)
+    → PutsWeak old new cell others need words → HasCell (heap_of old) one (words_of_cell (heap_of old) one)
+    → IsInCell a one → a < layouts_start old.seat.space
+in_cell_below a puts has inside = cell_below_layouts puts.whole has (record { from = inside.from; below = inside.below })
+
+-- no word of a cell is one that was reserved
+pub not_reserved : {old new : Mutator} {cell one : Cell} {others : List Cell} {need : ℕ} {words more : List ℕ} (a : ℕ)
+    → PutsWeak old new cell others need words → HasCell (heap_of old) one more → IsOfCell one a → next_at old ≤ a
+    → a < next_at old + need → ⊥
+not_reserved {old} {need = need} a puts has of_cell from below =
+    cell_is_used puts.whole.rows has of_cell from
+    (omega (arith, below, next_before_segments old need puts.tied puts.room))
+
+-- so the sizes are there
+pub weak_sized : {old new : Mutator} {cell : Cell} {others : List Cell} {need : ℕ} {words : List ℕ}
+    → PutsWeak old new cell others need words → HasSizes (heap_of new)
+weak_sized {old} {new} {need = need} puts =
+    let sized = puts.whole.sized in
+    let all = puts.puts in
+    record {
+      words = ap length all.heap ∙ puts.long ∙ sized.words ∙ ap marks_start (sym all.space);
+      shapes = subst AreShapes (sym all.paths) sized.shapes;
+      layouts = λ shape below.
+          let at : ℕ = layouts_start old.seat.space + shape in
+          let behind : layouts_start old.seat.space ≤ at = omega arith in
+          let same = puts.stay at (λ inside. omega (arith, behind, in_cell_below at puts puts.has inside))
+          (λ other there inside. omega (arith, behind, in_cell_below at puts (puts.stood other there) inside))
+          (λ from high. omega (
+            arith,
+            high,
+            behind,
+            next_before_segments old need puts.tied puts.room,
+            roots_start_is old.seat.space,
+            layouts_start_is old.seat.space,
+          )) in
+          ap (λ (s : Space). slice_get (heap_words new.seat) (layouts_start s + shape)) all.space
+          ∙ ap (λ every. slice_get every at) all.heap ∙ same ∙ sized.layouts shape below
+          ∙ ap (λ paths. Some (layout_word paths shape)) (sym all.paths);
+    }
+
+-- and words of the map's own cells were written
+pub weak_writes : {old new : Mutator} {cell : Cell} {others : List Cell} {need : ℕ} {words : List ℕ} (made : List Cell)
+    → PutsWeak old new cell others need words
+    → slice_get (heap_words new.seat) cell.at ≡ slice_get (heap_words old.seat) cell.at
+    → ((other : Cell) → Contains others other → IsWrittenTable (heap_of old) (heap_of new) other)
+    → IsRow new.seat.space (heap_words new.seat) (next_at old) (next_at old + need) made
+    → WritesWeak (heap_of old) (heap_of new) cell others made
+weak_writes {old} {new} {need = need} made puts header beside row =
+    let all = puts.puts in
+    let used : new.young.used ≡ old.young.used + need = ap (λ (y : Young). y.used) all.young in
+    let survivors : new.young.survivors ≡ old.young.survivors = ap (λ (y : Young). y.survivors) all.young in
+    let space : new.seat.space.sizes.young ≡ old.young.space.sizes.young =
+    ap (λ (s : Space). s.sizes.young) (all.space ∙ sym puts.tied) in
+    let ends : next_at old + need ≡ eden_start old.seat.space + new.young.used = omega (arith, used) in
+    record {
+      same_space = all.space;
+      same_survivors = survivors;
+      grown = omega (arith, used);
+      room = omega (arith, puts.room, used, survivors, space);
+      paths = all.paths;
+      sized = weak_sized puts;
+      stood = puts.has;
+      weak = puts.weak;
+      header = header;
+      beside = beside;
+      made_stand = subst (λ end. IsRow new.seat.space (heap_words new.seat) (next_at old) end made) ends row;
+      stay = λ a below not_cell not_others not_new.
+          ap (λ every. slice_get every a) all.heap ∙ puts.stay a not_cell not_others
+          (λ from high. not_new (record { from = from; below = omega (arith, high, used) }));
+    }

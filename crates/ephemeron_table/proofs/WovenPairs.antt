@@ -1,0 +1,184 @@
+-- The pairs of one weak map of a whole heap become others: each that holds something is an entry, and each cell that came
+-- or was made is sound.
+use Rattle.std.proofs.Common.{◌≡◌, ◌≢◌, ℕ, ◌⊎◌, inl, inr, List, ◌∷◌, ◌++◌, drop, Contains, Some, slice_get}
+use Rattle.std.proofs.Common.{sym, ◌∙◌, ap, subst}
+use Rattle.std.proofs.lemmas.Bool.{cases_eq}
+use Rattle.std.proofs.lemmas.List.Elements.{Contains-append_cases}
+use Rattle.tagged_word.specs.declared.layout.Kind.TheVariants as kind
+use Rattle.tagged_word.specs.Cells.{store_head}
+use Rattle.tagged_word.proofs.Members.{first_in, rest_in}
+use Rattle.cell_layout.specs.declared.cell.Cell.{Cell}
+use Rattle.heap_model.specs.Heaps.{Heap, HasCell, words_of_cell}
+use Rattle.heap_model.specs.Slots.{hole_word, RefersTo, IsSlotWord}
+use Rattle.heap_model.specs.Kinds.{Pair, free_pair, IsFilledPair, IsFoundPair, IsWeakCell, IsStoreCell}
+use Rattle.heap_model.specs.Kinds.{IsSoundOf, IsSound}
+use Rattle.heap_model.specs.Changes.{CellsChange}
+use Rattle.heap_model.proofs.SlotWords.{value_is_slot}
+use Rattle.heap_model.proofs.WordsStay.{PlacesStay, refers_to_place_stays, value_stays}
+use Rattle.object_cells.specs.SlotChanges.{IsNoBoxOf}
+use Rattle.object_cells.proofs.ObjectWrites.{WritesObject}
+use Rattle.object_cells.proofs.OwnWritings.{OwnWriting, store_is_sound, came_sound}
+use Rattle.object_cells.proofs.WrittenPlaces.{object_places_stay, object_box_stays}
+use Rattle.ephemeron_table.specs.Pairs.{IsFilledAt}
+use Rattle.ephemeron_table.specs.PairWrites.{PairComes}
+use Rattle.ephemeron_table.specs.PairLaws.{RefillsWeak}
+use Rattle.ephemeron_table.proofs.WeakWrites.{table_is_owned, writes_weak, written_weak_keeps_cells}
+use Rattle.ephemeron_table.proofs.PairWords.{IsPairWord, is_table_of, one_pairs, pair_word, table_words}
+
+-- a pair holds nothing, or something
+free_or_filled : (pair : Pair) → (pair ≡ free_pair) ⊎ (pair ≢ free_pair)
+free_or_filled pair = elim (cases_eq pair.key hole_word) [
+  | inl key ↦ elim (cases_eq pair.value hole_word) [
+    | inl value ↦ inl (let P : ℕ → ℕ → Pair = λ a b. record { key = a; value = b } in
+        ap (λ a. P a pair.value) key ∙ ap (P hole_word) value)
+    | inr other ↦ inr (λ same. other (ap (λ (one : Pair). one.value) same))
+  ]
+  | inr other ↦ inr (λ same. other (ap (λ (one : Pair). one.key) same))
+]
+
+module _ {old new : Heap} {cell : Cell} {others made : List Cell} (refills : RefillsWeak old new cell others made) where
+  -- words of one object's own cells were written
+  pub weak_writes : WritesObject old new cell cell others made
+  weak_writes = writes_weak refills.whole refills.writes
+
+  -- cells stand in rows again
+  pub weak_cells : CellsChange old new (cell ∷ others) (cell ∷ others) made
+  weak_cells = (written_weak_keeps_cells refills.whole refills.writes).1
+
+  -- which belong to the map
+  pub weak_writing : OwnWriting old new cell cell others made
+  weak_writing = record {
+    whole = refills.whole;
+    writes = weak_writes;
+    cells = weak_cells;
+    belong = refills.pairs.belong;
+    kinds = λ other among. table_is_owned (refills.pairs.kinds other among);
+  }
+
+  -- the map's cell stands in the new heap
+  pub weak_now : HasCell new cell (words_of_cell new cell)
+  weak_now = weak_cells.comes cell (first_in cell (others ++ made))
+
+  -- places of objects stay
+  pub weak_places_stay : PlacesStay old new
+  weak_places_stay = object_places_stay refills.whole weak_writes
+
+  -- the map was sound
+  was_sound : IsWeakCell old (words_of_cell old cell)
+  was_sound =
+      subst (λ k. IsSoundOf k old cell (words_of_cell old cell)) refills.writes.weak
+      (refills.whole.sound cell (words_of_cell old cell) refills.writes.stood)
+
+  -- and had these pairs
+  before_are : refills.pairs.before ≡ was_sound.pairs
+  before_are =
+      one_pairs refills.pairs.were (record { store = was_sound.store; slot = was_sound.slot; table = was_sound.table })
+
+  -- a pair that held something held an entry
+  before_found : (at : ℕ) (pair : Pair) → IsFilledAt refills.pairs.before at pair
+      → IsFoundPair old was_sound.pairs at pair
+  before_found at pair stood =
+      elim (was_sound.each at pair (ap (λ all. slice_get all at) (sym before_are) ∙ stood.stands)) [
+        | inl free ↦ absurd (stood.filled free)
+        | inr found ↦ found
+      ]
+
+  -- it does so where it is kept
+  kept_filled : (at : ℕ) (pair : Pair) → IsFilledAt refills.pairs.before at pair → IsNoBoxOf others pair.value
+      → (number : ℕ) × IsFilledPair new pair number
+  kept_filled at pair stood no_box =
+      let found = before_found at pair stood in (
+        found.number,
+        record {
+          key = refers_to_place_stays weak_places_stay found.filled.key;
+          value = value_stays pair.value weak_places_stay
+              (object_box_stays pair.value refills.whole weak_writes no_box) found.filled.value;
+        },
+      )
+
+  -- each pair that holds something holds an entry
+  pub filled_now : (at : ℕ) (pair : Pair) → IsFilledAt refills.pairs.now at pair
+      → (number : ℕ) × IsFilledPair new pair number
+  filled_now at pair filled = elim (refills.pairs.each_pair at pair filled) [
+    | PairComes.kept stood no_box ↦ kept_filled (refills.pairs.origin at) pair stood no_box
+    | PairComes.put number is_one is comes ↦ (number, is)
+  ]
+
+  -- so the map's cell is sound
+  weak_is_sound : IsWeakCell new (words_of_cell new cell)
+  weak_is_sound =
+      let are = refills.pairs.are in
+      record {
+        store = are.store;
+        slot = are.slot;
+        pairs = refills.pairs.now;
+        table = are.table;
+        each = λ at pair there. elim (free_or_filled pair) [
+          | inl free ↦ inl free
+          | inr filled ↦
+              let is : IsFilledAt refills.pairs.now at pair = record { stands = there; filled = filled } in
+              let entry = filled_now at pair is in
+              inr (record {
+                number = entry.0;
+                filled = entry.1;
+                probed = refills.pairs.probed at entry.0 pair is entry.1.key;
+              })
+        ];
+        counted = refills.pairs.counted;
+      }
+
+  -- the key and the value of each pair are slot words
+  pair_slots : (at : ℕ) (pair : Pair) → slice_get refills.pairs.now at ≡ Some pair
+      → IsSlotWord new pair.key × IsSlotWord new pair.value
+  pair_slots at pair there = elim (free_or_filled pair) [
+    | inl free ↦
+        let hole : IsSlotWord new hole_word = IsSlotWord.hole in (
+          subst (IsSlotWord new) (sym (ap (λ (one : Pair). one.key) free)) hole,
+          subst (IsSlotWord new) (sym (ap (λ (one : Pair). one.value) free)) hole,
+        )
+    | inr filled ↦
+        let entry = filled_now at pair (record { stands = there; filled = filled }) in
+        (IsSlotWord.object pair.key (entry.0, entry.1.key), value_is_slot pair.value entry.1.value)
+  ]
+
+  -- so is each word of the table
+  table_slot : (k word : ℕ) → IsPairWord refills.pairs.now k word → IsSlotWord new word
+  table_slot k word (IsPairWord.as_key at pair there is) = subst (IsSlotWord new) is (pair_slots at pair there).0
+  table_slot k word (IsPairWord.as_value at pair there is place) =
+      subst (IsSlotWord new) is (pair_slots at pair there).1
+
+  -- each table that came or was made is sound
+  table_sound : (other : Cell) → Contains (others ++ made) other → other.layout.kind ≡ kind.Table
+      → IsStoreCell new other (words_of_cell new other)
+  table_sound other there is =
+      let told = refills.pairs.tables other there is in
+      let words : List ℕ = words_of_cell new other in
+      let has : HasCell new other words = weak_cells.comes other (rest_in cell (others ++ made) other there) in
+      let refers : RefersTo new refills.pairs.are.store other words = record { refers = told.1; has = has } in
+      let are = is_table_of refills.pairs.are.store refills.pairs.now refills.pairs.are.table refers in
+      store_is_sound words told.0
+      (λ k word stands. table_slot k word
+      (subst (λ all. IsPairWord all k word) (sym are.are)
+      (pair_word (drop store_head words) other.length k word (table_words has is) stands)))
+
+  -- each cell beside the map's is sound
+  beside_sound : (other : Cell) → Contains (others ++ made) other → IsSound new other (words_of_cell new other)
+  beside_sound other there =
+      let is : (other.layout.kind ≡ kind.Table) ⊎ (other.layout.kind ≡ kind.Boxed) =
+      elim (Contains-append_cases others made other there) [
+        | inl among ↦ (refills.writes.beside other among).of_kind
+        | inr in_made ↦ refills.pairs.kinds other in_made
+      ] in
+      elim is [
+        | inl table ↦
+            subst (λ k. IsSoundOf k new other (words_of_cell new other)) (sym table) (table_sound other there table)
+        | inr box ↦
+            subst (λ k. IsSoundOf k new other (words_of_cell new other)) (sym box) (refills.pairs.boxes other there box)
+      ]
+
+  -- each cell that came or was made is sound
+  pub pairs_sound : (one : Cell) → Contains (cell ∷ (others ++ made)) one → IsSound new one (words_of_cell new one)
+  pairs_sound one there =
+      let sound : IsSoundOf cell.layout.kind new cell (words_of_cell new cell) =
+      subst (λ k. IsSoundOf k new cell (words_of_cell new cell)) (sym refills.writes.weak) weak_is_sound in
+      came_sound others made sound beside_sound one there

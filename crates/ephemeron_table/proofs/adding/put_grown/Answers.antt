@@ -1,0 +1,49 @@
+-- The entry is put in a table that is made, or there is no room.
+use Rattle.std.proofs.Common.{◌+◌, rules, sym, subst, arith}
+use Rattle.handle_roots.specs.Roots.{FitsHeld}
+use Rattle.ephemeron_table.specs.Movings.{PutsInNewTable}
+use Rattle.ephemeron_table.proofs.FullTables.{put_known}
+use Rattle.ephemeron_table.proofs.GrowableMaps.{can_grow}
+use Rattle.ephemeron_table.proofs.GrownEntries.{IsGrowing}
+use Rattle.ephemeron_table.proofs.NewTableEntries.{growing_few, growing_lacks, grown_entry}
+use Rattle.ephemeron_table.proofs.adding.put_grown.Goals as goal
+
+pub put_in_new_table-requires : goal.put_in_new_table-requires
+put_in_new_table-requires c =
+    let shown = c.requires.shown in
+    record {
+      can = can_grow (put_known shown c.regions-regions.ensures.within c.requires.table) c.args.key c.args.count
+          shown.is_key.place shown.shows.quiet c.requires.few c.requires.over;
+    }
+
+pub returns-in-Ok : goal.returns-in-Ok
+returns-in-Ok c graph weak number what shows is is_key held fresh =
+    let growing : IsGrowing c.args.main.now graph c.args.map c.args.key weak number c.args.table = record {
+      shows = shows;
+      is = is;
+      is_key = is_key;
+      sizes = c.regions-regions.ensures.within;
+      is_table = c.requires.table;
+      fresh = fresh;
+      few = omega (arith, c.requires.counted, c.requires.few);
+      over = omega (arith, c.requires.counted, c.requires.over);
+    } in
+    let fits : FitsHeld c.args.value = search rules in
+    let puts = subst (λ n. PutsInNewTable c.args.main.now c.put_in_new_table.new.main c.args.map c.args.table c.args.key
+    (n + 1) c.args.value) (sym c.requires.counted) c.in-Ok.ensures.ok in
+    grown_entry growing fits held puts c.laws_of_tables.ensures.grow c.laws_of_entries.ensures.show
+
+pub returns-in-Err : goal.returns-in-Err
+returns-in-Err c graph weak number what shows is is_key held fresh =
+    let growing : IsGrowing c.args.main.now graph c.args.map c.args.key weak number c.args.table = record {
+      shows = shows;
+      is = is;
+      is_key = is_key;
+      sizes = c.regions-regions.ensures.within;
+      is_table = c.requires.table;
+      fresh = fresh;
+      few = omega (arith, c.requires.counted, c.requires.few);
+      over = omega (arith, c.requires.counted, c.requires.over);
+    } in
+    let lacks = growing_lacks growing c.args.value what c.in-Err.no_room held c.in-Err.ensures.refused in
+    (growing_few growing, lacks.0, lacks.1, lacks.2)

@@ -1,0 +1,30 @@
+-- An entry is put: where the key is there, in its pair.
+use Rattle.std.proofs.Common.{◌<◌, ◌∙◌, subst}
+use Rattle.page_space.specs.Extents.{marks_start}
+use Rattle.object_cells.proofs.CellsRead.{cell_at_before_marks}
+use Rattle.ephemeron_table.proofs.KeysFound.{weak_shown, shown_there, comes_within}
+use Rattle.ephemeron_table.proofs.EntryPairs.{entry_pair}
+use Rattle.ephemeron_table.proofs.PutKeys.{value_before}
+use Rattle.ephemeron_table.proofs.maps.put.Goals as goal
+
+pub table_of-table-requires-clause-there : goal.table_of-table-requires-clause-there
+table_of-table-requires-clause-there c = shown_there (weak_shown c.requires.shown.shows c.requires.shown.is)
+
+pub number_at-requires-clause-within : goal.number_at-requires-clause-within
+number_at-requires-clause-within c =
+    let place = c.requires.shown.is_key.place in
+    subst (λ at. at < marks_start c.args.main.now.seat.space) place.stands
+    (cell_at_before_marks c.requires.shown.shows.shows.whole.sized place.has)
+
+pub put_there-requires-clause-held : goal.put_there-requires-clause-held
+put_there-requires-clause-held c =
+    let shown = c.requires.shown in
+    let has = entry_pair c.table_of-table.result c.in-Key.place shown.shows shown.is shown.is_key
+    c.regions-regions.ensures.within c.table_of-table.ensures (comes_within c.in-Key.ensures.0)
+    (c.in-Key.ensures.1 ∙ c.reference.ensures) in
+    value_before has c.args.value
+
+pub returns-in-Key : goal.returns-in-Key
+returns-in-Key c graph weak number what shows is is_key held =
+    c.put_there.ensures c.args.map c.args.key graph weak number what shows is is_key held c.table_of-table.ensures
+    (c.in-Key.ensures.1 ∙ c.reference.ensures)

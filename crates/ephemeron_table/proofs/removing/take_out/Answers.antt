@@ -1,0 +1,19 @@
+-- The hole is free, and the count one less.
+use Rattle.std.proofs.Common.{ap, subst, arith}
+use Rattle.heap_table.specs.Seats.{heap_words}
+use Rattle.write_barrier.specs.Mains.{Mutator}
+use Rattle.object_cells.specs.Made.{PutsWords}
+use Rattle.ephemeron_table.specs.Takings.{made_pair, with_pair}
+use Rattle.ephemeron_table.proofs.TakenOut.{takes_at}
+use Rattle.ephemeron_table.proofs.removing.take_out.Goals as goal
+
+pub returns : goal.returns
+returns c =
+    let closed : Mutator = c.close-hole.new.main in
+    let puts = subst (λ pair. PutsWords closed c.put_pair.new.main
+    (with_pair (heap_words closed.seat) c.args.table.at c.close-hole.result pair))
+    (ap (λ w. made_pair w w) c.odd-free.ensures) c.put_pair.ensures in
+    takes_at c.args.map c.args.at c.close-hole.result c.word-count.result c.args.table
+    (omega (arith, c.requires.within, c.regions-regions.ensures.heap_counted))
+    (omega (arith, c.requires.map, c.regions-regions.ensures.heap_counted))
+    c.requires.beside c.close-hole.ensures puts c.word-count.ensures.of_heap c.write.ensures.written c.write.ensures.heap

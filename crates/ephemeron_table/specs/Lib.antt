@@ -1,0 +1,10 @@
+pub mod WeakObjects
+pub mod Growth
+pub mod EntryChanges
+pub mod Pairs
+pub mod PairWrites
+pub mod PairLaws
+pub mod Probes
+pub mod Takings
+pub mod Puttings
+pub mod Movings

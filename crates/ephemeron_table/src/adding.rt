@@ -1,0 +1,95 @@
+//! How the entry of a key that is new comes to the table that a map has, or to one that is made.
+ghost use Rattle.std.specs.Prelude.{◌≡◌, ℕ, ◌+◌, ◌*◌, ◌<◌, ◌≤◌, None};
+ghost use Rattle.page_space.specs.Extents.{marks_start};
+ghost use Rattle.object_graph.specs.declared.value.Value.{Value as GraphValue};
+ghost use Rattle.object_graph.specs.Graphs.{Graph, WeakObject};
+ghost use Rattle.object_graph.specs.Objects.{entry_value};
+ghost use Rattle.heap_table.specs.declared.phase.Phase.TheVariants.{Quiet};
+ghost use Rattle.heap_model.specs.Kinds.{count_offset};
+ghost use Rattle.heap_model.specs.Needs.{count_at};
+ghost use Rattle.heap_model.specs.Slots.{hole_word, reference_word};
+ghost use Rattle.write_barrier.specs.Mains.{heap_of, IsTied, MainShows};
+ghost use Rattle.object_cells.specs.HeldValues.{IsValueHeld};
+ghost use Rattle.ephemeron_table.specs.WeakObjects.{IsKeyAt, IsShownPutting, IsWeakAt};
+ghost use Rattle.ephemeron_table.specs.Probes.{ComesTo, IsTableAt, IsWithin, key_in};
+ghost use Rattle.ephemeron_table.specs.EntryChanges.{PutsEntry};
+
+use crate::growing::put_in_new_table;
+use crate::laws::{laws_of_entries, laws_of_tables};
+use crate::putting::put_in_table;
+use crate::reading::Table;
+use crate::stop::TableStop;
+use handle_roots::Held;
+use write_barrier::Main;
+
+/// Puts the entry of a key that is new at the free place of the map's table where probing for it
+/// ended. With it the map has no more entries than half of the pairs.
+///
+/// # Errors
+/// There is no room for a box; nothing has changed.
+pub(crate) fn put_free(
+    main: &mut Main,
+    map: u32,
+    count: u32,
+    table: Table,
+    place: u32,
+    key: u32,
+    value: Held,
+) -> Result<(), TableStop>
+    requires quiet { main.old.seat.phase ≡ Quiet }
+    requires tied { IsTied main.old }
+    requires within { IsWithin (heap_of main.old) table }
+    requires place { place < table.capacity }
+    requires few { count < 256 }
+    requires half { 2 * (count + 1) ≤ table.capacity }
+    requires map { map + count_offset < marks_start main.old.seat.space }
+    ensures { (graph : Graph) (weak : WeakObject) (number : ℕ) (what : GraphValue)
+        → MainShows main.old graph → IsWeakAt main.old graph map weak
+        → IsKeyAt main.old graph key number → IsValueHeld main.old graph value what
+        → IsTableAt (heap_of main.old) map table → count_at (heap_of main.old) map ≡ count
+        → ComesTo (heap_of main.old) table number (reference_word key) place
+        → key_in (heap_of main.old) table.at place ≡ hole_word
+        → PutsEntry main.old main.new graph map key weak number what result }
+{
+    // No address of a heap is past 32 bits.
+    let _regions = main.regions();
+    laws_of_tables();
+    laws_of_entries();
+    match put_in_table(main, map, count, table, place, key, value) {
+        Ok(()) => Ok(()),
+        Err(no_room) => Err(TableStop::Full(no_room)),
+    }
+}
+
+/// Puts the entry of a key that is new in a table that is made anew.
+///
+/// # Errors
+/// There is no room for the table and a box; nothing has changed.
+pub(crate) fn put_grown(
+    main: &mut Main,
+    map: u32,
+    count: u32,
+    table: Table,
+    key: u32,
+    value: Held,
+) -> Result<(), TableStop>
+    requires shown { IsShownPutting main.old map key value }
+    requires table { IsTableAt (heap_of main.old) map table }
+    requires counted { count_at (heap_of main.old) map ≡ count }
+    requires few { count < 256 }
+    requires over { table.capacity < 2 * (count + 1) }
+    ensures { (graph : Graph) (weak : WeakObject) (number : ℕ) (what : GraphValue)
+        → MainShows main.old graph → IsWeakAt main.old graph map weak
+        → IsKeyAt main.old graph key number → IsValueHeld main.old graph value what
+        → entry_value weak.entries number ≡ None
+        → PutsEntry main.old main.new graph map key weak number what result }
+{
+    // No address of a heap is past 32 bits.
+    let _regions = main.regions();
+    laws_of_tables();
+    laws_of_entries();
+    match put_in_new_table(main, map, count, table, key, value) {
+        Ok(()) => Ok(()),
+        Err(no_room) => Err(TableStop::Full(no_room)),
+    }
+}

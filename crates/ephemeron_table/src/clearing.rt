@@ -1,0 +1,30 @@
+//! The call `remove_at`.
+ghost use Rattle.std.specs.Prelude.{List};
+ghost use Rattle.heap_model.specs.Kinds.{Pair};
+ghost use Rattle.write_barrier.specs.Mains.{heap_of, IsTied};
+ghost use Rattle.object_cells.specs.CellsAt.{IsWhole};
+ghost use Rattle.ephemeron_table.specs.Pairs.{HasPairsAt, IsFilledAt, RemovesPair};
+
+use crate::laws::{laws_of_pairs, laws_of_tables};
+use crate::reading::table_of;
+use crate::removing::take_out;
+use write_barrier::Main;
+
+/// Takes the pair at a place out of the table of a weak map. Where some pair was free, what then
+/// stands below the place stood below it before, so one pass upwards that looks again where it took
+/// one out clears a table.
+pub fn remove_at(main: &mut Main, map: u32, place: u32)
+    requires whole { IsWhole main.old }
+    requires tied { IsTied main.old }
+    requires there { (pairs : List Pair) × (pair : Pair)
+        × HasPairsAt (heap_of main.old) map pairs × IsFilledAt pairs place pair }
+    ensures { (before : List Pair) → HasPairsAt (heap_of main.old) map before
+        → RemovesPair main.old main.new map place before }
+{
+    // The sizes are within their limits.
+    let _regions = main.regions();
+    laws_of_pairs();
+    laws_of_tables();
+    let table = table_of(main, map);
+    take_out(main, map, table, place);
+}

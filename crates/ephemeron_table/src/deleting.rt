@@ -1,0 +1,33 @@
+//! The call `delete`.
+ghost use Rattle.std.specs.Prelude.{ℕ};
+ghost use Rattle.object_graph.specs.Graphs.{Graph, WeakObject};
+ghost use Rattle.write_barrier.specs.Mains.{MainShows};
+ghost use Rattle.ephemeron_table.specs.WeakObjects.{IsKeyAt, IsShownKey, IsWeakAt};
+ghost use Rattle.ephemeron_table.specs.EntryChanges.{DeletesEntry};
+
+use crate::laws::{laws_of_entries, laws_of_tables};
+use crate::probing::{End, probe};
+use crate::reading::{number_at, table_of};
+use crate::removing::take_out;
+use tagged_word::Word;
+use write_barrier::Main;
+
+/// Takes the entry of the key out of a weak map. Entries that probing would no longer find move back,
+/// so that no pair is marked as deleted. Nothing happens where there is none.
+pub fn delete(main: &mut Main, map: u32, key: u32)
+    requires shown { IsShownKey main.old map key }
+    ensures { (graph : Graph) (weak : WeakObject) (number : ℕ) → MainShows main.old graph
+        → IsWeakAt main.old graph map weak → IsKeyAt main.old graph key number
+        → DeletesEntry main.old main.new graph map weak number }
+{
+    // No address of a heap is past 32 bits.
+    let _regions = main.regions();
+    laws_of_tables();
+    laws_of_entries();
+    let table = table_of(main, map);
+    match probe(main, table, number_at(main, key), Word::reference(key)) {
+        End::Key(place) => take_out(main, map, table, place),
+        End::Free(_) => (),
+        End::Nowhere => (),
+    }
+}

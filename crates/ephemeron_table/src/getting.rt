@@ -1,0 +1,34 @@
+//! The call `get`.
+ghost use Rattle.std.specs.Prelude.{◌≡◌, ℕ, ◌+◌, ◌<◌};
+ghost use Rattle.page_space.specs.Extents.{marks_start};
+ghost use Rattle.object_graph.specs.Graphs.{Graph, WeakObject};
+ghost use Rattle.write_barrier.specs.Mains.{MainShows};
+ghost use Rattle.ephemeron_table.specs.WeakObjects.{IsKeyAt, IsShownKey, IsWeakAt};
+ghost use Rattle.ephemeron_table.specs.EntryChanges.{TellsEntry};
+
+use crate::probing::{End, probe};
+use crate::reading::{TABLE_HEAD, number_at, table_of};
+use handle_roots::Held;
+use tagged_word::Word;
+use write_barrier::{Main, laws_of_values};
+
+/// The value of the key's entry in a weak map; undefined where there is none.
+pub fn get(main: &Main, map: u32, key: u32) -> Held
+    requires shown { IsShownKey main.now map key }
+    ensures { (graph : Graph) (weak : WeakObject) (number : ℕ) → MainShows main.now graph
+        → IsWeakAt main.now graph map weak → IsKeyAt main.now graph key number
+        → TellsEntry main.now weak number result }
+{
+    // No address of a heap is past 32 bits.
+    let _regions = main.regions();
+    laws_of_values();
+    let table = table_of(main, map);
+    match probe(main, table, number_at(main, key), Word::reference(key)) {
+        End::Key(place) => {
+            let word = main.word(table.at + (TABLE_HEAD + (2 * place + 1)));
+            main.value_of_word(Word(word))
+        }
+        End::Free(_) => Held::Undefined,
+        End::Nowhere => Held::Undefined,
+    }
+}

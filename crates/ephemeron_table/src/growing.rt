@@ -1,0 +1,140 @@
+//! Tables that are made anew, and how pairs come to them.
+ghost use Rattle.std.specs.Prelude.{◌≡◌, ◌+◌, ◌<◌, ◌≤◌, OnOk, IfErr};
+ghost use Rattle.page_space.specs.Extents.{marks_start};
+ghost use Rattle.heap_table.specs.Seats.{heap_words};
+ghost use Rattle.heap_table.specs.declared.phase.Phase.TheVariants.{Quiet};
+ghost use Rattle.heap_model.specs.Needs as needs;
+ghost use Rattle.write_barrier.specs.Mains.{heap_of};
+ghost use Rattle.object_cells.specs.Made.{PutsWords, RefusesRoom};
+ghost use Rattle.ephemeron_table.specs.Movings.{HoldNothing, IsBesideTable, KeysMovable, MovesPairs};
+ghost use Rattle.ephemeron_table.specs.Movings.{CanGrow, PutsInNewTable, new_table_need};
+ghost use Rattle.ephemeron_table.specs.Probes.{IsWithin};
+ghost use Rattle.ephemeron_table.specs.Puttings.{FreeBy, HasFree, Settles, begun_table};
+ghost use Rattle.ephemeron_table.specs.Takings.{pairs_of};
+
+use crate::probing::{key_of, place};
+use crate::putting::content_for;
+use crate::reading::{CAPACITY, COUNT, TABLE_HEAD, Table, number_at};
+use crate::removing::put_pair;
+use handle_roots::Held;
+use object_cells::{STORE_SLOT, boxed_word, need_of, room_for};
+use tagged_word::{Header, Word, odd, shape};
+use write_barrier::{Main, NoRoom};
+
+// The most pairs of a table.
+const PAIRS_MOST: u32 = 512;
+
+// How many pairs the first table of a map has.
+const FIRST_CAPACITY: u32 = 4;
+
+/// How many pairs the table has that takes the place of one of so many: twice as many, but at least
+/// 4, and no more than there may be.
+pub(crate) fn grown(capacity: u32) -> u32
+    requires { capacity ≤ 1024 }
+    ensures { result ≡ needs.grown_table capacity }
+{
+    PAIRS_MOST.min(FIRST_CAPACITY.max(2 * capacity))
+}
+
+/// Makes the words at an address a table of pairs that hold nothing, which is no map's so far.
+pub(crate) fn begin_table(main: &mut Main, table: Table)
+    requires quiet { main.old.seat.phase ≡ Quiet }
+    requires within { IsWithin (heap_of main.old) table }
+    ensures { let words = heap_words main.old.seat in
+        PutsWords main.old main.new (begun_table words table) }
+{
+    // No address of a heap is past 32 bits.
+    let _regions = main.regions();
+    let header = Header {
+        shape: shape::TABLE,
+        object: 0,
+    };
+    main.set_header(table.at, header);
+    main.write(table.at + CAPACITY, table.capacity as u64);
+    main.fill_holes(table.at + TABLE_HEAD, 2 * table.capacity);
+}
+
+/// The first place on the way of a number where a pair is free.
+fn free_place(main: &Main, table: Table, number: u32) -> Option<u32>
+    requires quiet { main.now.seat.phase ≡ Quiet }
+    requires within { IsWithin (heap_of main.now) table }
+    ensures { FreeBy (heap_of main.now) table number result }
+{
+    for steps in 0..table.capacity {
+        let at = place(table.capacity, number, steps);
+        if key_of(main, table, at).0 == Word::odd(odd::HOLE).0 {
+            return Some(at);
+        }
+    }
+    None
+}
+
+/// Puts a pair at the first free place on the way of its key's number.
+pub(crate) fn settle(main: &mut Main, table: Table, key: u32, value: Word)
+    requires quiet { main.old.seat.phase ≡ Quiet }
+    requires within { IsWithin (heap_of main.old) table }
+    requires key { key < marks_start main.old.seat.space }
+    requires free { HasFree (heap_of main.old) table }
+    ensures { Settles main.old main.new table key value.0 }
+{
+    let number = number_at(main, key);
+    match free_place(main, table, number) {
+        Some(at) => put_pair(main, table, at, Word::reference(key), value),
+        None => unreachable!(),
+    }
+}
+
+/// Puts the pairs of a table into another one, which has more places.
+fn move_pairs(main: &mut Main, from: Table, to: Table)
+    requires quiet { main.old.seat.phase ≡ Quiet }
+    requires from { IsWithin (heap_of main.old) from }
+    requires to { IsWithin (heap_of main.old) to }
+    requires more { from.capacity < to.capacity }
+    requires apart { IsBesideTable from to }
+    requires keys { KeysMovable (heap_of main.old) from to }
+    requires empty { HoldNothing (pairs_of (heap_words main.old.seat) to) }
+    ensures { MovesPairs main.old main.new from to from.capacity }
+{
+    // No address of a heap is past 32 bits.
+    let _regions = main.regions();
+    for at in 0..from.capacity {
+        if let Some(key) = key_of(main, from, at).address() {
+            let value = Word(main.word(from.at + (TABLE_HEAD + (2 * at + 1))));
+            settle(main, to, key, value);
+        }
+    }
+}
+
+/// The pair of a key and a value comes to a table that is made in the place of a map's, with the
+/// pairs of that. The map refers to it once all pairs are in it.
+///
+/// # Errors
+/// There is no room for the table and a box; nothing has changed.
+pub(crate) fn put_in_new_table(
+    main: &mut Main,
+    map: u32,
+    count: u32,
+    table: Table,
+    key: u32,
+    value: Held,
+) -> Result<(), NoRoom>
+    requires can { CanGrow main.old map table key count }
+    ensures ok { OnOk result (PutsInNewTable main.old main.new map table key (count + 1) value) }
+    ensures refused { IfErr result (RefusesRoom main.old main.new (new_table_need table value)) }
+{
+    // No address of a heap is past 32 bits.
+    let _regions = main.regions();
+    let content = content_for(value);
+    let capacity = grown(table.capacity);
+    let words = TABLE_HEAD + 2 * capacity;
+    let at = room_for(main, words + need_of(content))?;
+    let new = Table { at, capacity };
+    begin_table(main, new);
+    move_pairs(main, table, new);
+    let word = boxed_word(main, content, at + words);
+    settle(main, new, key, word);
+    main.made(at);
+    main.store(map, STORE_SLOT, Word::reference(at));
+    main.write(map + COUNT, (count + 1) as u64);
+    Ok(())
+}

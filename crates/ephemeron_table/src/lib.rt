@@ -1,0 +1,32 @@
+//! Weak maps: their entries, by the addresses of the cells of maps and keys. An entry keeps its value
+//! alive only while its key is (ephemerons).
+//!
+//! Model: none of its own. `specs/EntryChanges.antt` says what `put`, `get` and `delete` do of each
+//! graph that the heap shows; `specs/Pairs.antt` what is left of a table's pairs once one was taken
+//! out. `specs/PairWrites.antt` says which words were written, pair by pair, and the laws what this
+//! makes of the heap and of the graph. Entries are found by linear probing, from the number of the
+//! key's object on (`linear_probing`).
+//! Invariant: none. `IsShownKey` is what a call needs: the heap shows a graph, and a weak map and an
+//! object of it stand at the addresses.
+#![tactic(auto)]
+
+mod adding;
+mod clearing;
+mod deleting;
+mod getting;
+mod growing;
+mod laws;
+mod maps;
+mod probing;
+mod putting;
+mod reading;
+mod removing;
+mod replacing;
+mod stop;
+
+pub use clearing::remove_at;
+pub use deleting::delete;
+pub use getting::get;
+pub use laws::{laws_of_entries, laws_of_pairs, laws_of_tables};
+pub use maps::put;
+pub use stop::TableStop;

@@ -1,0 +1,84 @@
+//! The calls on the entries of a weak map.
+ghost use Rattle.std.specs.Prelude.{ℕ};
+ghost use Rattle.object_graph.specs.declared.value.Value.{Value as GraphValue};
+ghost use Rattle.object_graph.specs.Graphs.{Graph, WeakObject};
+ghost use Rattle.heap_model.specs.Slots.{reference_word};
+ghost use Rattle.write_barrier.specs.Mains.{MainShows, heap_of};
+ghost use Rattle.object_cells.specs.HeldValues.{IsValueHeld};
+ghost use Rattle.ephemeron_table.specs.WeakObjects.{IsKeyAt, IsShownPutting, IsWeakAt};
+ghost use Rattle.ephemeron_table.specs.Probes as probes;
+ghost use Rattle.ephemeron_table.specs.Probes.{EndsNew, IsTableAt};
+ghost use Rattle.ephemeron_table.specs.EntryChanges.{PutsEntry};
+
+use crate::adding::{put_free, put_grown};
+use crate::probing::{End, probe};
+use crate::reading::{COUNT, Table, number_at, table_of};
+use crate::replacing::put_there;
+use crate::stop::TableStop;
+use handle_roots::Held;
+use tagged_word::Word;
+use write_barrier::Main;
+
+// The most entries of a weak map.
+const ENTRIES_MOST: u32 = 256;
+
+/// Puts the entry of a key that is new: at the place where probing for it ended, or in a table that
+/// is made anew.
+fn put_new(
+    main: &mut Main,
+    map: u32,
+    table: Table,
+    place: Option<u32>,
+    key: u32,
+    value: Held,
+) -> Result<(), TableStop>
+    requires shown { IsShownPutting main.old map key value }
+    requires table { IsTableAt (heap_of main.old) map table }
+    requires ends { let number = probes.number_at (heap_of main.old) key in
+        EndsNew (heap_of main.old) table number (reference_word key) place }
+    ensures { (graph : Graph) (weak : WeakObject) (number : ℕ) (what : GraphValue)
+        → MainShows main.old graph → IsWeakAt main.old graph map weak
+        → IsKeyAt main.old graph key number → IsValueHeld main.old graph value what
+        → PutsEntry main.old main.new graph map key weak number what result }
+{
+    // No address of a heap is past 32 bits.
+    let _regions = main.regions();
+    let count = main.word(map + COUNT) as u32;
+    if count >= ENTRIES_MOST {
+        return Err(TableStop::TableFull { entries: count });
+    }
+    match place {
+        Some(at) => {
+            if 2 * (count + 1) <= table.capacity {
+                put_free(main, map, count, table, at, key, value)
+            } else {
+                put_grown(main, map, count, table, key, value)
+            }
+        }
+        None => put_grown(main, map, count, table, key, value),
+    }
+}
+
+/// Gives the entry of the key in a weak map the value. Both are named by the addresses of their
+/// cells. A table is made where the key is new and the map has none, or where twice its entries
+/// would be more than the table has pairs.
+///
+/// # Errors
+/// The key is new and the map has 256 entries; there is no room for a table or a box that the entry
+/// needs. In this order; nothing has changed.
+pub fn put(main: &mut Main, map: u32, key: u32, value: Held) -> Result<(), TableStop>
+    requires shown { IsShownPutting main.old map key value }
+    ensures { (graph : Graph) (weak : WeakObject) (number : ℕ) (what : GraphValue)
+        → MainShows main.old graph → IsWeakAt main.old graph map weak
+        → IsKeyAt main.old graph key number → IsValueHeld main.old graph value what
+        → PutsEntry main.old main.new graph map key weak number what result }
+{
+    // No address of a heap is past 32 bits.
+    let _regions = main.regions();
+    let table = table_of(main, map);
+    match probe(main, table, number_at(main, key), Word::reference(key)) {
+        End::Key(place) => put_there(main, table, place, value),
+        End::Free(place) => put_new(main, map, table, Some(place), key, value),
+        End::Nowhere => put_new(main, map, table, None, key, value),
+    }
+}

@@ -1,0 +1,104 @@
+//! How an entry comes to a table.
+ghost use Rattle.std.specs.Prelude.{◌≡◌, ◌+◌, ◌<◌, OnOk, IfErr};
+ghost use Rattle.page_space.specs.Extents.{marks_start};
+ghost use Rattle.heap_table.specs.declared.phase.Phase.TheVariants.{Quiet};
+ghost use Rattle.heap_model.specs.Kinds.{count_offset};
+ghost use Rattle.write_barrier.specs.Mains.{heap_of, IsTied};
+ghost use Rattle.object_cells.specs.CellsAt.{IsWhole};
+ghost use Rattle.object_cells.specs.Contents as contents;
+ghost use Rattle.object_cells.specs.Contents.{HoldsSlotWord, IsBeforeMarks};
+ghost use Rattle.object_cells.specs.Made.{RefusesRoom, content_need, beside_content};
+ghost use Rattle.ephemeron_table.specs.Probes.{IsWithin, value_in, value_offset};
+ghost use Rattle.ephemeron_table.specs.Puttings.{FillsOrRefuses, PutsInTable};
+
+use crate::reading::{COUNT, TABLE_HEAD, Table};
+use crate::removing::put_pair;
+use handle_roots::Held;
+use object_cells::{
+    Content, Filling, boxed_word, content_of, filling_of, need_of, rep_of, room_for,
+};
+use tagged_word::Word;
+use write_barrier::{Main, NoRoom};
+
+/// What the slot of a value holds for it.
+pub(crate) fn content_for(value: Held) -> Content
+    ensures { result ≡ beside_content value }
+{
+    content_of(false, rep_of(value), value)
+}
+
+/// Fills a slot of a table, as `fill` of `object_cells` does one of a store.
+fn fill_weak(main: &mut Main, table: u32, offset: u32, filling: Filling)
+    requires quiet { main.old.seat.phase ≡ Quiet }
+    requires within { table + offset < marks_start main.old.seat.space }
+    requires room { IsBeforeMarks main.old.seat.space filling }
+    ensures { main.new ≡ contents.filled main.old (table + offset) filling }
+{
+    // No address of a heap is past 32 bits.
+    let _regions = main.regions();
+    match filling {
+        Filling::Tagged(word) => main.store_weak(table, offset, word),
+        Filling::Raw(word) => main.write(table + offset, word),
+        Filling::NewBox { at, v } => {
+            main.make_box(at, v);
+            main.made(at);
+            main.store_weak(table, offset, Word::reference(at));
+        }
+        Filling::OldBox { at, v } => main.write(at + 1, v.cast_unsigned()),
+    }
+}
+
+/// The value of a pair becomes another: a wide one in the box that stands there, or in one that is
+/// made.
+///
+/// # Errors
+/// There is no room for a box; nothing has changed.
+pub(crate) fn put_value(main: &mut Main, table: Table, at: u32, value: Held) -> Result<(), NoRoom>
+    requires whole { IsWhole main.old }
+    requires tied { IsTied main.old }
+    requires within { IsWithin (heap_of main.old) table }
+    requires place { at < table.capacity }
+    requires held { let word = value_in (heap_of main.old) table.at at in
+        HoldsSlotWord (heap_of main.old) word (beside_content value) }
+    ensures { FillsOrRefuses main.old main.new (table.at + value_offset at) value result }
+{
+    // No address of a heap is past 32 bits.
+    let _regions = main.regions();
+    let offset = TABLE_HEAD + (2 * at + 1);
+    let filling = filling_of(main, table.at + offset, content_for(value))?;
+    fill_weak(main, table.at, offset, filling);
+    Ok(())
+}
+
+/// The pair of a key and a value comes to a free place of a map's table.
+///
+/// # Errors
+/// There is no room for a box; nothing has changed.
+pub(crate) fn put_in_table(
+    main: &mut Main,
+    map: u32,
+    count: u32,
+    table: Table,
+    at: u32,
+    key: u32,
+    value: Held,
+) -> Result<(), NoRoom>
+    requires quiet { main.old.seat.phase ≡ Quiet }
+    requires tied { IsTied main.old }
+    requires within { IsWithin (heap_of main.old) table }
+    requires place { at < table.capacity }
+    requires few { count < 256 }
+    requires map { map + count_offset < marks_start main.old.seat.space }
+    ensures ok { OnOk result (PutsInTable main.old main.new map table at key (count + 1) value) }
+    ensures refused { let need = content_need (beside_content value) in
+        IfErr result (RefusesRoom main.old main.new need) }
+{
+    // No address of a heap is past 32 bits.
+    let _regions = main.regions();
+    let content = content_for(value);
+    let box_at = room_for(main, need_of(content))?;
+    let word = boxed_word(main, content, box_at);
+    put_pair(main, table, at, Word::reference(key), word);
+    main.write(map + COUNT, (count + 1) as u64);
+    Ok(())
+}

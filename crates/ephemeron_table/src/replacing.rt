@@ -1,0 +1,53 @@
+//! How the value of an entry that is there becomes another.
+ghost use Rattle.std.specs.Prelude.{◌≡◌, ℕ, ◌<◌};
+ghost use Rattle.object_graph.specs.declared.value.Value.{Value as GraphValue};
+ghost use Rattle.object_graph.specs.Graphs.{Graph, WeakObject};
+ghost use Rattle.heap_model.specs.Slots.{reference_word};
+ghost use Rattle.write_barrier.specs.Mains.{heap_of, IsTied, MainShows};
+ghost use Rattle.object_cells.specs.CellsAt.{IsWhole};
+ghost use Rattle.object_cells.specs.Contents.{HoldsSlotWord};
+ghost use Rattle.object_cells.specs.HeldValues.{IsValueHeld};
+ghost use Rattle.object_cells.specs.Made.{beside_content};
+ghost use Rattle.ephemeron_table.specs.WeakObjects.{IsKeyAt, IsWeakAt};
+ghost use Rattle.ephemeron_table.specs.Probes.{IsTableAt, IsWithin, key_in, value_in};
+ghost use Rattle.ephemeron_table.specs.EntryChanges.{PutsEntry};
+
+use crate::laws::{laws_of_entries, laws_of_tables};
+use crate::putting::put_value;
+use crate::reading::Table;
+use crate::stop::TableStop;
+use handle_roots::Held;
+use write_barrier::Main;
+
+/// Gives the entry whose key stands at a place of a map's table the value.
+///
+/// # Errors
+/// There is no room for a box; nothing has changed.
+pub(crate) fn put_there(
+    main: &mut Main,
+    table: Table,
+    place: u32,
+    value: Held,
+) -> Result<(), TableStop>
+    requires whole { IsWhole main.old }
+    requires tied { IsTied main.old }
+    requires within { IsWithin (heap_of main.old) table }
+    requires place { place < table.capacity }
+    requires held { let word = value_in (heap_of main.old) table.at place in
+        HoldsSlotWord (heap_of main.old) word (beside_content value) }
+    ensures { (map key : ℕ) (graph : Graph) (weak : WeakObject) (number : ℕ) (what : GraphValue)
+        → MainShows main.old graph → IsWeakAt main.old graph map weak
+        → IsKeyAt main.old graph key number → IsValueHeld main.old graph value what
+        → IsTableAt (heap_of main.old) map table
+        → key_in (heap_of main.old) table.at place ≡ reference_word key
+        → PutsEntry main.old main.new graph map key weak number what result }
+{
+    // No address of a heap is past 32 bits.
+    let _regions = main.regions();
+    laws_of_tables();
+    laws_of_entries();
+    match put_value(main, table, place, value) {
+        Ok(()) => Ok(()),
+        Err(no_room) => Err(TableStop::Full(no_room)),
+    }
+}

@@ -1,0 +1,12 @@
+-- A sound world stays sound.
+use Rattle.mark_world.specs.declared.event.Event.{Event}
+use Rattle.mark_world.specs.declared.world.World.{World}
+use Rattle.mark_world.specs.Moments.{after, Possible}
+use Rattle.mark_world.specs.Soundness.{Sound}
+use Rattle.mark_world.specs.Lineage.{Born}
+
+-- a world that is sound, and where marking reaches only born cells, is so after each possible event
+abbrev pub SoundStays : Type 0
+SoundStays =
+    (world : World) (event : Event) → Sound world → Born world → Possible world event
+    → Sound (after world event) × Born (after world event)

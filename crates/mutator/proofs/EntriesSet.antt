@@ -1,0 +1,172 @@
+-- `wput` and `wdel` are carried out as the calls on entries say.
+use Rattle.std.proofs.Common.{◌≡◌, ℕ, ◌<◌, List, [], Ok, Err, Some, refl, sym, ◌∙◌, ap, subst}
+use Rattle.std.specs.FinMap.{get}
+use Rattle.heap_command.specs.declared.command.Operand.{Operand}
+use Rattle.heap_command.specs.declared.command.Command.TheVariants.{WPut, WDel}
+use Rattle.heap_command.specs.Commands.{NamesBelow}
+use Rattle.object_graph.specs.declared.value.Value.{Value}
+use Rattle.object_graph.specs.declared.value.Value.TheVariants.{Ref}
+use Rattle.object_graph.specs.Objects.{with_entry, without_entry}
+use Rattle.object_graph.specs.Graphs.{Graph, WeakObject, value_of, weak_at}
+use Rattle.object_graph.specs.Meaning.{reweave}
+use Rattle.nursery.specs.Young.{HasRoom}
+use Rattle.handle_roots.specs.declared.held.Held.{Held}
+use Rattle.heap_model.specs.Slots.{reference_word}
+use Rattle.heap_model.specs.Needs.{need_of, wput_need_at}
+use Rattle.write_barrier.specs.Mains.{Mutator, heap_of, MainShows}
+use Rattle.object_cells.specs.HeldValues.{IsValueHeld, is_wide}
+use Rattle.object_cells.specs.Uses.{UsesMore}
+use Rattle.ephemeron_table.specs.WeakObjects.{IsWeakAt, IsKeyAt, IsShownKey, IsShownPutting}
+use Rattle.ephemeron_table.specs.EntryChanges.{HasPutEntry, PutsEntry, DeletesEntry}
+use Rattle.ephemeron_table.specs.declared.stop.TableStop.{TableStop}
+use Rattle.ephemeron_table.specs.declared.stop.TableStop.TheVariants as table
+use Rattle.mutator.specs.Stops.{stop_of_table}
+use Rattle.mutator.specs.Carries.{Carries}
+use Rattle.mutator.specs.Reading.{StandsFor, IsFoundWeak, IsFoundKey}
+use Rattle.mutator.proofs.KeptStores.{keeps_wput, keeps_as_many}
+use Rattle.mutator.proofs.Rebinding.{room_for_none}
+use Rattle.mutator.proofs.SetNeeds.{root_refers}
+use Rattle.mutator.proofs.WeakMeanings.{IsKnownWeak, wput_done, wput_full, wdel_done}
+use Rattle.mutator.proofs.WeakNeeds.{key_told, wput_need_is}
+
+-- what is known once the weak map of a command and the key were found
+pub record IsEntering (main : Mutator) (graph : Graph) (m : ℕ) (k : Operand) (at key : ℕ) : Type 0 where
+  pub weak : WeakObject
+  pub number : ℕ
+  pub shows : MainShows main graph
+  pub known : IsKnownWeak graph m (Ref weak.number) weak
+  pub named : value_of graph k ≡ Some (Ref number)
+  pub stands : IsWeakAt main graph at weak
+  pub key_stands : IsKeyAt main graph key number
+  pub below : m < main.seat.space.variables
+  pub names : NamesBelow main.seat.space.variables k
+
+-- so it is once they were read
+pub entering_known : {old now : Mutator} {graph : Graph} {at key : ℕ} (m : ℕ) (k : Operand) (target named : Value)
+    → now ≡ old → MainShows now graph → get graph.bindings m ≡ Some target → value_of graph k ≡ Some named
+    → IsFoundWeak now graph target at → IsFoundKey now graph named key → m < old.seat.space.variables
+    → NamesBelow old.seat.space.variables k → IsEntering now graph m k at key
+entering_known {graph = graph} m k target named same shows bound named_is found key below names = record {
+  weak = found.weak;
+  number = key.number;
+  shows = shows;
+  known = record {
+    bound = bound ∙ ap (λ one. Some one) found.is;
+    refers = ap (weak_at graph.objects) (sym found.is) ∙ found.refers;
+  };
+  named = named_is ∙ ap (λ one. Some one) key.is;
+  stands = found.stands;
+  key_stands = key.stands;
+  below = subst (λ (main : Mutator). m < main.seat.space.variables) (sym same) below;
+  names = subst (λ (main : Mutator). NamesBelow main.seat.space.variables k) (sym same) names;
+}
+
+-- the call on the entry may be made
+pub entering_shown : {main : Mutator} {graph : Graph} {m at key : ℕ} {k : Operand}
+    → IsEntering main graph m k at key → IsShownKey main at key
+entering_shown {graph = graph} entering = record {
+  graph = graph;
+  weak = entering.weak;
+  number = entering.number;
+  shows = entering.shows;
+  is = entering.stands;
+  is_key = entering.key_stands;
+}
+
+-- what is known once the value of an operand was found
+pub record IsGiven (main : Mutator) (graph : Graph) (v : Operand) (one : Held) : Type 0 where
+  pub value : Value
+  pub is : value_of graph v ≡ Some value
+  pub held : IsValueHeld main graph one value
+  pub names : NamesBelow main.seat.space.variables v
+
+-- so it is once it was read
+pub given_known : {old now : Mutator} {graph : Graph} {one : Held} (v : Operand) (value : Value) → now ≡ old
+    → value_of graph v ≡ Some value → StandsFor now graph value one → NamesBelow old.seat.space.variables v
+    → IsGiven now graph v one
+given_known v value same is stands names = record {
+  value = value;
+  is = is;
+  held = stands.is;
+  names = subst (λ (main : Mutator). NamesBelow main.seat.space.variables v) (sym same) names;
+}
+
+-- the call that puts the value may be made
+pub putting_entry_shown : {main : Mutator} {graph : Graph} {m at key : ℕ} {k v : Operand} {one : Held}
+    → IsEntering main graph m k at key → IsGiven main graph v one → IsShownPutting main at key one
+putting_entry_shown {graph = graph} entering given = record {
+  graph = graph;
+  weak = entering.weak;
+  number = entering.number;
+  value = given.value;
+  shows = entering.shows;
+  is = entering.stands;
+  is_key = entering.key_stands;
+  is_held = given.held;
+}
+
+-- the words that `wput` needs are those of the entry
+entering_need : {main : Mutator} {graph : Graph} {m at key : ℕ} {k v : Operand} {one : Held}
+    → (entering : IsEntering main graph m k at key) → (given : IsGiven main graph v one)
+    → wput_need_at (heap_of main) at (reference_word key) (is_wide given.value) ≡ need_of (heap_of main) (WPut m k v)
+entering_need {m = m} {at} {key} {k} {v} entering given =
+    sym (wput_need_is m at key k v entering.number given.value entering.weak entering.shows entering.below entering.names
+    given.names entering.known.bound entering.named given.is entering.stands entering.key_stands)
+
+-- an entry that was put
+pub wput_carried : {main new : Mutator} {graph : Graph} {m at key : ℕ} {k v : Operand} {one : Held}
+    (names : List (List ℕ)) → (entering : IsEntering main graph m k at key) → (given : IsGiven main graph v one)
+    → HasPutEntry main new graph at key entering.weak entering.number given.value
+    → Carries names main new graph (WPut m k v) [] (Ok tt)
+wput_carried {main} {new} {graph} {m} {at} {key} {k} {v} names entering given has_put =
+    let weak = entering.weak in
+    let need = entering_need entering given in (
+      reweave graph weak (with_entry weak.entries entering.number given.value),
+      wput_done names m k v (Ref weak.number) weak entering.number given.value entering.known entering.named given.is
+          has_put.few,
+      has_put.shows,
+      subst (HasRoom main.young) need has_put.room,
+      subst (UsesMore main new) need has_put.uses,
+      keeps_wput m at (reference_word key) k v
+          (root_refers m at weak.number entering.shows entering.below entering.known.bound entering.stands.place
+          entering.stands.reached)
+          (key_told k key entering.number entering.shows entering.names entering.named entering.key_stands)
+          has_put.changes,
+    )
+
+-- and one that was not
+pub wput_stopped : {main : Mutator} {graph : Graph} {m at key : ℕ} {k v : Operand} {one : Held} (new : Mutator)
+    (names : List (List ℕ)) (stop : TableStop) → (entering : IsEntering main graph m k at key)
+    → (given : IsGiven main graph v one)
+    → PutsEntry main new graph at key entering.weak entering.number given.value (Err stop)
+    → Carries names main new graph (WPut m k v) [] (Err (stop_of_table stop))
+wput_stopped {m = m} {k = k} {v} new names (table.TableFull entries) entering given puts = (
+  wput_full names m k v (Ref entering.weak.number) entering.weak entering.number given.value entering.known entering.named
+      given.is puts.0,
+  puts.2,
+)
+wput_stopped {graph = graph} {m} {k = k} {v} new names (table.Full room) entering given puts =
+    let weak = entering.weak in
+    let (few, need, lacks, same) = puts in (
+      reweave graph weak (with_entry weak.entries entering.number given.value),
+      [],
+      wput_done names m k v (Ref weak.number) weak entering.number given.value entering.known entering.named given.is few,
+      need ∙ entering_need entering given,
+      lacks,
+      same,
+    )
+
+-- an entry that was taken out, or of which there was none
+pub wdel_carried : {main new : Mutator} {graph : Graph} {m at key : ℕ} {k : Operand} (names : List (List ℕ))
+    → (entering : IsEntering main graph m k at key)
+    → DeletesEntry main new graph at entering.weak entering.number
+    → Carries names main new graph (WDel m k) [] (Ok tt)
+wdel_carried {graph = graph} {m} {at} {k = k} names entering deletes =
+    let weak = entering.weak in (
+      reweave graph weak (without_entry weak.entries entering.number),
+      wdel_done names m k (Ref weak.number) weak entering.number entering.known entering.named,
+      deletes.shows,
+      room_for_none entering.shows,
+      deletes.uses,
+      keeps_as_many (WDel m k) at (λ other. refl) deletes.changes,
+    )

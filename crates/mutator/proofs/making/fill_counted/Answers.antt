@@ -1,0 +1,44 @@
+-- The three words are put one by one.
+use Rattle.std.proofs.Common.{◌≡◌, ◌+◌, List, ℕ, slice_set, ◌∙◌, ap, arith}
+use Rattle.tagged_word.specs.Headers.{header_bits}
+use Rattle.page_space.proofs.Starts.{marks_start_is, board_start_is, words_count_is}
+use Rattle.heap_model.specs.Slots.{undefined_word}
+use Rattle.heap_table.specs.Seats.{heap_words}
+use Rattle.write_barrier.specs.Mains.{Mutator, with_word, with_table}
+use Rattle.mutator.proofs.PutWords.{three_in_a_row}
+use Rattle.mutator.proofs.making.fill_counted.Goals as goal
+
+pub returns-clause-filled : goal.returns-clause-filled
+returns-clause-filled c =
+    let main = c.args.main.now in
+    let at = c.args.at in
+    let space = main.seat.space in
+    let header = header_bits c.args.header in
+    let odd : c.odd.result.0 ≡ undefined_word = c.odd.ensures in
+    c.made.ensures.same ∙ c.write-2.ensures.written
+    ∙ ap (λ (now : Mutator). with_word now (at + 2) 0)
+    (c.write.ensures.written ∙ ap (λ (now : Mutator). with_word now (at + 1) c.odd.result.0) c.set_header.ensures.written
+    ∙ ap (λ (word : ℕ). with_word (with_word main at header) (at + 1) word) odd)
+    ∙ ap (λ (table : List ℕ). with_table main table)
+    (three_in_a_row main.seat.table at header undefined_word 0
+    (omega (
+      arith,
+      c.requires.within,
+      c.regions-regions.ensures.counted,
+      marks_start_is space,
+      board_start_is space,
+      words_count_is space,
+    )))
+
+pub returns-clause-heap : goal.returns-clause-heap
+returns-clause-heap c =
+    let main = c.args.main.now in
+    let at = c.args.at in
+    let header = header_bits c.args.header in
+    let odd : c.odd.result.0 ≡ undefined_word = c.odd.ensures in
+    ap (λ (now : Mutator). heap_words now.seat) c.made.ensures.same ∙ c.write-2.ensures.heap
+    ∙ ap (λ (words : List ℕ). slice_set words (at + 2) 0)
+    (c.write.ensures.heap ∙ ap (λ (words : List ℕ). slice_set words (at + 1) c.odd.result.0) c.set_header.ensures.heap
+    ∙ ap (λ (word : ℕ). slice_set (slice_set (heap_words main.seat) at header) (at + 1) word) odd)
+    ∙ three_in_a_row (heap_words main.seat) at header undefined_word 0
+    (omega (arith, c.requires.within, c.regions-regions.ensures.heap_counted))

@@ -1,0 +1,25 @@
+-- The weak map at an address, by the shape in its header.
+use Rattle.std.proofs.Common.{◌≡◌, ap, sym, ◌∙◌, subst, refl, arith}
+use Rattle.tagged_word.specs.declared.header.Header.{Header}
+use Rattle.object_graph.specs.Graphs.{weak_at}
+use Rattle.mutator.specs.Reading.{IsFoundWeak}
+use Rattle.mutator.proofs.ObjectsAt.{held_object}
+use Rattle.mutator.proofs.WeakMapsAt.{refers_to_no_weak, refers_to_weak}
+use Rattle.mutator.proofs.reading.weak_found_at.Goals as goal
+
+pub returns-then-header_at-ne-WEAK : goal.returns-then-header_at-ne-WEAK
+returns-then-header_at-ne-WEAK c graph value shows stands =
+    let held = held_object c.args.at value shows stands in
+    let header = c.header_at.ensures held.object.cell held.object.words held.object.has held.object.stands in
+    let shape : held.object.cell.header.shape ≡ c.header_at.result.shape = ap (λ (h : Header). h.shape) header in (
+      ap (weak_at graph.objects) held.is ∙ refers_to_no_weak shows held.object (λ is. omega (arith, shape, is)),
+      refl,
+    )
+
+pub returns : goal.returns
+returns c graph value shows stands =
+    let held = held_object c.args.at value shows stands in
+    let header = c.header_at.ensures held.object.cell held.object.words held.object.has held.object.stands in
+    let shape : held.object.cell.header.shape ≡ c.header_at.result.shape = ap (λ (h : Header). h.shape) header in
+    subst (λ v. IsFoundWeak c.args.main.now graph v c.args.at) (sym held.is)
+    (refers_to_weak shows held.place held.reached held.object (omega (arith, shape)))
