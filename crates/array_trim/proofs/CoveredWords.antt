@@ -1,17 +1,18 @@
 -- Words that are put one after another, and words that are made free.
-use Rattle.std.proofs.Common.{◌≡◌, ℕ, List, ◌∙◌, ap}
+use Rattle.std.proofs.Common.{◌≡◌, ◌<◌, ℕ, List, ◌∙◌, sym, ap, subst}
 use Rattle.std.specs.Prelude.{slice_set}
 use Rattle.page_space.specs.Extents.{Space, marks_start}
 use Rattle.heap_table.specs.Seats.{heap_words}
+use Rattle.heap_table.specs.Staying.{stays_beside_again}
 use Rattle.write_barrier.specs.Mains.{Mutator, with_word}
 use Rattle.object_cells.specs.Made.{PutsWords}
+use Rattle.object_cells.proofs.WordsBeside.{same_beside, put_beside}
 use Rattle.array_trim.specs.TrimWords.{covered}
 
 -- where nothing has changed, no word was put
 pub puts_none : {old new : Mutator} → new ≡ old → PutsWords old new (heap_words old.seat)
 puts_none same = record {
-  space = ap (λ (main : Mutator). main.seat.space) same;
-  phase = ap (λ (main : Mutator). main.seat.phase) same;
+  beside = same_beside same;
   paths = ap (λ (main : Mutator). main.paths) same;
   young = ap (λ (main : Mutator). main.young) same;
   heap = ap (λ (main : Mutator). heap_words main.seat) same;
@@ -20,10 +21,10 @@ puts_none same = record {
 -- where words were put, and then one more, all were put
 pub puts_then : {old mid new : Mutator} {words : List ℕ} (a word : ℕ) → PutsWords old mid words
     → new ≡ with_word mid a word → heap_words new.seat ≡ slice_set (heap_words mid.seat) a word
-    → PutsWords old new (slice_set words a word)
-puts_then a word first same heap = record {
-  space = ap (λ (main : Mutator). main.seat.space) same ∙ first.space;
-  phase = ap (λ (main : Mutator). main.seat.phase) same ∙ first.phase;
+    → a < marks_start old.seat.space → PutsWords old new (slice_set words a word)
+puts_then a word first same heap below = record {
+  beside = put_beside a word first.beside same
+      (subst (λ (space : Space). a < marks_start space) (sym first.beside.space) below);
   paths = ap (λ (main : Mutator). main.paths) same ∙ first.paths;
   young = ap (λ (main : Mutator). main.young) same ∙ first.young;
   heap = heap ∙ ap (λ all. slice_set all a word) first.heap;
@@ -32,14 +33,13 @@ puts_then a word first same heap = record {
 -- where words were put, the marks begin where they began
 pub marks_still : {old new : Mutator} {words : List ℕ} → PutsWords old new words
     → marks_start new.seat.space ≡ marks_start old.seat.space
-marks_still puts = ap (λ (space : Space). marks_start space) puts.space
+marks_still puts = ap (λ (space : Space). marks_start space) puts.beside.space
 
 -- where words were put, and then so many at an address made free, both were put
 pub covers_then : {old mid new : Mutator} {words : List ℕ} (at count : ℕ) → PutsWords old mid words
     → PutsWords mid new (covered (heap_words mid.seat) at count) → PutsWords old new (covered words at count)
-covers_then at count first then = record {
-  space = then.space ∙ first.space;
-  phase = then.phase ∙ first.phase;
+covers_then {old} {mid} {new} at count first then = record {
+  beside = stays_beside_again old.seat mid.seat new.seat first.beside then.beside;
   paths = then.paths ∙ first.paths;
   young = then.young ∙ first.young;
   heap = then.heap ∙ ap (λ all. covered all at count) first.heap;

@@ -25,7 +25,7 @@ use Rattle.object_cells.proofs.SlotPlaces.{one_beside}
 use Rattle.object_cells.proofs.StoresRead.{IsFoundStore, found_store}
 use Rattle.object_cells.proofs.WordsTold.{cell_fits}
 use Rattle.list_store.proofs.ListCells.{ListShown, list_shown}
-use Rattle.list_store.proofs.WrittenSlots.{list_is_no_store}
+use Rattle.list_store.proofs.ListChanging.{list_is_no_store}
 use Rattle.array_trim.specs.TrimWords.{HasStoreAt}
 
 -- A list is shown, and its store of so many slots stands at the address.
@@ -117,7 +117,8 @@ module _ {main : Mutator} {at store : ℕ} {list : ListObject} (stored : ListSto
   }
 
   -- no word is one of both
-  pub words_apart : (a b : ℕ) → at ≤ a → a < at + 3 → store ≤ b → b < store + (store_head + stored.cell.length) → a ≡ b
+  pub words_apart : (a b : ℕ) → at ≤ a → a < at + 3 → store ≤ b → b < store + (store_head + stored.cell.length)
+      → a ≡ b
       → ⊥
   words_apart a b from below from_too below_too same =
       let of_cell : IsOfCell stored.shown.cell b = subst (IsOfCell stored.shown.cell) same (of_list a from below) in

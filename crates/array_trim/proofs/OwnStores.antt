@@ -26,3 +26,8 @@ pub head_within : {main : Mutator} {list count : ℕ} (store : Store) (gone : �
     → IsStoreAt (heap_of main) list store → gone ≤ count
     → store.at + gone + length_offset < marks_start main.seat.space
 head_within store gone ready is few = omega (arith, is.within, store_has_room store ready is, few)
+
+-- so is the length of the store itself
+pub length_within : {main : Mutator} {list count : ℕ} (store : Store) → IsListReady main list count
+    → IsStoreAt (heap_of main) list store → store.at + length_offset < marks_start main.seat.space
+length_within store ready is = omega (arith, is.within)

@@ -1,5 +1,6 @@
 -- With the words of a trim at the front the list has the elements that stay.
-use Rattle.std.proofs.Common.{◌≡◌, ℕ, zero, suc, ◌+◌, ◌-◌, ◌<◌, ◌≤◌, ◌⊎◌, List, [], ◌∷◌, ◌++◌, length, drop}
+use Rattle.std.proofs.Common.{◌≡◌, ℕ, zero, suc, ◌+◌, ◌-◌, ◌<◌, ◌≤◌}
+use Rattle.std.proofs.Common.{◌⊎◌, List, [], ◌∷◌, ◌++◌, length, drop}
 use Rattle.std.proofs.Common.{Contains, Some, slice_get, inl, inr, refl, sym, ◌∙◌, ap, subst, arith, length-drop}
 use Rattle.std.proofs.lemmas.List.Elements.{Contains-append_right, Contains-append_cases}
 use Rattle.tagged_word.specs.Cells.{store_slot, store_head}
@@ -74,7 +75,8 @@ module _ {old new : Mutator} {graph : Graph} {at : ℕ} {list : ListObject} {gon
   long = long_shifted stored (length list.elements) gone enough
 
   -- those of neither cell are as before
-  abbrev stays : (a : ℕ) → (at ≤ a → a < at + 3 → ⊥) → (puts.store ≤ a → a < puts.store + (store_head + capacity) → ⊥)
+  abbrev stays : (a : ℕ) → (at ≤ a → a < at + 3 → ⊥) → (puts.store ≤ a → a < puts.store + (store_head + capacity)
+      → ⊥)
       → slice_get words a ≡ slice_get (heap_words old.seat) a
   stays = shifted_stays stored (length list.elements) gone enough
 
@@ -133,7 +135,7 @@ module _ {old new : Mutator} {graph : Graph} {at : ℕ} {list : ListObject} {gon
         shown = stored.shown.shows;
         refers = stored.refers;
         of_kind = stored.of_kind;
-        same_space = words_put.space;
+        same_space = words_put.beside.space;
         same_survivors = put_survivors stored words words_put long stays;
         same_used = put_used stored words words_put long stays;
         paths = words_put.paths;

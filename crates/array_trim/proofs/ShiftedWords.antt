@@ -135,7 +135,8 @@ module _ {main : Mutator} {at store : ℕ} {list : ListObject} (stored : ListSto
       ∙ ap (λ n. slice_get words n) same
 
   -- any other word stays
-  pub shifted_stays : (a : ℕ) → (at ≤ a → a < at + 3 → ⊥) → (store ≤ a → a < store + (store_head + capacity) → ⊥)
+  pub shifted_stays : (a : ℕ) → (at ≤ a → a < at + 3 → ⊥)
+      → (store ≤ a → a < store + (store_head + capacity) → ⊥)
       → slice_get shifted a ≡ slice_get words a
   shifted_stays a not_list not_store =
       covered_stays counted store gone a (λ behind before. not_store behind (omega (arith, before, few)))

@@ -1,5 +1,6 @@
 -- Cells of fixed shapes that come to stand in the words of an old cell: a store, a filler, a gap.
-use Rattle.std.proofs.Common.{◌≡◌, ℕ, ◌+◌, ◌<◌, ◌≤◌, List, length, Some, None, true, nat_le, cond, ◌&&◌, slice_get}
+use Rattle.std.proofs.Common.{◌≡◌, ℕ, ◌+◌, ◌<◌, ◌≤◌, List, length}
+use Rattle.std.proofs.Common.{Some, None, true, nat_le, cond, ◌&&◌, slice_get}
 use Rattle.std.proofs.Common.{refl, sym, ◌∙◌, ap, subst, arith}
 use Rattle.std.proofs.lemmas.Bool.Decides.{nat_tests}
 use Rattle.tagged_word.specs.declared.layout.Kind.TheVariants as kind

@@ -1,5 +1,6 @@
 -- What comes of a trim, by the words that it put: the heap shows the graph where the list has the elements that stay.
-use Rattle.std.proofs.Common.{◌≡◌, ℕ, suc, ◌+◌, ◌≤◌, ◌<◌, ◌==◌, true, false, length, take, drop, cond, Option}
+use Rattle.std.proofs.Common.{◌≡◌, ℕ, suc, ◌+◌, ◌≤◌, ◌<◌, ◌==◌}
+use Rattle.std.proofs.Common.{true, false, length, take, drop, cond, Option}
 use Rattle.std.proofs.Common.{ℤ, to_z, of_z, refl, sym, ◌∙◌, ap, subst, arith}
 use Rattle.std.specs.Prelude.{FitsSigned}
 use Rattle.std.specs.Int.{w64}
@@ -38,7 +39,8 @@ none_shifted list gone shows is none = record {
 
 -- some do
 pub some_shifted : {old new : Mutator} {graph : Graph} {at : ℕ} (list : ListObject) (count gone : ℕ) → ShiftedListShows
-    → AreWithin old.seat.space.sizes old.seat.space.variables → MainShows old graph → IsListAt old graph at list → count ≡ length list.elements → 1 ≤ gone → gone ≤ count
+    → AreWithin old.seat.space.sizes old.seat.space.variables → MainShows old graph → IsListAt old graph at list
+    → count ≡ length list.elements → 1 ≤ gone → gone ≤ count
     → PutsShifted old new at count gone → HasShifted old new graph at list gone
 some_shifted {old} {new} {graph} {at} list count gone law sizes shows is all some within puts =
     let put = subst (λ n. PutsShifted old new at n gone) all puts in
@@ -65,7 +67,8 @@ none_truncated {main} {at = at} list kept shows is all =
 
 -- some elements alone stay
 pub some_truncated : {old new : Mutator} {graph : Graph} {at : ℕ} (list : ListObject) (kept : ℕ) → TruncatedListShows
-    → AreWithin old.seat.space.sizes old.seat.space.variables → MainShows old graph → IsListAt old graph at list → kept < length list.elements → PutsTruncated old new at kept
+    → AreWithin old.seat.space.sizes old.seat.space.variables → MainShows old graph → IsListAt old graph at list
+    → kept < length list.elements → PutsTruncated old new at kept
     → HasTruncated old new graph at list kept
 some_truncated {old} {new} {graph} {at} list kept law sizes shows is fewer puts =
     let heap = heap_of old in
@@ -73,7 +76,8 @@ some_truncated {old} {new} {graph} {at} list kept law sizes shows is fewer puts 
     let test : (kept == count_at heap at) ≡ false = grind (arith, nat_tests, counted, fewer) in
     record {
       trims = subst (HasTrimmed old new graph at list (take kept list.elements))
-          (sym (ap (λ t. cond t (capacity_at heap at) kept) test)) (law old new graph at list kept sizes shows is fewer puts);
+          (sym (ap (λ t. cond t (capacity_at heap at) kept) test))
+          (law old new graph at list kept sizes shows is fewer puts);
       unchanged = λ all. absurd (omega (arith, fewer, all));
       puts = λ _. puts;
     }

@@ -77,8 +77,8 @@ module _ {old new : Mutator} {graph : Graph} {at : ℕ} {list : ListObject} {aft
   -- the mutator is at rest
   at_rest : IsAtRest new
   at_rest = record {
-    tied = ap (λ (young : Young). young.space) trimmed.puts.young ∙ trimmed.shows.tied ∙ sym trimmed.puts.space;
-    quiet = trimmed.puts.phase ∙ trimmed.shows.quiet;
+    tied = ap (λ (young : Young). young.space) trimmed.puts.young ∙ trimmed.shows.tied ∙ sym trimmed.puts.beside.space;
+    quiet = trimmed.puts.beside.phase ∙ trimmed.shows.quiet;
     sized = trimmed.trim.sized;
     rows = (trimmed_cells trimmed.trim).0;
   }
@@ -111,7 +111,7 @@ module _ {old new : Mutator} {graph : Graph} {at : ℕ} {list : ListObject} {aft
   none_used =
       let same : old.young.used ≡ old.young.used + 0 = omega arith in
       record {
-        space = trimmed.puts.space;
+        beside = trimmed.puts.beside;
         young = trimmed.puts.young ∙ ap (λ n. record old.young { used = n }) same;
       }
 

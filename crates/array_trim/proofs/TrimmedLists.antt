@@ -1,5 +1,6 @@
 -- A list that was trimmed shows the elements that stay, and the change of cells is its own.
-use Rattle.std.proofs.Common.{◌≡◌, ℕ, ◌+◌, ◌<◌, ◌≤◌, List, [], ◌∷◌, ◌++◌, length, Contains, Some, slice_get, IsTrue}
+use Rattle.std.proofs.Common.{◌≡◌, ℕ, ◌+◌, ◌<◌, ◌≤◌, List, []}
+use Rattle.std.proofs.Common.{◌∷◌, ◌++◌, length, Contains, Some, slice_get, IsTrue}
 use Rattle.std.proofs.Common.{inl, inr, sym, ◌∙◌, ap, subst, arith, length-drop}
 use Rattle.std.proofs.lemmas.Bool.{cases_lt}
 use Rattle.std.proofs.lemmas.List.Elements.{Contains-append_left}
@@ -24,7 +25,7 @@ use Rattle.object_cells.proofs.OwnCells.{list_size}
 use Rattle.object_cells.proofs.OwnWritings.{store_is_sound}
 use Rattle.object_cells.proofs.SlotPlaces.{one_beside}
 use Rattle.object_cells.proofs.SlotsNow.{word_at_offset}
-use Rattle.list_store.proofs.WrittenSlots.{slot_few}
+use Rattle.list_store.proofs.ListChanging.{slot_few}
 use Rattle.array_trim.proofs.TrimmedCells.{IsFreeCell, Trimming, list_now, store_now}
 use Rattle.array_trim.proofs.TrimmedSlots.{is_object, came_cases, came_object, went_no_box, objects_stay}
 use Rattle.array_trim.proofs.TrimmedSlots.{places_are_kept}

@@ -1,6 +1,7 @@
 -- The slots of a list that was trimmed: each slot of its store is one of the old store, and names what that named.
 -- Objects keep their places.
-use Rattle.std.proofs.Common.{◌≡◌, ℕ, ◌+◌, ◌<◌, ◌⊎◌, List, [], ◌∷◌, ◌++◌, drop, Contains, slice_get, IsTrue, false}
+use Rattle.std.proofs.Common.{◌≡◌, ℕ, ◌+◌, ◌<◌, ◌⊎◌, List, []}
+use Rattle.std.proofs.Common.{◌∷◌, ◌++◌, drop, Contains, slice_get, IsTrue, false}
 use Rattle.std.proofs.Common.{inl, inr, refl, sym, ◌∙◌, ap, subst, arith}
 use Rattle.std.proofs.lemmas.Bool.{false≢true}
 use Rattle.std.proofs.lemmas.List.Elements.{Contains-append_cases}
@@ -28,7 +29,7 @@ use Rattle.object_cells.proofs.ListSlots.{element_of_number}
 use Rattle.object_cells.proofs.NumberedSlots.{SlotOfNumber, is_store_of}
 use Rattle.object_cells.proofs.OwnCells.{list_size}
 use Rattle.object_cells.proofs.SlotsNow.{word_at_offset}
-use Rattle.list_store.proofs.WrittenSlots.{slot_stands, slot_few}
+use Rattle.list_store.proofs.ListChanging.{slot_stands, slot_few}
 use Rattle.array_trim.proofs.TrimmedCells.{IsFreeCell, Trimming, trimmed_cells, list_now, store_now}
 
 -- a free cell is no object's
@@ -68,7 +69,8 @@ module _ {old new : Heap} {cell store came : Cell} {pieces : List Cell} {before 
   ]
 
   -- what came is the list's cell, the store that came, or free
-  pub came_cases : (one : Cell) → Contains (cell ∷ (pieces ++ [])) one → (cell ≡ one) ⊎ ((came ≡ one) ⊎ IsFreeCell one)
+  pub came_cases : (one : Cell) → Contains (cell ∷ (pieces ++ [])) one → (cell ≡ one)
+      ⊎ ((came ≡ one) ⊎ IsFreeCell one)
   came_cases one there = elim (in_cases cell (pieces ++ []) one there) [
     | inl same ↦ inl same
     | inr later ↦ elim (Contains-append_cases pieces [] one later) [

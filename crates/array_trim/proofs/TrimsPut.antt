@@ -21,7 +21,8 @@ use Rattle.array_trim.proofs.ListStores.{ListStored, of_list, of_store, list_bef
 
 module _ {old new : Mutator} {at store : ℕ} {list : ListObject} (stored : ListStored old at list store) (words : List ℕ)
     (puts : PutsWords old new words) (long : length words ≡ length (heap_words old.seat))
-    (stays : (a : ℕ) → (at ≤ a → a < at + 3 → ⊥) → (store ≤ a → a < store + (store_head + stored.cell.length) → ⊥)
+    (stays : (a : ℕ) → (at ≤ a → a < at + 3 → ⊥) → (store ≤ a → a < store + (store_head + stored.cell.length)
+    → ⊥)
     → slice_get words a ≡ slice_get (heap_words old.seat) a) where
   -- a word is what was put
   pub put_reads : (a : ℕ) → slice_get (heap_words new.seat) a ≡ slice_get words a
@@ -38,11 +39,11 @@ module _ {old new : Mutator} {at store : ℕ} {list : ListObject} (stored : List
   put_sized =
       let sized = stored.whole.sized in
       record {
-        words = ap length puts.heap ∙ long ∙ sized.words ∙ ap marks_start (sym puts.space);
+        words = ap length puts.heap ∙ long ∙ sized.words ∙ ap marks_start (sym puts.beside.space);
         shapes = subst AreShapes (sym puts.paths) sized.shapes;
         layouts = λ shape below.
             let a : ℕ = layouts_start old.seat.space + shape in
-            ap (λ (s : Space). slice_get (heap_words new.seat) (layouts_start s + shape)) puts.space
+            ap (λ (s : Space). slice_get (heap_words new.seat) (layouts_start s + shape)) puts.beside.space
             ∙ put_reads a ∙ layout_stays a (omega arith) ∙ sized.layouts shape below
             ∙ ap (λ paths. Some (layout_word paths shape)) (sym puts.paths);
       }
@@ -52,7 +53,7 @@ module _ {old new : Mutator} {at store : ℕ} {list : ListObject} (stored : List
   put_had = record {
     words = _;
     has = stored.refers.has;
-    same_space = puts.space;
+    same_space = puts.beside.space;
     long = ap length puts.heap ∙ long;
     sized = put_sized;
   }

@@ -1,5 +1,6 @@
 -- With the words of a trim at the back the list has the elements that stay.
-use Rattle.std.proofs.Common.{◌≡◌, ℕ, ◌+◌, ◌-◌, ◌<◌, ◌≤◌, ◌⊎◌, List, [], ◌∷◌, length, take, Contains, Some}
+use Rattle.std.proofs.Common.{◌≡◌, ℕ, ◌+◌, ◌-◌, ◌<◌, ◌≤◌, ◌⊎◌}
+use Rattle.std.proofs.Common.{List, [], ◌∷◌, length, take, Contains, Some}
 use Rattle.std.proofs.Common.{slice_get, inl, inr, sym, ◌∙◌, ap, subst, arith, length-take}
 use Rattle.std.proofs.lemmas.Option.{slice_get_within}
 use Rattle.tagged_word.specs.Cells.{store_slot, store_head}
@@ -78,7 +79,8 @@ module _ {old new : Mutator} {graph : Graph} {at : ℕ} {list : ListObject} {kep
   long = long_truncated stored kept enough
 
   -- those of neither cell are as before
-  abbrev stays : (a : ℕ) → (at ≤ a → a < at + 3 → ⊥) → (puts.store ≤ a → a < puts.store + (store_head + capacity) → ⊥)
+  abbrev stays : (a : ℕ) → (at ≤ a → a < at + 3 → ⊥) → (puts.store ≤ a → a < puts.store + (store_head + capacity)
+      → ⊥)
       → slice_get words a ≡ slice_get (heap_words old.seat) a
   stays = truncated_stays stored kept enough
 
@@ -172,7 +174,7 @@ module _ {old new : Mutator} {graph : Graph} {at : ℕ} {list : ListObject} {kep
         shown = stored.shown.shows;
         refers = stored.refers;
         of_kind = stored.of_kind;
-        same_space = words_put.space;
+        same_space = words_put.beside.space;
         same_survivors = put_survivors stored words words_put long stays;
         same_used = put_used stored words words_put long stays;
         paths = words_put.paths;

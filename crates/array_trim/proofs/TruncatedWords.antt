@@ -110,7 +110,8 @@ module _ {main : Mutator} {at store : ℕ} {list : ListObject} (stored : ListSto
       ∙ slice_get-set_other words (store + length_offset) a kept (λ same. omega (arith, same))
 
   -- any other word stays
-  pub truncated_stays : (a : ℕ) → (at ≤ a → a < at + 3 → ⊥) → (store ≤ a → a < store + (store_head + capacity) → ⊥)
+  pub truncated_stays : (a : ℕ) → (at ≤ a → a < at + 3 → ⊥)
+      → (store ≤ a → a < store + (store_head + capacity) → ⊥)
       → slice_get truncated a ≡ slice_get words a
   truncated_stays a not_list not_store =
       covered_stays counted end (capacity - kept) a (λ behind before.

@@ -8,6 +8,7 @@ use Rattle.object_graph.specs.declared.object.Object.{Object}
 use Rattle.object_graph.specs.declared.object.Object.TheVariants.{List as ListOf}
 use Rattle.object_graph.specs.Graphs.{Graph, ListObject}
 use Rattle.object_graph.specs.Meaning.{relist}
+use Rattle.heap_table.specs.Staying.{stays_beside_itself}
 use Rattle.heap_model.specs.Needs.{capacity_at}
 use Rattle.write_barrier.specs.Mains.{Mutator, heap_of, MainShows}
 use Rattle.object_cells.specs.ListObjects.{IsListAt}
@@ -32,7 +33,7 @@ pub nothing_trimmed : {main : Mutator} {graph : Graph} {at : ℕ} (list : ListOb
     → capacity ≡ capacity_at (heap_of main) at → HasTrimmed main main graph at list elements capacity
 nothing_trimmed {main} list elements capacity shows is all same = record {
   uses = record {
-    space = refl;
+    beside = stays_beside_itself main.seat;
     young = ap (λ n. record main.young { used = n }) (sym (add-zero main.young.used));
   };
   changes = record {

@@ -1,5 +1,6 @@
 -- What the calls that trim lists do.
-use Rattle.std.specs.Prelude.{◌≡◌, ℕ, suc, ◌-◌, ◌≤◌, ◌<◌, ◌==◌, List, length, take, drop, ℤ, Some, None}
+use Rattle.std.specs.Prelude.{◌≡◌, ℕ, suc, ◌-◌, ◌≤◌, ◌<◌, ◌==◌}
+use Rattle.std.specs.Prelude.{List, length, take, drop, ℤ, Some, None}
 use Rattle.std.specs.Prelude.{Result, Ok, Err, if◌then◌else◌}
 use Rattle.object_graph.specs.declared.value.Value.{Value}
 use Rattle.object_graph.specs.Graphs.{Graph, ListObject}
@@ -9,11 +10,11 @@ use Rattle.heap_model.specs.Needs.{capacity_at, count_at}
 use Rattle.write_barrier.specs.Mains.{Mutator, heap_of, MainShows}
 use Rattle.object_cells.specs.Uses.{UsesMore}
 use Rattle.object_cells.specs.Capacities.{ChangesObject}
+use Rattle.list_store.specs.declared.stop.Range.{Range}
 use Rattle.array_trim.specs.TrimWords.{PutsShifted, PutsTruncated}
-use Rattle.array_trim.specs.declared.range.Range.{Range}
 
--- The heap shows the graph in which the list at the address has these elements. Only words of the list change, its store has
--- so many slots, each other object's as many as before, and no word more is used.
+-- The heap shows the graph in which the list at the address has these elements. Only words of the list change, its
+-- store has so many slots, each other object's as many as before, and no word more is used.
 pub record HasTrimmed (old new : Mutator) (graph : Graph) (at : ℕ) (list : ListObject) (elements : List Value)
     (capacity : ℕ) : Type 0 where
   pub uses : UsesMore old new 0

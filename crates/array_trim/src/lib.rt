@@ -10,11 +10,10 @@
 
 mod cover;
 mod laws;
-mod range;
 mod shifting;
 mod truncating;
 
 pub use laws::laws_of_trims;
-pub use range::Range;
+pub use list_store::Range;
 pub use shifting::shift;
 pub use truncating::truncate;

@@ -9,8 +9,7 @@ ghost use Rattle.array_trim.specs.Trims.{TruncatesElements};
 
 use crate::cover::{LENGTH, cover};
 use crate::laws::laws_of_trims;
-use crate::range::Range;
-use list_store::{COUNT, count_of, place_of};
+use list_store::{COUNT, Range, count_of, place_of};
 use object_cells::{STORE_HEAD, store_of};
 use write_barrier::Main;
 

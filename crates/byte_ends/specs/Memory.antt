@@ -1,5 +1,6 @@
 -- What sources and sinks in memory do, to the byte.
-use Rattle.std.specs.Prelude.{◌≡◌, ℕ, ◌+◌, ◌<◌, ◌⊎◌, List, ◌++◌, length, take, drop, min, Result, Ok, Err, Contains}
+use Rattle.std.specs.Prelude.{◌≡◌, ℕ, ◌+◌, ◌<◌, ◌⊎◌, List, ◌++◌, length, take, drop, min, Result, Ok}
+use Rattle.std.specs.Prelude.{Err, Contains}
 use Rattle.byte_ends.specs.declared.ends.Failed.{Failed}
 use Rattle.byte_ends.specs.Faults.{one_more}
 

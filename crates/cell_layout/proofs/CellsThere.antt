@@ -1,7 +1,7 @@
 -- Where no cell stands: what each test of a reading rules out.
 use Rattle.std.proofs.Common.{◌≡◌, ℕ, zero, suc, ◌+◌, ◌≤◌, ◌<◌, List, [], ◌∷◌, length, take, drop}
-use Rattle.std.proofs.Common.{Option, Some, None, slice_get, unwrap_or, IfSome, MatchOption, arith, ap, subst, sym, refl}
-use Rattle.std.proofs.Common.{◌∙◌, ◌⊎◌, inl, inr}
+use Rattle.std.proofs.Common.{Option, Some, None, slice_get, unwrap_or, IfSome, MatchOption, arith, ap, subst, sym}
+use Rattle.std.proofs.Common.{refl, ◌∙◌, ◌⊎◌, inl, inr}
 use Rattle.std.proofs.lemmas.Bool.{cases_lt}
 use Rattle.std.proofs.lemmas.List.{length-take}
 use Rattle.std.proofs.lemmas.Option.{slice_get_past, none-some, same_Some}
@@ -13,8 +13,9 @@ use Rattle.tagged_word.specs.Layouts.{IsLayout, layout_bits}
 use Rattle.tagged_word.specs.Cells.{ReadsAs, has_length, length_by, cell_size}
 use Rattle.tagged_word.proofs.Headers.{same_header}
 use Rattle.tagged_word.proofs.Layouts.{same_layout}
+use Rattle.tagged_word.proofs.Cells.{some_same}
 use Rattle.page_space.specs.Extents.{Space, CellsEndAt, layouts_start}
-use Rattle.page_space.proofs.Covering.{disjoint}
+use Rattle.page_space.proofs.CellEnds.{end_once}
 use Rattle.cell_layout.specs.declared.cell.Cell.{Cell}
 use Rattle.cell_layout.specs.Cells.{reading_of, IsCell, IsNoCell, HasNoCell, HasRoom, IsLayoutOf, layouts_in}
 
@@ -97,10 +98,6 @@ pub record HasParts
   pub second : length_by (has_length layout.kind) (slice_get words (at + 1)) ≡ Some long
   pub sized : cell_size layout long ≡ Some size
 
--- what is there is one thing
-some_same : {X : Type 0} {o : Option X} {x y : X} → o ≡ Some x → o ≡ Some y → x ≡ y
-some_same e f = cc
-
 -- a cell there has these parts
 size_there : (space : Space) (words : List ℕ) (cell : Cell) (header : Header) (layout : LayoutWord) (long size : ℕ) →
     IsCell space words cell → HasParts space words cell.at header layout long size → cell.size ≡ size
@@ -119,12 +116,6 @@ size_there space words cell header layout long size is_cell parts =
     ap (λ one. cell_size one cell.length) of_layout ∙ ap (λ one. cell_size layout one) of_length ∙ parts.sized in
     some_same reads.sized sized
 
--- an address where cells may stand has one end
-pub ends_once : (space : Space) (a end other : ℕ) → CellsEndAt space a end → CellsEndAt space a other → end ≡ other
-ends_once space a end other ends ends_other =
-    let same = disjoint space ends.extent ends_other.extent a ends.stands ends_other.stands ends.holds ends_other.holds in
-    sym ends.ends ∙ ap (λ one. one.start + one.words) same ∙ ends_other.ends
-
 -- no cell with these parts stands where there is no room for it
 pub no_room : (space : Space) (words : List ℕ) (at room : ℕ) (header : Header) (layout : LayoutWord) (long size : ℕ) →
     HasParts space words at header layout long size → HasRoom space words at room → room < size →
@@ -132,7 +123,7 @@ pub no_room : (space : Space) (words : List ℕ) (at room : ℕ) (header : Heade
 no_room space words at room header layout long size parts has_room more cell same is_cell =
     let here = subst (λ (one : ℕ). HasParts space words one header layout long size) (sym same) parts in
     let stands = subst (λ (one : ℕ). CellsEndAt space one is_cell.end) same is_cell.stands in
-    let once : is_cell.end ≡ has_room.end = ends_once space at is_cell.end has_room.end stands has_room.stands in
+    let once : is_cell.end ≡ has_room.end = end_once space at is_cell.end has_room.end stands has_room.stands in
     let sized : cell.size ≡ size = size_there space words cell header layout long size is_cell here in
     let before : cell.at + cell.size ≤ is_cell.end = is_cell.reads.ends in
     let there : cell.at + cell.size ≤ length words = is_cell.reads.there in
@@ -160,8 +151,8 @@ no_size space words at header layout long is_header first layout_of second none 
     none-some cell.size (sym sized ∙ reads.sized)
 
 -- the parts make a cell where there is room for it
-pub makes_cell : (space : Space) (words : List ℕ) (at room : ℕ) (header : Header) (layout : LayoutWord) (long size : ℕ) →
-    HasParts space words at header layout long size → HasRoom space words at room → size ≤ room →
+pub makes_cell : (space : Space) (words : List ℕ) (at room : ℕ) (header : Header) (layout : LayoutWord) (long size : ℕ)
+    → HasParts space words at header layout long size → HasRoom space words at room → size ≤ room →
     IsCell space words (record { at = at; header = header; layout = layout; length = long; size = size })
 makes_cell space words at room header layout long size parts has_room fits = record {
   end = has_room.end;

@@ -86,7 +86,8 @@ cells_stay space words other cell is_cell same alike =
         known = reads.known;
         is_layout = reads.is_layout;
         of_shape = alike.of_shape ∙ reads.of_shape;
-        second = same_length (has_length cell.layout.kind) (slice_get words (cell.at + 1)) (slice_get other (cell.at + 1))
+        second = same_length (has_length cell.layout.kind) (slice_get words (cell.at + 1))
+            (slice_get other (cell.at + 1))
             cell.length alike.second reads.second;
         sized = reads.sized;
         ends = reads.ends;

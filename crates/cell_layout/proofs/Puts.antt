@@ -6,10 +6,8 @@ use Rattle.std.proofs.lemmas.Bool.{cases_lt, false≢true}
 use Rattle.std.proofs.lemmas.List.{length-set}
 use Rattle.std.proofs.lemmas.List.Elements.{All-weaker, All-contains_itself}
 use Rattle.tagged_word.specs.Shapes.{shapes_most}
-use Rattle.tagged_word.specs.declared.layout.Kind.{Kind}
-use Rattle.tagged_word.specs.declared.layout.Kind.TheVariants as kind
 use Rattle.tagged_word.specs.Cells.{has_length, words_of, words_least}
-use Rattle.tagged_word.proofs.Cells.{size_is}
+use Rattle.tagged_word.proofs.Cells.{size_is, two_words_of}
 use Rattle.page_space.specs.declared.region.Region.TheVariants.{Layout}
 use Rattle.page_space.specs.Extents.{Space, IsIn, CellsEndAt, is_cell_region, layouts_start}
 use Rattle.page_space.proofs.Addresses.{IsWithin, is_in}
@@ -33,11 +31,13 @@ slice_get-set_other (first ∷ words) (suc a) word (suc k) other =
 
 -- the layout words stay where their words do
 layout_words_stay : (space : Space) (words other : List ℕ) (shape : ℕ)
-    → (shape < shapes_most → slice_get other (layouts_start space + shape) ≡ slice_get words (layouts_start space + shape))
+    → (shape < shapes_most
+    → slice_get other (layouts_start space + shape) ≡ slice_get words (layouts_start space + shape))
     → slice_get (layouts_in space other) shape ≡ slice_get (layouts_in space words) shape
 layout_words_stay space words other shape same =
     ⊎_elim
-    (λ below. slice_get-layouts_in space other shape below ∙ same below ∙ sym (slice_get-layouts_in space words shape below))
+    (λ below. slice_get-layouts_in space other shape below ∙ same below
+    ∙ sym (slice_get-layouts_in space words shape below))
     (λ past. slice_get-layouts_past space other shape past ∙ sym (slice_get-layouts_past space words shape past))
     (cases_lt shape shapes_most)
 
@@ -54,10 +54,12 @@ puts_read_alike space words a word cell header long apart = record {
 -- an address where cells may stand is that of no layout word
 apart_from_layouts : (space : Space) (a end : ℕ) → CellsEndAt space a end → IsNoLayoutWord space a
 apart_from_layouts space a end ends shape below same =
-    let inside : IsWithin space (Layout shape) a = record { is_region = below; from = omega arith; below = omega arith } in
+    let inside : IsWithin space (Layout shape) a =
+    record { is_region = below; from = omega arith; below = omega arith } in
     let here : IsIn space a ends.extent.region =
     record { extent = ends.extent; stands = ends.stands; of_region = refl; holds = ends.holds } in
-    let region = addresses_are_in_one space a ends.extent.region (Layout shape) here (is_in space (Layout shape) a inside) in
+    let region = addresses_are_in_one space a ends.extent.region (Layout shape) here
+    (is_in space (Layout shape) a inside) in
     false≢true (sym (ap is_cell_region region) ∙ ends.of_cells)
 
 -- no word of a cell is a layout word
@@ -77,21 +79,13 @@ cells_are_apart space words cell offset is_cell within =
 all_of : (P : Cell → Type 0) (cells : List Cell) → ((cell : Cell) → Contains cells cell → P cell) → All P cells
 all_of P cells each = All-weaker (Contains cells) P each cells (All-contains_itself cells)
 
--- a cell with a length has the word for it
-two_of : (k : Kind) (cap long : ℕ) → words_least k ≤ words_of k cap long → IsTrue (has_length k)
-    → 2 ≤ words_of k cap long
-two_of kind.Store cap long least with = omega arith
-two_of kind.Table cap long least with = omega arith
-two_of kind.Gap cap long least with = least
-two_of _ cap long least with = absurd (false≢true with)
-
 -- a cell whose second word is a length has two words at least
-two_words : (space : Space) (words : List ℕ) (cell : Cell) → IsCell space words cell
+pub two_words : (space : Space) (words : List ℕ) (cell : Cell) → IsCell space words cell
     → IsTrue (has_length cell.layout.kind) → 2 ≤ cell.size
 two_words space words cell is_cell with =
     let size = size_is (words_least cell.layout.kind) (words_of cell.layout.kind cell.layout.cap cell.length) cell.size
     is_cell.reads.sized in
-    omega (arith, size.0, two_of cell.layout.kind cell.layout.cap cell.length size.1 with)
+    two_words_of cell.layout.kind cell.layout.cap cell.length cell.size with size.0 (omega (arith, size.0, size.1))
 
 -- a word outside a stretch is none of those that its cells are read by
 outside_cell : (space : Space) (words : List ℕ) (from to a word : ℕ) (cell : Cell) → IsCell space words cell
@@ -134,7 +128,8 @@ slots_change space words from to offset word cells cell row has visited =
     let apart = cells_are_apart space words cell offset parts.is_cell slot.within in
     let before = rows_stay_at_puts space words from cell.at a word parts.before parts.first (inr (omega arith)) apart in
     let end : ℕ = cell.at + cell.size in
-    let behind = rows_stay_at_puts space words end to a word parts.behind parts.rest (inl (omega (arith, slot.within))) apart in
+    let behind =
+    rows_stay_at_puts space words end to a word parts.behind parts.rest (inl (omega (arith, slot.within))) apart in
     let here = slot_changes space words cell offset word parts.is_cell slot in
     let all = rows_join space (set words a word) from cell.at to parts.before (cell ∷ parts.behind) before
     (row_from record { starts = refl; is_cell = here; rest = behind }) in

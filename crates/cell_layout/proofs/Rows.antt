@@ -117,7 +117,8 @@ one_row space words from to (cell ∷ cells) (first ∷ others) row other =
     let same : cell ≡ first =
     one_cell space words cell first begins.is_cell begins_other.is_cell (begins.starts ∙ sym begins_other.starts) in
     let P : Cell → Type 0 = λ one. IsRow space words (one.at + one.size) to others in
-    let rest = one_row space words (cell.at + cell.size) to cells others begins.rest (subst P (sym same) begins_other.rest) in
+    let rest = one_row space words (cell.at + cell.size) to cells others begins.rest
+    (subst P (sym same) begins_other.rest) in
     ap (λ one. one ∷ cells) same ∙ ap (λ more. first ∷ more) rest
 
 -- a row parts between any two of its cells
@@ -194,7 +195,8 @@ rows_stay space words other from to (cell ∷ cells) row same alike =
 
 -- a stretch of a row may change to another row
 pub stretches_change : StretchesChange
-stretches_change space words other from start end to before behind changed first rest same before_alike behind_alike row =
+stretches_change space words other from start end to before behind changed first rest same
+    before_alike behind_alike row =
     rows_join space other from end to (before ++ changed) behind
     (rows_join space other from start end before changed
     (rows_stay space words other from start before first same before_alike) row)

@@ -1,5 +1,5 @@
--- Laws of single cells: there is one at an address, it has some words, its slots lie in it, and it stays where what it is
--- read by stays.
+-- Laws of single cells: there is one at an address, it has some words, its slots lie in it, and it stays where what it
+-- is read by stays.
 use Rattle.std.specs.Prelude.{◌≡◌, ◌≢◌, ℕ, ◌+◌, ◌≤◌, ◌<◌, List, length, Contains, IsTrue, slice_get}
 use Rattle.std.specs.Prelude.{slice_set}
 use Rattle.tagged_word.specs.Shapes.{shapes_most}
@@ -13,7 +13,8 @@ use Rattle.cell_layout.specs.Cells.{IsCell, layouts_in}
 pub record ReadsAlike (space : Space) (words other : List ℕ) (cell : Cell) : Type 0 where
   pub first : slice_get other cell.at ≡ slice_get words cell.at
   pub second : IsTrue (has_length cell.layout.kind) → slice_get other (cell.at + 1) ≡ slice_get words (cell.at + 1)
-  pub of_shape : slice_get (layouts_in space other) cell.header.shape ≡ slice_get (layouts_in space words) cell.header.shape
+  pub of_shape : slice_get (layouts_in space other) cell.header.shape
+      ≡ slice_get (layouts_in space words) cell.header.shape
 
 -- The offset is one of the cell's, and none that the cell is read by: neither its header's, nor that of its length.
 pub record IsOfSlot (cell : Cell) (offset : ℕ) : Type 0 where
@@ -47,7 +48,8 @@ SlotsLieWithin =
 abbrev pub ScavengesVisitTagged : Type 0
 ScavengesVisitTagged =
     (cell : Cell) (offset : ℕ)
-    → Contains (tagged_offsets cell.layout cell.length) offset → Contains (scavenge_offsets cell.layout cell.length) offset
+    → Contains (tagged_offsets cell.layout cell.length) offset
+    → Contains (scavenge_offsets cell.layout cell.length) offset
 
 -- a cell stands in other words too, as many, which say the same where it is read
 abbrev pub CellsStay : Type 0

@@ -28,8 +28,8 @@ pub record HasRoom (space : Space) (words : List ℕ) (at room : ℕ) : Type 0 w
 abbrev pub reading_of : Cell → Reading
 reading_of cell = record { header = cell.header; layout = cell.layout; length = cell.length; size = cell.size }
 
--- The cell stands at its address in a page, in eden or in a segment, and ends there: these words read as its header, its
--- layout, its length and its size.
+-- The cell stands at its address in a page, in eden or in a segment, and ends there: these words read as its header,
+-- its layout, its length and its size.
 pub record IsCell (space : Space) (words : List ℕ) (cell : Cell) : Type 0 where
   pub end : ℕ
   pub stands : CellsEndAt space cell.at end

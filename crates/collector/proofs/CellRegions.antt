@@ -1,6 +1,6 @@
 -- The regions of cells by the addresses at which they begin.
-use Rattle.std.proofs.Common.{◌≡◌, ℕ, ◌+◌, ◌≤◌, ◌<◌, ◌⊎◌, inl, inr, List, [], ◌∷◌, Contains, refl, sym, ◌∙◌, ap, subst}
-use Rattle.std.proofs.Common.{arith}
+use Rattle.std.proofs.Common.{◌≡◌, ℕ, ◌+◌, ◌≤◌, ◌<◌, ◌⊎◌, inl, inr, List, [], ◌∷◌, Contains}
+use Rattle.std.proofs.Common.{refl, sym, ◌∙◌, ap, subst, arith}
 use Rattle.tagged_word.proofs.Members.{first_in, rest_in, in_cases}
 use Rattle.page_space.specs.declared.region.Region.{Region}
 use Rattle.page_space.specs.Extents.{Space, Stretch, Extent, IsIn, CellsEndAt, cell_stretches, extents_from, words_in}
@@ -8,24 +8,14 @@ use Rattle.page_space.specs.Extents.{roots_start, words_count}
 use Rattle.page_space.specs.RegionLaws.{IsSpace}
 use Rattle.page_space.proofs.CellEnds.{before_end, end_before_roots}
 use Rattle.page_space.proofs.Covering.{ends_within}
-use Rattle.page_space.proofs.LawsHold.{addresses_are_in_one, regions_stand_once, starts_are_inside}
+use Rattle.page_space.proofs.LawsHold.{regions_stand_once}
 use Rattle.page_space.proofs.Stretches.{words_in-cons}
 use Rattle.heap_model.specs.Heaps.{cell_extents}
 use Rattle.heap_model.proofs.BoundHeaps.{none_in}
-use Rattle.heap_model.proofs.CellsApart.{cell_extent_stands}
 use Rattle.heap_model.proofs.WordsAlike.{extent_below_roots}
+use Rattle.heap_model.proofs.CellsApart.{cell_extent_stands}
+use Rattle.heap_model.proofs.RegionStarts.{region_at_start, start_is_in}
 use Rattle.collector.specs.Filling.{StandsBetween}
-
--- a region has the address at which it begins
-start_is_in : (space : Space) (extent : Extent) → IsSpace space → Contains (cell_extents space) extent
-    → IsIn space extent.start extent.region
-start_is_in space extent limits among =
-    starts_are_inside space extent.region extent.start limits record {
-      extent = extent;
-      stands = cell_extent_stands space extent among;
-      of_region = refl;
-      starts = refl;
-    }
 
 -- a region of cells begins at a word of the heap
 pub start_inside : (space : Space) (start end : ℕ) → IsSpace space → StandsBetween space start end
@@ -41,21 +31,6 @@ told_inside space told start end region limits stands same inside =
     let In : Space → Type 0 = λ one. IsIn one start region in
     let Below : Space → Type 0 = λ one. start < words_count one in
     subst In same (inside (subst Below (sym same) (start_inside space start end limits stands)))
-
--- the region of the address at which a region of cells begins is that one
-pub region_at_start : (space : Space) (extent : Extent) (region : Region) → IsSpace space
-    → Contains (cell_extents space) extent → IsIn space extent.start region → region ≡ extent.region
-region_at_start space extent region limits among inside =
-    addresses_are_in_one space extent.start region extent.region inside (start_is_in space extent limits among)
-
--- two regions of cells that begin at one address are one
-pub one_extent : (space : Space) (one other : Extent) → IsSpace space → Contains (cell_extents space) one
-    → Contains (cell_extents space) other → one.start ≡ other.start → one ≡ other
-one_extent space one other limits among among_too same =
-    let In : ℕ → Type 0 = λ at. IsIn space at other.region in
-    let inside : In one.start = subst In (sym same) (start_is_in space other limits among_too) in
-    regions_stand_once space one other (cell_extent_stands space one among) (cell_extent_stands space other among_too)
-    (sym (region_at_start space one other.region limits among inside))
 
 -- a stretch begins at the address, or all of them end there
 abbrev Begins : ℕ → List Stretch → ℕ → Type 0

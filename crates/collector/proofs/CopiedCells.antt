@@ -20,7 +20,7 @@ use Rattle.heap_model.specs.Wholeness.{HasSizes, HasRows, Blank}
 use Rattle.heap_model.proofs.RowEnds.{one_used_row}
 use Rattle.heap_model.proofs.CellsApart.{IsOfCell, has_is_cell, first_of_cell}
 use Rattle.heap_model.proofs.RowCovers.{stretch_alike}
-use Rattle.heap_model.proofs.FreeCells.{second_word}
+use Rattle.cell_layout.proofs.Puts.{two_words}
 use Rattle.heap_model.proofs.WordsAlike.{extent_below_roots}
 use Rattle.collector.specs.Images.{AreWordsOf}
 use Rattle.collector.proofs.RowAddresses.{not_behind, row_of}
@@ -74,7 +74,7 @@ reads_alike {heap} {cell = cell} copying has =
       first = cell_word cell.at copying has (first_of_cell has);
       second = λ long. cell_word (cell.at + 1) copying has record {
         from = omega arith;
-        below = omega (arith, second_word heap.space heap.words cell is_cell long);
+        below = omega (arith, two_words heap.space heap.words cell is_cell long);
       };
       of_shape = layouts_stay cell.header.shape copying;
     }

@@ -17,10 +17,10 @@ use Rattle.heap_model.specs.Needs.{list_store_need, push_need_at, push_need, ele
 use Rattle.heap_model.proofs.CellWords.{words_by_kind, words_are_size}
 use Rattle.heap_model.proofs.FixedShapes.{shape_is_list}
 use Rattle.heap_model.proofs.SlotWords.{value_is_slot}
-use Rattle.heap_model.proofs.WordsRead.{word_of_cell}
+use Rattle.heap_model.proofs.WordsRead.{shape_is, word_of_cell}
 use Rattle.collector.proofs.CopiedCells.{Copying}
 use Rattle.collector.proofs.FieldWords.{IsRead, is_box_read, two_words, slot_read, beside_read, capacity_at_stays}
-use Rattle.collector.proofs.NeedWords.{RefersToCells, word_stays, shape_is, shape_stays, slot_refers}
+use Rattle.collector.proofs.NeedWords.{RefersToCells, word_stays, shape_stays, slot_refers}
 
 -- two numbers that are asked for on one condition are the same if they are where it holds
 pub same_if : (is : Bool) (a b : ℕ) → (is ≡ true → a ≡ b) → (if is then a else 0) ≡ (if is then b else 0)
@@ -85,7 +85,8 @@ element_read : {heap : Heap} {words : List ℕ} {cell : Cell} {others : List ℕ
     → HasCell heap cell others → IsTrue (is_object_kind cell.layout.kind) → IsListCell heap others
     → element < count_at heap cell.at → IsRead heap words (λ one. element_word one cell.at element)
 element_read {heap} {words} {cell} element copying has object sound inside =
-    let store : word_at heap (cell.at + store_slot) ≡ sound.store = word_of_cell store_slot sound.store has sound.slot in
+    let store : word_at heap (cell.at + store_slot) ≡ sound.store =
+    word_of_cell store_slot sound.store has sound.slot in
     let count : count_at heap cell.at ≡ sound.count = word_of_cell count_offset sound.count has sound.counted in
     let below : element < sound.count = omega (arith, inside, count) in
     let refers : (word : ℕ) → HasWord sound.beside element word → RefersToCells heap word =

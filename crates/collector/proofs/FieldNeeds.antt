@@ -1,6 +1,6 @@
 -- How much `set` needs on the object at an address: on an image as much as on the heap.
-use Rattle.std.proofs.Common.{◌≡◌, ℕ, suc, ◌+◌, ◌-◌, ◌<◌, Bool, true, false, not, ◌&&◌, List, [], ◌∷◌}
-use Rattle.std.proofs.Common.{length, get_or, slice_get, Some, None, Option, option_map, IsTrue, nat_lt, inl, inr}
+use Rattle.std.proofs.Common.{◌≡◌, ℕ, suc, ◌+◌, ◌-◌, ◌<◌, Bool, true, false, not, ◌&&◌, List, []}
+use Rattle.std.proofs.Common.{◌∷◌, length, get_or, slice_get, Some, None, Option, option_map, IsTrue, nat_lt, inl, inr}
 use Rattle.std.proofs.Common.{refl, sym, ◌∙◌, ap, subst, arith, ◌==◌, if◌then◌else◌}
 use Rattle.std.proofs.lemmas.Bool.{false≢true, cases_lt}
 use Rattle.std.proofs.lemmas.List.{get_or_past}
@@ -24,9 +24,10 @@ use Rattle.heap_model.specs.Needs.{is_box_word, box_need, store_need}
 use Rattle.heap_model.specs.Needs.{index_of, is_tagged_rep, is_raw_after, set_need_by, set_need_at, field_need}
 use Rattle.heap_model.proofs.PathLayouts.{layout_is}
 use Rattle.heap_model.proofs.SlotWords.{field_is_slot}
+use Rattle.heap_model.proofs.WordsRead.{shape_is}
 use Rattle.collector.proofs.CopiedCells.{Copying}
 use Rattle.collector.proofs.FieldWords.{is_box_read, field_read, capacity_at_stays}
-use Rattle.collector.proofs.NeedWords.{RefersToCells, shape_is, shape_stays, slot_refers}
+use Rattle.collector.proofs.NeedWords.{RefersToCells, shape_stays, slot_refers}
 
 -- the path of no shape
 abbrev no_path : Path

@@ -112,7 +112,8 @@ capacity_at_stays {heap} {words} {cell} whole copying has object =
 -- the word of a field of a plain object
 pub field_read : {heap : Heap} {words : List ℕ} {cell : Cell} {others slots : List ℕ} (cap field : ℕ)
     → Copying heap words → HasCell heap cell others → cell.layout.kind ≡ kind.Plain → cell.layout.cap ≡ cap
-    → HasSlots heap others slots → field < length slots → ((word : ℕ) → HasWord slots field word → RefersToCells heap word)
+    → HasSlots heap others slots → field < length slots
+    → ((word : ℕ) → HasWord slots field word → RefersToCells heap word)
     → IsRead heap words (λ one. field_word one cell.at cap field)
 field_read {heap} {words} {cell} {others} {slots} cap field copying has plain caps has_slots below refers =
     let own : List ℕ = drop plain_head others in

@@ -94,7 +94,8 @@ root_put_stays : {heap : Heap} {words : List ℕ} (x element : ℕ) (wide : Bool
 root_put_stays x element wide None whole copying below read = refl
 root_put_stays {heap} {words} x element wide (Some at) whole copying below read =
     let place = (root_place x at whole below read).1 in
-    let P : ℕ → Type 0 = λ at. put_need (written heap words) (Some at) element wide ≡ put_need heap (Some at) element wide in
+    let P : ℕ → Type 0 =
+    λ at. put_need (written heap words) (Some at) element wide ≡ put_need heap (Some at) element wide in
     subst P place.stands (put_stays element wide whole copying place.has place.object)
 
 -- an operand stands for the element for which it stood

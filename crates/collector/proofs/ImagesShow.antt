@@ -3,10 +3,10 @@ use Rattle.std.proofs.Common.{◌≡◌, ℕ, inl, inr, List, [], refl, sym, sub
 use Rattle.std.proofs.Common.{append-nil, arith}
 use Rattle.object_graph.specs.Graphs.{Graph}
 use Rattle.heap_model.specs.Heaps.{Heap}
-use Rattle.heap_model.specs.Changes.{written, CellsChange, IsOwnChange, IsGraphChange}
+use Rattle.heap_model.specs.Changes.{written, CellsChange, IsGraphChange}
 use Rattle.heap_model.specs.Wholeness.{Whole, Blank}
 use Rattle.heap_model.specs.Showing.{Shows}
-use Rattle.heap_model.proofs.BoundHeaps.{none_in}
+use Rattle.heap_model.proofs.BoundHeaps.{none_in, no_own_change}
 use Rattle.heap_model.proofs.WholeStays.{own_changes_keep_whole}
 use Rattle.heap_model.proofs.ShownGraphs.{own_changes_show}
 use Rattle.collector.specs.Images.{IsImageOf}
@@ -41,19 +41,7 @@ cells_stay {heap} copying = record {
   roots_stay = copying.are.roots;
 }
 
--- so the change owes nothing
-nothing_owed : {heap new : Heap} → IsOwnChange heap new [] [] []
-nothing_owed = record {
-  own = λ cell there. absurd (none_in cell there);
-  objects_stay = λ cell there object. absurd (none_in cell there);
-  objects_stood = λ cell there object. absurd (none_in cell there);
-  boxes_stay = λ cell there box. absurd (none_in cell there);
-  sound = λ cell there. absurd (none_in cell there);
-  named = λ owner slot at there names. absurd (none_in owner there);
-  once = λ owner another slot other at there there_too names names_too. absurd (none_in owner there);
-}
-
--- and the graph is the same
+-- the graph that they show is the same
 graph_stays : {heap : Heap} {words : List ℕ} {graph : Graph} → Shows heap graph
     → IsGraphChange heap (written heap words) graph graph [] [] []
 graph_stays shows = record {
@@ -70,7 +58,7 @@ graph_stays shows = record {
 pub words_whole : {heap : Heap} {words : List ℕ} → Whole heap → Copying heap words → Whole (written heap words)
 words_whole {heap} {words} whole copying =
     own_changes_keep_whole heap (written heap words) [] [] [] whole (has_sizes copying) (has_rows copying)
-    (cells_stay copying) nothing_owed
+    (cells_stay copying) (no_own_change heap (written heap words))
 
 -- an image shows what the heap shows
 pub images_show : ImagesShow
@@ -78,7 +66,7 @@ images_show heap image graph shows is =
     let copied = copying shows.whole is in
     subst (λ (one : Heap). Shows one graph) (sym (image_is heap image is))
     (own_changes_show heap (written heap image.words) graph graph [] [] [] shows (words_whole shows.whole copied)
-    (cells_stay copied) nothing_owed (graph_stays shows))
+    (cells_stay copied) (no_own_change heap (written heap image.words)) (graph_stays shows))
 
 -- an image is blank
 pub images_are_blank : ImagesAreBlank

@@ -4,11 +4,10 @@ use Rattle.std.proofs.Common.{IsTrue, inl, inr, refl, sym, ◌∙◌, ap, subst,
 use Rattle.std.specs.Option.{option_and_then}
 use Rattle.tagged_word.specs.declared.header.Header.{Header}
 use Rattle.tagged_word.specs.declared.layout.Kind.{Kind}
-use Rattle.tagged_word.specs.Headers.{header_bits}
 use Rattle.tagged_word.specs.Shapes.{box_shape}
 use Rattle.tagged_word.specs.Cells.{has_length, length_offset}
-use Rattle.tagged_word.specs.Readings.{reference_in, header_in, header_at}
-use Rattle.tagged_word.proofs.Readings.{reference_from, header_to}
+use Rattle.tagged_word.specs.Readings.{reference_in, header_in}
+use Rattle.tagged_word.proofs.Readings.{reference_from}
 use Rattle.cell_layout.specs.declared.cell.Cell.{Cell}
 use Rattle.heap_model.specs.Heaps.{Heap, HasCell}
 use Rattle.heap_model.specs.Changes.{written}
@@ -16,18 +15,9 @@ use Rattle.heap_model.specs.Slots.{RefersTo, IsSlotWord}
 use Rattle.heap_model.specs.Needs.{word_at, shape_at, capacity_by, is_box_at, is_box_word}
 use Rattle.heap_model.proofs.WordClasses.{same_reference, undefined_refers_not, hole_refers_not, small_refers_not}
 use Rattle.heap_model.proofs.CellsApart.{IsOfCell, has_is_cell, first_of_cell}
-use Rattle.heap_model.proofs.FreeCells.{second_word}
+use Rattle.cell_layout.proofs.Puts.{two_words}
 use Rattle.heap_model.proofs.SlotWords.{IsStoreKind, IsStoreWord}
 use Rattle.collector.proofs.CopiedCells.{Copying, cell_word}
-
--- the shape at a cell is that of its header
-pub shape_is : {heap : Heap} {cell : Cell} {words : List ℕ} → HasCell heap cell words
-    → shape_at heap cell.at ≡ cell.header.shape
-shape_is {heap} {cell} has =
-    let reads = (has_is_cell has).reads in
-    let there : header_at heap.words cell.at ≡ Some cell.header =
-    ap (option_and_then header_in) reads.first ∙ header_to (header_bits cell.header) cell.header reads.is_header refl in
-    ap (λ (found : Option Header). unwrap_or (option_map (λ (header : Header). header.shape) found) 0) there
 
 -- an image has the words of the heap's cells
 pub word_stays : {heap : Heap} {words : List ℕ} {cell : Cell} {others : List ℕ} (at : ℕ) → Copying heap words
@@ -129,7 +119,7 @@ pub capacity_stays : {heap : Heap} {words : List ℕ} (found : Option ℕ) → C
 capacity_stays None copying refers = refl
 capacity_stays {heap} (Some at) copying refers =
     let there = refers at refl in
-    let second = second_word heap.space heap.words there.cell (has_is_cell there.has) there.long in
+    let second = two_words heap.space heap.words there.cell (has_is_cell there.has) there.long in
     word_stays (at + length_offset) copying there.has record {
       from = omega (arith, there.starts);
       below = omega (arith, there.starts, second);

@@ -1,6 +1,6 @@
 -- The end of the used row of a region, and the walk to it in a segment.
-use Rattle.std.proofs.Common.{◌≡◌, ℕ, ◌+◌, ◌≤◌, ◌⊎◌, inl, inr, List, [], ◌∷◌, Contains, Some, slice_get, refl, sym}
-use Rattle.std.proofs.Common.{◌∙◌, ap, subst, arith}
+use Rattle.std.proofs.Common.{◌≡◌, ℕ, ◌+◌, ◌≤◌, ◌⊎◌, inl, inr, List, [], ◌∷◌, Contains, Some}
+use Rattle.std.proofs.Common.{slice_get, refl, sym, ◌∙◌, ap, subst, arith}
 use Rattle.page_space.specs.declared.region.Region.{Region}
 use Rattle.page_space.specs.declared.region.Region.TheVariants.{Page, Eden, Segment}
 use Rattle.page_space.specs.Extents.{Space, Extent, IsIn}
@@ -13,7 +13,7 @@ use Rattle.heap_model.specs.Heaps.{Heap, Row, EndsUsed, cell_extents}
 use Rattle.heap_model.specs.Wholeness.{HasRows}
 use Rattle.heap_model.proofs.RowEnds.{one_used_row, first_word_counts}
 use Rattle.collector.specs.Filling.{StandsBetween, IsSegmentBetween, IsRowFrom, EndsRowAt}
-use Rattle.collector.proofs.CellRegions.{one_extent, region_at_start}
+use Rattle.heap_model.proofs.RegionStarts.{one_extent, region_at_start}
 use Rattle.collector.proofs.RowAddresses.{row_of}
 
 -- the used row of a region, as it stands between two addresses

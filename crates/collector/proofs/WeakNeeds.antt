@@ -1,7 +1,7 @@
 -- How much `wput` needs on what stands at an address: on an image as much as on the heap.
-use Rattle.std.proofs.Common.{◌≡◌, ℕ, zero, suc, ◌+◌, ◌*◌, ◌<◌, Bool, true, false, not, ◌&&◌, List, length, drop}
-use Rattle.std.proofs.Common.{Option, Some, None, IsTrue, unwrap_or, slice_get, refl, sym, ◌∙◌, ap, subst, arith}
-use Rattle.std.proofs.Common.{◌==◌, if◌then◌else◌, length-drop}
+use Rattle.std.proofs.Common.{◌≡◌, ℕ, zero, suc, ◌+◌, ◌*◌, ◌<◌, Bool, true, false, not, ◌&&◌, List}
+use Rattle.std.proofs.Common.{length, drop, Option, Some, None, IsTrue, unwrap_or, slice_get, refl, sym, ◌∙◌, ap, subst}
+use Rattle.std.proofs.Common.{arith, ◌==◌, if◌then◌else◌, length-drop}
 use Rattle.std.proofs.lemmas.Bool.Decides.{nat_tests}
 use Rattle.std.proofs.lemmas.Option.{none-some, same_Some}
 use Rattle.tagged_word.specs.declared.layout.Kind.TheVariants as kind
@@ -23,10 +23,10 @@ use Rattle.heap_model.proofs.CellsApart.{has_is_cell}
 use Rattle.heap_model.proofs.CellWords.{words_by_kind, words_are_size}
 use Rattle.heap_model.proofs.FixedShapes.{shape_is_weak}
 use Rattle.heap_model.proofs.SlotWords.{All-slice_get}
-use Rattle.heap_model.proofs.WordsRead.{word_of_cell}
+use Rattle.heap_model.proofs.WordsRead.{shape_is, word_of_cell}
 use Rattle.collector.proofs.CopiedCells.{Copying}
 use Rattle.collector.proofs.FieldWords.{IsRead, is_box_read, two_words, slot_read, behind_read, capacity_at_stays}
-use Rattle.collector.proofs.NeedWords.{shape_is, shape_stays, slot_refers, zero_refers, address_is}
+use Rattle.collector.proofs.NeedWords.{shape_stays, slot_refers, zero_refers, address_is}
 use Rattle.collector.proofs.ElementNeeds.{same_if, count_read}
 
 -- the number is that of weak maps where the test says so

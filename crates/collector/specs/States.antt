@@ -1,18 +1,27 @@
 -- The heap that a script runs on, as those above it see it.
-use Rattle.std.specs.Prelude.{◌≡◌, length}
+use Rattle.std.specs.Prelude.{◌≡◌, ℕ, ◌≤◌, ◌⊎◌, length}
 use Rattle.object_graph.specs.Graphs.{Graph}
 use Rattle.page_space.specs.Extents.{marks_start}
 use Rattle.heap_model.specs.declared.image.HeapImage.{HeapImage}
 use Rattle.write_barrier.specs.Mains.{Mutator, MainShows}
 
+-- the image that was made last, and for how many words memory is reserved beside it
+pub record Spare : Type 0 where
+  pub image : HeapImage
+  pub reserved : ℕ
+
 -- the mutator's side, and the memory that an image of it is copied into
 pub record HeapState : Type 0 where
   pub main : Mutator
-  pub spare : HeapImage
+  pub spare : Spare
 
--- The mutator's side shows the graph; and the spare image has the same regions, and a word for each address before the
--- marks.
+-- there is memory for an image of so many words: the last image has as many, or they are reserved
+abbrev pub IsReady : Spare → ℕ → Type 0
+IsReady spare count = (length spare.image.words ≡ count) ⊎ (count ≤ spare.reserved)
+
+-- The mutator's side shows the graph; and there is memory for an image of the same regions, with a word for each
+-- address before the marks.
 pub record HeapShows (heap : HeapState) (graph : Graph) : Type 0 where
   pub main : MainShows heap.main graph
-  pub regions : heap.spare.regions ≡ heap.main.seat.space
-  pub ready : length heap.spare.words ≡ marks_start heap.main.seat.space
+  pub regions : heap.spare.image.regions ≡ heap.main.seat.space
+  pub ready : IsReady heap.spare (marks_start heap.main.seat.space)

@@ -1,5 +1,6 @@
 //! Images of a heap: a heap as plain data, copied out of the table of words.
-ghost use Rattle.std.specs.Prelude.{◌≡◌, length};
+ghost use Rattle.std.specs.Prelude.{◌≡◌, ◌≤◌, ◌⊎◌, length};
+ghost use Rattle.std.specs.Vec.{vec_capacity};
 ghost use Rattle.std.specs.Borrow.{sem};
 ghost use Rattle.object_graph.specs.Graphs.{Graph};
 ghost use Rattle.page_space.specs.Extents.{marks_start};
@@ -13,17 +14,41 @@ use crate::filling::fill_words;
 use crate::script_heap::Heap;
 use heap_model::{HeapImage, HeapWords};
 use std::mem;
+use word_store::Reads;
 use write_barrier::Main;
 
+// So many words, in memory that is reserved for them.
+fn reserved_words(mut memory: Vec<u64>, count: u32) -> Vec<u64>
+    requires room { count ≤ vec_capacity memory }
+    ensures { length result.items ≡ count }
+{
+    if memory.resize(count as usize, 0).is_err() {
+        unreachable!()
+    }
+    memory
+}
+
+// The words that an image of so many is put into: those of the last image, or the reserved ones.
+fn words_for(last: HeapWords, memory: Vec<u64>, count: u32) -> Vec<u64>
+    requires ready { (length last ≡ count) ⊎ (count ≤ vec_capacity memory) }
+    ensures { length result.items ≡ count }
+{
+    let words = last.into_vec();
+    if words.len() == count as usize {
+        words
+    } else {
+        reserved_words(memory, count)
+    }
+}
+
 /// The words of an image of the heap, put into words that are given back.
-fn imaged(main: &mut Main, spare: HeapWords) -> HeapWords
+fn imaged(main: &mut Main, mut words: Vec<u64>) -> HeapWords
     requires quiet { main.old.seat.phase ≡ Quiet }
     requires whole { Whole (heap_of main.old) }
-    requires ready { length spare ≡ marks_start main.old.seat.space }
+    requires ready { length words.items ≡ marks_start main.old.seat.space }
     ensures words { AreWordsOf (heap_of main.old) result }
     ensures same { main.new ≡ main.old }
 {
-    let mut words = spare.into_vec();
     fill_words(main, &mut words);
     HeapWords::from_vec(words)
 }
@@ -35,15 +60,17 @@ impl Heap {
     // Makes the spare image one of the heap.
     fn make_image(&mut self)
         requires { (graph : Graph) × HeapShows self.old graph }
-        ensures image { IsImageOf (heap_of self.old.main) (image_heap self.new.spare) }
+        ensures image { IsImageOf (heap_of self.old.main) (image_heap self.new.spare.image) }
         ensures main { self.new.main ≡ self.old.main }
     {
         self.spare.used = self.main.used();
         self.spare.survivors = self.main.nursery_mut().survivors();
         self.spare.shapes.copy_from(self.main.shapes());
         let none = HeapWords::from_vec(Vec::new(self.alloc));
-        let spare = mem::replace(&mut self.spare.words, none);
-        self.spare.words = imaged(&mut self.main, spare);
+        let last = mem::replace(&mut self.spare.words, none);
+        let memory = mem::replace(&mut self.memory, Vec::new(self.alloc));
+        let words = words_for(last, memory, self.main.count());
+        self.spare.words = imaged(&mut self.main, words);
     }
 
     /// An image of the heap, to be stored. It takes no memory. The heap is the same when the image
@@ -67,6 +94,7 @@ impl Heap {
         let Heap {
             main: _,
             spare,
+            memory: _,
             alloc: _,
         } = self;
         spare

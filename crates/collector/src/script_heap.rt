@@ -20,7 +20,10 @@ use write_barrier::Main;
 #[derive(Drop)]
 pub struct Heap {
     pub(crate) main: Main,
+    // The image that was made last; it has no words before the first.
     pub(crate) spare: HeapImage,
+    // The memory for the words of the first image. None of it is touched before.
+    pub(crate) memory: Vec<u64>,
     // What an empty list of words is made with. It gives no memory after the heap is opened.
     pub(crate) alloc: Global,
 }
@@ -35,19 +38,17 @@ impl Model for Heap {
     ghost view = { state_of };
 }
 
-/// An image of these regions with so many words of 0 and nothing used.
-fn spare_image(alloc: Global, regions: Regions, count: u32) -> Result<HeapImage, NoMemory>
+/// An image of these regions without words, of which nothing is used.
+fn spare_image(alloc: Global, regions: Regions) -> Result<HeapImage, NoMemory>
     ensures regions { IfOk result (λ image. image.regions ≡ regions) }
-    ensures count { IfOk result (λ image. length image.words ≡ count) }
 {
     let shapes = ShapeTree::new(alloc)?;
-    let words = vec![in alloc; 0u64; count as usize]?;
     Ok(HeapImage {
         regions,
         used: 0,
         survivors: 0,
         shapes,
-        words: HeapWords::from_vec(words),
+        words: HeapWords::from_vec(Vec::new(alloc)),
     })
 }
 
@@ -66,8 +67,14 @@ impl Heap {
         ensures regions { IfOk result (λ heap. heap.main.seat.space ≡ regions) }
     {
         let main = Main::open(alloc, seat, regions)?;
-        let spare = spare_image(alloc, main.regions(), main.count())?;
-        Ok(Heap { main, spare, alloc })
+        let spare = spare_image(alloc, main.regions())?;
+        let memory = Vec::with_capacity(alloc, main.count() as usize)?;
+        Ok(Heap {
+            main,
+            spare,
+            memory,
+            alloc,
+        })
     }
 
     /// The mutator's side.

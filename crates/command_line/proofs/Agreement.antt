@@ -5,9 +5,8 @@ use Rattle.clap.specs.Walk.{Held, Row, Text, idle, option, first_of}
 use Rattle.clap.specs.Kinds.{or_else}
 use Rattle.clap.specs.declared.error.kind.ErrorKind.TheVariants.{ArgumentConflict}
 use Rattle.page_space.specs.declared.sizes.Sizes.{Sizes}
-use Rattle.command_line.specs.Given.{Given, Setting, valued, named, ends_options, plain, stray, kind_of, with_positional}
-use Rattle.command_line.specs.Given.{is_option_name}
-use Rattle.command_line.specs.Given.{is_set}
+use Rattle.command_line.specs.Given.{Given, Setting, valued, named, ends_options, plain, stray, kind_of}
+use Rattle.command_line.specs.Given.{with_positional, is_option_name, is_set}
 use Rattle.command_line.specs.Sizes.{sizes_by, sizes_of, if_no_word}
 use Rattle.command_line.specs.Parser.{where_no_fault}
 use Rattle.command_line.proofs.WordKinds.{IsLong, dashes, option as option_word, hyphen, other, seen, attached_kind}
@@ -19,7 +18,8 @@ use Rattle.command_line.proofs.Turns.{walk_after_dashes, rows_with, value_fault}
 use Rattle.command_line.proofs.PlainTurns.{awaiting, outcome-stray}
 use Rattle.command_line.proofs.SettingRows.{first_passes, first_row, second_fails, setting_rows}
 use Rattle.command_line.proofs.SettingRows.{sizes_by-setting_rows}
-use Rattle.command_line.proofs.Meanings.{first_means, kind_means, only, second_means_none, sizes_meant, unknown_means_none}
+use Rattle.command_line.proofs.Meanings.{first_means, kind_means, only, second_means_none, sizes_meant}
+use Rattle.command_line.proofs.Meanings.{unknown_means_none}
 
 -- the sizes that the parser's rows give
 abbrev pub sizes_read : Option (List Row) → Option Sizes
@@ -54,8 +54,8 @@ after_dashes h settings [] stands = ap sizes_read (outcome-nil (walk_after_dashe
 after_dashes h settings (word ∷ words) stands = ap sizes_read (no_word_after h idle word words)
 
 -- what is held with one setting more
-stands_with : (h : Held) (settings : List Setting) (name text : Text) → StandsFor h settings → is_set name settings ≡ false
-    → StandsFor (held_with name text h) (and_setting settings name text)
+stands_with : (h : Held) (settings : List Setting) (name text : Text) → StandsFor h settings
+    → is_set name settings ≡ false → StandsFor (held_with name text h) (and_setting settings name text)
 stands_with h settings name text stands new = record {
   passes = refl;
   rows = ap (rows_with name text) stands.rows ∙ first_row name text settings new;
@@ -67,7 +67,8 @@ valued_agrees : (h : Held) (settings : List Setting) (word name text : Text) (wo
     → AgreeOn words
     → IsLong word name (Some text) → sizes_read (outcome (walk_at h idle) (word ∷ words))
     ≡ sizes_meant settings (Some name) (text ∷ words)
-valued_agrees h settings word name text words stands rest is = by_name (is_option_name name) refl (is_set name settings) refl
+valued_agrees h settings word name text words stands rest is =
+    by_name (is_option_name name) refl (is_set name settings) refl
   where
     same : value_fault name text (held_rows h) ≡ value_fault name text (setting_rows settings)
     same = ap (value_fault name text) stands.rows
@@ -76,8 +77,10 @@ valued_agrees h settings word name text words stands rest is = by_name (is_optio
         → sizes_read (outcome (walk_at h idle) (word ∷ words)) ≡ sizes_meant settings (Some name) (text ∷ words)
     by_name false unknown twice e = ap sizes_read (outcome-unknown h idle word name (Some text) words is unknown)
         ∙ sym (unknown_means_none name settings (text ∷ words) unknown)
-    by_name true known true e = ap sizes_read (outcome-valued_refused h idle word name text words ArgumentConflict [] is known
-        (ap (λ ks. or_else ks (value_fault name text (held_rows h))) stands.passes ∙ same ∙ second_fails name text settings e))
+    by_name true known true e =
+        ap sizes_read (outcome-valued_refused h idle word name text words ArgumentConflict [] is known
+        (ap (λ ks. or_else ks (value_fault name text (held_rows h))) stands.passes ∙ same
+        ∙ second_fails name text settings e))
         ∙ sym (second_means_none name text settings words known e)
     by_name true known false e =
         ap sizes_read (outcome-valued h idle word name text words is known stands.passes (same
@@ -88,7 +91,8 @@ valued_agrees h settings word name text words stands rest is = by_name (is_optio
 -- `--name`
 named_agrees : (h : Held) (settings : List Setting) (word name : Text) (words : List Text) → StandsFor h settings
     → AgreeOnAwaited words
-    → IsLong word name None → sizes_read (outcome (walk_at h idle) (word ∷ words)) ≡ sizes_meant settings (Some name) words
+    → IsLong word name None
+    → sizes_read (outcome (walk_at h idle) (word ∷ words)) ≡ sizes_meant settings (Some name) words
 named_agrees h settings word name words stands rest is = by_name (is_option_name name) refl
   where
     same : held_for name h ≡ awaiting (setting_rows settings) name
@@ -109,7 +113,8 @@ option_agrees : (h : Held) (settings : List Setting) (word name : Text) (v : Opt
 option_agrees h settings word name None words stands rest awaited is kind =
     named_agrees h settings word name words stands awaited is ∙ sym (kind_means settings word words (named name) kind)
 option_agrees h settings word name (Some text) words stands rest awaited is kind =
-    valued_agrees h settings word name text words stands rest is ∙ sym (kind_means settings word words (valued name text) kind)
+    valued_agrees h settings word name text words stands rest is
+    ∙ sym (kind_means settings word words (valued name text) kind)
 
 -- these settings and a positional word
 abbrev with_word : List Setting → Text → Given
@@ -118,7 +123,8 @@ with_word settings word = with_positional (word ∷ []) (only settings)
 -- any word
 pub word_agrees : (word : Text) (words : List Text) → AgreeOn words → AgreeOnAwaited words → AgreeOn (word ∷ words)
 word_agrees word words rest awaited h settings stands = elim (seen word) [
-  | dashes e kind ↦ ap (λ w. sizes_read (outcome (walk_at h idle) (w ∷ words))) e ∙ ap sizes_read (outcome-dashes h idle words)
+  | dashes e kind ↦ ap (λ w. sizes_read (outcome (walk_at h idle) (w ∷ words))) e
+      ∙ ap sizes_read (outcome-dashes h idle words)
       ∙ after_dashes h settings words stands ∙ sym (kind_means settings word words ends_options kind)
   | option_word begin name v begins is kind ↦ option_agrees h settings word name v words stands rest awaited is kind
   | hyphen begin begins is kind ↦ ap sizes_read (outcome-stray h word words stands.skip is)

@@ -1,6 +1,6 @@
 -- The sizes that words ask for are within their limits.
-use Rattle.std.proofs.Common.{◌≡◌, ℕ, ◌≤◌, List, [], ◌∷◌, Option, Some, None, Bool, true, false, IsTrue, ◌&&◌, nat_le, cond}
-use Rattle.std.proofs.Common.{arith, refl, subst}
+use Rattle.std.proofs.Common.{◌≡◌, ℕ, ◌≤◌, List, [], ◌∷◌, Option, Some, None, Bool, true, false, IsTrue}
+use Rattle.std.proofs.Common.{◌&&◌, nat_le, cond, arith, refl, subst}
 use Rattle.std.proofs.lemmas.Bool.Decides.{nat_tests}
 use Rattle.std.proofs.lemmas.Option.{option_and_then_some, same_Some}
 use Rattle.std.specs.Option.{option_map, option_and_then}
@@ -12,17 +12,20 @@ use Rattle.command_line.specs.declared.invocation.Invocation.{Invocation}
 use Rattle.command_line.specs.declared.invocation.Invocation.TheVariants.{Run}
 use Rattle.command_line.specs.Given.{Text, Given, given_of}
 use Rattle.command_line.specs.Numbers.{number_of, within, number_or_default}
-use Rattle.command_line.specs.Sizes.{pages_limits, young_limits, helpers_limits, sizes_from, text_in, sizes_of, if_no_word, sizes_alone}
+use Rattle.command_line.specs.Sizes.{pages_limits, young_limits, helpers_limits, sizes_from, text_in, sizes_of}
+use Rattle.command_line.specs.Sizes.{if_no_word, sizes_alone}
 use Rattle.command_line.specs.Invocations.{Command, run, check, soak, gen, command_text, invocation_by}
 use Rattle.command_line.specs.SizeLaws.{AskedSizesAreWithin}
 
 -- a number that passes the test of its limits is within them
-pass_limits : (test : Bool) (number found : ℕ) → cond test (Some number) None ≡ Some found → IsTrue test × (number ≡ found)
+pass_limits : (test : Bool) (number found : ℕ) → cond test (Some number) None ≡ Some found
+    → IsTrue test × (number ≡ found)
 pass_limits true number found e = (refl, same_Some number found e)
 pass_limits false number found e = cc
 
 -- so it is with a number that is found within limits
-within_limits : (least most number found : ℕ) → within least most number ≡ Some found → (least ≤ found) × (found ≤ most)
+within_limits : (least most number found : ℕ) → within least most number ≡ Some found
+    → (least ≤ found) × (found ≤ most)
 within_limits least most number found e =
     let passed = pass_limits (nat_le least number && nat_le number most) number found e in
     let test : IsTrue (nat_le least number && nat_le number most) = passed.0 in
@@ -61,8 +64,10 @@ settings_within : (given : Given) (sizes : Sizes) (variables : ℕ) → sizes_of
 settings_within given sizes variables e few =
     let text : Text → Option Text = text_in given.settings in
     let three = from_three _ _ _ sizes e in
-    let pages = number_within pages_limits (text (codes "pages")) sizes.pages (omega arith) (omega arith) three.of_pages in
-    let young = number_within young_limits (text (codes "young")) sizes.young (omega arith) (omega arith) three.of_young in
+    let pages =
+    number_within pages_limits (text (codes "pages")) sizes.pages (omega arith) (omega arith) three.of_pages in
+    let young =
+    number_within young_limits (text (codes "young")) sizes.young (omega arith) (omega arith) three.of_young in
     let helpers = number_within helpers_limits (text (codes "helpers")) sizes.helpers (omega arith) (omega arith)
     three.of_helpers in
     record {

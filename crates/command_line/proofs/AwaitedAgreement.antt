@@ -1,4 +1,5 @@
--- The parser of options and the definition agree on the sizes that words give: where a value is awaited, and on all words.
+-- The parser of options and the definition agree on the sizes that words give: where a value is awaited, and on all
+-- words.
 use Rattle.std.proofs.Common.{◌≡◌, ◌∙◌, Bool, true, false, List, [], ◌∷◌, None, Some, is_some, refl}
 use Rattle.std.proofs.Common.{ap, sym, true≢false}
 use Rattle.clap.specs.Walk.{Held, Text, Waiting, idle, option}
@@ -11,8 +12,8 @@ use Rattle.command_line.proofs.Hopeless.{and_setting}
 use Rattle.command_line.proofs.Turns.{held_fault, outcome, outcome-nil, outcome-nil_refused, outcome-dashes}
 use Rattle.command_line.proofs.Turns.{outcome-option_refused}
 use Rattle.command_line.proofs.Turns.{no_word_after, walk_at, walk_after_dashes, value_fault}
-use Rattle.command_line.proofs.PlainTurns.{awaiting, given_value, walk_awaiting, walk_given, outcome-stray, stopped, taken}
-use Rattle.command_line.proofs.PlainTurns.{value_is_taken}
+use Rattle.command_line.proofs.PlainTurns.{awaiting, given_value, walk_awaiting, walk_given, outcome-stray, stopped}
+use Rattle.command_line.proofs.PlainTurns.{taken, value_is_taken}
 use Rattle.command_line.proofs.SettingRows.{awaits_fault, first_passes, first_row, pending_fault, pending_rows}
 use Rattle.command_line.proofs.SettingRows.{second_fails, setting_rows}
 use Rattle.command_line.proofs.Meanings.{first_means, hyphen_means_none, second_means_none, sizes_meant}
@@ -34,8 +35,8 @@ dashes_refused h [] kind kinds fails waiting = outcome-nil_refused (walk_after_d
 dashes_refused h (word ∷ words) kind kinds fails waiting = no_word_after h waiting word words
 
 -- nor of any words
-held_refused : (h : Held) (words : List Text) (kind : ErrorKind) (kinds : Kinds) → h.skip ≡ 0 → held_fault h ≡ kind ∷ kinds
-    → outcome (walk_at h idle) words ≡ None
+held_refused : (h : Held) (words : List Text) (kind : ErrorKind) (kinds : Kinds) → h.skip ≡ 0
+    → held_fault h ≡ kind ∷ kinds → outcome (walk_at h idle) words ≡ None
 held_refused h [] kind kinds none fails = outcome-nil_refused (walk_at h idle) kind kinds fails
 held_refused h (word ∷ words) kind kinds none fails = elim (seen word) [
   | dashes e k ↦ ap (λ w. outcome (walk_at h idle) (w ∷ words)) e ∙ outcome-dashes h idle words
@@ -46,8 +47,8 @@ held_refused h (word ∷ words) kind kinds none fails = elim (seen word) [
 ]
 
 -- a value
-value_agrees : (settings : List Setting) (name word : Text) (words : List Text) → is_option_name name ≡ true → AgreeOn words
-    → sizes_read (outcome (walk_given (setting_rows settings) name word) words)
+value_agrees : (settings : List Setting) (name word : Text) (words : List Text) → is_option_name name ≡ true
+    → AgreeOn words → sizes_read (outcome (walk_given (setting_rows settings) name word) words)
     ≡ sizes_meant settings (Some name) (word ∷ words)
 value_agrees settings name word words known rest = by_setting (is_set name settings) refl
   where
@@ -72,7 +73,8 @@ value_agrees settings name word words known rest = by_setting (is_set name setti
         ap sizes_read (held_refused (given_value (setting_rows settings) name word) words ArgumentConflict [] refl (same
         ∙ second_fails name word settings twice))
         ∙ sym (second_means_none name word settings words known twice)
-    by_setting false new = rest (given_value (setting_rows settings) name word) (and_setting settings name word) (stands new)
+    by_setting false new =
+        rest (given_value (setting_rows settings) name word) (and_setting settings name word) (stands new)
         ∙ sym (first_means name word settings words known new)
 
 -- any word
@@ -84,7 +86,8 @@ awaited_agrees word words rest settings name known = elim (seen word) [
       ∙ dashes_refused (awaiting (setting_rows settings) name) words InvalidValue []
       (awaits_fault (setting_rows settings) name known) (option name))
   | option_word begin other_name v begins is kind ↦ refused_agrees settings name word begin words known begins
-      (outcome-option_refused (awaiting (setting_rows settings) name) (option name) word other_name v words InvalidValue [] is
+      (outcome-option_refused (awaiting (setting_rows settings) name) (option name) word other_name v
+      words InvalidValue [] is
       (awaits_fault (setting_rows settings) name known))
   | hyphen begin begins is kind ↦ elim (value_is_taken (setting_rows settings) name word words known is) [
     | taken goes ↦ ap sizes_read goes ∙ value_agrees settings name word words known rest

@@ -29,7 +29,8 @@ IsHopeless given = (settings : List Setting) (words : List Text) → sizes_alone
 -- no sizes come of it as it is
 hopeless_now : (given : Given) → IsHopeless given → sizes_alone given ≡ None
 hopeless_now given h =
-    let alone = λ (all : List Setting) (words : List Text). sizes_alone (record { settings = all; positional = words }) in
+    let alone = λ (all : List Setting) (words : List Text). sizes_alone
+    (record { settings = all; positional = words }) in
     sym (ap₂ alone (append-nil given.settings) (append-nil given.positional)) ∙ h [] []
 
 -- one setting more does not help
@@ -63,7 +64,8 @@ fails_on_setting next name text given rest h = go (is_option_name name && not (i
     go false = refl
 
 -- a word, and what follows it
-fails_on_kind : (given : Given) (word : Text) (words : List Text) (kind : Kind) (next : Given → Option Text → Option Given)
+fails_on_kind : (given : Given) (word : Text) (words : List Text) (kind : Kind)
+    (next : Given → Option Text → Option Given)
     → ((awaited : Option Text) → FailsOn (λ more. next more awaited)) → IsHopeless given
     → option_and_then sizes_alone (given_by given word words kind next) ≡ None
 fails_on_kind given word words (valued name text) next rest h =
@@ -80,7 +82,8 @@ pub hopeless_after : (words : List Text) (awaited : Option Text) → FailsOn (λ
 hopeless_after [] None given h = hopeless_now given h
 hopeless_after [] (Some name) given h = refl
 hopeless_after (word ∷ words) None given h =
-    fails_on_kind given word words (kind_of word) (λ more awaited. given_after more awaited words) (hopeless_after words) h
+    fails_on_kind given word words (kind_of word) (λ more awaited. given_after more awaited words)
+    (hopeless_after words) h
 hopeless_after (word ∷ words) (Some name) given h =
     fails_on_setting (λ more. given_after more None words) name word given (hopeless_after words None) h
 
@@ -100,8 +103,10 @@ text_in-first (setting ∷ settings) more name text new =
     rest : List Setting
     rest = and_setting settings name text ++ more
 
-    go : (b : Bool) → (b || is_set name settings) ≡ false → (is_set name settings ≡ false → text_in rest name ≡ Some text)
-        → option_map (λ (s : Setting). s.text) (cond b (Some setting) (find (λ (s : Setting). bytes_eq s.name name) rest))
+    go : (b : Bool) → (b || is_set name settings) ≡ false
+        → (is_set name settings ≡ false → text_in rest name ≡ Some text)
+        → option_map (λ (s : Setting). s.text)
+        (cond b (Some setting) (find (λ (s : Setting). bytes_eq s.name name) rest))
         ≡ Some text
     go true e later = cc
     go false e later = later e
@@ -144,10 +149,13 @@ hyphen_gives_none text_of name rest known is =
     let young_number : Option ℕ = number_or_default young_limits (text_of (codes "young")) in
     let helpers_number : Option ℕ = number_or_default helpers_limits (text_of (codes "helpers")) in
     elim (name_cases name known) [
-      | pages e ↦ ap (λ t. sizes_from (number_or_default pages_limits t) young_number helpers_number) (ap text_of e ∙ is)
-      | young e ↦ ap (λ t. sizes_from pages_number (number_or_default young_limits t) helpers_number) (ap text_of e ∙ is)
+      | pages e ↦ ap (λ t. sizes_from (number_or_default pages_limits t) young_number
+          helpers_number) (ap text_of e ∙ is)
+      | young e ↦ ap (λ t. sizes_from pages_number (number_or_default young_limits t)
+          helpers_number) (ap text_of e ∙ is)
           ∙ no_young pages_number helpers_number
-      | helpers e ↦ ap (λ t. sizes_from pages_number young_number (number_or_default helpers_limits t)) (ap text_of e ∙ is)
+      | helpers e ↦ ap (λ t. sizes_from pages_number young_number
+          (number_or_default helpers_limits t)) (ap text_of e ∙ is)
           ∙ no_helpers pages_number young_number
     ]
 

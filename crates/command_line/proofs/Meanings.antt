@@ -2,8 +2,8 @@
 use Rattle.std.proofs.Common.{◌≡◌, ◌∙◌, Bool, true, false, List, [], ◌∷◌, Option, None, Some}
 use Rattle.std.proofs.Common.{option_and_then, refl, ap}
 use Rattle.page_space.specs.declared.sizes.Sizes.{Sizes}
-use Rattle.command_line.specs.Given.{Text, Setting, Given, Kind, kind_of, given_after, given_by, with_setting, is_option_name}
-use Rattle.command_line.specs.Given.{is_set}
+use Rattle.command_line.specs.Given.{Text, Setting, Given, Kind, kind_of, given_after, given_by, with_setting}
+use Rattle.command_line.specs.Given.{is_option_name, is_set}
 use Rattle.command_line.specs.Sizes.{sizes_alone}
 use Rattle.command_line.proofs.Hopeless.{and_setting, hopeless_after, hyphen_is_hopeless}
 
@@ -61,8 +61,8 @@ unknown_means_none name settings (word ∷ words) unknown =
     setting_means name word settings words None (unknown_setting name word settings unknown)
 
 -- nor does a value with a hyphen first
-pub hyphen_means_none : (name word rest : Text) (settings : List Setting) (words : List Text) → is_option_name name ≡ true
-    → word ≡ 45 ∷ rest
+pub hyphen_means_none : (name word rest : Text) (settings : List Setting) (words : List Text)
+    → is_option_name name ≡ true → word ≡ 45 ∷ rest
     → sizes_meant settings (Some name) (word ∷ words) ≡ None
 hyphen_means_none name word rest settings words known begins = by_setting (is_set name settings) refl
   where
@@ -75,7 +75,8 @@ hyphen_means_none name word rest settings words known begins = by_setting (is_se
 -- what is meant by a word of this kind, with the words after it
 abbrev pub kind_meant : List Setting → Text → List Text → Kind → Option Sizes
 kind_meant settings word words kind =
-    option_and_then sizes_alone (given_by (only settings) word words kind (λ more awaited. given_after more awaited words))
+    option_and_then sizes_alone
+    (given_by (only settings) word words kind (λ more awaited. given_after more awaited words))
 
 -- a word means what its kind does
 pub kind_means : (settings : List Setting) (word : Text) (words : List Text) (kind : Kind) → kind_of word ≡ kind

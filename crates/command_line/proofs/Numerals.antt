@@ -21,7 +21,8 @@ above_most least most number above = grind (arith, leb_tells)
 
 -- digits that `parse` does not read at 32 bits are no number up to a most of 32 bits
 pub unread_digits : {E : Type 0} (least most : ℕ) (text : List ℕ) (r : Result ℕ E) (e : E) → most < 2 ^ 32
-    → list_all is_ascii_digit text ≡ true → ParsesUnsigned 32 10 text r → r ≡ Err e → None ≡ number_in least most text
+    → list_all is_ascii_digit text ≡ true → ParsesUnsigned 32 10 text r → r ≡ Err e
+    → None ≡ number_in least most text
 unread_digits least most [] r e fits all reads is = refl
 unread_digits {E} least most (b ∷ bs) r e fits all reads is =
     let number : ℕ = digits_value 10 (b ∷ bs) in
@@ -33,5 +34,6 @@ unread_digits {E} least most (b ∷ bs) r e fits all reads is =
       | inr large ↦ omega arith
     ] in
     sym (ap (λ t. option_and_then (within least most) (cond (t && nat_lt 0 (length (b ∷ bs))) (Some number) None)) all
-    ∙ ap (λ t. option_and_then (within least most) (cond t (Some number) None)) (lt-ltb 0 (length (b ∷ bs)) (omega arith))
+    ∙ ap (λ t. option_and_then (within least most) (cond t (Some number) None))
+    (lt-ltb 0 (length (b ∷ bs)) (omega arith))
     ∙ above_most least most number above)

@@ -5,7 +5,8 @@ use Rattle.std.proofs.Common.{ap₂}
 use Rattle.clap.specs.Walk.{Row, Text, finished, has_row, idle, nothing_held, walk, walk_from, with_default}
 use Rattle.clap.specs.Simple.{matches_of, built}
 use Rattle.clap.specs.Kinds.{Kinds, or_else}
-use Rattle.clap.specs.Faults.{check_fault, default_fault, defaults_fault, fault_of, given_default_fault, level_fault, walk_fault}
+use Rattle.clap.specs.Faults.{check_fault, default_fault, defaults_fault, fault_of, given_default_fault, level_fault}
+use Rattle.clap.specs.Faults.{walk_fault}
 use Rattle.clap.proofs.FaultLemmas.{leaf_fault}
 use Rattle.command_line.specs.Given.{given_of, option_names}
 use Rattle.command_line.specs.Sizes.{sizes_alone}
@@ -42,7 +43,8 @@ defaults_pass : (rows : List Row) (names : List Text) → defaults_fault rows (m
 unfolding defaults_fault
 defaults_pass rows [] = refl
 defaults_pass rows (name ∷ names) =
-    ap₂ (λ ks rs. or_else ks (defaults_fault rs (map built_rule names))) (default_passes rows name) (rows_stay rows name)
+    ap₂ (λ ks rs. or_else ks (defaults_fault rs (map built_rule names)))
+    (default_passes rows name) (rows_stay rows name)
     ∙ defaults_pass rows names
 
 -- no option is required
@@ -76,7 +78,8 @@ unfolding top
 faults_are words = leaf_fault (built parser) nothing_held (drop 1 words) refl ∙ level_is (drop 1 words)
 
 -- its rows are those at the end of the walk
-matches_are : (words : List Text) → matches_of parser words ≡ held_rows (walk top.rules [] nothing_held (drop 1 words)).held
+matches_are : (words : List Text)
+    → matches_of parser words ≡ held_rows (walk top.rules [] nothing_held (drop 1 words)).held
 unfolding top
 matches_are words =
     let rows = held_rows (walk top.rules [] nothing_held (drop 1 words)).held in

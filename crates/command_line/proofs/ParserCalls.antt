@@ -41,10 +41,12 @@ none_parsed app words e is fails bad =
     go [] (inr among) = absurd among
 
 -- the sizes that the texts of matches give are those that the words mean
-pub sizes_found : (words : List Text) (m : ArgMatches) (sizes : Option Sizes) → parsed_rows words ≡ Some (rows_of (found_of m))
+pub sizes_found : (words : List Text) (m : ArgMatches) (sizes : Option Sizes)
+    → parsed_rows words ≡ Some (rows_of (found_of m))
     → sizes ≡ sizes_by (first_value (found_of m)) → option_and_then sizes_alone (given_of (drop 1 words)) ≡ sizes
 sizes_found words m sizes e is =
-    sym (parsed_rows-sizes words) ∙ ap sizes_read e ∙ (λ i. sizes_by (λ name. sym (first_value-rows (found_of m) name) i))
+    sym (parsed_rows-sizes words) ∙ ap sizes_read e
+    ∙ (λ i. sizes_by (λ name. sym (first_value-rows (found_of m) name) i))
     ∙ sym is
 
 -- and where there are no matches, the words mean none

@@ -17,10 +17,12 @@ holding rows pending = record { rows = rows; pending = pending; skip = 0 }
 -- a bundle of short options is refused, or it is taken for a plain word
 pub data IsBundle (h : Held) (flags : Text) : Type 0 where
   unknown : bundle_fault top.rules top.args_override_self flags h ≡ UnknownArgument ∷ [] → IsBundle h flags
-  passes : bundle_fault top.rules top.args_override_self flags h ≡ [] → bundle top.rules flags h ≡ (h, plain) → IsBundle h flags
+  passes : bundle_fault top.rules top.args_override_self flags h ≡ []
+      → bundle top.rules flags h ≡ (h, plain) → IsBundle h flags
 
 -- each bundle is one of these
-bundle_is : (rows : List Row) (pending : Option (Text × List Text)) (flags : Text) → IsBundle (holding rows pending) flags
+bundle_is : (rows : List Row) (pending : Option (Text × List Text)) (flags : Text)
+    → IsBundle (holding rows pending) flags
 unfolding flags_fault bundle_met
 bundle_is rows pending [] = passes refl refl
 bundle_is rows pending (f ∷ fs) = by_char (slice_get (chars (f ∷ fs)) 0) refl
@@ -48,7 +50,8 @@ pub outcome-stray : (h : Held) (word : Text) (words : List Text) → h.skip ≡ 
 outcome-stray h word words none is =
     let same : holding h.rows h.pending ≡ h = λ i. record h { skip = sym none i } in
     subst (λ x. outcome (walk_at x idle) (word ∷ words) ≡ None) same
-    (refused (walk_at (holding h.rows h.pending) idle) word words UnknownArgument [] (stray_fault h.rows h.pending word is))
+    (refused (walk_at (holding h.rows h.pending) idle) word words UnknownArgument []
+    (stray_fault h.rows h.pending word is))
 
 -- what is held while the value of an option is awaited
 abbrev pub awaiting : List Row → Text → Held
@@ -75,14 +78,15 @@ pub data IsTaken (rows : List Row) (name word : Text) (words : List Text) : Type
       → IsTaken rows name word words
 
 -- each word that is no option is one of these
-pub value_is_taken : (rows : List Row) (name word : Text) (words : List Text) → is_option_name name ≡ true → IsNoLong word
-    → IsTaken rows name word words
+pub value_is_taken : (rows : List Row) (name word : Text) (words : List Text) → is_option_name name ≡ true
+    → IsNoLong word → IsTaken rows name word words
 unfolding walked
 value_is_taken rows name word words known is = by_short (short_of word) refl
   where
     by_short : (short : Option Text) → short_of word ≡ short → IsTaken rows name word words
     by_short None none = taken (passed (walk_awaiting rows name) (walk_given rows name word) word words
-        (rw (is.no_dashes, is.long, none) refl) (rw (is.no_dashes, is.long, none, by_id name, known, text_is_itself name) refl))
+        (rw (is.no_dashes, is.long, none) refl)
+        (rw (is.no_dashes, is.long, none, by_id name, known, text_is_itself name) refl))
     by_short (Some flags) some = elim (bundle_is rows (Some (name, [])) flags) [
       | unknown e ↦ stopped (ap is_some some)
           (refused (walk_awaiting rows name) word words UnknownArgument [] (rw (is.no_dashes, is.long, some, e) refl))

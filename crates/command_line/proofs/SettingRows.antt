@@ -30,7 +30,8 @@ abbrev pub setting_rows : List Setting → List Row
 setting_rows = map setting_row
 
 -- an option has a row where it is set
-has_row-setting_rows : (name : Text) (settings : List Setting) → has_row name (setting_rows settings) ≡ is_set name settings
+has_row-setting_rows : (name : Text) (settings : List Setting)
+    → has_row name (setting_rows settings) ≡ is_set name settings
 has_row-setting_rows name settings = sym (list_any-map (λ (r : Row). bytes_eq r.id name) setting_row settings)
 
 -- a row of a new id stands at the end
@@ -67,14 +68,16 @@ pub second_fails : (name text : Text) (settings : List Setting) → is_set name 
 second_fails name text settings twice = rw (top-again, has_row-setting_rows name settings, twice) refl
 
 -- the text that the parser finds for a name is that of the settings
-first_of-setting_rows : (name : Text) (settings : List Setting) → first_of name (setting_rows settings) ≡ text_in settings name
+first_of-setting_rows : (name : Text) (settings : List Setting)
+    → first_of name (setting_rows settings) ≡ text_in settings name
 first_of-setting_rows name [] = refl
 first_of-setting_rows name (setting ∷ settings) = go (bytes_eq setting.name name) (first_of-setting_rows name settings)
   where
     go : (b : Bool) → first_of name (setting_rows settings) ≡ text_in settings name
         → option_and_then (λ (r : Row). slice_get r.values 0)
         (cond b (Some (setting_row setting)) (find (λ (r : Row). bytes_eq r.id name) (setting_rows settings)))
-        ≡ option_map (λ (s : Setting). s.text) (cond b (Some setting) (find (λ (s : Setting). bytes_eq s.name name) settings))
+        ≡ option_map (λ (s : Setting). s.text)
+        (cond b (Some setting) (find (λ (s : Setting). bytes_eq s.name name) settings))
     go true rest = refl
     go false rest = rest
 

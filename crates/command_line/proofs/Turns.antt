@@ -1,7 +1,7 @@
 -- The walk of the parser of options over words, one word at a time.
 use Rattle.std.proofs.Common.{◌≡◌, ◌∙◌, Bool, true, false, List, [], ◌∷◌, Option, None, Some, fold, refl, ap}
-use Rattle.clap.specs.Walk.{Held, Row, Text, Waiting, Walk, idle, option, positional, settled, subcommand_met, used, value}
-use Rattle.clap.specs.Walk.{walked}
+use Rattle.clap.specs.Walk.{Held, Row, Text, Waiting, Walk, idle, option, positional, settled, subcommand_met, used}
+use Rattle.clap.specs.Walk.{value, walked}
 use Rattle.clap.specs.Kinds.{Kinds, or_else}
 use Rattle.clap.specs.Faults.{settle_fault, step_fault, turn_fault, use_fault, walk_fault}
 use Rattle.clap.specs.declared.error.kind.ErrorKind.{ErrorKind}
@@ -47,12 +47,13 @@ unfolding walk_fault
 outcome-nil w = refl
 
 -- no word is left, and what is held is refused
-pub outcome-nil_refused : (w : Walk) (kind : ErrorKind) (kinds : Kinds) → held_fault w.held ≡ kind ∷ kinds → outcome w [] ≡ None
+pub outcome-nil_refused : (w : Walk) (kind : ErrorKind) (kinds : Kinds)
+    → held_fault w.held ≡ kind ∷ kinds → outcome w [] ≡ None
 outcome-nil_refused w kind kinds fails = outcome-nil w ∙ ap (λ ks. where_no_fault ks (held_rows w.held)) fails
 
 -- a word that is refused ends the walk
-pub refused : (w : Walk) (word : Text) (words : List Text) (kind : ErrorKind) (kinds : Kinds) → word_fault w word ≡ kind ∷ kinds
-    → outcome w (word ∷ words) ≡ None
+pub refused : (w : Walk) (word : Text) (words : List Text) (kind : ErrorKind) (kinds : Kinds)
+    → word_fault w word ≡ kind ∷ kinds → outcome w (word ∷ words) ≡ None
 unfolding walk_fault
 refused w word words kind kinds fails =
     let end = (fold after_word (after_word w word) words).held in
@@ -84,7 +85,8 @@ no_place_for h = rw (no_place 1, top-leaf) refl
 -- after `--` no word is taken
 pub no_word_after : (h : Held) (waiting : Waiting) (word : Text) (words : List Text)
     → outcome (walk_after_dashes h waiting) (word ∷ words) ≡ None
-no_word_after h waiting word words = refused (walk_after_dashes h waiting) word words UnknownArgument [] (no_place_for h)
+no_word_after h waiting word words =
+    refused (walk_after_dashes h waiting) word words UnknownArgument [] (no_place_for h)
 
 -- `--`
 pub outcome-dashes : (h : Held) (waiting : Waiting) (words : List Text)
@@ -93,7 +95,8 @@ unfolding walked
 outcome-dashes h idle words = passed (walk_at h idle) (walk_after_dashes h idle) two_hyphens words refl refl
 outcome-dashes h (option name) words =
     passed (walk_at h (option name)) (walk_after_dashes h (option name)) two_hyphens words refl refl
-outcome-dashes h positional words = passed (walk_at h positional) (walk_after_dashes h positional) two_hyphens words refl refl
+outcome-dashes h positional words =
+    passed (walk_at h positional) (walk_after_dashes h positional) two_hyphens words refl refl
 
 -- no word names a subcommand, where there is none
 no_subcommand : (waiting : Waiting) (word : Text) → subcommand_met [] waiting word ≡ None
@@ -129,7 +132,8 @@ after_valued h waiting word name text is known = rw
     (no_subcommand waiting word, is.no_dashes, is.long, by_long name, known) refl
 
 -- an option with its value, which passes
-pub outcome-valued : (h : Held) (waiting : Waiting) (word name text : Text) (words : List Text) → IsLong word name (Some text)
+pub outcome-valued : (h : Held) (waiting : Waiting) (word name text : Text) (words : List Text)
+    → IsLong word name (Some text)
     → is_option_name name ≡ true → held_fault h ≡ [] → value_fault name text (held_rows h) ≡ []
     → outcome (walk_at h waiting) (word ∷ words) ≡ outcome (walk_at (held_with name text h) idle) words
 outcome-valued h waiting word name text words is known held passes =
@@ -140,7 +144,8 @@ outcome-valued h waiting word name text words is known held passes =
     (after_valued h waiting word name text is known)
 
 -- an option with its value, which is refused
-pub outcome-valued_refused : (h : Held) (waiting : Waiting) (word name text : Text) (words : List Text) (kind : ErrorKind)
+pub outcome-valued_refused : (h : Held) (waiting : Waiting) (word name text : Text)
+    (words : List Text) (kind : ErrorKind)
     (kinds : Kinds) → IsLong word name (Some text) → is_option_name name ≡ true
     → or_else (held_fault h) (value_fault name text (held_rows h)) ≡ kind ∷ kinds
     → outcome (walk_at h waiting) (word ∷ words) ≡ None
@@ -155,13 +160,15 @@ held_for name h = record h { rows = held_rows h; pending = Some (name, []) }
 -- an option without its value is refused with what is held
 named_fault : (h : Held) (waiting : Waiting) (word name : Text) → IsLong word name None → is_option_name name ≡ true
     → word_fault (walk_at h waiting) word ≡ or_else (held_fault h) []
-named_fault h waiting word name is known = rw (no_subcommand waiting word, is.no_dashes, is.long, by_long name, known) refl
+named_fault h waiting word name is known =
+    rw (no_subcommand waiting word, is.no_dashes, is.long, by_long name, known) refl
 
 -- the walk after it
 after_named : (h : Held) (waiting : Waiting) (word name : Text) → IsLong word name None → is_option_name name ≡ true
     → after_word (walk_at h waiting) word ≡ walk_at (held_for name h) (option name)
 unfolding walked
-after_named h waiting word name is known = rw (no_subcommand waiting word, is.no_dashes, is.long, by_long name, known) refl
+after_named h waiting word name is known =
+    rw (no_subcommand waiting word, is.no_dashes, is.long, by_long name, known) refl
 
 -- an option without its value, which passes
 pub outcome-named : (h : Held) (waiting : Waiting) (word name : Text) (words : List Text) → IsLong word name None
@@ -169,7 +176,8 @@ pub outcome-named : (h : Held) (waiting : Waiting) (word name : Text) (words : L
     → outcome (walk_at h waiting) (word ∷ words) ≡ outcome (walk_at (held_for name h) (option name)) words
 outcome-named h waiting word name words is known passes =
     passed (walk_at h waiting) (walk_at (held_for name h) (option name)) word words
-    (named_fault h waiting word name is known ∙ ap (λ ks. or_else ks []) passes) (after_named h waiting word name is known)
+    (named_fault h waiting word name is known ∙ ap (λ ks. or_else ks []) passes)
+    (after_named h waiting word name is known)
 
 -- where what is held is refused, so is a word that is an option
 pub outcome-option_refused : (h : Held) (waiting : Waiting) (word name : Text) (v : Option Text) (words : List Text)

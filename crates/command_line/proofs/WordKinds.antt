@@ -7,7 +7,8 @@ use Rattle.std.specs.List.{list_any, before_first, after_first, position_or_len}
 use Rattle.std.proofs.lemmas.Bool.Decides.{eqb_tells}
 use Rattle.std.proofs.lemmas.List.{take_all}
 use Rattle.clap.specs.Lexer.{long_of, short_of}
-use Rattle.command_line.specs.Given.{Text, Kind, valued, named, ends_options, plain, stray, kind_of, option_kind, is_equals_sign}
+use Rattle.command_line.specs.Given.{Text, Kind, valued, named, ends_options, plain, stray, kind_of, option_kind}
+use Rattle.command_line.specs.Given.{is_equals_sign}
 
 -- `--`
 abbrev pub two_hyphens : Text
@@ -31,7 +32,8 @@ attached_kind name (Some text) = valued name text
 -- which word it is, in the words of both
 pub data IsSeen (word : Text) : Type 0 where
   dashes : word ≡ two_hyphens → kind_of word ≡ ends_options → IsSeen word
-  option : (rest name : Text) (v : Option Text) → word ≡ 45 ∷ rest → IsLong word name v → kind_of word ≡ attached_kind name v
+  option : (rest name : Text) (v : Option Text) → word ≡ 45 ∷ rest → IsLong word name v
+      → kind_of word ≡ attached_kind name v
       → IsSeen word
   hyphen : (rest : Text) → word ≡ 45 ∷ rest → IsNoLong word → kind_of word ≡ stray → IsSeen word
   other : IsNoLong word → short_of word ≡ None → kind_of word ≡ plain → IsSeen word
@@ -42,7 +44,8 @@ none_before [] e = refl
 none_before (b ∷ bs) e = go (b == 61) (none_before bs) e
   where
     go : (t : Bool) → (list_any is_equals_sign bs ≡ false → position_or_len is_equals_sign bs ≡ length bs)
-        → (t || list_any is_equals_sign bs) ≡ false → cond (not t) (1 + position_or_len is_equals_sign bs) 0 ≡ length (b ∷ bs)
+        → (t || list_any is_equals_sign bs) ≡ false
+        → cond (not t) (1 + position_or_len is_equals_sign bs) 0 ≡ length (b ∷ bs)
     go true rest e = cc
     go false rest e = omega (arith, rest e)
 

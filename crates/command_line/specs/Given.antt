@@ -44,8 +44,8 @@ with_setting name text given =
 abbrev pub with_positional : List Text → Given → Given
 with_positional words given = record given { positional = given.positional ++ words }
 
--- What a word is where no value is awaited: `--name=value`; `--name`, after which a value is awaited; `--`; a positional
--- word; or another word with a hyphen first.
+-- What a word is where no value is awaited: `--name=value`; `--name`, after which a value is awaited; `--`; a
+-- positional word; or another word with a hyphen first.
 pub data Kind : Type 0 where
   valued : Text → Text → Kind
   named : Text → Kind
@@ -73,7 +73,8 @@ kind_of word =
 -- What a word of this kind gives, with the words after it. `next` reads those words, from what is given by now and the
 -- name, if any, that awaits its value.
 abbrev pub given_by : Given → Text → List Text → Kind → (Given → Option Text → Option Given) → Option Given
-given_by given word words (valued name text) next = option_and_then (λ more. next more None) (with_setting name text given)
+given_by given word words (valued name text) next =
+    option_and_then (λ more. next more None) (with_setting name text given)
 given_by given word words (named name) next = next given (Some name)
 given_by given word words ends_options next = Some (with_positional words given)
 given_by given word words plain next = next (with_positional (word ∷ []) given) None

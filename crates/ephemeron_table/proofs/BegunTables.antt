@@ -1,5 +1,6 @@
 -- The words with a table of pairs that hold nothing.
-use Rattle.std.proofs.Common.{◌≡◌, ◌≢◌, ℕ, suc, ◌+◌, ◌*◌, ◌≤◌, ◌<◌, inl, inr, List, length, Some, slice_get, replicate}
+use Rattle.std.proofs.Common.{◌≡◌, ◌≢◌, ℕ, suc, ◌+◌, ◌*◌, ◌≤◌, ◌<◌, inl, inr, List, length, Some}
+use Rattle.std.proofs.Common.{slice_get, replicate}
 use Rattle.std.proofs.Common.{refl, sym, ◌∙◌, ap, arith, length-set}
 use Rattle.std.specs.Prelude.{slice_set}
 use Rattle.std.proofs.lemmas.Bool.{cases_lt}
@@ -50,7 +51,8 @@ module _ (words : List ℕ) (table : Table) (within : table.at + (store_head + 2
 
   pub begun_capacity : slice_get (begun_table words table) (table.at + 1) ≡ Some table.capacity
   begun_capacity =
-      with_range_before sized holes (table.at + store_head) (table.at + 1) (omega (arith, within, sized_long)) (omega arith)
+      with_range_before sized holes (table.at + store_head) (table.at + 1) (omega (arith, within, sized_long))
+      (omega arith)
       ∙ slice_get-set_same headed (table.at + 1) table.capacity
       (omega (arith, within, length-set words table.at (header_bits table_header)))
 

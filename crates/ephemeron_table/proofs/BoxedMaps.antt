@@ -1,5 +1,6 @@
 -- An integer that was put into the box of an entry's value refills the map: so the entry has the value.
-use Rattle.std.proofs.Common.{◌≡◌, ℕ, ◌+◌, ◌<◌, inl, inr, List, [], ◌∷◌, ◌++◌, length, drop, Contains, Some, false}
+use Rattle.std.proofs.Common.{◌≡◌, ℕ, ◌+◌, ◌<◌, inl, inr, List, [], ◌∷◌, ◌++◌, length, drop, Contains}
+use Rattle.std.proofs.Common.{Some, false}
 use Rattle.std.proofs.Common.{slice_get, refl, sym, ◌∙◌, ap, subst, arith}
 use Rattle.std.specs.Prelude.{ℤ, FitsSigned, option_map}
 use Rattle.std.specs.Int.{w64}
@@ -32,6 +33,7 @@ use Rattle.object_cells.specs.declared.content.Content.{Content}
 use Rattle.object_cells.specs.declared.content.Content.TheVariants as content
 use Rattle.object_cells.specs.Made.{beside_content, content_word}
 use Rattle.object_cells.proofs.CellsRead.{word_stands}
+use Rattle.object_cells.proofs.FilledSlots.{set_there}
 use Rattle.object_cells.proofs.HeldContents.{HoldsValue}
 use Rattle.object_cells.proofs.KeptCapacities.{WritesOwn, none_made}
 use Rattle.object_cells.proofs.MadeBoxes.{boxed_integer}
@@ -45,10 +47,9 @@ use Rattle.ephemeron_table.specs.declared.reading.Table.{Table}
 use Rattle.ephemeron_table.proofs.CountedPairs.{count_filled}
 use Rattle.ephemeron_table.proofs.BoxedValues.{one_box, map_cell, table_cell, writes, cells, same_young}
 use Rattle.ephemeron_table.proofs.BoxedValues.{room_for_none, head_stays, map_stays, pairs_kept, box_now, box_holds}
-use Rattle.ephemeron_table.proofs.BoxedValues.{were}
+use Rattle.ephemeron_table.proofs.BoxedValues.{were, rest_stays}
 use Rattle.ephemeron_table.proofs.BoxedValues.{names, no_box}
 use Rattle.ephemeron_table.proofs.EntryPairs.{HasEntryPair, known, some, entry_filled, entry_refers}
-use Rattle.ephemeron_table.proofs.FilledValues.{set_there}
 use Rattle.ephemeron_table.proofs.KnownTables.{cell_has, sound, within_words, slot_there, of_map, number_found}
 use Rattle.ephemeron_table.proofs.KnownTables.{finds_all, probed_pair, found, other_long, other_belongs, other_number}
 use Rattle.ephemeron_table.proofs.KnownTables.{pairs_same}
@@ -284,7 +285,6 @@ module _ {old new : Mutator} {graph : Graph} {map key : ℕ} {weak : WeakObject}
     back = refers_back;
     slot_stays = map_stays v has box_of puts_it 1 (omega arith);
     room = room_for_none v has box_of puts_it;
-    space = ap (λ (m : Mutator). m.seat.space) puts_it;
-    phase = ap (λ (m : Mutator). m.seat.phase) puts_it;
+    beside = rest_stays v has box_of puts_it;
     young = same_young v has box_of puts_it;
   }

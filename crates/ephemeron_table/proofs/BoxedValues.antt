@@ -11,7 +11,8 @@ use Rattle.object_graph.specs.Graphs.{Graph, WeakObject}
 use Rattle.object_graph.proofs.Lists.{slice_get-set_same, slice_get-set_other}
 use Rattle.nursery.specs.Young.{HasRoom}
 use Rattle.cell_layout.specs.declared.cell.Cell.{Cell}
-use Rattle.heap_table.specs.Seats.{heap_words}
+use Rattle.heap_table.specs.Seats.{heap_words, StaysBeside}
+use Rattle.heap_table.specs.Staying.{stays_beside_itself}
 use Rattle.heap_model.specs.Heaps.{HasCell, words_of_cell}
 use Rattle.heap_model.specs.Slots.{is_object_kind, reference_word, raw_word, RefersTo}
 use Rattle.heap_model.specs.Kinds.{HasWord, Pair}
@@ -26,6 +27,7 @@ use Rattle.object_cells.proofs.MadeBoxes.{row_of_none}
 use Rattle.object_cells.proofs.OwnPlaces.{has_own_words, box_size}
 use Rattle.object_cells.proofs.SlotBoxes.{IsBoxOf}
 use Rattle.object_cells.proofs.SlotsNow.{word_at_offset}
+use Rattle.object_cells.proofs.WordsBeside.{put_beside}
 use Rattle.object_cells.proofs.WordsPut.{heap_with_word}
 use Rattle.ephemeron_table.specs.Pairs.{HasPairs, IsFilledAt}
 use Rattle.ephemeron_table.specs.PairWrites.{WritesWeak, IsWrittenTable}
@@ -99,6 +101,10 @@ module _ {old new : Mutator} {graph : Graph} {map key : ℕ} {weak : WeakObject}
         cell_before_marks (known has).whole.sized box_has,
       )
 
+  -- all words from the marks on stay
+  pub rest_stays : StaysBeside old.seat new.seat
+  rest_stays = put_beside (box + 1) (raw_word v) (stays_beside_itself old.seat) puts_it within
+
   put_heap : heap_words new.seat ≡ put
   put_heap = ap (λ (m : Mutator). heap_words m.seat) puts_it ∙ heap_with_word old (box + 1) (raw_word v) within
 
@@ -133,8 +139,7 @@ module _ {old new : Mutator} {graph : Graph} {map key : ℕ} {weak : WeakObject}
     stood = stood;
     room = room_for_none;
     puts = record {
-      space = ap (λ (m : Mutator). m.seat.space) puts_it;
-      phase = ap (λ (m : Mutator). m.seat.phase) puts_it;
+      beside = rest_stays;
       paths = ap (λ (m : Mutator). m.paths) puts_it;
       young = same_young;
       heap = put_heap;

@@ -1,5 +1,6 @@
 -- How far the taking of a pair has come, as the pairs are read.
-use Rattle.std.proofs.Common.{◌≡◌, ◌≢◌, ℕ, ◌+◌, ◌*◌, ◌≤◌, ◌<◌, inl, inr, List, length, get_or, Option, Some, None}
+use Rattle.std.proofs.Common.{◌≡◌, ◌≢◌, ℕ, ◌+◌, ◌*◌, ◌≤◌, ◌<◌, inl, inr, List, length, get_or}
+use Rattle.std.proofs.Common.{Option, Some, None}
 use Rattle.std.proofs.Common.{slice_get, unwrap_or, refl, sym, ◌∙◌, ap, subst, arith}
 use Rattle.std.specs.Prelude.{slice_set, option_map}
 use Rattle.std.specs.Option.{option_and_then}
@@ -18,6 +19,7 @@ use Rattle.std.proofs.lemmas.Bool.{cases_lt}
 use Rattle.linear_probing.proofs.Removals.{IsRemoval, removal_begins, left}
 use Rattle.linear_probing.proofs.Turns.{IsTurn, turn_passes, turn_moves, turn_left, ends_at_none}
 use Rattle.heap_table.specs.Seats.{heap_words}
+use Rattle.heap_table.specs.Staying.{stays_beside_itself, stays_beside_again}
 use Rattle.heap_model.specs.Heaps.{Heap}
 use Rattle.heap_model.specs.Kinds.{Pair, free_pair}
 use Rattle.write_barrier.specs.Mains.{Mutator, heap_of}
@@ -35,8 +37,7 @@ use Rattle.ephemeron_table.proofs.FirstRounds.{IsFirstRound, IsFreeAfter, round_
 -- nothing has changed so far
 pub nothing_changed : (main : Mutator) (table : Table) → ChangesPairs main main table
 nothing_changed main table = record {
-  space = refl;
-  phase = refl;
+  rest = stays_beside_itself main.seat;
   paths = refl;
   young = refl;
   long = refl;
@@ -47,9 +48,8 @@ nothing_changed main table = record {
 pub pair_changed : {old mid new : Mutator} (table : Table) (place : ℕ) (pair : Pair) → ChangesPairs old mid table
     → place < table.capacity → PutsWords mid new (with_pair (heap_words mid.seat) table.at place pair)
     → ChangesPairs old new table
-pair_changed {mid = mid} table place pair changes below puts = record {
-  space = puts.space ∙ changes.space;
-  phase = puts.phase ∙ changes.phase;
+pair_changed {old} {mid} {new} table place pair changes below puts = record {
+  rest = stays_beside_again old.seat mid.seat new.seat changes.rest puts.beside;
   paths = puts.paths ∙ changes.paths;
   young = puts.young ∙ changes.young;
   long = ap length puts.heap ∙ length-with_pair (heap_words mid.seat) table.at place pair ∙ changes.long;
@@ -107,7 +107,8 @@ reads_pair heap table place within below =
     let are = pairs_read heap.words table within in
     let pairs : List Pair = pairs_of heap.words table in
     let pair : Pair = get_or pairs place free_pair in
-    let there : slice_get pairs place ≡ Some pair = slice_get-get_or pairs place free_pair (omega (arith, are.long, below)) in
+    let there : slice_get pairs place ≡ Some pair =
+    slice_get-get_or pairs place free_pair (omega (arith, are.long, below)) in
     record {
       pair = pair;
       there = there;
@@ -160,7 +161,8 @@ module _ {old now : Mutator} {table : Table} {place hole passed : ℕ}
             let same : free ≡ place =
             sym leads ∙ ap (place_after (length before) place) zero_steps
             ∙ place_after_none (length before) place taking.going.within in
-            absurd (filled.filled (same_Some one free_pair (sym filled.stands ∙ ap (slice_get before) (sym same) ∙ is_free)))
+            absurd (filled.filled
+            (same_Some one free_pair (sym filled.stands ∙ ap (slice_get before) (sym same) ∙ is_free)))
       ] in
       (taking.going.round distance (record {
         some = some;
@@ -168,7 +170,8 @@ module _ {old now : Mutator} {table : Table} {place hole passed : ℕ}
         free = ap (slice_get before) leads ∙ is_free;
       })).below
 
-  module _ (next : ℕ) (few : passed + 1 < table.capacity) (next_is : next ≡ place_after table.capacity hole (passed + 1)) where
+  module _ (next : ℕ) (few : passed + 1 < table.capacity)
+      (next_is : next ≡ place_after table.capacity hole (passed + 1)) where
     pub next_below : next < table.capacity
     next_below = omega (arith, next_is, place_after_within table.capacity hole (passed + 1) (omega arith))
 
@@ -264,7 +267,8 @@ module _ {old now : Mutator} {table : Table} {place hole passed : ℕ}
           pub moves_on : IsTakingOut (heap_of old) before (pairs_of (heap_words new.seat) table) place next 0
           moves_on = record {
             removal = subst (λ table. IsRemoval (numbers (heap_of old) before) place table next 0) (sym numbers_new)
-                (turn_moves (numbers (heap_of old) before) (numbers (heap_of old) far) place table.capacity hole passed next
+                (turn_moves (numbers (heap_of old) before)
+                (numbers (heap_of old) far) place table.capacity hole passed next
                 number steps taking.removal turn holds steps_is far_from);
             going = subst (λ pairs. IsGoing before pairs place next 0)
                 (ap (λ pairs. slice_set pairs next free_pair)
@@ -281,5 +285,6 @@ module _ {old now : Mutator} {table : Table} {place hole passed : ℕ}
               < left (numbers (heap_of old) far) hole passed
           less_left =
               subst (λ table. left table next 0 < left (numbers (heap_of old) far) hole passed) (sym numbers_new)
-              (turn_left (numbers (heap_of old) before) (numbers (heap_of old) far) place table.capacity hole passed next
+              (turn_left (numbers (heap_of old) before)
+              (numbers (heap_of old) far) place table.capacity hole passed next
               number steps taking.removal turn holds steps_is far_from)

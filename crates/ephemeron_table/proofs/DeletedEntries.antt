@@ -1,5 +1,6 @@
 -- An entry of a weak map was taken out.
-use Rattle.std.proofs.Common.{◌≡◌, ◌≢◌, ℕ, ◌+◌, Bool, true, false, cond, List, [], ◌∷◌, length, Some, None}
+use Rattle.std.proofs.Common.{◌≡◌, ◌≢◌, ℕ, ◌+◌, Bool, true, false, cond, List, [], ◌∷◌, length, Some}
+use Rattle.std.proofs.Common.{None}
 use Rattle.std.proofs.Common.{slice_get, get_or, set, refl, sym, ◌∙◌, ap, subst, arith, add-zero, ◌==◌}
 use Rattle.std.specs.Prelude.{slice_set}
 use Rattle.std.proofs.lemmas.List.{set-get_or}
@@ -13,6 +14,7 @@ use Rattle.object_graph.specs.Objects.{entry_value, without_entry}
 use Rattle.object_graph.specs.Graphs.{Graph, WeakObject}
 use Rattle.object_graph.specs.Meaning.{reweave}
 use Rattle.heap_table.specs.Seats.{heap_words}
+use Rattle.heap_table.specs.Staying.{stays_beside_itself}
 use Rattle.heap_model.specs.Heaps.{words_of_cell}
 use Rattle.heap_model.specs.Slots.{RefersToPlace}
 use Rattle.heap_model.specs.Kinds.{HasWord, Pair, count_offset}
@@ -75,7 +77,7 @@ reweave_same graph weak is =
 -- nothing more is used where nothing has changed
 pub uses_none : (old : Mutator) → UsesMore old old 0
 uses_none old = record {
-  space = refl;
+  beside = stays_beside_itself old.seat;
   young = ap (λ n. record old.young { used = n }) (sym (add-zero old.young.used));
 }
 
@@ -169,7 +171,7 @@ module _ {old new : Mutator} {graph : Graph} {map key : ℕ} {weak : WeakObject}
       record {
         none = λ no_entry. absurd (none-some its.told.value (sym no_entry ∙ its.told.is_entry));
         uses = record {
-          space = takes.space;
+          beside = takes.rest;
           young = takes.young ∙ ap (λ n. record old.young { used = n }) (sym (add-zero old.young.used));
         };
         changes = subst (λ at. ChangesObject (heap_of old) (heap_of new) at (capacity_at (heap_of old) at))
@@ -177,6 +179,6 @@ module _ {old new : Mutator} {graph : Graph} {map key : ℕ} {weak : WeakObject}
             (slot_stays is_known (some its) takes one (entry_filled its)));
         shows = entries_show old new graph weak (shown its).cell _ [] number None its.shows its.is.object its.is.reached
             its.is_key.reached (shown its).carries (shown its).shows (λ what is. absurd (none-some what is))
-            (ap (λ (y : Young). y.space) takes.young ∙ its.shows.tied ∙ sym takes.space)
-            (takes.phase ∙ its.shows.quiet) refills puts_one counted;
+            (ap (λ (y : Young). y.space) takes.young ∙ its.shows.tied ∙ sym takes.rest.space)
+            (takes.rest.phase ∙ its.shows.quiet) refills puts_one counted;
       }

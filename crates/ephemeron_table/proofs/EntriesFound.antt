@@ -1,5 +1,6 @@
 -- Entries by their keys.
-use Rattle.std.proofs.Common.{◌≡◌, ◌≢◌, ℕ, zero, suc, Bool, true, false, cond, List, [], ◌∷◌, Some, None, slice_get}
+use Rattle.std.proofs.Common.{◌≡◌, ◌≢◌, ℕ, zero, suc, Bool, true, false, cond, List, [], ◌∷◌, Some, None}
+use Rattle.std.proofs.Common.{slice_get}
 use Rattle.std.proofs.Common.{refl}
 use Rattle.std.proofs.Common.{sym, ◌∙◌, ap, ◌==◌}
 use Rattle.std.proofs.lemmas.Bool.{eqb-true, eq-eqb, false≢true}
@@ -13,7 +14,8 @@ entry_by : (test : Bool) (entry : Entry) (entries : List Entry) (key : ℕ) (val
     → cond test (Some entry.value) (entry_value entries key) ≡ Some value
     → ((at : ℕ) × (slice_get entries at ≡ Some (record { key = key; value = value }))
     → (at : ℕ) × (slice_get (entry ∷ entries) at ≡ Some (record { key = key; value = value })))
-    → (entry_value entries key ≡ Some value → (at : ℕ) × (slice_get entries at ≡ Some (record { key = key; value = value })))
+    → (entry_value entries key ≡ Some value
+    → (at : ℕ) × (slice_get entries at ≡ Some (record { key = key; value = value })))
     → (at : ℕ) × (slice_get (entry ∷ entries) at ≡ Some (record { key = key; value = value }))
 entry_by true entry entries key value same found later rest =
     let keys : entry.key ≡ key = eqb-true entry.key key same in

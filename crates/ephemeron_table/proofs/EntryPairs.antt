@@ -1,5 +1,6 @@
 -- The pair of a weak map's entry: it alone has the key, and what putting a value there takes.
-use Rattle.std.proofs.Common.{◌≡◌, ℕ, ◌+◌, ◌*◌, ◌<◌, Some, not, ◌&&◌, slice_get, get_or, unwrap_or, sym, ◌∙◌, ap, arith}
+use Rattle.std.proofs.Common.{◌≡◌, ℕ, ◌+◌, ◌*◌, ◌<◌, Some, not, ◌&&◌, slice_get, get_or, unwrap_or, sym}
+use Rattle.std.proofs.Common.{◌∙◌, ap, arith}
 use Rattle.std.proofs.lemmas.Option.{slice_get-get_or}
 use Rattle.page_space.specs.Sizes.{AreWithin}
 use Rattle.object_graph.specs.declared.value.Value.{Value}
@@ -21,7 +22,7 @@ use Rattle.ephemeron_table.specs.Pairs.{IsFilledAt}
 use Rattle.ephemeron_table.specs.Probes.{IsTableAt, ArePairsIn, key_in, value_in, value_offset}
 use Rattle.ephemeron_table.specs.Takings.{pairs_of}
 use Rattle.ephemeron_table.specs.declared.reading.Table.{Table}
-use Rattle.ephemeron_table.proofs.FilledValues.{value_put}
+use Rattle.object_cells.proofs.FilledSlots.{held_put}
 use Rattle.ephemeron_table.proofs.KeysAt.{pair_of_is, pair_word_is}
 use Rattle.ephemeron_table.proofs.KeysFound.{WeakShown, weak_shown, shown_there, shown_pairs, shown_sound, key_filled}
 use Rattle.ephemeron_table.proofs.KeysFound.{one_key, TellsPair, key_told}
@@ -134,7 +135,7 @@ module _ {old : Mutator} {graph : Graph} {map key : ℕ} {weak : WeakObject} {nu
       (next_at old) (beside_content value)) ≡ wput_need_at (heap_of old) map (reference_word key) (is_wide what)
   entry_need value what shows =
       let heap = heap_of old in
-      value_put heap (value_in heap table.at place) (next_at old) value
+      held_put heap (value_in heap table.at place) (next_at old) value
       ∙ ap (λ w. box_need (is_wide_held value && not (is_box_word heap w))) (sym (pair_word_is known some place))
       ∙ ap (λ wide. wput_need_by heap map wide (Some place)) (wide_is value what shows)
       ∙ ap (wput_need_by heap map (is_wide what)) (sym entry_pair_of)

@@ -14,8 +14,8 @@ use Rattle.ephemeron_table.proofs.TakenPairs.{taken_begins, begins_origin, taken
 use Rattle.ephemeron_table.proofs.TakenPairs.{moved_other, filled_apart}
 use Rattle.ephemeron_table.proofs.TakenPairs.{filled_elsewhere}
 
--- A pair that was free stands so many steps behind the place, and taking out has not come there: pairs behind the hole stand
--- where they stood, and what stands below the place stood below it.
+-- A pair that was free stands so many steps behind the place, and taking out has not come there: pairs behind the hole
+-- stand where they stood, and what stands below the place stood below it.
 pub record IsFirstRound (capacity : ℕ) (before after : List Pair) (place hole passed distance : ℕ)
     (taken : IsTaken before after place) : Type 0 where
   pub steps : ℕ
@@ -43,7 +43,8 @@ round_begins capacity before place distance within free = record {
   at_hole = sym (place_after_none capacity place within);
   origin = λ k some less. begins_origin before place (place_after capacity place k);
   stays = λ k some less. slice_get-set_other before place (place_after capacity place k) free_pair (λ same.
-      let none : k ≡ 0 = same_steps capacity place k 0 less (omega (arith, within)) (same ∙ sym (place_after_none capacity place within)) in
+      let none : k ≡ 0 = same_steps capacity place k 0 less (omega (arith, within))
+      (same ∙ sym (place_after_none capacity place within)) in
       omega (arith, none, some));
   below = λ at pair filled less. omega (arith, less, begins_origin before place at);
 }
@@ -128,7 +129,8 @@ module _ {capacity : ℕ} {before after : List Pair} {place hole passed distance
           omega (arith, from, round.below at found (filled_elsewhere after hole at pair found other first) less)
     ]
 
-    pub round_moves : IsFirstRound capacity before (moved taken hole next pair free_hole there filled apart) place next 0
+    pub round_moves : IsFirstRound capacity before
+        (moved taken hole next pair free_hole there filled apart) place next 0
         distance now
     round_moves = record {
       steps = round.steps + (passed + 1);

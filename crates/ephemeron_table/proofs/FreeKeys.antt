@@ -20,7 +20,8 @@ use Rattle.ephemeron_table.specs.Takings.{numbers, number_of, pairs_of}
 use Rattle.ephemeron_table.specs.declared.reading.Table.{Table}
 use Rattle.ephemeron_table.proofs.ClosedPairs.{ReadsPair, reads_pair, length-numbers}
 use Rattle.ephemeron_table.proofs.CountedPairs.{count_filled, count_put}
-use Rattle.ephemeron_table.proofs.KeysFound.{comes_within, key_filled}
+use Rattle.ephemeron_table.proofs.KeysFound.{key_filled}
+use Rattle.ephemeron_table.proofs.KeysProbed.{comes_within}
 use Rattle.ephemeron_table.proofs.KnownTables.{sound, pairs_same, pairs_long, within_words, each_found, number_found}
 use Rattle.ephemeron_table.proofs.KnownTables.{number_place, numbered_filled, finds_all, count_is}
 use Rattle.ephemeron_table.proofs.NewKeys.{LacksKey, known, no_pair_refers}

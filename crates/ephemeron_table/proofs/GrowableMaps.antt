@@ -1,5 +1,6 @@
 -- A table may be made in the place of a weak map's that would be too full.
-use Rattle.std.proofs.Common.{◌≡◌, ℕ, ◌+◌, ◌*◌, ◌≤◌, ◌<◌, inl, inr, List, Some, slice_get, sym, ◌∙◌, ap, subst, arith}
+use Rattle.std.proofs.Common.{◌≡◌, ℕ, ◌+◌, ◌*◌, ◌≤◌, ◌<◌, inl, inr, List, Some, slice_get, sym}
+use Rattle.std.proofs.Common.{◌∙◌, ap, subst, arith}
 use Rattle.std.proofs.lemmas.Bool.{cases_lt}
 use Rattle.tagged_word.specs.Cells.{store_head}
 use Rattle.tagged_word.specs.Readings.{reference_in}
@@ -55,7 +56,8 @@ module _ {old : Mutator} {map : ℕ} {table : Table} (known : KnownMap old map t
       (key.at, reference_to pair.key key.at fits key.refers, place_within key.place, place_used key.place)
 
   -- so it may grow
-  pub can_grow : {number : ℕ} (key count : ℕ) → IsPlace (heap_of old) number key → old.seat.phase ≡ Quiet → count < 256
+  pub can_grow : {number : ℕ} (key count : ℕ) → IsPlace (heap_of old) number key → old.seat.phase ≡ Quiet
+      → count < 256
       → table.capacity < 2 * (count + 1) → CanGrow old map table key count
   can_grow key count key_place quiet few over = record {
     tied = known.tied;

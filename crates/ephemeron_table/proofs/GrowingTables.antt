@@ -1,5 +1,6 @@
 -- A table that is made in the place of a map's has the next words of eden, of which no other cell has one.
-use Rattle.std.proofs.Common.{◌≡◌, ℕ, ◌+◌, ◌*◌, ◌≤◌, ◌<◌, inl, inr, List, length, Some, slice_get, refl, sym, ◌∙◌, ap, subst, arith}
+use Rattle.std.proofs.Common.{◌≡◌, ℕ, ◌+◌, ◌*◌, ◌≤◌, ◌<◌, inl, inr, List, length, Some, slice_get, refl}
+use Rattle.std.proofs.Common.{sym, ◌∙◌, ap, subst, arith}
 use Rattle.std.specs.Prelude.{ℤ}
 use Rattle.tagged_word.specs.Cells.{store_head}
 use Rattle.tagged_word.specs.Readings.{reference_in}
@@ -59,7 +60,7 @@ module _ {old : Mutator} {map key count : ℕ} {table : Table} (can : CanGrow ol
       (begins : PutsWords between begun (begun_table (heap_words between.seat) made)) where
     -- the regions stay, and the words are those with the table
     pub begun_space : begun.seat.space ≡ old.seat.space
-    begun_space = begins.space ∙ ap (λ (main : Mutator). main.seat.space) is
+    begun_space = begins.beside.space ∙ ap (λ (main : Mutator). main.seat.space) is
 
     pub begun_words : heap_words begun.seat ≡ begun_table (heap_words old.seat) made
     begun_words = begins.heap ∙ ap (λ (main : Mutator). begun_table (heap_words main.seat) made) is
@@ -77,7 +78,8 @@ module _ {old : Mutator} {map key count : ℕ} {table : Table} (can : CanGrow ol
     -- the pairs of the map's table stay
     pub grown_pairs_stay : pairs_of (heap_words begun.seat) table ≡ pairs_of (heap_words old.seat) table
     grown_pairs_stay =
-        pairs_stay (heap_words old.seat) (heap_words begun.seat) table (omega (arith, can.within, counted)) begun_words_long
+        pairs_stay (heap_words old.seat) (heap_words begun.seat) table
+        (omega (arith, can.within, counted)) begun_words_long
         (λ a from below. ap (λ all. slice_get all a) begun_words
         ∙ begun_beside (heap_words old.seat) made grown_within a (λ low high. elim (can.pairs a from below) [
           | inl used ↦ omega (arith, used, at_is, low)
@@ -102,10 +104,12 @@ module _ {old : Mutator} {map key count : ℕ} {table : Table} (can : CanGrow ol
     -- whose pairs hold nothing
     pub grown_nothing : HoldNothing (pairs_of (heap_words begun.seat) made)
     grown_nothing =
-        subst (λ all. HoldNothing (pairs_of all made)) (sym begun_words) (begun_nothing (heap_words old.seat) made grown_within)
+        subst (λ all. HoldNothing (pairs_of all made)) (sym begun_words)
+        (begun_nothing (heap_words old.seat) made grown_within)
 
     module _ {moved boxed : Mutator} (holds : Content) (moves : MovesPairs begun moved table made table.capacity)
-        (boxes : PutsWords moved boxed (with_content (heap_words moved.seat) holds (at + (store_head + 2 * capacity)))) where
+        (boxes : PutsWords moved boxed
+        (with_content (heap_words moved.seat) holds (at + (store_head + 2 * capacity)))) where
       boxed_long : length (heap_words boxed.seat) ≡ length (heap_words old.seat)
       boxed_long =
           ap length boxes.heap ∙ length-with_content (heap_words moved.seat) holds (at + (store_head + 2 * capacity))

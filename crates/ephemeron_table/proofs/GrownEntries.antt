@@ -1,5 +1,6 @@
 -- An entry whose key is new comes to a weak map in a table that is made: the map has it then.
-use Rattle.std.proofs.Common.{◌≡◌, ◌≢◌, ℕ, suc, ◌+◌, ◌*◌, ◌≤◌, ◌<◌, inl, inr, Bool, true, false, cond, List, [], ◌∷◌, length, Some, None}
+use Rattle.std.proofs.Common.{◌≡◌, ◌≢◌, ℕ, suc, ◌+◌, ◌*◌, ◌≤◌, ◌<◌, inl, inr, Bool, true, false}
+use Rattle.std.proofs.Common.{cond, List, [], ◌∷◌, length, Some, None}
 use Rattle.std.proofs.Common.{slice_get, refl, sym, ◌∙◌, ap, subst, arith, ◌==◌, nat_lt}
 use Rattle.std.proofs.lemmas.Bool.Decides.{nat_tests}
 use Rattle.std.proofs.lemmas.Option.{none-some, same_Some, slice_get_within}
@@ -23,7 +24,8 @@ use Rattle.heap_model.specs.Heaps.{words_of_cell}
 use Rattle.heap_model.specs.Slots.{reference_word, RefersToPlace, IsPlace}
 use Rattle.heap_model.specs.Kinds.{HasWord, Pair, count_offset}
 use Rattle.heap_model.specs.Showing.{ShowsEntry, ShowsValue}
-use Rattle.heap_model.specs.Needs.{box_need, capacity_at, count_at, grown_table, pair_of, table_need, wput_need_at, wput_need_by}
+use Rattle.heap_model.specs.Needs.{box_need, capacity_at, count_at, grown_table, pair_of, table_need, wput_need_at}
+use Rattle.heap_model.specs.Needs.{wput_need_by}
 use Rattle.write_barrier.specs.Mains.{Mutator, heap_of, MainShows}
 use Rattle.object_cells.specs.Contents.{next_at}
 use Rattle.object_cells.specs.HeldValues.{IsValueHeld, is_wide}
@@ -33,7 +35,6 @@ use Rattle.object_cells.specs.Uses.{UsesMore}
 use Rattle.object_cells.proofs.HeldContents.{HoldsValue}
 use Rattle.object_cells.proofs.HeldNeeds.{content_need_is, held_is_value, new_value_held, wide_is}
 use Rattle.object_cells.proofs.UnusedWords.{marks_fit, next_before_marks}
-use Rattle.ephemeron_table.specs.EntryChanges.{HasPutEntry, LacksEntries}
 use Rattle.ephemeron_table.specs.Growth.{put_capacity_by}
 use Rattle.ephemeron_table.specs.Movings.{CanGrow, PutsInNewTable, new_table_need}
 use Rattle.ephemeron_table.specs.Pairs.{IsFilledAt}
@@ -44,9 +45,11 @@ use Rattle.ephemeron_table.specs.WeakObjects.{IsKeyAt, IsWeakAt}
 use Rattle.ephemeron_table.specs.declared.reading.Table.{Table}
 use Rattle.ephemeron_table.proofs.CountedPairs.{count_filled}
 use Rattle.ephemeron_table.proofs.GrowableMaps.{can_grow}
-use Rattle.ephemeron_table.proofs.GrownMaps.{all_made, boxes_made, count_now, places, refers_back, refers_box, refills_weak}
+use Rattle.ephemeron_table.proofs.GrownMaps.{all_made, boxes_made, count_now, places, refers_back, refers_box}
+use Rattle.ephemeron_table.proofs.GrownMaps.{refills_weak}
 use Rattle.ephemeron_table.proofs.GrownMaps.{slot_there_now, table_made}
-use Rattle.ephemeron_table.proofs.GrownPairs.{before, after, place, origin, origin_other, moved, moved_apart, moved_stands}
+use Rattle.ephemeron_table.proofs.GrownPairs.{before, after, place, origin, origin_other, moved, moved_apart}
+use Rattle.ephemeron_table.proofs.GrownPairs.{moved_stands}
 use Rattle.ephemeron_table.proofs.GrownPairs.{NowFilled, now_filled, one_more, one_stands}
 use Rattle.ephemeron_table.proofs.GrownWords.{behind, pair, puts_weak}
 use Rattle.ephemeron_table.proofs.KeysFound.{WeakShown, weak_shown, shown_there, shown_pairs}
@@ -61,7 +64,8 @@ module _ {old new : Mutator} {map key count earlier number : ℕ} {table : Table
     (key_place : IsPlace (heap_of old) number key)
     (holds : HoldsValue (heap_of old) false rep.Small (rep_of what) what (beside_content value))
     (fits : IsValue objects what) (counted : count ≡ count_filled (before known can puts) + 1)
-    (none : (at : ℕ) (one : Pair) → IsFilledAt (before known can puts) at one → RefersToPlace (heap_of old) one.key number → ⊥)
+    (none : (at : ℕ) (one : Pair) → IsFilledAt (before known can puts) at one
+    → RefersToPlace (heap_of old) one.key number → ⊥)
   where
     -- the pair that was put shows the entry
     pair_shows : (put : Value) → ◌≡◌ {A = Value} what put
@@ -85,8 +89,12 @@ module _ {old new : Mutator} {map key count earlier number : ℕ} {table : Table
           let below : at < table.capacity =
           omega (arith, slice_get_within (before known can puts) at one is.stands, pairs_long known) in
           let kept = (moved known can puts).kept at one is below in
-          let apart = moved_apart known can puts kept.0 one kept.1 in
-          (kept.0, moved_stands known can puts kept.0 one kept.1, origin_other known can puts kept.0 apart ∙ kept.2, apart);
+          let apart = moved_apart known can puts kept.0 one kept.1 in (
+            kept.0,
+            moved_stands known can puts kept.0 one kept.1,
+            origin_other known can puts kept.0 apart ∙ kept.2,
+            apart,
+          );
       own = λ at one is refers. elim (now_filled known can puts at one is) [
         | NowFilled.here same put_is ↦ (same, refl)
         | NowFilled.elsewhere apart now ↦
@@ -113,9 +121,10 @@ length-with_entry_new [] key what is = refl
 length-with_entry_new (entry ∷ entries) key what is =
     more_by (entry.key == key) entry entries key what is (length-with_entry_new entries key what)
 
--- The map is shown, and has no entry of the key: with one it has more entries than half of its pairs, and no more than it may
--- have.
-pub record IsGrowing (old : Mutator) (graph : Graph) (map key : ℕ) (weak : WeakObject) (number : ℕ) (table : Table) : Type 0
+-- The map is shown, and has no entry of the key: with one it has more entries than half of its pairs, and no more than
+-- it may have.
+pub record IsGrowing (old : Mutator) (graph : Graph) (map key : ℕ) (weak : WeakObject) (number : ℕ)
+    (table : Table) : Type 0
   where
     pub shows : MainShows old graph
     pub is : IsWeakAt old graph map weak
@@ -152,7 +161,8 @@ module _ {old : Mutator} {graph : Graph} {map key : ℕ} {weak : WeakObject} {nu
   none at one filled refers =
       let pairs = shown.shows.pairs in
       let same : pairs_of (heap_words old.seat) table ≡ pairs =
-      pairs_are (heap_words old.seat) table pairs (within_words known) (growing.is_table.pairs pairs (shown_pairs shown)) in
+      pairs_are (heap_words old.seat) table pairs (within_words known)
+      (growing.is_table.pairs pairs (shown_pairs shown)) in
       no_pair shown growing.is_key growing.fresh at one (ap (λ all. slice_get all at) (sym same) ∙ filled.stands)
       filled.filled refers
 

@@ -1,6 +1,8 @@
 -- A weak map to which an entry came in a table that was made is refilled.
-use Rattle.std.proofs.Common.{◌≡◌, ◌≢◌, ℕ, ◌+◌, ◌*◌, ◌≤◌, ◌<◌, ◌⊎◌, inl, inr, List, [], ◌∷◌, ◌++◌, length, drop, Contains, Some, None}
-use Rattle.std.proofs.Common.{false, true, Bool, slice_get, refl, sym, ◌∙◌, ap, subst, arith, length-set, ◌==◌, Option, unwrap_or}
+use Rattle.std.proofs.Common.{◌≡◌, ◌≢◌, ℕ, ◌+◌, ◌*◌, ◌≤◌, ◌<◌, ◌⊎◌, inl, inr, List, []}
+use Rattle.std.proofs.Common.{◌∷◌, ◌++◌, length, drop, Contains, Some, None}
+use Rattle.std.proofs.Common.{false, true, Bool, slice_get, refl, sym, ◌∙◌, ap, subst, arith, length-set, ◌==◌, Option}
+use Rattle.std.proofs.Common.{unwrap_or}
 use Rattle.std.specs.Prelude.{ℤ, slice_set, option_map}
 use Rattle.std.specs.Option.{option_and_then}
 use Rattle.std.proofs.lemmas.Bool.{cases_eq, cases_lt, eq-eqb, ne_eqb}
@@ -47,10 +49,13 @@ use Rattle.ephemeron_table.specs.PairLaws.{RefillsWeak}
 use Rattle.ephemeron_table.specs.Takings.{numbers, number_of, pairs_of}
 use Rattle.ephemeron_table.specs.declared.reading.Table.{Table}
 use Rattle.ephemeron_table.proofs.CountedPairs.{count_filled}
-use Rattle.ephemeron_table.proofs.GrownPairs.{before, after, place, origin, origin_other, all_apart, all_found, moved, one_more}
+use Rattle.ephemeron_table.proofs.GrownPairs.{before, after, place, origin, origin_other, all_apart, all_found, moved}
+use Rattle.ephemeron_table.proofs.GrownPairs.{one_more}
 use Rattle.ephemeron_table.proofs.GrownPairs.{NowFilled, now_filled}
-use Rattle.ephemeron_table.proofs.GrownWords.{pair, made, made_table, other, boxes, behind, capacity, box_stands, writes}
-use Rattle.ephemeron_table.proofs.GrownWords.{capacity_word, count_word, fits_new, slot_word}
+use Rattle.ephemeron_table.proofs.GrownWords.{pair, made, made_table, other, boxes, behind, capacity, box_stands}
+use Rattle.ephemeron_table.proofs.GrownWords.{writes}
+use Rattle.ephemeron_table.proofs.GrownWords.{capacity_word, fits_new}
+use Rattle.ephemeron_table.proofs.LinkedMaps.{count_word, slot_word}
 use Rattle.ephemeron_table.proofs.NewTables.{first_power, grown_power}
 use Rattle.ephemeron_table.proofs.PairLists.{pairs_are}
 use Rattle.ephemeron_table.proofs.TablesRead.{found_table, pairs_stand}
@@ -109,7 +114,8 @@ module _ {old new : Mutator} {map key count earlier number : ℕ} {table : Table
       (box_has (box_cell (behind known can puts)) (made_box (beside_content value) (behind known can puts) v is_box))
 
   -- the cells that were made are a table and a box
-  pub made_kinds : (one : Cell) → Contains all_made one → (one.layout.kind ≡ kind.Table) ⊎ (one.layout.kind ≡ kind.Boxed)
+  pub made_kinds : (one : Cell) → Contains all_made one
+      → (one.layout.kind ≡ kind.Table) ⊎ (one.layout.kind ≡ kind.Boxed)
   made_kinds one among = elim (in_cases table_made boxes_made one among) [
     | inl same ↦ inl (ap (λ (c : Cell). c.layout.kind) (sym same))
     | inr is_box ↦ inr (made_boxed (beside_content value) (behind known can puts) one is_box)
@@ -181,7 +187,8 @@ module _ {old new : Mutator} {map key count earlier number : ℕ} {table : Table
       reference_to (reference_word key) key
       (subst (λ n. n < 4294967296) key_place.stands (cell_fits known.whole.sized known.sizes key_place.has)) refl
 
-  pub probed : (at another : ℕ) (one : Pair) → IsFilledAt pairs_after at one → RefersToPlace (heap_of new) one.key another
+  pub probed : (at another : ℕ) (one : Pair) → IsFilledAt pairs_after at one
+      → RefersToPlace (heap_of new) one.key another
       → IsProbed pairs_after another at
   probed at another one is refers =
       let number_is = number_found known one another (refers_back one.key another refers) in
@@ -199,7 +206,8 @@ module _ {old new : Mutator} {map key count earlier number : ℕ} {table : Table
 
   -- each pair comes from where it may
   pub comes : (at : ℕ) (one : Pair) → IsFilledAt pairs_after at one
-      → PairComes (heap_of new) (before known can puts) [] all_made (origin known can puts at) (place known can puts) at one
+      → PairComes (heap_of new) (before known can puts) [] all_made (origin known can puts at)
+      (place known can puts) at one
   comes at one is = elim (now_filled known can puts at one is) [
     | NowFilled.here same put_is ↦
         subst (PairComes (heap_of new) (before known can puts) [] all_made (origin known can puts at)
@@ -218,7 +226,8 @@ module _ {old new : Mutator} {map key count earlier number : ℕ} {table : Table
   pub tables_told : (one : Cell) → Contains all_made one → one.layout.kind ≡ kind.Table
       → HasNoNumber one × (reference_word (next_at old) ≡ reference_word one.at)
   tables_told one among is = elim (in_cases table_made boxes_made one among) [
-    | inl same ↦ subst (λ (c : Cell). HasNoNumber c × (reference_word (next_at old) ≡ reference_word c.at)) same (refl, refl)
+    | inl same ↦ subst (λ (c : Cell). HasNoNumber c × (reference_word (next_at old) ≡ reference_word c.at)) same
+        (refl, refl)
     | inr is_made ↦ absurd (table_is_no_box is (made_boxed (beside_content value) (behind known can puts) one is_made))
   ]
 

@@ -1,5 +1,6 @@
 -- The pairs of a table that was made: those of the one before, and a new one.
-use Rattle.std.proofs.Common.{◌≡◌, ◌≢◌, ℕ, zero, suc, ◌+◌, ◌*◌, ◌≤◌, ◌<◌, inl, inr, Bool, true, false, List, [], ◌∷◌, length, drop}
+use Rattle.std.proofs.Common.{◌≡◌, ◌≢◌, ℕ, zero, suc, ◌+◌, ◌*◌, ◌≤◌, ◌<◌, inl, inr, Bool, true}
+use Rattle.std.proofs.Common.{false, List, [], ◌∷◌, length, drop}
 use Rattle.std.proofs.Common.{Option, Some, None, slice_get, unwrap_or, refl, sym, ◌∙◌, ap, subst, arith, ◌==◌}
 use Rattle.std.specs.Prelude.{slice_set, option_map}
 use Rattle.std.specs.Option.{option_and_then}
@@ -26,7 +27,8 @@ use Rattle.ephemeron_table.specs.Takings.{numbers, number_of, pairs_of}
 use Rattle.ephemeron_table.specs.declared.reading.Table.{Table}
 use Rattle.ephemeron_table.proofs.CountedPairs.{count_filled, count_put}
 use Rattle.ephemeron_table.proofs.GrowingTables.{boxed_pairs, grown_pairs_stay}
-use Rattle.ephemeron_table.proofs.GrownWords.{pair, made_table, capacity, need, ends, keys_boxed, fits_boxed, begun_stays}
+use Rattle.ephemeron_table.proofs.GrownWords.{pair, made_table, capacity, need, ends, keys_boxed, fits_boxed}
+use Rattle.ephemeron_table.proofs.GrownWords.{begun_stays}
 use Rattle.ephemeron_table.proofs.GrownWords.{boxed_stays, run_word, fits_new, settled_as_long}
 use Rattle.ephemeron_table.proofs.KeysFound.{key_filled}
 use Rattle.ephemeron_table.proofs.KnownTables.{KnownMap, pairs_long}
@@ -83,7 +85,8 @@ module _ {old new : Mutator} {map key count earlier : ℕ} {table : Table} {valu
 
   boxed_same : pairs_of (heap_words puts.boxed.seat) (made_table known can puts) ≡ far
   boxed_same =
-      boxed_pairs can known.whole.sized.words (next_at old) (capacity known can puts) (content_need (beside_content value))
+      boxed_pairs can known.whole.sized.words (next_at old) (capacity known can puts)
+      (content_need (beside_content value))
       puts.room refl refl refl puts.begins (beside_content value) puts.moves puts.boxes
 
   settled_are : pairs_of (heap_words puts.settled.seat) (made_table known can puts) ≡ slice_set far place one
@@ -125,7 +128,8 @@ module _ {old new : Mutator} {map key count earlier : ℕ} {table : Table} {valu
       let now = subst (λ pairs. IsFilledAt pairs at found) after_is filled in
       elim (cases_eq at place) [
         | inl same ↦
-            NowFilled.here same (at_place far place one found (ap (slice_get (slice_set far place one)) (sym same) ∙ now.stands))
+            NowFilled.here same (at_place far place one found
+            (ap (slice_get (slice_set far place one)) (sym same) ∙ now.stands))
         | inr apart ↦ NowFilled.elsewhere apart (filled_elsewhere far place at one found apart now)
       ]
 
@@ -157,7 +161,8 @@ module _ {old new : Mutator} {map key count earlier : ℕ} {table : Table} {valu
   origin_other at other = ap (λ test. origin_by test table.capacity (moved.origin at)) (ne_eqb at place other)
 
   -- no two come from one
-  apart_by : (at other : ℕ) (found another : Pair) → NowFilled at found → NowFilled other another → origin at ≡ origin other
+  apart_by : (at other : ℕ) (found another : Pair) → NowFilled at found → NowFilled other another
+      → origin at ≡ origin other
       → at ≡ other
   apart_by at other found another (NowFilled.here same is) (NowFilled.here same_too is_too) from = same ∙ sym same_too
   apart_by at other found another (NowFilled.here same is) (NowFilled.elsewhere apart now) from =
@@ -196,7 +201,8 @@ module _ {old new : Mutator} {map key count earlier : ℕ} {table : Table} {valu
     | inl free ↦
         ap (number_of (heap_of puts.begun)) free ∙ sym (ap (number_of (heap_of old)) free)
     | inr filled ↦
-        let known_key = can.keys (moved.origin at) found (moved.from at found (record { stands = there; filled = filled })).0 in
+        let known_key = can.keys (moved.origin at) found
+        (moved.from at found (record { stands = there; filled = filled })).0 in
         ap (option_map (number_at (heap_of puts.begun))) known_key.1
         ∙ ap (λ n. Some n) (number_stays (heap_of puts.begun) (heap_of old) known_key.0
         (begun_stays known can puts known_key.0 (used_not_new known_key.0 known_key.3)))

@@ -1,26 +1,26 @@
 -- The words where an entry came to a table that was made: those of the map's own cell, and newly used ones.
-use Rattle.std.proofs.Common.{◌≡◌, ◌≢◌, ℕ, ◌+◌, ◌*◌, ◌≤◌, ◌<◌, inl, inr, List, [], ◌∷◌, length, Contains, Some, slice_get}
+use Rattle.std.proofs.Common.{◌≡◌, ◌≢◌, ℕ, ◌+◌, ◌*◌, ◌≤◌, ◌<◌, inl, inr, List, [], ◌∷◌}
+use Rattle.std.proofs.Common.{length, Some, slice_get}
 use Rattle.std.proofs.Common.{refl, sym, ◌∙◌, ap, subst, arith, length-set, add-zero}
 use Rattle.std.specs.Prelude.{ℤ, slice_set}
-use Rattle.std.proofs.lemmas.Bool.{cases_lt}
 use Rattle.tagged_word.specs.Cells.{store_head, store_slot}
 use Rattle.page_space.specs.Extents.{Space, eden_start, segments_start, marks_start}
 use Rattle.page_space.proofs.Starts.{roots_start_is, layouts_start_is, marks_start_is}
-use Rattle.nursery.specs.Young.{Young}
-use Rattle.object_graph.proofs.Lists.{slice_get-set_same, slice_get-set_other}
+use Rattle.object_graph.proofs.Lists.{slice_get-set_other}
 use Rattle.cell_layout.specs.declared.cell.Cell.{Cell}
 use Rattle.cell_layout.specs.Cells.{IsRow, IsCell, next}
 use Rattle.handle_roots.specs.declared.held.Held.{Held}
-use Rattle.heap_table.specs.Seats.{heap_words}
+use Rattle.heap_table.specs.Seats.{heap_words, StaysBeside}
+use Rattle.heap_table.specs.Staying.{stays_beside_again}
 use Rattle.heap_model.specs.Slots.{reference_word}
 use Rattle.heap_model.specs.Kinds.{Pair, count_offset}
 use Rattle.heap_model.specs.Needs.{grown_table}
 use Rattle.heap_model.proofs.BoundHeaps.{none_in}
 use Rattle.heap_model.proofs.CellsApart.{IsOfCell, first_of_cell}
-use Rattle.write_barrier.specs.Mains.{Mutator, heap_of, reserved}
+use Rattle.write_barrier.specs.Mains.{Mutator, heap_of}
 use Rattle.object_cells.specs.declared.content.Content.TheVariants as content
 use Rattle.object_cells.specs.Contents.{next_at}
-use Rattle.object_cells.specs.Made.{PutsWords, beside_content, content_need, content_word, with_content}
+use Rattle.object_cells.specs.Made.{beside_content, content_need, content_word, with_content}
 use Rattle.object_cells.proofs.MadeBoxes.{made_boxes, made_row, BoxStands, with_content_box, with_content_stays}
 use Rattle.object_cells.proofs.MadeBoxes.{length-with_content}
 use Rattle.object_cells.proofs.UnusedWords.{cell_is_used, next_before_segments}
@@ -32,21 +32,10 @@ use Rattle.ephemeron_table.specs.declared.reading.Table.{Table}
 use Rattle.ephemeron_table.proofs.BegunTables.{begun_beside, begun_capacity, begun_header}
 use Rattle.ephemeron_table.proofs.GrowingTables.{begun_words, begun_words_long, boxed_keys, boxed_within}
 use Rattle.ephemeron_table.proofs.KnownTables.{KnownMap, cell, cell_has, of_map}
-use Rattle.ephemeron_table.proofs.NewTables.{table_cell, table_is_cell}
+use Rattle.ephemeron_table.proofs.NewTables.{beside_run, table_cell, table_is_cell}
 use Rattle.ephemeron_table.proofs.PairLists.{beside_put, length-with_pair}
 use Rattle.ephemeron_table.proofs.SettledPairs.{HaveKeys, settled_below}
 use Rattle.ephemeron_table.proofs.WeakWriting.{PutsWeak, weak_sized, weak_writes}
-
--- what is not in a run of words that begins with a table is beside the table's pairs
-beside_run : (table : Table) (a : ℕ) → (table.at ≤ a → a < table.at + (store_head + 2 * table.capacity) → ⊥)
-    → IsBesidePairs table a
-beside_run table a beside = elim (cases_lt a (table.at + store_head)) [
-  | inl low ↦ inl low
-  | inr from ↦ elim (cases_lt a (table.at + (store_head + 2 * table.capacity))) [
-    | inl below ↦ absurd (beside (omega (arith, from)) below)
-    | inr high ↦ inr high
-  ]
-]
 
 module _ {old new : Mutator} {map key count earlier : ℕ} {table : Table} {value : Held} (known : KnownMap old map table)
     (can : CanGrow old map table key earlier) (puts : PutsInNewTable old new map table key count value) where
@@ -69,7 +58,7 @@ module _ {old new : Mutator} {map key count earlier : ℕ} {table : Table} {valu
   abbrev pub pair : Pair
   pair = made_pair (reference_word key) (content_word (beside_content value) behind)
 
-  counted : length (heap_words old.seat) ≡ marks_start old.seat.space
+  pub counted : length (heap_words old.seat) ≡ marks_start old.seat.space
   counted = known.whole.sized.words
 
   -- what was reserved ends in eden, before the marks
@@ -82,7 +71,8 @@ module _ {old new : Mutator} {map key count earlier : ℕ} {table : Table} {valu
   -- no word of the map's cell was reserved
   not_new : (a b : ℕ) → IsOfCell map_cell a → next_at old ≤ b → b < next_at old + need → b ≢ a
   not_new a b of_cell from below same =
-      cell_is_used known.whole.rows (cell_has known) of_cell (omega (arith, from, same)) (omega (arith, below, same, ends))
+      cell_is_used known.whole.rows (cell_has known) of_cell (omega (arith, from, same))
+      (omega (arith, below, same, ends))
 
   -- the table's words with its box
   pub keys_boxed : HaveKeys (pairs_of (heap_words puts.boxed.seat) made_table)
@@ -104,14 +94,15 @@ module _ {old new : Mutator} {map key count earlier : ℕ} {table : Table} {valu
       begun_words_long can counted (next_at old) capacity (content_need (beside_content value)) puts.room refl refl refl
       puts.begins
 
-  settled_long : length (heap_words puts.settled.seat) ≡ length (heap_words old.seat)
+  pub settled_long : length (heap_words puts.settled.seat) ≡ length (heap_words old.seat)
   settled_long =
-      ap length puts.settles.words.heap ∙ length-with_pair (heap_words puts.boxed.seat) (next_at old) puts.settles.place pair
+      ap length puts.settles.words.heap
+      ∙ length-with_pair (heap_words puts.boxed.seat) (next_at old) puts.settles.place pair
       ∙ ap length puts.boxes.heap ∙ length-with_content (heap_words puts.moved.seat) (beside_content value) behind
       ∙ puts.moves.changes.long ∙ begun_long
 
   -- the words with the reference to it
-  abbrev linked : List ℕ
+  abbrev pub linked : List ℕ
   linked = slice_set (heap_words puts.settled.seat) (map + store_slot) (reference_word (next_at old))
 
   pub new_long : length (heap_words new.seat) ≡ length (heap_words old.seat)
@@ -163,7 +154,8 @@ module _ {old new : Mutator} {map key count earlier : ℕ} {table : Table} {valu
       → slice_get (heap_words puts.begun.seat) a ≡ slice_get (heap_words old.seat) a
   begun_stays a not_run =
       ap (λ all. slice_get all a) begun_is
-      ∙ begun_beside (heap_words old.seat) made_table table_within_old a (λ from below. not_run from (omega (arith, below)))
+      ∙ begun_beside (heap_words old.seat) made_table table_within_old a
+      (λ from below. not_run from (omega (arith, below)))
 
   run_beside : (a : ℕ) → (next_at old ≤ a → a < next_at old + need → ⊥) → IsBesidePairs made_table a
   run_beside a not_run = beside_run made_table a (λ from below. not_run from (omega (arith, below)))
@@ -176,9 +168,19 @@ module _ {old new : Mutator} {map key count earlier : ℕ} {table : Table} {valu
 
   -- so it is of each but the map's
   word_stays : (a : ℕ) → a ≢ map + count_offset → a ≢ map + store_slot
-      → (next_at old ≤ a → a < next_at old + need → ⊥) → slice_get (heap_words new.seat) a ≡ slice_get (heap_words old.seat) a
+      → (next_at old ≤ a → a < next_at old + need → ⊥)
+      → slice_get (heap_words new.seat) a ≡ slice_get (heap_words old.seat) a
   word_stays a not_count not_slot not_run =
       beside_map a not_count not_slot ∙ beside_settled a (run_beside a not_run) ∙ boxed_stays a not_run
+
+  -- no word from the marks on was put
+  grown_beside : StaysBeside old.seat new.seat
+  grown_beside =
+      stays_beside_again old.seat puts.settled.seat new.seat
+      (stays_beside_again old.seat puts.boxed.seat puts.settled.seat
+      (stays_beside_again old.seat puts.moved.seat puts.boxed.seat
+      (stays_beside_again old.seat puts.begun.seat puts.moved.seat puts.begins.beside puts.moves.changes.rest)
+      puts.boxes.beside) puts.settles.words.beside) puts.words.beside
 
   -- so words of the map's own cell were put
   pub puts_weak : PutsWeak old new map_cell [] need (heap_words new.seat)
@@ -190,10 +192,11 @@ module _ {old new : Mutator} {map key count earlier : ℕ} {table : Table} {valu
     stood = λ one among. absurd (none_in one among);
     room = puts.room;
     puts = record {
-      space = puts.words.space ∙ puts.settles.words.space ∙ puts.boxes.space ∙ puts.moves.changes.space ∙ puts.begins.space;
-      phase = puts.words.phase ∙ puts.settles.words.phase ∙ puts.boxes.phase ∙ puts.moves.changes.phase ∙ puts.begins.phase;
-      paths = puts.words.paths ∙ puts.settles.words.paths ∙ puts.boxes.paths ∙ puts.moves.changes.paths ∙ puts.begins.paths;
-      young = puts.words.young ∙ puts.settles.words.young ∙ puts.boxes.young ∙ puts.moves.changes.young ∙ puts.begins.young;
+      beside = grown_beside;
+      paths = puts.words.paths ∙ puts.settles.words.paths ∙ puts.boxes.paths ∙ puts.moves.changes.paths
+          ∙ puts.begins.paths;
+      young = puts.words.young ∙ puts.settles.words.young ∙ puts.boxes.young ∙ puts.moves.changes.young
+          ∙ puts.begins.young;
       heap = refl;
     };
     long = new_long;
@@ -232,8 +235,8 @@ module _ {old new : Mutator} {map key count earlier : ℕ} {table : Table} {valu
   -- the box stands there
   pub box_stands : BoxStands (heap_of new) (beside_content value) behind
   box_stands =
-      let start = ap (λ (s : Space). eden_start s) puts_weak.puts.space in
-      let segments = ap (λ (s : Space). segments_start s) puts_weak.puts.space in
+      let start = ap (λ (s : Space). eden_start s) puts_weak.puts.beside.space in
+      let segments = ap (λ (s : Space). segments_start s) puts_weak.puts.beside.space in
       let words = λ (v : ℤ) (is_box : beside_content value ≡ content.Boxed v).
       with_content_box (heap_words puts.moved.seat) (beside_content value) behind v is_box
       (omega (arith, puts.moves.changes.long, begun_long, counted, ends, within, ap content_need is_box)) in
@@ -269,8 +272,8 @@ module _ {old new : Mutator} {map key count earlier : ℕ} {table : Table} {valu
       ∙ ap (slice_get (begun_table (heap_words old.seat) made_table)) first
       ∙ begun_header (heap_words old.seat) made_table table_within_old)
       capacity_word
-      (omega (arith, ap (λ (s : Space). eden_start s) puts_weak.puts.space))
-      (omega (arith, ends, ap (λ (s : Space). segments_start s) puts_weak.puts.space))
+      (omega (arith, ap (λ (s : Space). eden_start s) puts_weak.puts.beside.space))
+      (omega (arith, ends, ap (λ (s : Space). segments_start s) puts_weak.puts.beside.space))
 
   -- both are the row of the words that were reserved
   new_row : IsRow new.seat.space (heap_words new.seat) (next_at old) (next_at old + need) made
@@ -290,25 +293,3 @@ module _ {old new : Mutator} {map key count earlier : ℕ} {table : Table} {valu
       (word_stays map_cell.at (λ same. omega (arith, same, stands)) (λ same. omega (arith, same, stands))
       (λ from below. not_new map_cell.at map_cell.at first from below refl))
       (λ one among. absurd (none_in one among)) new_row
-
-  -- the map refers to the table, and has so many entries
-  map_in : (k : ℕ) → k < 3 → map + k < length (heap_words old.seat)
-  map_in k below = omega (arith, can.map_within, counted, below)
-
-  pub slot_word : slice_get (heap_words new.seat) (map + store_slot) ≡ Some (reference_word (next_at old))
-  slot_word =
-      ap (λ all. slice_get all (map + store_slot)) puts.words.heap
-      ∙ slice_get-set_other linked (map + count_offset) (map + store_slot) count (λ same. omega (arith, same))
-      ∙ slice_get-set_same (heap_words puts.settled.seat) (map + store_slot) (reference_word (next_at old))
-      (omega (arith, settled_long, map_in 1 (omega arith)))
-
-  pub count_word : slice_get (heap_words new.seat) (map + count_offset) ≡ Some count
-  count_word =
-      ap (λ all. slice_get all (map + count_offset)) puts.words.heap
-      ∙ slice_get-set_same linked (map + count_offset) count
-      (omega (
-        arith,
-        length-set (heap_words puts.settled.seat) (map + store_slot) (reference_word (next_at old)),
-        settled_long,
-        map_in 2 (omega arith),
-      ))

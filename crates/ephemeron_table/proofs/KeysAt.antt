@@ -1,5 +1,6 @@
 -- Which pair of a weak map has the word of a key, and the words of that pair.
-use Rattle.std.proofs.Common.{◌≡◌, ◌≢◌, ℕ, zero, suc, ◌+◌, ◌*◌, ◌≤◌, ◌<◌, inl, inr, Bool, true, false, Option, Some}
+use Rattle.std.proofs.Common.{◌≡◌, ◌≢◌, ℕ, zero, suc, ◌+◌, ◌*◌, ◌≤◌, ◌<◌, inl, inr, Bool, true}
+use Rattle.std.proofs.Common.{false, Option, Some}
 use Rattle.std.proofs.Common.{◌==◌}
 use Rattle.std.proofs.Common.{unwrap_or, sym, ◌∙◌, ap, refl, arith}
 use Rattle.std.specs.Prelude.{if◌then◌else◌}

@@ -1,9 +1,10 @@
--- What probing for a key tells of the entries of a weak map.
-use Rattle.std.proofs.Common.{◌≡◌, ◌≢◌, ℕ, ◌+◌, ◌<◌, inl, inr, List, [], length, get_or, Option, Some, None, slice_get}
+-- Which pairs of a weak map that is shown are those of its entries, by their keys.
+use Rattle.std.proofs.Common.{◌≡◌, ◌≢◌, ℕ, ◌+◌, ◌<◌, inl, inr, List, [], get_or, Option, Some, None}
+use Rattle.std.proofs.Common.{slice_get}
 use Rattle.std.proofs.Common.{unwrap_or, refl, sym, ◌∙◌, ap, subst, arith}
 use Rattle.std.specs.Prelude.{option_map, IsFalse}
 use Rattle.std.specs.Option.{option_and_then}
-use Rattle.std.proofs.lemmas.Bool.{false≢true, cases_order}
+use Rattle.std.proofs.lemmas.Bool.{false≢true}
 use Rattle.std.proofs.lemmas.Option.{same_Some, slice_get-get_or}
 use Rattle.tagged_word.specs.declared.header.Header.{Header}
 use Rattle.tagged_word.specs.Headers.{header_bits}
@@ -17,10 +18,8 @@ use Rattle.object_graph.specs.Objects.{entry_value}
 use Rattle.object_graph.specs.Graphs.{Graph, WeakObject}
 use Rattle.object_graph.specs.Reach.{is_marked, reach}
 use Rattle.cell_layout.specs.declared.cell.Cell.{Cell}
-use Rattle.linear_probing.specs.Tables.{place_after}
-use Rattle.linear_probing.proofs.Rounds.{place_after_within}
 use Rattle.heap_model.specs.Heaps.{Heap, HasCell, words_of_cell}
-use Rattle.heap_model.specs.Slots.{reference_word, hole_word, IsPlace, RefersToPlace}
+use Rattle.heap_model.specs.Slots.{reference_word, IsPlace, RefersToPlace}
 use Rattle.heap_model.specs.Kinds.{Pair, free_pair, HasTable, IsFoundPair, IsProbed}
 use Rattle.heap_model.specs.Wholeness.{Whole}
 use Rattle.heap_model.specs.Showing.{ShowsWeak, ShowsValue, IsKnownKey}
@@ -30,8 +29,7 @@ use Rattle.heap_model.proofs.WordClasses.{hole_refers_not}
 use Rattle.write_barrier.specs.Mains.{Mutator, heap_of, MainShows}
 use Rattle.ephemeron_table.specs.WeakObjects.{IsKeyAt, IsWeakAt}
 use Rattle.ephemeron_table.specs.Pairs.{HasPairsAt}
-use Rattle.ephemeron_table.specs.Probes.{IsWeakCellAt, IsTableAt, ArePairsIn, number_at, key_in, value_offset}
-use Rattle.ephemeron_table.specs.Probes.{PassesBefore, ComesTo}
+use Rattle.ephemeron_table.specs.Probes.{IsWeakCellAt, IsTableAt, number_at, key_in, value_offset}
 use Rattle.ephemeron_table.specs.declared.reading.Table.{Table}
 use Rattle.ephemeron_table.proofs.TablesRead.{weak_sound}
 use Rattle.ephemeron_table.proofs.EntriesFound.{entry_found, entry_apart}
@@ -139,21 +137,25 @@ one_pair {main} {number = number} place pair value shown is_key there refers is 
     subst (λ (one : Pair). ShowsValue (heap_of main) one.value value) (sym same) once.shows.value
 
 -- by whether there is a value
-told_by : {main : Mutator} {graph : Graph} {map key : ℕ} {weak : WeakObject} {number : ℕ} (found : Option Value) (place : ℕ)
+told_by : {main : Mutator} {graph : Graph} {map key : ℕ} {weak : WeakObject} {number : ℕ} (found : Option Value)
+    (place : ℕ)
     (pair : Pair) → (shown : WeakShown main graph map weak) → IsKeyAt main graph key number
     → slice_get shown.shows.pairs place ≡ Some pair → RefersToPlace (heap_of main) pair.key number
     → IsKnownKey (heap_of main) (reach graph) weak.entries pair → entry_value weak.entries number ≡ found
     → (value : Value) × (entry_value weak.entries number ≡ Some value) × ShowsValue (heap_of main) pair.value value
 told_by (Some value) place pair shown is_key there refers known is =
     (value, is, one_pair place pair value shown is_key there refers is)
-told_by {weak = weak} {number} None place pair shown is_key there refers (IsKnownKey.of_entry entry at stands marked names) is =
+told_by {weak = weak} {number} None place pair shown is_key there refers
+    (IsKnownKey.of_entry entry at stands marked names) is =
     absurd (entry_apart weak.entries number at entry is stands (one_number _ pair.key entry.key number names refers))
-told_by {graph = graph} {number = number} None place pair shown is_key there refers (IsKnownKey.unreached other names not) is =
+told_by {graph = graph} {number = number} None place pair shown is_key there refers
+    (IsKnownKey.unreached other names not) is =
     let same : other ≡ number = one_number _ pair.key other number names refers in
     absurd (false≢true (sym (subst (λ n. IsFalse (is_marked (reach graph) n)) same not) ∙ is_key.reached))
 
 -- the pair that has the key shows the entry
-pub key_told : {main : Mutator} {graph : Graph} {map key : ℕ} {weak : WeakObject} {number : ℕ} (table : Table) (place : ℕ)
+pub key_told : {main : Mutator} {graph : Graph} {map key : ℕ} {weak : WeakObject} {number : ℕ} (table : Table)
+    (place : ℕ)
     → (shown : WeakShown main graph map weak) → IsKeyAt main graph key number → IsTableAt (heap_of main) map table
     → place < table.capacity → key_in (heap_of main) table.at place ≡ reference_word key
     → TellsPair main shown.shows.pairs table place key weak.entries number
@@ -193,7 +195,8 @@ pub one_place : {main : Mutator} {graph : Graph} {key number : ℕ} (at : ℕ) �
 one_place {graph = graph} {key} {number} at shows is_key place =
     let below = shows.shows.made number key is_key.place in
     let what : Object = get_or graph.objects number (Weak []) in
-    let reached = shows.shows.reached number what (slice_get-get_or graph.objects number (Weak []) below) is_key.reached in
+    let reached = shows.shows.reached number what
+    (slice_get-get_or graph.objects number (Weak []) below) is_key.reached in
     reached.once at place ∙ sym (reached.once key is_key.place)
 
 -- where an entry has a value, a pair has its key
@@ -207,7 +210,8 @@ entry_has_key {main} {key = key} {number = number} value shows shown is_key is =
     let at : refers.at ≡ key = one_place refers.at shows is_key refers.place in
     let key_is : once.pair.key ≡ reference_word key = refers.refers ∙ ap reference_word at in
     let sound = shown_sound shows.shows.whole shown once.at once.pair once.stands (key_filled once.pair key key_is) in
-    let same : sound.number ≡ number = one_number (heap_of main) once.pair.key sound.number number sound.filled.key refers in
+    let same : sound.number ≡ number =
+    one_number (heap_of main) once.pair.key sound.number number sound.filled.key refers in
     record {
       place = once.at;
       pair = once.pair;
@@ -215,99 +219,6 @@ entry_has_key {main} {key = key} {number = number} value shows shown is_key is =
       key_is = key_is;
       probed = subst (λ n. IsProbed shown.shows.pairs n once.at) same sound.probed;
     }
-
--- the key that a pair has is read
-key_reads : {heap : Heap} {pairs : List Pair} {key number : ℕ} (table : Table) → ArePairsIn heap.words table pairs
-    → (has : HasKey heap pairs key number) → key_in heap table.at has.place ≡ reference_word key
-key_reads table stand has = ap (λ found. unwrap_or found 0) (stand.keys has.place has.pair has.there) ∙ has.key_is
-
--- probing that passes so many pairs does not pass one that has the key
-pub not_passed : {heap : Heap} {pairs : List Pair} {key number : ℕ} (table : Table) (steps : ℕ)
-    → ArePairsIn heap.words table pairs → (has : HasKey heap pairs key number) → has.probed.steps < steps
-    → PassesBefore heap table number (reference_word key) steps → ⊥
-not_passed {heap} {key = key} {number} table steps stand has few passes =
-    let comes : place_after table.capacity number has.probed.steps ≡ has.place =
-    ap (λ n. place_after n number has.probed.steps) (sym stand.long) ∙ sym has.probed.comes in
-    (passes has.probed.steps few).other (ap (key_in heap table.at) comes ∙ key_reads table stand has)
-
--- nor does it end before that at a pair that holds nothing
-pub not_before : {heap : Heap} {pairs : List Pair} {key number place : ℕ} (table : Table)
-    → ((at : ℕ) (pair : Pair) → slice_get pairs at ≡ Some pair → pair ≢ free_pair → IsFoundPair heap pairs at pair)
-    → ArePairsIn heap.words table pairs → (has : HasKey heap pairs key number)
-    → (comes : ComesTo heap table number (reference_word key) place) → key_in heap table.at place ≡ hole_word → ⊥
-not_before {heap} {pairs} {key} {number} {place} table sound stand has comes free =
-    elim (cases_order has.probed.steps comes.steps) [
-      | inl same ↦
-          let at : has.place ≡ place =
-          has.probed.comes ∙ ap (λ n. place_after n number has.probed.steps) stand.long
-          ∙ ap (place_after table.capacity number) same ∙ sym comes.comes in
-          hole_refers_not key (sym free ∙ ap (key_in heap table.at) (sym at) ∙ key_reads table stand has)
-      | inr (inl sooner) ↦ not_passed table comes.steps stand has sooner comes.passes
-      | inr (inr later) ↦
-          let few : comes.steps < table.capacity = comes.few in
-          let within : place_after table.capacity number comes.steps < table.capacity =
-          place_after_within table.capacity number comes.steps (omega arith) in
-          let below : place < length pairs = omega (arith, within, comes.comes, stand.long) in
-          let pair : Pair = get_or pairs place free_pair in
-          let there : slice_get pairs place ≡ Some pair = slice_get-get_or pairs place free_pair below in
-          let key_is : pair.key ≡ hole_word =
-          sym (ap (λ found. unwrap_or found 0) (stand.keys place pair there)) ∙ free in
-          let at : place_after (length pairs) number comes.steps ≡ place =
-          ap (λ n. place_after n number comes.steps) stand.long ∙ sym comes.comes in
-          let filled : pair ≢ free_pair =
-          has.probed.filled comes.steps pair later (ap (slice_get pairs) at ∙ there) in
-          let refers = (sound place pair there filled).filled.key in
-          hole_refers_not refers.at (sym key_is ∙ refers.refers)
-    ]
-
--- what has no value is not
-none_by : (found : Option Value) → ((value : Value) → found ≡ Some value → ⊥) → found ≡ None
-none_by None never = refl
-none_by (Some value) never = absurd (never value refl)
-
--- where probing passes all pairs, no entry has the key
-pub none_nowhere : {main : Mutator} {graph : Graph} {map key : ℕ} {weak : WeakObject} {number : ℕ} (table : Table)
-    → MainShows main graph → WeakShown main graph map weak → IsKeyAt main graph key number
-    → IsTableAt (heap_of main) map table
-    → PassesBefore (heap_of main) table number (reference_word key) table.capacity
-    → entry_value weak.entries number ≡ None
-none_nowhere {weak = weak} {number} table shows shown is_key is passes =
-    none_by (entry_value weak.entries number) (λ value has_value.
-    let stand = is.pairs shown.shows.pairs (shown_pairs shown) in
-    let has = entry_has_key value shows shown is_key has_value in
-    not_passed table table.capacity stand has (omega (arith, has.probed.within, stand.long)) passes)
-
--- likewise where it ends at a pair that holds nothing
-pub none_where_free : {main : Mutator} {graph : Graph} {map key : ℕ} {weak : WeakObject} {number : ℕ} (table : Table)
-    (place : ℕ) → MainShows main graph → WeakShown main graph map weak → IsKeyAt main graph key number
-    → IsTableAt (heap_of main) map table → ComesTo (heap_of main) table number (reference_word key) place
-    → key_in (heap_of main) table.at place ≡ hole_word → entry_value weak.entries number ≡ None
-none_where_free {weak = weak} {number} table place shows shown is_key is comes free =
-    none_by (entry_value weak.entries number) (λ value has_value.
-    let stand = is.pairs shown.shows.pairs (shown_pairs shown) in
-    let has = entry_has_key value shows shown is_key has_value in
-    not_before table (shown_sound shows.shows.whole shown) stand has comes free)
-
--- where probing comes to, by the number and the key that were read
-pub comes_as : {heap : Heap} {table : Table} {place : ℕ} (read number key_read key : ℕ) → read ≡ number → key_read ≡ key
-    → ComesTo heap table read key_read place → ComesTo heap table number key place
-comes_as {heap} {table} {place} read number key_read key same same_key comes =
-    subst (λ k. ComesTo heap table number k place) same_key
-    (subst (λ n. ComesTo heap table n key_read place) same comes)
-
--- and which pairs it passes
-pub passes_as : {heap : Heap} {table : Table} (read number key_read key steps : ℕ) → read ≡ number → key_read ≡ key
-    → PassesBefore heap table read key_read steps → PassesBefore heap table number key steps
-passes_as {heap} {table} read number key_read key steps same same_key passes =
-    subst (λ k. PassesBefore heap table number k steps) same_key
-    (subst (λ n. PassesBefore heap table n key_read steps) same passes)
-
--- the place to which it comes is one of the table
-pub comes_within : {heap : Heap} {table : Table} {number key place : ℕ} → ComesTo heap table number key place
-    → place < table.capacity
-comes_within {table = table} {number} comes =
-    let few : comes.steps < table.capacity = comes.few in
-    omega (arith, comes.comes, place_after_within table.capacity number comes.steps (omega arith))
 
 -- one pair alone has the key of an entry
 pub one_key : {main : Mutator} {graph : Graph} {map key : ℕ} {weak : WeakObject} {number : ℕ} (value : Value)

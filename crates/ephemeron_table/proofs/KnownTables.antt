@@ -1,5 +1,6 @@
 -- What is known of a weak map and its table before words of them change.
-use Rattle.std.proofs.Common.{◌≡◌, ◌≢◌, ℕ, ◌+◌, ◌*◌, ◌≤◌, ◌<◌, inl, inr, List, length, drop, Option, Some, None}
+use Rattle.std.proofs.Common.{◌≡◌, ◌≢◌, ℕ, ◌+◌, ◌*◌, ◌≤◌, ◌<◌, inl, inr, List, length, drop}
+use Rattle.std.proofs.Common.{Option, Some, None}
 use Rattle.std.proofs.Common.{slice_get}
 use Rattle.std.proofs.Common.{unwrap_or, refl, sym, ◌∙◌, ap, subst, arith, length-drop}
 use Rattle.std.specs.Prelude.{option_map}
@@ -99,7 +100,8 @@ module _ {old : Mutator} {map : ℕ} {table : Table} (known : KnownMap old map t
   pub count_is : count_at (heap_of old) map ≡ count_filled (pairs_of (heap_words old.seat) table)
   count_is =
       ap (λ n. count_at (heap_of old) n) (sym known.there.stands)
-      ∙ ap (λ found. unwrap_or found 0) (word_stands count_offset (count_filled sound.pairs) known.there.has sound.counted)
+      ∙ ap (λ found. unwrap_or found 0)
+      (word_stands count_offset (count_filled sound.pairs) known.there.has sound.counted)
       ∙ ap count_filled (sym pairs_same)
 
   -- the words of the map's cell

@@ -1,6 +1,7 @@
 pub mod TablesRead
 pub mod EntriesFound
 pub mod KeysFound
+pub mod KeysProbed
 pub mod PairLists
 pub mod CountedPairs
 pub mod TakenPairs
@@ -30,7 +31,6 @@ pub mod PutPairs
 pub mod PutValues
 pub mod PutMaps
 pub mod KeysAt
-pub mod FilledValues
 pub mod EntryPairs
 pub mod ReplacedValues
 pub mod PutEntries
@@ -40,6 +40,7 @@ pub mod NewEntries
 pub mod FullTables
 pub mod NewTables
 pub mod GrownWords
+pub mod LinkedMaps
 pub mod GrownPairs
 pub mod GrownMaps
 pub mod SlotValues
@@ -51,3 +52,9 @@ pub mod GrowableMaps
 pub mod GrownEntries
 pub mod NewTableEntries
 pub mod FreePairs
+pub mod PairsByKey
+pub mod PutRefusals
+pub mod PutPlaces
+pub mod PutShown
+pub mod DeletedPairs
+pub mod ToldPairs

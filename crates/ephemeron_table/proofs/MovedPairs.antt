@@ -1,5 +1,6 @@
 -- What the pairs of a table are while those of another one come to it, one after the other.
-use Rattle.std.proofs.Common.{◌≡◌, ◌≢◌, ℕ, zero, suc, ◌+◌, ◌<◌, ◌≤◌, ◌⊎◌, inl, inr, Bool, true, false, List, [], ◌∷◌, length}
+use Rattle.std.proofs.Common.{◌≡◌, ◌≢◌, ℕ, zero, suc, ◌+◌, ◌<◌, ◌≤◌, ◌⊎◌, inl, inr, Bool, true}
+use Rattle.std.proofs.Common.{false, List, [], ◌∷◌, length}
 use Rattle.std.proofs.Common.{drop, Option, Some, None, slice_get, refl, sym, ◌∙◌, ap, subst, arith, cond, not, ◌==◌}
 use Rattle.std.specs.Prelude.{slice_set}
 use Rattle.std.proofs.lemmas.Bool.{cases_eq, cases_lt, eq-eqb, ne_eqb, false≢true}
@@ -106,7 +107,8 @@ module _ {before after : List Pair} {at : ℕ} (moved : AreMoved before after at
     pair_filled : IsFilledAt before at pair
     pair_filled = record { stands = there; filled = filled }
 
-    comes_from : (one : ℕ) (found : Pair) → Filled one found → IsFilledAt before (origin one) found × (origin one < at + 1)
+    comes_from : (one : ℕ) (found : Pair) → Filled one found
+        → IsFilledAt before (origin one) found × (origin one < at + 1)
     comes_from one found (Filled.here same is) =
         let from = origin_here one same in (
           subst (λ n. IsFilledAt before n found) (sym from) (subst (IsFilledAt before at) is pair_filled),
@@ -118,7 +120,8 @@ module _ {before after : List Pair} {at : ℕ} (moved : AreMoved before after at
         (subst (λ n. IsFilledAt before n found) (sym from) was.0, omega (arith, from, was.1))
 
     -- no two come from one
-    stay_apart : (one other : ℕ) (found another : Pair) → Filled one found → Filled other another → origin one ≡ origin other
+    stay_apart : (one other : ℕ) (found another : Pair) → Filled one found → Filled other another
+        → origin one ≡ origin other
         → one ≡ other
     stay_apart one other found another (Filled.here same is) (Filled.here same_too is_too) from = same ∙ sym same_too
     stay_apart one other found another (Filled.here same is) (Filled.elsewhere apart now) from =
@@ -146,7 +149,10 @@ module _ {before after : List Pair} {at : ℕ} (moved : AreMoved before after at
           let same : one ≡ at = omega (arith, from, below) in
           let is : pair ≡ found = same_Some pair found (sym there ∙ ap (slice_get before) (sym same) ∙ was.stands) in (
             place,
-            record { stands = slice_get-set_same after place pair place_within ∙ ap (λ p. Some p) is; filled = was.filled },
+            record {
+              stands = slice_get-set_same after place pair place_within ∙ ap (λ p. Some p) is;
+              filled = was.filled;
+            },
             origin_here place refl ∙ sym same,
           )
     ]

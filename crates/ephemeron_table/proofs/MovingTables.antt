@@ -1,5 +1,6 @@
 -- The pairs of a table come to another one, as their words are read and put.
-use Rattle.std.proofs.Common.{◌≡◌, ◌≢◌, ℕ, ◌+◌, ◌*◌, ◌≤◌, ◌<◌, List, length, Option, Some, None, slice_get, unwrap_or}
+use Rattle.std.proofs.Common.{◌≡◌, ◌≢◌, ℕ, ◌+◌, ◌*◌, ◌≤◌, ◌<◌, List, length, Option, Some, None}
+use Rattle.std.proofs.Common.{slice_get, unwrap_or}
 use Rattle.std.proofs.Common.{refl, sym, ◌∙◌, ap, subst, arith}
 use Rattle.std.specs.Prelude.{slice_set, option_map}
 use Rattle.std.specs.Option.{option_and_then}
@@ -23,7 +24,8 @@ use Rattle.ephemeron_table.proofs.ClosedPairs.{ReadsPair, reads_pair, keyed_fill
 use Rattle.ephemeron_table.proofs.KnownTables.{number_place}
 use Rattle.ephemeron_table.proofs.MovedPairs.{moved_begins, moved_passes, moved_puts}
 use Rattle.ephemeron_table.proofs.PairLists.{pairs_read, pairs_stay}
-use Rattle.ephemeron_table.proofs.SettledPairs.{HaveKeys, free_without, has_free, settled_below, settled_free, settled_pairs}
+use Rattle.ephemeron_table.proofs.SettledPairs.{HaveKeys, free_without, has_free, settled_below, settled_free}
+use Rattle.ephemeron_table.proofs.SettledPairs.{settled_pairs}
 use Rattle.ephemeron_table.proofs.SettledPairs.{settled_found}
 
 -- it begins with a table that holds nothing
@@ -92,12 +94,13 @@ module _ {old now : Mutator} {from to : Table} {at : ℕ}
   module _ (key : ℕ) (refers : reference_in next_read.pair.key ≡ Some key) where
     key_beside : IsKeyBeside (heap_of old) to key
     key_beside =
-        let known = keys at next_read.pair (record { stands = there; filled = keyed_filled next_read.pair key refers }) in
+        let known = keys at next_read.pair
+        (record { stands = there; filled = keyed_filled next_read.pair key refers }) in
         subst (IsKeyBeside (heap_of old) to) (same_Some known.0 key (sym known.1 ∙ refers)) known.2
 
     -- its key is before the marks
     pub moving_key : key < marks_start now.seat.space
-    moving_key = subst (λ (space : Space). key < marks_start space) (sym moves.changes.space) key_beside.within
+    moving_key = subst (λ (space : Space). key < marks_start space) (sym moves.changes.rest.space) key_beside.within
 
     number_same : number_at (heap_of now) key ≡ number_at (heap_of old) key
     number_same =

@@ -1,6 +1,6 @@
 -- The pair of a key that is new came to a free place of a weak map's table: so its entry is put.
 use Rattle.std.proofs.Common.{◌≡◌, ℕ, suc, ◌+◌, ◌*◌, ◌<◌, ◌≤◌, Bool, false, nat_lt}
-use Rattle.std.proofs.Common.{[], ◌∷◌, length, None, Some, Err}
+use Rattle.std.proofs.Common.{List, [], ◌∷◌, length, None, Some, Err}
 use Rattle.std.proofs.Common.{refl, sym, ◌∙◌, ap, subst, arith}
 use Rattle.std.specs.Prelude.{slice_set}
 use Rattle.std.proofs.lemmas.Bool.{cond-false}
@@ -33,6 +33,8 @@ use Rattle.object_cells.proofs.HeldNeeds.{new_value_held, content_need_is, wide_
 use Rattle.ephemeron_table.specs.EntryChanges.{HasPutEntry, PutsEntry}
 use Rattle.ephemeron_table.specs.declared.stop.TableStop.TheVariants as stop
 use Rattle.ephemeron_table.specs.Growth.{put_capacity_at, put_capacity_by}
+use Rattle.ephemeron_table.specs.Pairs.{HasPairsAt}
+use Rattle.ephemeron_table.specs.PairChanges.{PutsPair}
 use Rattle.ephemeron_table.specs.PairLaws.{PutsOne, RefillsWeak, TablesStay, WrittenEntriesShow, IsNewValue}
 use Rattle.ephemeron_table.specs.WeakObjects.{IsKeyAt, IsWeakAt}
 use Rattle.ephemeron_table.specs.Probes.{EndsBy, IsTableAt}
@@ -46,11 +48,14 @@ use Rattle.ephemeron_table.proofs.FreeKeys.{ComesToFree, below, finds_put, count
 use Rattle.ephemeron_table.proofs.GrownEntries.{length-with_entry_new}
 use Rattle.ephemeron_table.proofs.KnownTables.{KnownMap, cell, other}
 use Rattle.ephemeron_table.proofs.NewKeys.{LacksKey, shown, known, no_pair_of, no_pair_refers}
-use Rattle.ephemeron_table.proofs.NewKeys.{entries_counted, has_entries}
-use Rattle.ephemeron_table.proofs.NewKeys.{lacks_entries, lacks_where_free}
+use Rattle.ephemeron_table.proofs.NewKeys.{entries_counted, not_full_for}
+use Rattle.ephemeron_table.proofs.NewKeys.{is_full_for, lacks_where_free}
+use Rattle.ephemeron_table.proofs.PairsByKey.{lacks_pair, pairs_shown}
 use Rattle.ephemeron_table.proofs.PutEntries.{puts_one}
 use Rattle.ephemeron_table.proofs.PutMaps.{refills_weak, slot_stays, count_after}
 use Rattle.ephemeron_table.proofs.PutPairs.{pair, pairs_are_now, made, some}
+use Rattle.ephemeron_table.proofs.PutPlaces.{puts_to_table}
+use Rattle.ephemeron_table.proofs.PutShown.{CountsPut, PutsShown}
 
 -- no table is needed where twice the entries with one more are no more than the pairs
 table_not_full : (capacity count : ℕ) → 2 * (count + 1) ≤ capacity → nat_lt capacity (2 * suc count) ≡ false
@@ -77,7 +82,19 @@ pub refuses_entry : {old : Mutator} {graph : Graph} {map key : ℕ} {weak : Weak
     (what : Value) (count : ℕ) → LacksKey old graph map key weak number table → count_at (heap_of old) map ≡ count
     → weak_most ≤ count → PutsEntry old old graph map key weak number what (Err (stop.TableFull count))
 refuses_entry what count lacks counted many =
-    (lacks_entries lacks (omega (arith, counted, many)), sym counted ∙ entries_counted lacks, refl)
+    (is_full_for lacks (omega (arith, counted, many)), sym counted ∙ entries_counted lacks, refl)
+
+-- and then no pair has it
+pub refuses_pair : {old : Mutator} {graph : Graph} {map key : ℕ} {weak : WeakObject} {number : ℕ} {table : Table}
+    {before : List Pair} (value : Held) (count : ℕ) → LacksKey old graph map key weak number table
+    → count_at (heap_of old) map ≡ count → weak_most ≤ count → HasPairsAt (heap_of old) map before
+    → PutsPair old old map key value before (Err (stop.TableFull count))
+refuses_pair value count lacks counted many has = (
+  lacks_pair (shown lacks) lacks.is_key (pairs_shown (known lacks) (shown lacks) has) lacks.fresh,
+  sym counted,
+  omega (arith, counted, many),
+  refl,
+)
 
 -- The entry of a new key is to be put in the table that the map has.
 pub record FitsInTable (old : Mutator) (graph : Graph) (map key : ℕ) (weak : WeakObject) (number count : ℕ)
@@ -115,7 +132,7 @@ module _ {old : Mutator} {graph : Graph} {map key : ℕ} {weak : WeakObject} {nu
       → RefusesRoom old new (content_need (beside_content value)) room
       → PutsEntry old new graph map key weak number what (Err (stop.Full room))
   refuses_in_table room refuses = (
-    has_entries fitting.lacks not_full,
+    not_full_for fitting.lacks not_full,
     refuses.need_is ∙ need_is,
     λ has. refuses.lacks (subst (HasRoom old.young) refuses.need_is has),
     refuses.same,
@@ -150,6 +167,11 @@ module _ {old : Mutator} {graph : Graph} {map key : ℕ} {weak : WeakObject} {nu
           (λ at other filled refers. absurd (no_pair_refers ends.lacks at other filled refers))
           (λ other filled. absurd (not_filled ends other filled))
 
+      -- one more pair holds something
+      filled_more : count_filled (pairs_of (heap_words new.seat) table) ≡ count_at (heap_of old) map + 1
+      filled_more =
+          omega (arith, ap count_filled (pairs_are_now map_known (below ends) puts), counted, fitting.counted)
+
       -- so many entries are counted
       counts : HasWord (words_of_cell (heap_of new) (cell map_known)) count_offset
           (length (with_entry weak.entries number what))
@@ -158,37 +180,63 @@ module _ {old : Mutator} {graph : Graph} {map key : ℕ} {weak : WeakObject} {nu
           : count_filled (pairs_of (heap_words new.seat) table) ≡ length (with_entry weak.entries number what) =
           omega (
             arith,
-            ap count_filled (pairs_are_now map_known (below ends) puts),
-            counted,
-            fitting.counted,
+            filled_more,
             entries_counted ends.lacks,
             length-with_entry_new weak.entries number what ends.lacks.fresh,
           ) in
           subst (HasWord (words_of_cell (heap_of new) (cell map_known)) count_offset) same
           (count_after map_known (below ends) puts (length graph.objects) ends.lacks.is_key.place holds is all counted)
 
+      -- only words of the map have changed, and its table stays
+      changes : TablesStay → ChangesObject (heap_of old) (heap_of new) map (capacity_at (heap_of old) map)
+      changes tables_stay =
+          let heap = heap_of old in
+          subst (λ at. ChangesObject heap (heap_of new) at (capacity_at heap at)) (shown ends.lacks).stands
+          (tables_stay heap (heap_of new) (cell map_known) _ _ refills
+          (slot_stays map_known (below ends) puts (length graph.objects) ends.lacks.is_key.place holds is all
+          counted))
+
       -- so the entry is put
       pub puts_new_entry : TablesStay → WrittenEntriesShow → HasPutEntry old new graph map key weak number what
       puts_new_entry tables_stay entries_show =
           let heap = heap_of old in
           let weak_is = shown ends.lacks in
-          let same : ChangesObject heap (heap_of new) map (capacity_at heap map) =
-          subst (λ at. ChangesObject heap (heap_of new) at (capacity_at heap at)) weak_is.stands
-          (tables_stay heap (heap_of new) (cell map_known) _ _ refills
-          (slot_stays map_known (below ends) puts (length graph.objects) ends.lacks.is_key.place holds is all
-          counted)) in
+          let same = changes tables_stay in
           record {
-            few = has_entries ends.lacks not_full;
+            few = not_full_for ends.lacks not_full;
             room = subst (HasRoom old.young) need_is puts.room;
-            uses = subst (UsesMore old new) need_is (record { space = puts.words.space; young = puts.words.young });
+            uses = subst (UsesMore old new) need_is (record { beside = puts.words.beside; young = puts.words.young });
             changes = subst (ChangesObject heap (heap_of new) map) capacity_is same;
             shows = entries_show old new graph weak (cell map_known) _ _ number (Some what) ends.lacks.shows
                 ends.lacks.is.object ends.lacks.is.reached ends.lacks.is_key.reached weak_is.carries weak_is.shows
                 (λ one is_one. subst (IsNewValue graph) (same_Some what one is_one)
                 (record { is = is; reached = fitting.held.reached }))
-                (ap (λ (y : Young). y.space) puts.words.young ∙ ends.lacks.shows.tied ∙ sym puts.words.space)
-                (puts.words.phase ∙ ends.lacks.shows.quiet) refills one counts;
+                (ap (λ (y : Young). y.space) puts.words.young ∙ ends.lacks.shows.tied ∙ sym puts.words.beside.space)
+                (puts.words.beside.phase ∙ ends.lacks.shows.quiet) refills one counts;
           }
+
+      -- and its pair
+      pub puts_new_pair : TablesStay → PutsShown old new graph map key weak number value what
+      puts_new_pair tables_stay = record {
+        shows = ends.lacks.shows;
+        is = ends.lacks.is;
+        is_key = ends.lacks.is_key;
+        is_held = fitting.held;
+        sizes = ends.lacks.sizes;
+        table = table;
+        is_table = ends.lacks.is_table;
+        few = not_full_for ends.lacks not_full;
+        puts = puts_to_table ends fitting.counted fitting.fits puts;
+        cell = cell map_known;
+        others = _;
+        made = _;
+        stands = (shown ends.lacks).stands;
+        refills = refills;
+        one = one;
+        capacity = _;
+        changes = changes tables_stay;
+        counted = CountsPut.fresh ends.lacks.fresh filled_more;
+      }
 
 -- What is known of a weak map, of a key for which probing ends at a free place of its table, and of a value.
 pub record EndsFree (old : Mutator) (graph : Graph) (map key : ℕ) (weak : WeakObject) (number count place : ℕ)
@@ -226,6 +274,16 @@ pub free_key_put : {old new : Mutator} {graph : Graph} {map key : ℕ} {weak : W
     → HasPutEntry old new graph map key weak number what
 free_key_put free puts =
     puts_new_entry free.fitting (record { lacks = free.fitting.lacks; comes = free.ends.0; free = free.ends.1 })
+    free.is_value puts
+
+-- and its pair
+pub free_key_pair : {old new : Mutator} {graph : Graph} {map key : ℕ} {weak : WeakObject} {number count place : ℕ}
+    {table : Table} {value : Held} {what : Value}
+    → EndsFree old graph map key weak number count place table value what
+    → PutsInTable old new map table place key (count + 1) value → TablesStay
+    → PutsShown old new graph map key weak number value what
+free_key_pair free puts =
+    puts_new_pair free.fitting (record { lacks = free.fitting.lacks; comes = free.ends.0; free = free.ends.1 })
     free.is_value puts
 
 -- or there is no room

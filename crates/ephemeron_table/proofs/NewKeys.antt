@@ -10,7 +10,7 @@ use Rattle.heap_model.specs.Slots.{reference_word, RefersToPlace}
 use Rattle.heap_model.specs.Kinds.{Pair}
 use Rattle.heap_model.specs.Needs.{count_at, pair_of}
 use Rattle.write_barrier.specs.Mains.{Mutator, heap_of, MainShows}
-use Rattle.ephemeron_table.specs.EntryChanges.{LacksEntries}
+use Rattle.ephemeron_table.specs.EntryChanges.{IsFullFor}
 use Rattle.ephemeron_table.specs.WeakObjects.{IsKeyAt, IsWeakAt}
 use Rattle.ephemeron_table.specs.Pairs.{IsFilledAt}
 use Rattle.ephemeron_table.specs.Probes.{IsTableAt, ArePairsIn, PassesBefore, EndsBy, EndsNew}
@@ -19,7 +19,7 @@ use Rattle.ephemeron_table.specs.Takings.{pairs_of}
 use Rattle.ephemeron_table.specs.declared.reading.Table.{Table}
 use Rattle.ephemeron_table.proofs.NoPair.{no_pair, no_key, pair_of_none}
 use Rattle.ephemeron_table.proofs.KeysFound.{WeakShown, weak_shown, shown_there, shown_pairs}
-use Rattle.ephemeron_table.proofs.KeysFound.{none_nowhere, none_where_free}
+use Rattle.ephemeron_table.proofs.KeysProbed.{none_nowhere, none_where_free}
 use Rattle.ephemeron_table.proofs.KnownTables.{KnownMap, within_words}
 use Rattle.ephemeron_table.proofs.PairLists.{pairs_are}
 
@@ -112,9 +112,9 @@ module _ {old : Mutator} {graph : Graph} {map key : ℕ} {weak : WeakObject} {nu
   entries_counted = lacks.shows.counts weak.number map weak.entries lacks.is.object lacks.is.reached lacks.is.place
 
   -- the key is new, and where the map has as many entries as it may have, it can have none more
-  pub lacks_entries : weak_most ≤ count_at (heap_of old) map → LacksEntries weak number
-  lacks_entries many = record { fresh = lacks.fresh; full = omega (arith, many, entries_counted) }
+  pub is_full_for : weak_most ≤ count_at (heap_of old) map → IsFullFor weak number
+  is_full_for many = record { fresh = lacks.fresh; full = omega (arith, many, entries_counted) }
 
   -- where it has fewer, it can
-  pub has_entries : count_at (heap_of old) map < weak_most → LacksEntries weak number → ⊥
-  has_entries few all = omega (arith, few, all.full, entries_counted)
+  pub not_full_for : count_at (heap_of old) map < weak_most → IsFullFor weak number → ⊥
+  not_full_for few all = omega (arith, few, all.full, entries_counted)

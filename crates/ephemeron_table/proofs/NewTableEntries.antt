@@ -1,8 +1,8 @@
--- A weak map that has an entry of a new key in a table that was made is shown with the entry; and where there is no room.
-use Rattle.std.proofs.Common.{◌≡◌, ℕ, ◌+◌, ◌*◌, ◌≤◌, ◌<◌, List, [], length, cond, Some, false, refl, sym, ◌∙◌, ap, subst, arith}
+-- A weak map that has an entry of a new key in a table that was made is shown with the entry; and where there is no
+-- room.
+use Rattle.std.proofs.Common.{◌≡◌, ℕ, ◌+◌, [], length, cond, Some, Err, false, refl, sym, ◌∙◌, ap, subst, arith}
 use Rattle.std.proofs.lemmas.Option.{same_Some}
 use Rattle.tagged_word.proofs.Members.{first_in}
-use Rattle.page_space.specs.Extents.{marks_start}
 use Rattle.nursery.specs.Young.{Young, HasRoom}
 use Rattle.object_graph.specs.declared.value.Value.{Value}
 use Rattle.object_graph.specs.declared.value.Rep.TheVariants as rep
@@ -15,29 +15,32 @@ use Rattle.handle_roots.specs.declared.held.Held.{Held}
 use Rattle.heap_model.specs.Heaps.{words_of_cell}
 use Rattle.heap_model.specs.Slots.{reference_word}
 use Rattle.heap_model.specs.Kinds.{HasWord, count_offset}
-use Rattle.heap_model.specs.Needs.{capacity_at, count_at, grown_table, pair_of, wput_need_at}
+use Rattle.heap_model.specs.Needs.{capacity_at, count_at, grown_table, pair_of}
 use Rattle.write_barrier.specs.Mains.{Mutator, heap_of}
 use Rattle.write_barrier.specs.declared.room.NoRoom.{NoRoom}
-use Rattle.object_cells.specs.Contents.{next_at}
-use Rattle.object_cells.specs.HeldValues.{IsValueHeld, is_wide}
+use Rattle.object_cells.specs.HeldValues.{IsValueHeld}
 use Rattle.object_cells.specs.Capacities.{ChangesObject}
 use Rattle.object_cells.specs.Made.{RefusesRoom, beside_content}
 use Rattle.object_cells.specs.Uses.{UsesMore}
 use Rattle.object_cells.proofs.HeldContents.{HoldsValue}
 use Rattle.object_cells.proofs.HeldNeeds.{held_is_value, new_value_held}
 use Rattle.object_cells.proofs.UnusedWords.{marks_fit, next_before_marks}
-use Rattle.ephemeron_table.specs.EntryChanges.{HasPutEntry, LacksEntries, PutsEntry}
+use Rattle.ephemeron_table.specs.EntryChanges.{HasPutEntry, IsFullFor, PutsEntry}
+use Rattle.ephemeron_table.specs.declared.stop.TableStop.TheVariants as stop
 use Rattle.ephemeron_table.specs.Growth.{put_capacity_by}
 use Rattle.ephemeron_table.specs.Movings.{CanGrow, PutsInNewTable, new_table_need}
 use Rattle.ephemeron_table.specs.PairLaws.{RefillsWeak, TablesGrow, WrittenEntriesShow, IsNewValue}
 use Rattle.ephemeron_table.specs.declared.reading.Table.{Table}
 use Rattle.ephemeron_table.proofs.CountedPairs.{count_filled}
-use Rattle.ephemeron_table.proofs.GrownEntries.{IsGrowing, growing_can, growing_need, known, length-with_entry_new, no_pair_of}
+use Rattle.ephemeron_table.proofs.GrownEntries.{IsGrowing, growing_can, growing_need, known, length-with_entry_new}
+use Rattle.ephemeron_table.proofs.GrownEntries.{no_pair_of}
 use Rattle.ephemeron_table.proofs.GrownEntries.{none, over_test, puts_one, shown}
 use Rattle.ephemeron_table.proofs.GrownMaps.{all_made, boxes_made, count_now, refills_weak, slot_there_now, table_made}
 use Rattle.ephemeron_table.proofs.GrownPairs.{after, before, one_more}
 use Rattle.ephemeron_table.proofs.GrownWords.{puts_weak}
 use Rattle.ephemeron_table.proofs.KnownTables.{KnownMap, cell, count_is}
+use Rattle.ephemeron_table.proofs.PutPlaces.{puts_to_new_table}
+use Rattle.ephemeron_table.proofs.PutShown.{CountsPut, PutsShown}
 
 module _ {old : Mutator} {graph : Graph} {map key : ℕ} {weak : WeakObject} {number : ℕ} {table : Table}
     (growing : IsGrowing old graph map key weak number table) where
@@ -46,22 +49,23 @@ module _ {old : Mutator} {graph : Graph} {map key : ℕ} {weak : WeakObject} {nu
   entries_counted =
       growing.shows.counts weak.number map weak.entries growing.is.object growing.is.reached growing.is.place
 
-  -- the map does not lack the entry for its number of entries
-  pub growing_few : LacksEntries weak number → ⊥
+  -- the map is not full for the key
+  pub growing_few : IsFullFor weak number → ⊥
   growing_few lacks = omega (arith, lacks.full, growing.few, entries_counted)
 
-  -- where there is no room, so many words were needed
-  pub growing_lacks : {new : Mutator} (value : Held) (what : Value) (full : NoRoom) → IsValueHeld old graph value what
-      → RefusesRoom old new (new_table_need table value) full
-      → (full.need ≡ wput_need_at (heap_of old) map (reference_word key) (is_wide what))
-      × (HasRoom old.young full.need → ⊥) × (new ≡ old)
-  growing_lacks value what full held refuses = (
+  -- where there is no room, putting it is refused
+  pub growing_refused : {new : Mutator} (value : Held) (what : Value) (full : NoRoom)
+      → IsValueHeld old graph value what → RefusesRoom old new (new_table_need table value) full
+      → PutsEntry old new graph map key weak number what (Err (stop.Full full))
+  growing_refused value what full held refuses = (
+    growing_few,
     refuses.need_is ∙ growing_need growing value what held,
     λ room. refuses.lacks (subst (HasRoom old.young) refuses.need_is room),
     refuses.same,
   )
 
-  module _ {new : Mutator} {value : Held} {what : Value} (fits : FitsHeld value) (held : IsValueHeld old graph value what)
+  module _ {new : Mutator} {value : Held} {what : Value} (fits : FitsHeld value)
+      (held : IsValueHeld old graph value what)
       (puts : PutsInNewTable old new map table key (count_at (heap_of old) map + 1) value) where
     abbrev k : KnownMap old map table
     k = known growing
@@ -81,12 +85,14 @@ module _ {old : Mutator} {graph : Graph} {map key : ℕ} {weak : WeakObject} {nu
     counted : count_at (heap_of old) map + 1 ≡ count_filled (before k can puts) + 1
     counted = ap (λ n. n + 1) (count_is k)
 
-    abbrev refills : RefillsWeak (heap_of old) (heap_of new) (cell k) [] (all_made k can puts objects growing.is_key.place
+    abbrev refills : RefillsWeak (heap_of old) (heap_of new) (cell k) []
+        (all_made k can puts objects growing.is_key.place
         holds is_value counted)
     refills = refills_weak k can puts objects growing.is_key.place holds is_value counted
 
     -- as many entries are counted as there are with the new one
-    count_word : HasWord (words_of_cell (heap_of new) (cell k)) count_offset (length (with_entry weak.entries number what))
+    count_word : HasWord (words_of_cell (heap_of new) (cell k)) count_offset
+        (length (with_entry weak.entries number what))
     count_word =
         let same : count_filled (after k can puts) ≡ length (with_entry weak.entries number what) =
         omega (
@@ -129,7 +135,7 @@ module _ {old : Mutator} {graph : Graph} {map key : ℕ} {weak : WeakObject} {nu
         record {
           few = growing_few;
           room = subst (HasRoom old.young) need_is puts.room;
-          uses = subst (UsesMore old new) need_is (record { space = words.space; young = words.young });
+          uses = subst (UsesMore old new) need_is (record { beside = words.beside; young = words.young });
           changes = subst (ChangesObject (heap_of old) (heap_of new) map) capacity_is (grows tables_grow);
           shows = entries_show old new graph weak (cell k) []
               (all_made k can puts objects growing.is_key.place holds is_value counted) number (Some what)
@@ -137,7 +143,30 @@ module _ {old : Mutator} {graph : Graph} {map key : ℕ} {weak : WeakObject} {nu
               (shown growing).shows
               (λ put is. subst (IsNewValue graph) (same_Some what put is)
               (record { is = is_value; reached = held.reached }))
-              (ap (λ (y : Young). y.space) words.young ∙ growing.shows.tied ∙ sym words.space)
-              (words.phase ∙ growing.shows.quiet) refills
+              (ap (λ (y : Young). y.space) words.young ∙ growing.shows.tied ∙ sym words.beside.space)
+              (words.beside.phase ∙ growing.shows.quiet) refills
               (puts_one k can puts objects growing.is_key.place holds is_value counted (none growing)) count_word;
         }
+
+    -- and its pair was put
+    pub grown_pair : TablesGrow → PutsShown old new graph map key weak number value what
+    grown_pair tables_grow = record {
+      shows = growing.shows;
+      is = growing.is;
+      is_key = growing.is_key;
+      is_held = held;
+      sizes = growing.sizes;
+      table = table;
+      is_table = growing.is_table;
+      few = growing_few;
+      puts = puts_to_new_table growing puts;
+      cell = cell k;
+      others = [];
+      made = all_made k can puts objects growing.is_key.place holds is_value counted;
+      stands = k.there.stands;
+      refills = refills;
+      one = puts_one k can puts objects growing.is_key.place holds is_value counted (none growing);
+      capacity = grown_table table.capacity;
+      changes = grows tables_grow;
+      counted = CountsPut.fresh growing.fresh (omega (arith, one_more k can puts, count_is k));
+    }

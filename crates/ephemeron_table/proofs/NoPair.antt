@@ -1,5 +1,6 @@
 -- Where a weak map has no entry of a key, no pair of its table has the key.
-use Rattle.std.proofs.Common.{◌≡◌, ◌≢◌, ℕ, zero, suc, ◌+◌, ◌<◌, ◌≤◌, inl, inr, Bool, true, false, Option, Some, None, slice_get, ◌==◌}
+use Rattle.std.proofs.Common.{◌≡◌, ◌≢◌, ℕ, zero, suc, ◌+◌, ◌<◌, ◌≤◌, inl, inr, Bool, true, false}
+use Rattle.std.proofs.Common.{Option, Some, None, slice_get, ◌==◌}
 use Rattle.std.proofs.Common.{refl, sym, ◌∙◌, ap, subst, arith, unwrap_or, get_or}
 use Rattle.std.specs.Prelude.{if◌then◌else◌, IsFalse}
 use Rattle.std.proofs.lemmas.Bool.{cases_lt, eqb-true, false≢true}
@@ -29,7 +30,8 @@ module _ {main : Mutator} {graph : Graph} {map key : ℕ} {weak : WeakObject} {n
   known_apart : (pair : Pair) → RefersToPlace (heap_of main) pair.key number
       → IsKnownKey (heap_of main) (reach graph) weak.entries pair → ⊥
   known_apart pair refers (IsKnownKey.of_entry entry at stands marked names) =
-      entry_apart weak.entries number at entry fresh stands (one_number (heap_of main) pair.key entry.key number names refers)
+      entry_apart weak.entries number at entry fresh stands
+      (one_number (heap_of main) pair.key entry.key number names refers)
   known_apart pair refers (IsKnownKey.unreached other names not) =
       let same : other ≡ number = one_number (heap_of main) pair.key other number names refers in
       false≢true (sym (subst (λ n. IsFalse (is_marked (reach graph) n)) same not) ∙ is_key.reached)
@@ -61,10 +63,12 @@ none_by false word key first rest is other none = none
 
 -- of so many pairs none has the key
 pub pair_from_none : (heap : Heap) (at key first more : ℕ)
-    → ((k : ℕ) → first ≤ k → k < first + more → key_word heap at k ≢ key) → pair_from heap at key first more ≡ None
+    → ((k : ℕ) → first ≤ k → k < first + more → key_word heap at k ≢ key)
+    → pair_from heap at key first more ≡ None
 pair_from_none heap at key first zero none = refl
 pair_from_none heap at key first (suc more) none =
-    none_by (key_word heap at first == key) (key_word heap at first) key first (pair_from heap at key (suc first) more) refl
+    none_by (key_word heap at first == key) (key_word heap at first) key first
+    (pair_from heap at key (suc first) more) refl
     (none first (omega arith) (omega arith))
     (pair_from_none heap at key (suc first) more (λ k from below. none k (omega (arith, from)) (omega (arith, below))))
 

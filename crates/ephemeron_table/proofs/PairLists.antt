@@ -1,5 +1,6 @@
 -- The pairs of a table by its words, before and after one was put.
-use Rattle.std.proofs.Common.{◌≡◌, ◌≢◌, ℕ, suc, ◌+◌, ◌-◌, ◌*◌, ◌≤◌, ◌<◌, inl, inr, List, length, get_or, drop, Some}
+use Rattle.std.proofs.Common.{◌≡◌, ◌≢◌, ℕ, suc, ◌+◌, ◌-◌, ◌*◌, ◌≤◌, ◌<◌, inl, inr, List}
+use Rattle.std.proofs.Common.{length, get_or, drop, Some}
 use Rattle.std.proofs.Common.{slice_get, refl, sym, ◌∙◌, ap, arith, length-drop, length-take, length-set}
 use Rattle.std.specs.Prelude.{slice_set, slice_range}
 use Rattle.std.proofs.lemmas.Bool.{cases_eq}
@@ -20,7 +21,11 @@ in_range : (words : List ℕ) (from to k place word : ℕ) → from + k ≡ plac
     → slice_get (slice_range words from to) k ≡ Some word → slice_get words place ≡ Some word
 in_range words from to k place word is there =
     let below : k < to - from =
-    omega (arith, slice_get_within (slice_range words from to) k word there, length-take (to - from) (drop from words)) in
+    omega (
+      arith,
+      slice_get_within (slice_range words from to) k word there,
+      length-take (to - from) (drop from words),
+    ) in
     sym (slice_get-drop from words k place is) ∙ sym (slice_get-take (to - from) (drop from words) k below) ∙ there
 
 -- the words of the pairs that are read stand in the table
@@ -37,7 +42,8 @@ pairs_read words table within =
     record {
       long = omega (arith, length-pairs_in range, many);
       keys = λ place pair there.
-          in_range words from to (2 * place) (table.at + key_offset place) pair.key (omega arith) (parts place pair there).0;
+          in_range words from to (2 * place) (table.at + key_offset place) pair.key (omega arith)
+          (parts place pair there).0;
       values = λ place pair there.
           in_range words from to (suc (2 * place)) (table.at + value_offset place) pair.value (omega arith)
           (parts place pair there).1;
@@ -63,7 +69,8 @@ same_pairs words table pairs others are are_too =
 pub pairs_are : (words : List ℕ) (table : Table) (pairs : List Pair)
     → table.at + (store_head + 2 * table.capacity) ≤ length words → ArePairsIn words table pairs
     → pairs_of words table ≡ pairs
-pairs_are words table pairs within are = same_pairs words table (pairs_of words table) pairs (pairs_read words table within) are
+pairs_are words table pairs within are =
+    same_pairs words table (pairs_of words table) pairs (pairs_read words table within) are
 
 -- the words beside the pairs stay
 pub beside_put : (words : List ℕ) (table : Table) (place at : ℕ) (pair : Pair) → place < table.capacity
@@ -88,7 +95,7 @@ length-with_pair words table place pair =
     length-set (slice_set words (table + key_offset place) pair.key) (table + value_offset place) pair.value
     ∙ length-set words (table + key_offset place) pair.key
 
--- the words that were put
+-- the word of the key that was put
 key_put : (words : List ℕ) (table place : ℕ) (pair : Pair) → table + value_offset place < length words
     → slice_get (with_pair words table place pair) (table + key_offset place) ≡ Some pair.key
 key_put words table place pair within =
@@ -96,13 +103,14 @@ key_put words table place pair within =
     (table + key_offset place) pair.value (λ same. omega (arith, same))
     ∙ slice_get-set_same words (table + key_offset place) pair.key (omega (arith, within))
 
+-- and that of its value
 value_put : (words : List ℕ) (table place : ℕ) (pair : Pair) → table + value_offset place < length words
     → slice_get (with_pair words table place pair) (table + value_offset place) ≡ Some pair.value
 value_put words table place pair within =
     slice_get-set_same (slice_set words (table + key_offset place) pair.key) (table + value_offset place) pair.value
     (omega (arith, within, length-set words (table + key_offset place) pair.key))
 
--- and those of another pair
+-- the word of another pair's key stays
 key_other : (words : List ℕ) (table place other : ℕ) (pair : Pair) → other ≢ place
     → slice_get (with_pair words table place pair) (table + key_offset other)
     ≡ slice_get words (table + key_offset other)
@@ -112,6 +120,7 @@ key_other words table place other pair apart =
     ∙ slice_get-set_other words (table + key_offset place) (table + key_offset other) pair.key
     (λ same. apart (omega (arith, same)))
 
+-- and so does that of its value
 value_other : (words : List ℕ) (table place other : ℕ) (pair : Pair) → other ≢ place
     → slice_get (with_pair words table place pair) (table + value_offset other)
     ≡ slice_get words (table + value_offset other)
@@ -139,7 +148,8 @@ pairs_put words table pairs place pair within below are = record {
   long = length-set pairs place pair ∙ are.long;
   keys = λ other found there. elim (cases_eq other place) [
     | inl same ↦
-        let found_is = at_place pairs place pair found (ap (slice_get (slice_set pairs place pair)) (sym same) ∙ there) in
+        let found_is = at_place pairs place pair found
+        (ap (slice_get (slice_set pairs place pair)) (sym same) ∙ there) in
         ap (λ n. slice_get (with_pair words table.at place pair) (table.at + key_offset n)) same
         ∙ key_put words table.at place pair (omega (arith, within, below)) ∙ ap (λ (p : Pair). Some p.key) found_is
     | inr apart ↦ key_other words table.at place other pair apart
@@ -147,7 +157,8 @@ pairs_put words table pairs place pair within below are = record {
   ];
   values = λ other found there. elim (cases_eq other place) [
     | inl same ↦
-        let found_is = at_place pairs place pair found (ap (slice_get (slice_set pairs place pair)) (sym same) ∙ there) in
+        let found_is = at_place pairs place pair found
+        (ap (slice_get (slice_set pairs place pair)) (sym same) ∙ there) in
         ap (λ n. slice_get (with_pair words table.at place pair) (table.at + value_offset n)) same
         ∙ value_put words table.at place pair (omega (arith, within, below)) ∙ ap (λ (p : Pair). Some p.value) found_is
     | inr apart ↦ value_other words table.at place other pair apart

@@ -1,5 +1,5 @@
--- What the slots of a weak map name whose pairs were written: each named the same before, or names what was made; and no
--- two name one. So the change of cells is the map's own.
+-- What the slots of a weak map name whose pairs were written: each named the same before, or names what was made; and
+-- no two name one. So the change of cells is the map's own.
 use Rattle.std.proofs.Common.{◌≡◌, ℕ, ◌+◌, ◌⊎◌, inl, inr, List, ◌∷◌, ◌++◌, Contains, Some, slice_get}
 use Rattle.std.proofs.Common.{refl, sym, ◌∙◌, ap, subst}
 use Rattle.std.proofs.lemmas.Option.{same_Some}
@@ -65,8 +65,8 @@ module _ {old new : Heap} {cell : Cell} {others made : List Cell} (refills : Ref
         → IsValueAt old (words_of_cell old cell) (refills.pairs.origin at) place → PairSource at named
     fresh : at ≡ refills.pairs.one → IsNewPlace old named → PairSource at named
 
-  -- A slot of the map names its table, which it named before or which stands where no cell began; or a box, as the value
-  -- of a pair.
+  -- A slot of the map names its table, which it named before or which stands where no cell began; or a box, as the
+  -- value of a pair.
   data Source (slot named : ℕ) : Type 0 where
     of_table : slot ≡ cell.at + store_slot → StandsOfKind new kind.Table named
         → NamesFrom old cell (cell.at + store_slot) named ⊎ IsNewPlace old named → Source slot named

@@ -1,5 +1,6 @@
 -- The pairs of a weak map's table by their words: where the value of each stands, and what each slot of the map is.
-use Rattle.std.proofs.Common.{◌≡◌, ℕ, zero, suc, ◌+◌, ◌-◌, ◌*◌, ◌<◌, List, [], ◌∷◌, length, drop, Some, slice_get}
+use Rattle.std.proofs.Common.{◌≡◌, ℕ, zero, suc, ◌+◌, ◌-◌, ◌*◌, ◌<◌, List, [], ◌∷◌, length, drop}
+use Rattle.std.proofs.Common.{Some, slice_get}
 use Rattle.std.proofs.Common.{refl, sym, ◌∙◌, ap, subst, arith, length-drop}
 use Rattle.std.proofs.lemmas.Option.{none-some, same_Some}
 use Rattle.tagged_word.specs.declared.layout.Kind.TheVariants as kind
@@ -136,7 +137,8 @@ pub data WeakSlot (heap : Heap) (cell : Cell) (words : List ℕ) (pairs : List P
   of_table : slot ≡ cell.at + store_slot → HasWord words store_slot word → WeakSlot heap cell words pairs slot word
   of_key : (at : ℕ) (pair : Pair) → slice_get pairs at ≡ Some pair → pair.key ≡ word
       → WeakSlot heap cell words pairs slot word
-  of_value : (at : ℕ) (pair : Pair) → slice_get pairs at ≡ Some pair → pair.value ≡ word → IsValueAt heap words at slot
+  of_value : (at : ℕ) (pair : Pair) → slice_get pairs at ≡ Some pair → pair.value ≡ word
+      → IsValueAt heap words at slot
       → WeakSlot heap cell words pairs slot word
 
 -- a word of a table is one of a pair, at its address
@@ -159,7 +161,8 @@ in_table {other = other} {others = others} store k word slot at_store refers is
 
 -- each slot of a weak map is one of these
 pub weak_slot : {heap : Heap} {cell : Cell} {words : List ℕ} {pairs : List Pair} {slot word : ℕ}
-    → HasCell heap cell words → cell.layout.kind ≡ kind.Weak → HasPairs heap words pairs → HasSlotAt heap cell words slot word
+    → HasCell heap cell words → cell.layout.kind ≡ kind.Weak → HasPairs heap words pairs
+    → HasSlotAt heap cell words slot word
     → WeakSlot heap cell words pairs slot word
 weak_slot {cell = cell} {words} has weak are (HasSlotAt.own offset word there stands) =
     let same : store_slot ≡ offset = one_in store_slot offset (slots_of_kind cell kind.Weak offset weak there) in

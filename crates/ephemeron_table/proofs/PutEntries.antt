@@ -38,7 +38,8 @@ module _ {old new : Mutator} {map place key count number : ℕ} {table : Table} 
     (key_place : IsPlace (heap_of old) number key)
     (holds : HoldsValue (heap_of old) false rep.Small (rep_of what) what (beside_content value))
     (fits : IsValue objects what)
-    (all : FindsAll (numbers (heap_of old) (slice_set (pairs_of (heap_words old.seat) table) place (pair known below puts))))
+    (all : FindsAll (numbers (heap_of old)
+    (slice_set (pairs_of (heap_words old.seat) table) place (pair known below puts))))
     (counted : count ≡ count_filled (slice_set (pairs_of (heap_words old.seat) table) place (pair known below puts)))
     (once : (at : ℕ) (one : Pair) → IsFilledAt (pairs_of (heap_words old.seat) table) at one
     → RefersToPlace (heap_of old) one.key number → at ≡ place)
@@ -91,8 +92,11 @@ module _ {old new : Mutator} {map place key count number : ℕ} {table : Table} 
     own = λ at one is refers. elim (cases_eq at place) [
       | inl same ↦ (same, refl)
       | inr apart ↦
-          let was = filled_elsewhere before place at (pair known below puts) one apart (now_filled at one is) in
-          (once at one was (refers_back known below puts objects key_place holds fits all counted one.key number refers), refl)
+          let was = filled_elsewhere before place at (pair known below puts) one apart (now_filled at one is) in (
+            once at one was
+                (refers_back known below puts objects key_place holds fits all counted one.key number refers),
+            refl,
+          )
     ];
     shown = λ put is. (pair known below puts, pair_stands, pair_shows put (same_Some what put is));
     none_put = λ none. absurd (none-some what (sym none));

@@ -1,9 +1,10 @@
 -- What comes of a put where the key is there: its entry has the value, or there is no room.
-use Rattle.std.proofs.Common.{◌≡◌, ℕ, ◌+◌, Some, refl, sym, ◌∙◌, ap, subst, arith, false}
+use Rattle.std.proofs.Common.{◌≡◌, ℕ, ◌+◌, Some, Err, length, sym, ◌∙◌, ap, subst, arith, false}
 use Rattle.std.proofs.lemmas.Option.{none-some}
 use Rattle.page_space.specs.Extents.{Space}
 use Rattle.object_graph.specs.declared.value.Value.{Value}
 use Rattle.object_graph.specs.Graphs.{Graph, WeakObject}
+use Rattle.object_graph.specs.Invariants.{IsValue}
 use Rattle.nursery.specs.Young.{HasRoom}
 use Rattle.handle_roots.specs.Roots.{FitsHeld}
 use Rattle.handle_roots.specs.declared.held.Held.{Held}
@@ -12,26 +13,30 @@ use Rattle.heap_model.specs.Needs.{word_at, wput_need_at}
 use Rattle.write_barrier.specs.Mains.{Mutator, heap_of}
 use Rattle.write_barrier.specs.declared.room.NoRoom.{NoRoom}
 use Rattle.object_cells.specs.Contents.{next_at, box_in, filling_at, filling_of, filling_need, HoldsSlotWord, LacksRoom}
+use Rattle.object_cells.specs.Contents.{FillsSlot}
 use Rattle.object_cells.specs.HeldValues.{IsValueHeld, is_wide}
 use Rattle.object_cells.specs.Made.{beside_content}
+use Rattle.object_cells.proofs.FilledSlots.{FilledBy, slot_filled, held_before, no_raw}
 use Rattle.object_cells.proofs.HeldNeeds.{held_is_value, new_value_held}
 use Rattle.object_cells.proofs.SlotBoxes.{box_of_word, lacks_need}
-use Rattle.ephemeron_table.specs.EntryChanges.{HasPutEntry, LacksEntries}
+use Rattle.ephemeron_table.specs.EntryChanges.{HasPutEntry, IsFullFor, PutsEntry}
+use Rattle.ephemeron_table.specs.declared.stop.TableStop.TheVariants as stop
 use Rattle.ephemeron_table.specs.PairLaws.{TablesStay, WrittenEntriesShow}
 use Rattle.ephemeron_table.specs.Probes.{value_in, value_offset}
-use Rattle.ephemeron_table.specs.Puttings.{FillsValue}
 use Rattle.ephemeron_table.specs.declared.reading.Table.{Table}
 use Rattle.ephemeron_table.proofs.BoxedMaps.{box_replaces}
-use Rattle.ephemeron_table.proofs.EntryPairs.{HasEntryPair, entry_need, value_read, value_slot}
-use Rattle.ephemeron_table.proofs.FilledValues.{ValuePut, put_by, held_before, no_raw}
-use Rattle.ephemeron_table.proofs.ReplacedValues.{replaces_entry}
+use Rattle.ephemeron_table.proofs.EntryPairs.{HasEntryPair, known, entry_need, value_read, value_slot}
+use Rattle.ephemeron_table.proofs.KnownTables.{cell}
+use Rattle.ephemeron_table.proofs.PutPlaces.{puts_to_pair}
+use Rattle.ephemeron_table.proofs.PutShown.{CountsPut, PutsShown}
+use Rattle.ephemeron_table.proofs.ReplacedValues.{ReplacesValue, changes, filled_as_many, puts_one, replaces_entry}
 use Rattle.ephemeron_table.proofs.SlotValues.{slot_replaces}
 
 module _ {old : Mutator} {graph : Graph} {map key : ℕ} {weak : WeakObject} {number place : ℕ} {table : Table}
     (has : HasEntryPair old graph map key weak number place table) where
-  -- the map does not lack the entry
-  pub lacks_none : LacksEntries weak number → ⊥
-  lacks_none lacks = none-some has.told.value (sym lacks.fresh ∙ has.told.is_entry)
+  -- the map is not full for a key that is there
+  pub not_full_there : IsFullFor weak number → ⊥
+  not_full_there lacks = none-some has.told.value (sym lacks.fresh ∙ has.told.is_entry)
 
   -- the word of its value may be filled
   pub value_before : (value : Held)
@@ -40,31 +45,27 @@ module _ {old : Mutator} {graph : Graph} {map key : ℕ} {weak : WeakObject} {nu
       held_before (heap_of old) (value_in (heap_of old) table.at place) (beside_content value)
       (subst (IsSlotWord (heap_of old)) (sym (value_read has)) (value_slot has))
 
-  -- where there is no room, so many words were needed
-  pub value_lacks : (value : Held) (what : Value) (full : NoRoom) → IsValueHeld old graph value what
-      → LacksRoom old (filling_at old (table.at + value_offset place) (beside_content value)) full
-      → (full.need ≡ wput_need_at (heap_of old) map (reference_word key) (is_wide what))
-      × (HasRoom old.young full.need → ⊥)
-  value_lacks value what full held lacks =
+  -- where there is no room, putting it is refused
+  pub value_refused : {new : Mutator} (value : Held) (what : Value) (full : NoRoom) → IsValueHeld old graph value what
+      → LacksRoom old (filling_at old (table.at + value_offset place) (beside_content value)) full → new ≡ old
+      → PutsEntry old new graph map key weak number what (Err (stop.Full full))
+  value_refused value what full held lacks same =
       let told = lacks_need old (filling_at old (table.at + value_offset place) (beside_content value)) full lacks in
-      (told.0 ∙ entry_need has value what held.shows, told.1)
+      (not_full_there, told.0 ∙ entry_need has value what held.shows, told.1, same)
 
--- so the entry has the value, by how it was put
-has_put_by : {old new : Mutator} {graph : Graph} {map key : ℕ} {weak : WeakObject} {number place : ℕ} {table : Table}
-    (value : Held) (what : Value) (has : HasEntryPair old graph map key weak number place table) → FitsHeld value
-    → IsValueHeld old graph value what → TablesStay → WrittenEntriesShow
-    → ValuePut old new (table.at + value_offset place) (word_at (heap_of old) (table.at + value_offset place))
+-- so the pair of the entry came to have the value, by how it was put
+replaces_by : {old new : Mutator} {graph : Graph} {map key : ℕ} {weak : WeakObject} {number place : ℕ} {table : Table}
+    (value : Held) (what : Value) (has : HasEntryPair old graph map key weak number place table)
+    → IsValue (length graph.objects) what → IsValueHeld old graph value what
+    → FilledBy old new (table.at + value_offset place) (word_at (heap_of old) (table.at + value_offset place))
     (beside_content value)
-    → HasPutEntry old new graph map key weak number what
-has_put_by {old} {graph = graph} value what has fits held tables_stay entries_show (ValuePut.slot room words needs) =
-    let is_value = held_is_value value what has.shows fits held.shows in
+    → (need : ℕ) × ReplacesValue old new (known has) place key what need
+    × (need ≡ wput_need_at (heap_of old) map (reference_word key) (is_wide what))
+replaces_by {old} value what has is_value held (FilledBy.slot room words needs) =
     let holds = new_value_held false value what held.shows in
-    replaces_entry has (slot_replaces value has holds is_value room words) tables_stay entries_show is_value
-    held.reached (sym needs ∙ entry_need has value what held.shows)
-has_put_by {old} {graph = graph} {place = place} {table} value what has fits held tables_stay entries_show
-    (ValuePut.of_box box v boxed found same) =
+    (_, slot_replaces value has holds is_value room words, sym needs ∙ entry_need has value what held.shows)
+replaces_by {old} {place = place} {table} value what has is_value held (FilledBy.of_box box v boxed found same) =
     let heap = heap_of old in
-    let is_value = held_is_value value what has.shows fits held.shows in
     let holds = new_value_held false value what held.shows in
     let word : ℕ = word_at heap (table.at + value_offset place) in
     let box_of = box_of_word has.told.pair.value box has.shows.shows.whole.sized (value_slot has)
@@ -72,20 +73,60 @@ has_put_by {old} {graph = graph} {place = place} {table} value what has fits hel
     let none : filling_need (filling_of (box_in heap word) (next_at old) (beside_content value)) ≡ 0 =
     ap (λ o. filling_need (filling_of o (next_at old) (beside_content value))) found
     ∙ ap (λ put. filling_need (filling_of (Some box) (next_at old) put)) boxed in
-    replaces_entry has (box_replaces v value has box_of same holds is_value boxed) tables_stay entries_show is_value
-    held.reached (sym none ∙ entry_need has value what held.shows)
+    (0, box_replaces v value has box_of same holds is_value boxed, sym none ∙ entry_need has value what held.shows)
 
 -- so it does where its word was filled
+replaces_value : {old new : Mutator} {graph : Graph} {map key : ℕ} {weak : WeakObject} {number place : ℕ}
+    {table : Table} (value : Held) (what : Value) (has : HasEntryPair old graph map key weak number place table)
+    → IsValue (length graph.objects) what → IsValueHeld old graph value what
+    → FillsSlot old new (table.at + value_offset place) (beside_content value)
+    → (need : ℕ) × ReplacesValue old new (known has) place key what need
+    × (need ≡ wput_need_at (heap_of old) map (reference_word key) (is_wide what))
+replaces_value {old} {new} {place = place} {table} value what has is_value held fills =
+    let young = ap (λ (space : Space). space.sizes.young) has.shows.tied in
+    let room : HasRoom old.young 0 = omega (arith, has.shows.shows.whole.rows.few, young) in
+    replaces_by value what has is_value held
+    (slot_filled fills has.shows.tied (omega (arith, has.is_table.within, has.below)) room
+    (λ w. no_raw w (new_value_held false value what held.shows)))
+
+-- and so the entry has the value
 pub has_put_value : {old new : Mutator} {graph : Graph} {map key : ℕ} {weak : WeakObject} {number place : ℕ}
     {table : Table} (value : Held) (what : Value) (has : HasEntryPair old graph map key weak number place table)
     → FitsHeld value → IsValueHeld old graph value what → TablesStay → WrittenEntriesShow
-    → FillsValue old new (table.at + value_offset place) value → HasPutEntry old new graph map key weak number what
-has_put_value {old} {new} {place = place} {table} value what has fits held tables_stay entries_show fills =
-    let young = ap (λ (space : Space). space.sizes.young) has.shows.tied in
-    let room : HasRoom old.young 0 = omega (arith, has.shows.shows.whole.rows.few, young) in
-    let at : ℕ = table.at + value_offset place in
-    let word : ℕ = word_at (heap_of old) at in
-    has_put_by value what has fits held tables_stay entries_show
-    (put_by old fills.between new at word (beside_content value) (box_in (heap_of old) word) has.shows.tied
-    (omega (arith, has.is_table.within, has.below)) room refl
-    (λ w. no_raw w (new_value_held false value what held.shows)) fills.allocates fills.fills)
+    → FillsSlot old new (table.at + value_offset place) (beside_content value)
+    → HasPutEntry old new graph map key weak number what
+has_put_value value what has fits held tables_stay entries_show fills =
+    let is_value = held_is_value value what has.shows fits held.shows in
+    let replaces = replaces_value value what has is_value held fills in
+    replaces_entry has replaces.1 tables_stay entries_show is_value held.reached replaces.2
+
+-- and its pair was put
+pub puts_value_pair : {old new : Mutator} {graph : Graph} {map key : ℕ} {weak : WeakObject} {number place : ℕ}
+    {table : Table} (value : Held) (what : Value) (has : HasEntryPair old graph map key weak number place table)
+    → FitsHeld value → IsValueHeld old graph value what → TablesStay
+    → FillsSlot old new (table.at + value_offset place) (beside_content value)
+    → PutsShown old new graph map key weak number value what
+puts_value_pair {old} {new} {table = table} value what has fits held tables_stay fills =
+    let is_value = held_is_value value what has.shows fits held.shows in
+    let by = replaces_value value what has is_value held fills in
+    let replaces = by.1 in
+    record {
+      shows = has.shows;
+      is = has.is;
+      is_key = has.is_key;
+      is_held = held;
+      sizes = has.sizes;
+      table = table;
+      is_table = has.is_table;
+      few = not_full_there has;
+      puts = puts_to_pair has fills;
+      cell = cell (known has);
+      others = replaces.others;
+      made = replaces.made;
+      stands = (known has).there.stands;
+      refills = replaces.refills;
+      one = puts_one has replaces;
+      capacity = _;
+      changes = changes has replaces tables_stay;
+      counted = CountsPut.there has.told.value has.told.is_entry (filled_as_many has replaces);
+    }

@@ -1,5 +1,6 @@
 -- A weak map to whose table a pair came is refilled.
-use Rattle.std.proofs.Common.{◌≡◌, ℕ, ◌+◌, ◌<◌, inl, inr, List, [], ◌∷◌, ◌++◌, length, drop, Contains, Some}
+use Rattle.std.proofs.Common.{◌≡◌, ℕ, ◌+◌, ◌<◌, inl, inr, List, [], ◌∷◌, ◌++◌, length, drop, Contains}
+use Rattle.std.proofs.Common.{Some}
 use Rattle.std.proofs.Common.{false, slice_get, refl, sym, ◌∙◌, ap, subst, arith}
 use Rattle.std.specs.Prelude.{slice_set, ℤ, option_map}
 use Rattle.std.proofs.lemmas.Bool.{cases_eq}
@@ -63,8 +64,10 @@ module _ {old new : Mutator} {map place key count number : ℕ} {table : Table} 
     (key_place : IsPlace (heap_of old) number key)
     (holds : HoldsValue (heap_of old) false rep.Small (rep_of what) what (beside_content value))
     (fits : IsValue objects what)
-    (all : FindsAll (numbers (heap_of old) (slice_set (pairs_of (heap_words old.seat) table) place (pair known below puts))))
-    (counted : count ≡ count_filled (slice_set (pairs_of (heap_words old.seat) table) place (pair known below puts))) where
+    (all : FindsAll (numbers (heap_of old)
+    (slice_set (pairs_of (heap_words old.seat) table) place (pair known below puts))))
+    (counted : count ≡ count_filled
+    (slice_set (pairs_of (heap_words old.seat) table) place (pair known below puts))) where
   abbrev map_cell : Cell
   map_cell = cell known
 
@@ -101,7 +104,8 @@ module _ {old new : Mutator} {map place key count number : ℕ} {table : Table} 
       → RefersToBox (heap_of new) (reference_word (next_at old)) v
   refers_box v is_box =
       refers_to_made (beside_content value) (next_at old) v is_box (boxed_integer objects v holds fits is_box)
-      (box_stands known below puts) (made_has (box_cell (next_at old)) (made_box (beside_content value) (next_at old) v is_box))
+      (box_stands known below puts)
+      (made_has (box_cell (next_at old)) (made_box (beside_content value) (next_at old) v is_box))
 
   pub belong : (one : Cell) → Contains (table_cell ∷ []) one → (slot : ℕ) × NamesFrom (heap_of old) map_cell slot one.at
   belong one among = (
@@ -126,7 +130,8 @@ module _ {old new : Mutator} {map place key count number : ℕ} {table : Table} 
   pub slot_stays : slice_get (heap_words new.seat) (map_cell.at + store_slot)
       ≡ slice_get (heap_words old.seat) (map_cell.at + store_slot)
   slot_stays =
-      subst (λ n. slice_get (heap_words new.seat) (n + 1) ≡ slice_get (heap_words old.seat) (n + 1)) (sym known.there.stands)
+      subst (λ n. slice_get (heap_words new.seat) (n + 1) ≡ slice_get (heap_words old.seat) (n + 1))
+      (sym known.there.stands)
       (map_stays known below puts 1 (omega arith))
 
   pub slot_now : HasWord (words_of_cell (heap_of new) map_cell) store_slot (sound known).store
@@ -189,12 +194,14 @@ module _ {old new : Mutator} {map place key count number : ℕ} {table : Table} 
       let there : probing.HoldsNumber (numbers (heap_of old) after) at another =
       slice_get-map (number_of (heap_of old)) after at ∙ ap (option_map (number_of (heap_of old))) is.stands
       ∙ ap (λ item. Some item) number_is in
-      let all_now = subst (λ pairs. FindsAll (numbers (heap_of old) pairs)) (sym (pairs_are_now known below puts)) all in
+      let all_now = subst (λ pairs. FindsAll (numbers (heap_of old) pairs))
+      (sym (pairs_are_now known below puts)) all in
       probed_pair known after another at (all_now at another there)
 
   pub is_table : (one : Cell) → Contains (table_cell ∷ []) one → one.layout.kind ≡ kind.Table
   is_table one among =
-      ap (λ (c : Cell). c.layout.kind) (sym (one_in table_cell one among)) ∙ (found known (some known below puts)).of_kind
+      ap (λ (c : Cell). c.layout.kind) (sym (one_in table_cell one among))
+      ∙ (found known (some known below puts)).of_kind
 
   -- the pair that was put shows a key and a value
   pub pair_filled : IsFilledPair (heap_of new) (pair known below puts) number

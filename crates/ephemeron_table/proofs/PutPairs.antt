@@ -1,5 +1,6 @@
 -- A pair that was put at a place of a weak map's table refills the map.
-use Rattle.std.proofs.Common.{◌≡◌, ◌≢◌, ℕ, ◌+◌, ◌*◌, ◌≤◌, ◌<◌, inl, inr, List, [], ◌∷◌, length, Contains, slice_get}
+use Rattle.std.proofs.Common.{◌≡◌, ◌≢◌, ℕ, ◌+◌, ◌*◌, ◌≤◌, ◌<◌, inl, inr, List, [], ◌∷◌}
+use Rattle.std.proofs.Common.{length, Contains, slice_get}
 use Rattle.std.proofs.Common.{sym, ◌∙◌, ap, subst, arith, add-zero, length-set}
 use Rattle.std.specs.Prelude.{slice_set, ℤ}
 use Rattle.std.proofs.lemmas.Bool.{cases_lt}
@@ -61,7 +62,8 @@ module _ {old new : Mutator} {map place key count : ℕ} {table : Table} {value 
   final = slice_set put (map + count_offset) count
 
   -- a word beside the pairs that is neither the count nor one of a box is as before
-  word_stays : (a : ℕ) → IsBesidePairs table a → a ≢ map + count_offset → (next_at old ≤ a → a < next_at old + need → ⊥)
+  word_stays : (a : ℕ) → IsBesidePairs table a → a ≢ map + count_offset
+      → (next_at old ≤ a → a < next_at old + need → ⊥)
       → slice_get final a ≡ slice_get (heap_words old.seat) a
   word_stays a beside not_count not_new =
       slice_get-set_other put (map + count_offset) a count not_count ∙ beside_put boxed table place a pair below beside
@@ -122,7 +124,8 @@ module _ {old new : Mutator} {map place key count : ℕ} {table : Table} {value 
       ap (λ all. slice_get all (table_cell.at + k)) puts.words.heap
       ∙ word_stays (table_cell.at + k) (inl (omega (arith, less, one.stands))) (λ same.
       let of_cell = subst (IsOfCell map_cell) (sym same) (of_map known 2 (omega arith)) in
-      let cells = cells_apart (table_cell.at + k) known.whole.rows (cell_has known) (other_has known some) of_cell of_other in
+      let cells = cells_apart (table_cell.at + k) known.whole.rows (cell_has known)
+      (other_has known some) of_cell of_other in
       map_no_table known some (ap (λ (c : Cell). c.layout.kind) cells ∙ one.of_kind))
       (not_reserved (table_cell.at + k) puts_weak (other_has known some) of_other)
 
@@ -146,7 +149,8 @@ module _ {old new : Mutator} {map place key count : ℕ} {table : Table} {value 
       }))))
 
   -- a word of a box that is made
-  box_word : (b : ℕ) → next_at old ≤ b → b < next_at old + need → slice_get (heap_words new.seat) b ≡ slice_get boxed b
+  box_word : (b : ℕ) → next_at old ≤ b → b < next_at old + need
+      → slice_get (heap_words new.seat) b ≡ slice_get boxed b
   box_word b from less =
       ap (λ all. slice_get all b) puts.words.heap
       ∙ slice_get-set_other put (map + count_offset) b count (λ same.
@@ -159,7 +163,7 @@ module _ {old new : Mutator} {map place key count : ℕ} {table : Table} {value 
   -- the box stands there
   pub box_stands : BoxStands (heap_of new) (beside_content value) (next_at old)
   box_stands =
-      let space = puts.words.space in
+      let space = puts.words.beside.space in
       let ends = next_before_segments old need known.tied puts.room in
       let start = ap (λ (s : Space). eden_start s) space in
       let segments = ap (λ (s : Space). segments_start s) space in
@@ -199,7 +203,8 @@ module _ {old new : Mutator} {map place key count : ℕ} {table : Table} {value 
   writes =
       let first : map + 0 ≡ map_cell.at = add-zero map ∙ sym known.there.stands in
       weak_writes made puts_weak
-      (subst (λ n. slice_get (heap_words new.seat) n ≡ slice_get (heap_words old.seat) n) first (map_stays 0 (omega arith)))
+      (subst (λ n. slice_get (heap_words new.seat) n ≡ slice_get (heap_words old.seat) n) first
+      (map_stays 0 (omega arith)))
       beside (made_row (heap_of new) (beside_content value) (next_at old) (weak_sized puts_weak) box_stands)
 
   -- and cells stand in the new heap

@@ -100,11 +100,11 @@ removes_pair {old} {new} {map} {place} {table} {pairs} {pair} known before has t
     let stands : (cell known).at ≡ map = known.there.stands in
     record {
       whole = record {
-        quiet = takes.phase ∙ quiet;
+        quiet = takes.rest.phase ∙ quiet;
         whole = (are_own (heap_of old) (heap_of new) (cell known) _ [] refills).3;
       };
       uses = record {
-        space = takes.space;
+        beside = takes.rest;
         young = takes.young ∙ ap (λ n. record old.young { used = n }) (sym (add-zero old.young.used));
       };
       paths = takes.paths;

@@ -1,5 +1,6 @@
 -- The pair of an entry came to have another value: so the entry is put.
-use Rattle.std.proofs.Common.{◌≡◌, ◌≢◌, ℕ, ◌+◌, inl, inr, Bool, true, false, cond, List, [], ◌∷◌, length, Some}
+use Rattle.std.proofs.Common.{◌≡◌, ◌≢◌, ℕ, ◌+◌, inl, inr, Bool, true, false, cond, List, [], ◌∷◌, length}
+use Rattle.std.proofs.Common.{Some}
 use Rattle.std.proofs.Common.{slice_get, refl, sym, ◌∙◌, ap, subst, arith, ◌==◌}
 use Rattle.std.specs.Prelude.{slice_set}
 use Rattle.std.proofs.lemmas.Bool.{cases_eq}
@@ -13,7 +14,7 @@ use Rattle.object_graph.specs.Graphs.{Graph, WeakObject}
 use Rattle.object_graph.specs.Invariants.{IsValue}
 use Rattle.object_graph.proofs.Lists.{slice_get-set_same}
 use Rattle.cell_layout.specs.declared.cell.Cell.{Cell}
-use Rattle.heap_table.specs.Seats.{heap_words}
+use Rattle.heap_table.specs.Seats.{heap_words, StaysBeside}
 use Rattle.heap_model.specs.Heaps.{words_of_cell}
 use Rattle.heap_model.specs.Slots.{reference_word, RefersToPlace}
 use Rattle.heap_model.specs.Kinds.{HasWord, Pair, count_offset}
@@ -72,8 +73,7 @@ pub record ReplacesValue (old new : Mutator) {map : ℕ} {table : Table} (known 
   pub slot_stays : slice_get (heap_words new.seat) ((cell known).at + store_slot)
       ≡ slice_get (heap_words old.seat) ((cell known).at + store_slot)
   pub room : HasRoom old.young need
-  pub space : new.seat.space ≡ old.seat.space
-  pub phase : new.seat.phase ≡ old.seat.phase
+  pub beside : StaysBeside old.seat new.seat
   pub young : new.young ≡ record old.young { used = old.young.used + need }
 
 module _ {old new : Mutator} {graph : Graph} {map key : ℕ} {weak : WeakObject} {number place : ℕ} {table : Table}
@@ -91,7 +91,7 @@ module _ {old new : Mutator} {graph : Graph} {map key : ℕ} {weak : WeakObject}
       })
 
   -- all pairs but that of the entry are kept
-  puts_one : PutsOne (heap_of old) (heap_of new) replaces.refills.pairs number (Some what)
+  pub puts_one : PutsOne (heap_of old) (heap_of new) replaces.refills.pairs number (Some what)
   puts_one = record {
     kept = λ at pair filled other.
         let was : IsFilledAt before at pair = subst (λ all. IsFilledAt all at pair) replaces.before_is filled in
@@ -123,18 +123,31 @@ module _ {old new : Mutator} {graph : Graph} {map key : ℕ} {weak : WeakObject}
     none_put = λ is. absurd (none-some what (sym is));
   }
 
-  -- as many entries are counted
+  -- as many pairs hold something as before
+  pub filled_as_many : count_filled replaces.refills.pairs.now ≡ count_at (heap_of old) map
+  filled_as_many =
+      ap count_filled replaces.now_is
+      ∙ count_kept before place has.told.pair replaces.now (entry_filled has).stands (entry_filled has).filled
+      (key_filled replaces.now key replaces.key_is)
+      ∙ sym (count_is (known has))
+
+  -- and as many entries are counted
   counted : HasWord (words_of_cell (heap_of new) (cell (known has))) count_offset
       (length (with_entry weak.entries number what))
   counted =
       let all : count_at (heap_of old) map ≡ length weak.entries =
       has.shows.counts weak.number map weak.entries has.is.object has.is.reached has.is.place in
-      let kept = count_kept before place has.told.pair replaces.now (entry_filled has).stands (entry_filled has).filled
-      (key_filled replaces.now key replaces.key_is) in
       let same : count_filled replaces.refills.pairs.now ≡ length (with_entry weak.entries number what) =
-      ap count_filled replaces.now_is ∙ kept ∙ sym (count_is (known has)) ∙ all
-      ∙ sym (length-with_entry_there weak.entries number has.told.value what has.told.is_entry) in
+      filled_as_many ∙ all ∙ sym (length-with_entry_there weak.entries number has.told.value what has.told.is_entry) in
       subst (HasWord (words_of_cell (heap_of new) (cell (known has))) count_offset) same replaces.refills.pairs.counted
+
+  -- only words of the map have changed, and its table stays
+  pub changes : TablesStay → ChangesObject (heap_of old) (heap_of new) map (capacity_at (heap_of old) map)
+  changes tables_stay =
+      let heap = heap_of old in
+      subst (λ at. ChangesObject heap (heap_of new) at (capacity_at heap at)) (known has).there.stands
+      (tables_stay heap (heap_of new) (cell (known has)) replaces.others replaces.made replaces.refills
+      replaces.slot_stays)
 
   -- so the entry has the value
   pub replaces_entry : TablesStay → WrittenEntriesShow → IsValue (length graph.objects) what → IsReachedValue graph what
@@ -142,20 +155,16 @@ module _ {old new : Mutator} {graph : Graph} {map key : ℕ} {weak : WeakObject}
       → HasPutEntry old new graph map key weak number what
   replaces_entry tables_stay entries_show fits reached need_is =
       let heap = heap_of old in
-      let stays : ChangesObject heap (heap_of new) map (capacity_at heap map) =
-      subst (λ at. ChangesObject heap (heap_of new) at (capacity_at heap at)) (known has).there.stands
-      (tables_stay heap (heap_of new) (cell (known has)) replaces.others replaces.made replaces.refills
-      replaces.slot_stays) in
       record {
         few = λ lacks. none-some has.told.value (sym lacks.fresh ∙ has.told.is_entry);
         room = subst (HasRoom old.young) need_is replaces.room;
-        uses = subst (UsesMore old new) need_is (record { space = replaces.space; young = replaces.young });
+        uses = subst (UsesMore old new) need_is (record { beside = replaces.beside; young = replaces.young });
         changes = subst (λ found. ChangesObject heap (heap_of new) map (put_capacity_by heap map found))
-            (sym (entry_pair_of has)) stays;
+            (sym (entry_pair_of has)) (changes tables_stay);
         shows = entries_show old new graph weak (cell (known has)) replaces.others replaces.made number (Some what)
             has.shows has.is.object has.is.reached has.is_key.reached
             (shown has).carries (shown has).shows
             (λ value is. subst (IsNewValue graph) (same_Some what value is) (record { is = fits; reached = reached }))
-            (ap (λ (y : Young). y.space) replaces.young ∙ has.shows.tied ∙ sym replaces.space)
-            (replaces.phase ∙ has.shows.quiet) replaces.refills puts_one counted;
+            (ap (λ (y : Young). y.space) replaces.young ∙ has.shows.tied ∙ sym replaces.beside.space)
+            (replaces.beside.phase ∙ has.shows.quiet) replaces.refills puts_one counted;
       }

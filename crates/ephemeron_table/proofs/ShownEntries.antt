@@ -142,7 +142,8 @@ module _ {old new : Heap} {graph : Graph} {cell : Cell} {others made : List Cell
     | PairComes.kept stood no_box ↦
         once.once (pairs.origin at) pair (ap (λ all. slice_get all (pairs.origin at)) (sym before_are) ∙ stood.stands)
         (key_before key)
-    | PairComes.put one is_one is comes ↦ absurd (other (one_number new pair.key entry.key number key (put_key at pair filled is_one)))
+    | PairComes.put one is_one is comes ↦
+        absurd (other (one_number new pair.key entry.key number key (put_key at pair filled is_one)))
   ]
 
   -- an entry of another key is shown as before
@@ -152,7 +153,8 @@ module _ {old new : Heap} {graph : Graph} {cell : Cell} {others made : List Cell
       let once = weaving.shown.each is.at entry is.stands marked in
       let stood : IsFilledAt pairs.before once.at once.pair =
       key_filled once.at once.pair (ap (λ all. slice_get all once.at) before_are ∙ once.stands) once.shows.key in
-      let kept = weaving.puts.kept once.at once.pair stood (λ key. other (one_number old once.pair.key entry.key number once.shows.key key)) in
+      let kept = weaving.puts.kept once.at once.pair stood
+      (λ key. other (one_number old once.pair.key entry.key number once.shows.key key)) in
       record {
         at = kept.0;
         pair = once.pair;

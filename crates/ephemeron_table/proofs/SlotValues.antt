@@ -24,6 +24,7 @@ use Rattle.write_barrier.specs.Mains.{Mutator, heap_of, reserved}
 use Rattle.object_cells.specs.Contents.{next_at}
 use Rattle.object_cells.specs.Made.{PutsWords, with_content, content_need, content_word, beside_content}
 use Rattle.object_cells.proofs.CellsRead.{word_stands}
+use Rattle.object_cells.proofs.FilledSlots.{set_there}
 use Rattle.object_cells.proofs.HeldContents.{HoldsValue}
 use Rattle.object_cells.proofs.MadeBoxes.{with_content_stays}
 use Rattle.object_cells.proofs.UnusedWords.{cell_is_used, next_before_segments}
@@ -33,7 +34,6 @@ use Rattle.ephemeron_table.specs.Takings.{numbers, number_of, pairs_of}
 use Rattle.ephemeron_table.specs.declared.reading.Table.{Table}
 use Rattle.ephemeron_table.proofs.CountedPairs.{count_filled, count_kept}
 use Rattle.ephemeron_table.proofs.EntryPairs.{HasEntryPair, known, some, entry_filled, key_stands}
-use Rattle.ephemeron_table.proofs.FilledValues.{set_there}
 use Rattle.ephemeron_table.proofs.KeysFound.{key_filled}
 use Rattle.ephemeron_table.proofs.KnownTables.{cell_has, sound, pairs_same, of_map, finds_all, found}
 use Rattle.ephemeron_table.proofs.KnownTables.{other_has, other_long, map_beside}
@@ -108,8 +108,7 @@ module _ {old new : Mutator} {graph : Graph} {map key : ℕ} {weak : WeakObject}
       record {
         room = room;
         words = record {
-          space = words.space;
-          phase = words.phase;
+          beside = words.beside;
           paths = words.paths;
           young = words.young;
           heap = words.heap
@@ -155,7 +154,6 @@ module _ {old new : Mutator} {graph : Graph} {map key : ℕ} {weak : WeakObject}
         back = refers_back k has.below puts objects has.is_key.place holds fits all counted;
         slot_stays = slot_stays k has.below puts objects has.is_key.place holds fits all counted;
         room = room;
-        space = words.space;
-        phase = words.phase;
+        beside = words.beside;
         young = words.young;
       }

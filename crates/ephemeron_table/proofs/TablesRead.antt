@@ -1,5 +1,6 @@
 -- The table of a weak map, as it is found by the word of the map's slot.
-use Rattle.std.proofs.Common.{◌≡◌, ℕ, suc, ◌+◌, ◌*◌, ◌/◌, ◌<◌, ◌⊎◌, inl, inr, List, [], ◌∷◌, length, drop, Some, None}
+use Rattle.std.proofs.Common.{◌≡◌, ℕ, suc, ◌+◌, ◌*◌, ◌/◌, ◌<◌, ◌⊎◌, inl, inr, List, [], ◌∷◌}
+use Rattle.std.proofs.Common.{length, drop, Some, None}
 use Rattle.std.proofs.Common.{slice_get, unwrap_or, refl, sym, ◌∙◌, ap, subst, arith, length-drop}
 use Rattle.std.proofs.lemmas.Option.{same_Some, slice_get_within, none-some}
 use Rattle.tagged_word.specs.declared.layout.Kind.TheVariants as kind
@@ -166,7 +167,8 @@ table_is {heap} map word at capacity whole there stands refers counted =
     }
 
 -- where nothing is read, there are no pairs
-no_pairs : {heap : Heap} (map word : ℕ) (pairs : List Pair) → Whole heap → AreWithin heap.space.sizes heap.space.variables
+no_pairs : {heap : Heap} (map word : ℕ) (pairs : List Pair) → Whole heap
+    → AreWithin heap.space.sizes heap.space.variables
     → HasPairsAt heap map pairs
     → slice_get heap.words (map + 1) ≡ Some word → reference_in word ≡ None → pairs ≡ []
 no_pairs {heap} map word pairs whole within has stands none =

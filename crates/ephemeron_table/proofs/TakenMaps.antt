@@ -1,5 +1,6 @@
 -- A pair that was taken out of a weak map's table refills the map.
-use Rattle.std.proofs.Common.{◌≡◌, ℕ, ◌+◌, ◌-◌, ◌*◌, ◌<◌, inl, inr, List, [], ◌∷◌, drop, Contains, Some}
+use Rattle.std.proofs.Common.{◌≡◌, ℕ, ◌+◌, ◌-◌, ◌*◌, ◌<◌, inl, inr, List, [], ◌∷◌, drop, Contains}
+use Rattle.std.proofs.Common.{Some}
 use Rattle.std.proofs.Common.{slice_get, refl, sym, ◌∙◌, ap, subst, arith, add-zero}
 use Rattle.std.proofs.lemmas.Bool.{cases_lt}
 use Rattle.std.proofs.lemmas.Option.{same_Some, slice_get-map}
@@ -50,7 +51,8 @@ table_is_no_box table box =
     let apart : kind.Table ≡ kind.Boxed = sym table ∙ box in
     cc
 
-module _ {old new : Mutator} {map place : ℕ} {table : Table} (known : KnownMap old map table) (some : 0 < table.capacity)
+module _ {old new : Mutator} {map place : ℕ} {table : Table} (known : KnownMap old map table)
+    (some : 0 < table.capacity)
     (takes : TakesAt old new map table place) (taken_one : Pair)
     (filled : IsFilledAt (pairs_of (heap_words old.seat) table) place taken_one) where
   -- the pairs before and after
@@ -101,8 +103,7 @@ module _ {old new : Mutator} {map place : ℕ} {table : Table} (known : KnownMap
         (one_in table_cell one among) (other_has known some);
     room = room;
     puts = record {
-      space = takes.space;
-      phase = takes.phase;
+      beside = takes.rest;
       paths = takes.paths;
       young = young_same;
       heap = refl;
@@ -122,7 +123,8 @@ module _ {old new : Mutator} {map place : ℕ} {table : Table} (known : KnownMap
       let of_other : IsOfCell table_cell (table_cell.at + k) =
       record { from = omega arith; below = omega (arith, below, one.size) } in
       let of_cell = subst (IsOfCell map_cell) (sym same) (of_map known 2 (omega arith)) in
-      let cells = cells_apart (table_cell.at + k) known.whole.rows (cell_has known) (other_has known some) of_cell of_other in
+      let cells = cells_apart (table_cell.at + k) known.whole.rows (cell_has known)
+      (other_has known some) of_cell of_other in
       map_no_table known some (ap (λ (c : Cell). c.layout.kind) cells ∙ one.of_kind))
 
   beside : (one : Cell) → Contains (table_cell ∷ []) one → IsWrittenTable (heap_of old) (heap_of new) one
@@ -150,7 +152,8 @@ module _ {old new : Mutator} {map place : ℕ} {table : Table} (known : KnownMap
   writes =
       let first : map_cell.at + 0 ≡ map_cell.at = add-zero map_cell.at in
       weak_writes [] puts
-      (subst (λ n. slice_get (heap_words new.seat) n ≡ slice_get (heap_words old.seat) n) first (map_stays 0 (omega arith)))
+      (subst (λ n. slice_get (heap_words new.seat) n ≡ slice_get (heap_words old.seat) n) first
+      (map_stays 0 (omega arith)))
       beside
       (subst (λ end. IsRow new.seat.space (heap_words new.seat) (next_at old) end []) (sym (add-zero (next_at old)))
       (IsRow.none (next_at old)))

@@ -1,16 +1,19 @@
 -- What was taken out of a weak map's table: its pair, and one of the count.
-use Rattle.std.proofs.Common.{◌≡◌, ℕ, ◌+◌, ◌-◌, ◌*◌, ◌≤◌, ◌<◌, List, length, Some, None, slice_get, unwrap_or}
+use Rattle.std.proofs.Common.{◌≡◌, ℕ, ◌+◌, ◌-◌, ◌*◌, ◌≤◌, ◌<◌, List, length, Some, None, slice_get}
+use Rattle.std.proofs.Common.{unwrap_or}
 use Rattle.std.proofs.Common.{sym, ◌∙◌, ap, subst, arith, length-set}
 use Rattle.std.specs.Prelude.{slice_set}
 use Rattle.std.proofs.lemmas.List.{map-set}
 use Rattle.tagged_word.specs.Cells.{store_head}
 use Rattle.object_graph.proofs.Lists.{slice_get-set_same, slice_get-set_other}
 use Rattle.linear_probing.specs.Tables.{FindsAll}
+use Rattle.page_space.specs.Extents.{Space, marks_start}
 use Rattle.heap_table.specs.Seats.{heap_words}
 use Rattle.heap_model.specs.Kinds.{Pair, free_pair, count_offset}
 use Rattle.heap_model.specs.Needs.{count_at}
 use Rattle.write_barrier.specs.Mains.{Mutator, heap_of, with_word}
 use Rattle.object_cells.specs.Made.{PutsWords}
+use Rattle.object_cells.proofs.WordsBeside.{put_beside}
 use Rattle.ephemeron_table.specs.Takings.{ChangesPairs, ClosesAt, TakesAt, IsTaken, IsBesidePairs, pairs_of, numbers}
 use Rattle.ephemeron_table.specs.Takings.{number_of}
 use Rattle.ephemeron_table.specs.Takings.{with_pair, StaysBelow}
@@ -27,7 +30,9 @@ record IsTakenBelow (before after : List Pair) (place : ℕ) : Type 0 where
 
 module _ {old closed put new : Mutator} (map at hole count : ℕ) (table : Table)
     (within : table.at + (store_head + 2 * table.capacity) ≤ length (heap_words old.seat))
-    (counted : map + count_offset < length (heap_words old.seat)) (beside : IsBesidePairs table (map + count_offset))
+    (counted : map + count_offset < length (heap_words old.seat))
+    (below : map + count_offset < marks_start old.seat.space)
+    (beside : IsBesidePairs table (map + count_offset))
     (closes : ClosesAt old closed table at hole)
     (puts : PutsWords closed put (with_pair (heap_words closed.seat) table.at hole free_pair))
     (reads : slice_get (heap_words put.seat) (map + count_offset) ≡ Some count)
@@ -44,7 +49,8 @@ module _ {old closed put new : Mutator} (map at hole count : ℕ) (table : Table
   within_put = omega (arith, within, changes.long)
 
   -- the pairs are those with the hole free
-  pairs_are_now : pairs_of (heap_words new.seat) table ≡ slice_set (pairs_of (heap_words closed.seat) table) hole free_pair
+  pairs_are_now : pairs_of (heap_words new.seat) table
+      ≡ slice_set (pairs_of (heap_words closed.seat) table) hole free_pair
   pairs_are_now =
       ap (λ all. pairs_of all table) heap
       ∙ pairs_beside (heap_words put.seat) table (map + count_offset) (count - 1) within_put beside
@@ -70,15 +76,16 @@ module _ {old closed put new : Mutator} (map at hole count : ℕ) (table : Table
 
   pub takes_at : TakesAt old new map table at
   takes_at = record {
-    space = ap (λ (m : Mutator). m.seat.space) is ∙ changes.space;
-    phase = ap (λ (m : Mutator). m.seat.phase) is ∙ changes.phase;
+    rest = put_beside (map + count_offset) (count - 1) changes.rest is
+        (subst (λ (space : Space). map + count_offset < marks_start space) (sym changes.rest.space) below);
     paths = ap (λ (m : Mutator). m.paths) is ∙ changes.paths;
     young = ap (λ (m : Mutator). m.young) is ∙ changes.young;
     long = ap length heap ∙ length-set (heap_words put.seat) (map + count_offset) (count - 1) ∙ changes.long;
     beside = λ a aside other. ap (λ all. slice_get all a) heap
         ∙ slice_get-set_other (heap_words put.seat) (map + count_offset) a (count - 1) other ∙ changes.beside a aside;
     counted = ap (λ all. slice_get all (map + count_offset)) heap
-        ∙ slice_get-set_same (heap_words put.seat) (map + count_offset) (count - 1) (omega (arith, counted, changes.long))
+        ∙ slice_get-set_same (heap_words put.seat) (map + count_offset) (count - 1)
+        (omega (arith, counted, changes.long))
         ∙ ap (λ n. Some (n - 1)) count_is;
     hole = hole;
     free = ap (λ pairs. slice_get pairs hole) pairs_are_now

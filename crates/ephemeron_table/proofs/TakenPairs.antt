@@ -68,7 +68,8 @@ origin_by true here there = here
 origin_by false here there = there
 
 module _ {before after : List Pair} {place : ℕ} (taken : IsTaken before after place) (hole next : ℕ) (pair : Pair)
-    (free : slice_get after hole ≡ Some free_pair) (there : slice_get after next ≡ Some pair) (filled : pair ≢ free_pair)
+    (free : slice_get after hole ≡ Some free_pair) (there : slice_get after next ≡ Some pair)
+    (filled : pair ≢ free_pair)
     (apart : hole ≢ next) where
   -- the pair moves from the next place to the hole
   abbrev pub moved : List Pair
@@ -139,7 +140,8 @@ module _ {before after : List Pair} {place : ℕ} (taken : IsTaken before after 
       (sym (origin_other at not_hole) ∙ from ∙ origin_here other same)))
   stay_apart at other found another (Filled.elsewhere not_hole not_next now)
       (Filled.elsewhere not_hole_too not_next_too too) from =
-      taken.apart at other found another now too (sym (origin_other at not_hole) ∙ from ∙ origin_other other not_hole_too)
+      taken.apart at other found another now too
+      (sym (origin_other at not_hole) ∙ from ∙ origin_other other not_hole_too)
 
   -- each that stood elsewhere stands somewhere
   stays_there : (at : ℕ) (found : Pair) → IsFilledAt before at found → at ≢ place
@@ -149,7 +151,8 @@ module _ {before after : List Pair} {place : ℕ} (taken : IsTaken before after 
       elim (cases_eq kept.0 next) [
         | inl same ↦ (
           hole,
-          subst (IsFilledAt moved hole) (same_filled after next kept.0 pair found (sym same) next_filled kept.1) moved_filled,
+          subst (IsFilledAt moved hole)
+              (same_filled after next kept.0 pair found (sym same) next_filled kept.1) moved_filled,
           origin_here hole refl ∙ ap taken.origin (sym same) ∙ kept.2,
         )
         | inr not_next ↦

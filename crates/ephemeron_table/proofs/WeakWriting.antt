@@ -1,5 +1,6 @@
 -- Words that were put in a weak map's own cells, once so many words of eden were reserved.
-use Rattle.std.proofs.Common.{◌≡◌, ℕ, ◌+◌, ◌≤◌, ◌<◌, List, length, Contains, Some, slice_get, sym, ◌∙◌, ap, subst}
+use Rattle.std.proofs.Common.{◌≡◌, ℕ, ◌+◌, ◌≤◌, ◌<◌, List, length}
+use Rattle.std.proofs.Common.{Contains, Some, slice_get, sym, ◌∙◌, ap, subst}
 use Rattle.std.proofs.Common.{arith}
 use Rattle.tagged_word.specs.declared.layout.Kind.TheVariants as kind
 use Rattle.page_space.specs.Extents.{Space, eden_start, layouts_start, marks_start}
@@ -38,7 +39,8 @@ pub record PutsWeak (old new : Mutator) (cell : Cell) (others : List Cell) (need
 in_cell_below : {old new : Mutator} {cell one : Cell} {others : List Cell} {need : ℕ} {words : List ℕ} (a : ℕ)
     → PutsWeak old new cell others need words → HasCell (heap_of old) one (words_of_cell (heap_of old) one)
     → IsInCell a one → a < layouts_start old.seat.space
-in_cell_below a puts has inside = cell_below_layouts puts.whole has (record { from = inside.from; below = inside.below })
+in_cell_below a puts has inside = cell_below_layouts puts.whole has
+    (record { from = inside.from; below = inside.below })
 
 -- no word of a cell is one that was reserved
 pub not_reserved : {old new : Mutator} {cell one : Cell} {others : List Cell} {need : ℕ} {words more : List ℕ} (a : ℕ)
@@ -55,7 +57,7 @@ weak_sized {old} {new} {need = need} puts =
     let sized = puts.whole.sized in
     let all = puts.puts in
     record {
-      words = ap length all.heap ∙ puts.long ∙ sized.words ∙ ap marks_start (sym all.space);
+      words = ap length all.heap ∙ puts.long ∙ sized.words ∙ ap marks_start (sym all.beside.space);
       shapes = subst AreShapes (sym all.paths) sized.shapes;
       layouts = λ shape below.
           let at : ℕ = layouts_start old.seat.space + shape in
@@ -70,7 +72,7 @@ weak_sized {old} {new} {need = need} puts =
             roots_start_is old.seat.space,
             layouts_start_is old.seat.space,
           )) in
-          ap (λ (s : Space). slice_get (heap_words new.seat) (layouts_start s + shape)) all.space
+          ap (λ (s : Space). slice_get (heap_words new.seat) (layouts_start s + shape)) all.beside.space
           ∙ ap (λ every. slice_get every at) all.heap ∙ same ∙ sized.layouts shape below
           ∙ ap (λ paths. Some (layout_word paths shape)) (sym all.paths);
     }
@@ -87,10 +89,10 @@ weak_writes {old} {new} {need = need} made puts header beside row =
     let used : new.young.used ≡ old.young.used + need = ap (λ (y : Young). y.used) all.young in
     let survivors : new.young.survivors ≡ old.young.survivors = ap (λ (y : Young). y.survivors) all.young in
     let space : new.seat.space.sizes.young ≡ old.young.space.sizes.young =
-    ap (λ (s : Space). s.sizes.young) (all.space ∙ sym puts.tied) in
+    ap (λ (s : Space). s.sizes.young) (all.beside.space ∙ sym puts.tied) in
     let ends : next_at old + need ≡ eden_start old.seat.space + new.young.used = omega (arith, used) in
     record {
-      same_space = all.space;
+      same_space = all.beside.space;
       same_survivors = survivors;
       grown = omega (arith, used);
       room = omega (arith, puts.room, used, survivors, space);

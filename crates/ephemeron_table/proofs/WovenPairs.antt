@@ -1,6 +1,7 @@
--- The pairs of one weak map of a whole heap become others: each that holds something is an entry, and each cell that came
--- or was made is sound.
-use Rattle.std.proofs.Common.{◌≡◌, ◌≢◌, ℕ, ◌⊎◌, inl, inr, List, ◌∷◌, ◌++◌, drop, Contains, Some, slice_get}
+-- The pairs of one weak map of a whole heap become others: each that holds something is an entry, and each cell that
+-- came or was made is sound.
+use Rattle.std.proofs.Common.{◌≡◌, ◌≢◌, ℕ, ◌⊎◌, inl, inr, List, ◌∷◌, ◌++◌, drop, Contains, Some}
+use Rattle.std.proofs.Common.{slice_get}
 use Rattle.std.proofs.Common.{sym, ◌∙◌, ap, subst}
 use Rattle.std.proofs.lemmas.Bool.{cases_eq}
 use Rattle.std.proofs.lemmas.List.Elements.{Contains-append_cases}

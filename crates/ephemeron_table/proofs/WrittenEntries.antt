@@ -1,5 +1,5 @@
--- Where the pairs of a weak map were written so that the entry of one key was put or taken out, the heap shows the graph
--- in which it was.
+-- Where the pairs of a weak map were written so that the entry of one key was put or taken out, the heap shows the
+-- graph in which it was.
 use Rattle.std.proofs.Common.{◌≡◌, ℕ, ◌<◌, true, List, ◌∷◌, length, Option, Some, None, slice_get}
 use Rattle.std.proofs.Common.{refl, sym, ◌∙◌, ap, subst, arith}
 use Rattle.std.specs.Prelude.{Contains, IsTrue}

@@ -19,29 +19,32 @@ use Rattle.ephemeron_table.specs.declared.stop.TableStop.{TableStop}
 use Rattle.ephemeron_table.specs.declared.stop.TableStop.TheVariants as stop
 
 -- no entry has the key, and the map has as many entries as it may have
-pub record LacksEntries (weak : WeakObject) (number : ℕ) : Type 0 where
+pub record IsFullFor (weak : WeakObject) (number : ℕ) : Type 0 where
   pub fresh : entry_value weak.entries number ≡ None
   pub full : weak_most ≤ length weak.entries
 
--- How the entry of the key at an address comes to have a value, in the weak map at another one: it allocates what that
--- needs, for which there is room, and the heap shows the graph in which the entry has it. Only words of the map change, and
--- those that it allocates. Its table is made anew where the key is new and the table is absent or would be too full.
-pub record HasPutEntry (old new : Mutator) (graph : Graph) (map key : ℕ) (weak : WeakObject) (number : ℕ) (value : Value)
+-- How the entry of the key whose cell stands at an address comes to have a value, in the weak map whose cell stands at
+-- an address, which may be the same one: it allocates what that needs, for which there is room, and the heap shows the
+-- graph in which the entry has it. Only words of the map change, and those that it allocates. Its table is made anew
+-- where the key is new and the table is absent or would be too full.
+pub record HasPutEntry (old new : Mutator) (graph : Graph) (map key : ℕ) (weak : WeakObject) (number : ℕ)
+    (value : Value)
     : Type 0 where
-  pub few : LacksEntries weak number → ⊥
+  pub few : IsFullFor weak number → ⊥
   pub room : HasRoom old.young (wput_need_at (heap_of old) map (reference_word key) (is_wide value))
   pub uses : UsesMore old new (wput_need_at (heap_of old) map (reference_word key) (is_wide value))
   pub changes : ChangesObject (heap_of old) (heap_of new) map (put_capacity_at (heap_of old) map (reference_word key))
   pub shows : MainShows new (reweave graph weak (with_entry weak.entries number value))
 
--- `put`: the entry of the key has the value; or the key is new and the map has as many entries as it may have, or there is
--- no room, in this order, and nothing changes.
-abbrev pub PutsEntry : Mutator → Mutator → Graph → (map key : ℕ) → WeakObject → ℕ → Value → Result Unit TableStop → Type 0
+-- `put`: the entry of the key has the value; or the key is new and the map has as many entries as it may have, or there
+-- is no room, in this order, and nothing changes.
+abbrev pub PutsEntry : Mutator → Mutator → Graph → (map key : ℕ) → WeakObject → ℕ → Value
+    → Result Unit TableStop → Type 0
 PutsEntry old new graph map key weak number value (Ok _) = HasPutEntry old new graph map key weak number value
 PutsEntry old new graph map key weak number value (Err (stop.TableFull entries)) =
-    LacksEntries weak number × (entries ≡ length weak.entries) × (new ≡ old)
+    IsFullFor weak number × (entries ≡ length weak.entries) × (new ≡ old)
 PutsEntry old new graph map key weak number value (Err (stop.Full room)) =
-    (LacksEntries weak number → ⊥)
+    (IsFullFor weak number → ⊥)
     × (room.need ≡ wput_need_at (heap_of old) map (reference_word key) (is_wide value))
     × (HasRoom old.young room.need → ⊥) × (new ≡ old)
 
@@ -50,8 +53,8 @@ abbrev pub TellsEntry : Mutator → WeakObject → ℕ → Held → Type 0
 TellsEntry main weak number held =
     ShowsHeld (heap_of main) held (Some (unwrap_or (entry_value weak.entries number) Undefined))
 
--- `delete`: the heap shows the graph without the entry of the key, and nothing changes where there was none. Only words of
--- the map change, and its table stays.
+-- `delete`: the heap shows the graph without the entry of the key, and nothing changes where there was none. Only words
+-- of the map change, and its table stays.
 pub record DeletesEntry (old new : Mutator) (graph : Graph) (map : ℕ) (weak : WeakObject) (number : ℕ) : Type 0 where
   pub none : entry_value weak.entries number ≡ None → new ≡ old
   pub uses : UsesMore old new 0

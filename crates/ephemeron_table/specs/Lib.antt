@@ -2,9 +2,11 @@ pub mod WeakObjects
 pub mod Growth
 pub mod EntryChanges
 pub mod Pairs
+pub mod PairChanges
 pub mod PairWrites
 pub mod PairLaws
 pub mod Probes
 pub mod Takings
 pub mod Puttings
 pub mod Movings
+pub mod PutWords

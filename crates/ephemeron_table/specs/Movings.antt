@@ -1,5 +1,6 @@
 -- How the pairs of a table come to another one, and to a map that has that then.
-use Rattle.std.specs.Prelude.{◌≡◌, ℕ, ◌+◌, ◌*◌, ◌≤◌, ◌<◌, ◌⊎◌, List, drop, Some, slice_get, slice_set, count_by, not}
+use Rattle.std.specs.Prelude.{◌≡◌, ℕ, ◌+◌, ◌*◌, ◌≤◌, ◌<◌, ◌⊎◌, List, drop, Some, slice_get}
+use Rattle.std.specs.Prelude.{slice_set, count_by, not}
 use Rattle.tagged_word.specs.Cells.{store_head, store_slot}
 use Rattle.tagged_word.specs.Readings.{reference_in}
 use Rattle.page_space.specs.Extents.{segments_start, marks_start}
@@ -30,17 +31,19 @@ abbrev pub IsBesideTable : Table → Table → Type 0
 IsBesideTable from to =
     (at : ℕ) → from.at + store_head ≤ at → at < from.at + (store_head + 2 * from.capacity) → IsBesidePairs to at
 
--- each pair of the one table that holds something has the key of a cell whose header is no word of the other's pairs
+-- each pair of the one table that holds something has the word of an address as its key, which is one before the marks
+-- and not that of a word of the other's pairs
 abbrev pub KeysMovable : Heap → Table → Table → Type 0
 KeysMovable heap from to =
     (place : ℕ) (pair : Pair) → IsFilledAt (pairs_of heap.words from) place pair
     → (at : ℕ) × (reference_in pair.key ≡ Some at) × IsKeyBeside heap to at
 
--- Those of the pairs before that hold something and stand at one of so many first places stand once among the pairs after,
--- and nothing else does.
+-- Those of the pairs before that hold something and stand at one of so many first places stand once among the pairs
+-- after, and nothing else does.
 pub record AreMoved (before after : List Pair) (count : ℕ) : Type 0 where
   pub origin : ℕ → ℕ
-  pub from : (at : ℕ) (pair : Pair) → IsFilledAt after at pair → IsFilledAt before (origin at) pair × (origin at < count)
+  pub from : (at : ℕ) (pair : Pair) → IsFilledAt after at pair
+      → IsFilledAt before (origin at) pair × (origin at < count)
   pub apart : (at other : ℕ) (pair another : Pair) → IsFilledAt after at pair → IsFilledAt after other another
       → origin at ≡ origin other → at ≡ other
   pub kept : (at : ℕ) (pair : Pair) → IsFilledAt before at pair → at < count
@@ -60,14 +63,15 @@ pub record MovesPairs (old new : Mutator) (from to : Table) (count : ℕ) : Type
 abbrev pub IsUsed : Mutator → ℕ → Type 0
 IsUsed main at = (at < next_at main) ⊎ (segments_start main.seat.space ≤ at)
 
--- each pair that holds something has the key of a cell that stands there before the marks
+-- each pair that holds something has the word of an address as its key, which is one before the marks and none of
+-- eden's words that are not used
 abbrev pub KeysUsed : Mutator → Table → Type 0
 KeysUsed main table =
     (place : ℕ) (pair : Pair) → IsFilledAt (pairs_of (heap_words main.seat) table) place pair
     → (at : ℕ) × (reference_in pair.key ≡ Some at) × (at < marks_start main.seat.space) × IsUsed main at
 
--- A table may be made in the place of a map's, for the pair of this key: with it the map has more entries than half of the
--- pairs, and no more than it may have.
+-- A table may be made in the place of a map's, for the pair of this key: with it the map has more entries than half of
+-- the pairs, and no more than it may have.
 pub record CanGrow (main : Mutator) (map : ℕ) (table : Table) (key count : ℕ) : Type 0 where
   pub tied : IsTied main
   pub quiet : main.seat.phase ≡ Quiet
@@ -92,8 +96,8 @@ new_table_need table value = store_head + 2 * grown_table table.capacity + conte
 abbrev pub box_behind : Mutator → Table → ℕ
 box_behind main table = next_at main + (store_head + 2 * grown_table table.capacity)
 
--- The pair of a key and a value comes to a table that is made, behind those of the map's table. Then the map refers to it, and
--- has so many entries.
+-- The pair of a key and a value comes to a table that is made, behind those of the map's table. Then the map refers to
+-- it, and has so many entries.
 pub record PutsInNewTable (old new : Mutator) (map : ℕ) (table : Table) (key count : ℕ) (value : Held) : Type 0 where
   pub room : HasRoom old.young (new_table_need table value)
   pub begun : Mutator
@@ -107,5 +111,6 @@ pub record PutsInNewTable (old new : Mutator) (map : ℕ) (table : Table) (key c
   pub settles : Settles boxed settled (new_table old table) key
       (content_word (beside_content value) (box_behind old table))
   pub words : PutsWords settled new
-      (slice_set (slice_set (heap_words settled.seat) (map + store_slot) (reference_word (next_at old))) (map + count_offset)
+      (slice_set (slice_set (heap_words settled.seat) (map + store_slot) (reference_word (next_at old)))
+      (map + count_offset)
       count)

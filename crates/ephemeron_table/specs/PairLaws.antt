@@ -1,5 +1,6 @@
 -- What a change of a weak map's pairs makes of the heap, and of the graph that it shows.
-use Rattle.std.specs.Prelude.{◌≡◌, ◌≢◌, ℕ, ◌+◌, ◌^◌, ◌<◌, List, ◌∷◌, length, Option, Some, None, slice_get, IsTrue, IsSome}
+use Rattle.std.specs.Prelude.{◌≡◌, ◌≢◌, ℕ, ◌+◌, ◌^◌, ◌<◌, List, ◌∷◌, length, Option, Some, None}
+use Rattle.std.specs.Prelude.{slice_get, IsTrue, IsSome}
 use Rattle.std.specs.Prelude.{Contains}
 use Rattle.tagged_word.specs.declared.layout.Kind.TheVariants as kind
 use Rattle.tagged_word.specs.Cells.{store_slot}
@@ -32,8 +33,8 @@ pub record RefillsWeak (old new : Heap) (cell : Cell) (others made : List Cell) 
   pub writes : WritesWeak old new cell others made
   pub pairs : RefillsPairs old new cell others made
 
--- Then cells stand in rows again: the map's and these others as they were, those that were made, and all else as before. The
--- change is the map's own, and the heap is whole again.
+-- Then cells stand in rows again: the map's and these others as they were, those that were made, and all else as
+-- before. The change is the map's own, and the heap is whole again.
 abbrev pub WrittenPairsAreOwn : Type 0
 WrittenPairsAreOwn =
     (old new : Heap) (cell : Cell) (others made : List Cell) → RefillsWeak old new cell others made
@@ -60,16 +61,18 @@ abbrev pub entries_with : List Entry → ℕ → Option Value → List Entry
 entries_with entries number (Some value) = with_entry entries number value
 entries_with entries number None = without_entry entries number
 
--- The entry of one key was put, or taken out: the pairs of all other keys are kept, and its own, if there is one, is the one
--- that was put, which shows it. Where it was taken out, no pair was put.
-pub record PutsOne (old new : Heap) {cell : Cell} {others made : List Cell} (pairs : RefillsPairs old new cell others made)
+-- The entry of one key was put, or taken out: the pairs of all other keys are kept, and its own, if there is one, is
+-- the one that was put, which shows it. Where it was taken out, no pair was put.
+pub record PutsOne (old new : Heap) {cell : Cell} {others made : List Cell}
+    (pairs : RefillsPairs old new cell others made)
     (number : ℕ) (value : Option Value) : Type 0 where
   pub kept : (at : ℕ) (pair : Pair) → IsFilledAt pairs.before at pair → (RefersToPlace old pair.key number → ⊥)
       → (place : ℕ) × IsFilledAt pairs.now place pair × (pairs.origin place ≡ at) × (place ≢ pairs.one)
   pub own : (at : ℕ) (pair : Pair) → IsFilledAt pairs.now at pair → RefersToPlace new pair.key number
       → (at ≡ pairs.one) × IsSome value
   pub shown : (what : Value) → value ≡ Some what
-      → (pair : Pair) × IsFilledAt pairs.now pairs.one pair × ShowsEntry new pair (record { key = number; value = what })
+      → (pair : Pair) × IsFilledAt pairs.now pairs.one pair
+      × ShowsEntry new pair (record { key = number; value = what })
   pub none_put : value ≡ None → (pair : Pair) → IsFilledAt pairs.now pairs.one pair → ⊥
 
 -- the value may be an entry's: it has 64 bits or refers to an object of the graph that can be reached

@@ -1,6 +1,7 @@
--- A change of the entries of one weak map, pair by pair: the map's cell, its table and its boxes stay where they are, or a
--- table and a box are made.
-use Rattle.std.specs.Prelude.{◌≡◌, ℕ, ◌+◌, ◌<◌, ◌≤◌, ◌⊎◌, List, ◌++◌, not, count_by, Contains, Some, slice_get}
+-- A change of the entries of one weak map, pair by pair: the map's cell, its table and its boxes stay where they are,
+-- or a table and a box are made.
+use Rattle.std.specs.Prelude.{◌≡◌, ℕ, ◌+◌, ◌<◌, ◌≤◌, ◌⊎◌, List, ◌++◌, not, count_by, Contains}
+use Rattle.std.specs.Prelude.{Some, slice_get}
 use Rattle.tagged_word.specs.declared.layout.Kind.TheVariants as kind
 use Rattle.tagged_word.specs.Cells.{length_offset}
 use Rattle.page_space.specs.Extents.{eden_start, layouts_start}
@@ -24,8 +25,8 @@ pub record IsWrittenTable (old new : Heap) (other : Cell) : Type 0 where
   pub length : other.layout.kind ≡ kind.Table
       → slice_get new.words (other.at + length_offset) ≡ slice_get old.words (other.at + length_offset)
 
--- Of the words before the layout words only those of the weak map's cell but its header have changed, pairs of these tables,
--- integers of these boxes, and words that are newly used, in which cells were made.
+-- Of the words before the layout words only those of the weak map's cell but its header have changed, pairs of these
+-- tables, integers of these boxes, and words that are newly used, in which cells were made.
 pub record WritesWeak (old new : Heap) (cell : Cell) (others made : List Cell) : Type 0 where
   pub same_space : new.space ≡ old.space
   pub same_survivors : new.survivors ≡ old.survivors
@@ -42,23 +43,26 @@ pub record WritesWeak (old new : Heap) (cell : Cell) (others made : List Cell) :
       → ((other : Cell) → Contains others other → IsInCell at other → ⊥) → (IsNewlyUsed old new at → ⊥)
       → slice_get new.words at ≡ slice_get old.words at
 
--- Where the word of a pair's value comes from: the pair at the place `origin` held it before; or it names no store, table or
--- box; or it refers to a box that was made.
+-- Where the word of a pair's value comes from: the pair at the place `origin` held it before; or it names no store,
+-- table or box; or it refers to a box that was made.
 pub data ValueComes (new : Heap) (before : List Pair) (made : List Cell) (origin word : ℕ) : Type 0 where
-  moved : (pair : Pair) → slice_get before origin ≡ Some pair → pair.value ≡ word → ValueComes new before made origin word
+  moved : (pair : Pair) → slice_get before origin ≡ Some pair → pair.value ≡ word
+      → ValueComes new before made origin word
   none : NamesNone new word → ValueComes new before made origin word
   of_made : (box : Cell) → Contains made box → box.layout.kind ≡ kind.Boxed → word ≡ reference_word box.at
       → ValueComes new before made origin word
 
 -- Where a pair that holds something comes from: it stood at the place `origin` before, and none of the boxes that were
 -- written is its value; or it was put, which is so at the place `one` alone.
-pub data PairComes (new : Heap) (before : List Pair) (others made : List Cell) (origin one at : ℕ) (pair : Pair) : Type 0 where
-  kept : IsFilledAt before origin pair → IsNoBoxOf others pair.value → PairComes new before others made origin one at pair
+pub data PairComes (new : Heap) (before : List Pair) (others made : List Cell) (origin one at : ℕ)
+    (pair : Pair) : Type 0 where
+  kept : IsFilledAt before origin pair → IsNoBoxOf others pair.value
+      → PairComes new before others made origin one at pair
   put : (number : ℕ) → at ≡ one → IsFilledPair new pair number → ValueComes new before made origin pair.value
       → PairComes new before others made origin one at pair
 
--- The pairs of a weak map become others, place by place. `others` are cells that belong to the map and were written, and
--- `made` those that were made: a table, which the map has, and boxes.
+-- The pairs of a weak map become others, place by place. `others` are cells that belong to the map and were written,
+-- and `made` those that were made: a table, which the map has, and boxes.
 pub record RefillsPairs (old new : Heap) (cell : Cell) (others made : List Cell) : Type 0 where
   -- the pairs before and after
   pub before : List Pair
@@ -79,7 +83,8 @@ pub record RefillsPairs (old new : Heap) (cell : Cell) (others made : List Cell)
       → IsProbed now number at
   -- the slot for the table
   pub table_comes : HasWord (words_of_cell old cell) 1 are.store
-      ⊎ ((other : Cell) × Contains made other × (other.layout.kind ≡ kind.Table) × (are.store ≡ reference_word other.at))
+      ⊎ ((other : Cell) × Contains made other × (other.layout.kind ≡ kind.Table)
+      × (are.store ≡ reference_word other.at))
   -- the cells beside the map's
   pub belong : (other : Cell) → Contains others other → (slot : ℕ) × NamesFrom old cell slot other.at
   pub kinds : (other : Cell) → Contains made other → (other.layout.kind ≡ kind.Table) ⊎ (other.layout.kind ≡ kind.Boxed)

@@ -1,5 +1,6 @@
 -- The pairs of a weak map's table, and what is left of them once one was taken out.
-use Rattle.std.specs.Prelude.{◌≡◌, ◌≢◌, ℕ, ◌+◌, ◌*◌, ◌<◌, ◌≤◌, ◌⊎◌, List, length, Some, slice_get}
+use Rattle.std.specs.Prelude.{◌≡◌, ◌≢◌, ℕ, ◌+◌, ◌*◌, ◌<◌, ◌≤◌, ◌⊎◌, List, length, Some}
+use Rattle.std.specs.Prelude.{slice_get}
 use Rattle.tagged_word.specs.declared.layout.Kind.TheVariants as kind
 use Rattle.tagged_word.specs.Cells.{store_head, store_slot}
 use Rattle.cell_layout.specs.declared.cell.Cell.{Cell}
@@ -34,12 +35,13 @@ pub record IsFilledAt (pairs : List Pair) (at : ℕ) (pair : Pair) : Type 0 wher
   pub filled : pair ≢ free_pair
 
 -- The pairs once that at a place was taken out. Each that holds something stood at another place before, no two at one
--- place, and each other one that did stands somewhere. Where some pair was free before, what stands below the place stood
--- below it.
+-- place, and each other one that did stands somewhere. Where some pair was free before, what stands below the place
+-- stood below it.
 pub record AreWithout (before after : List Pair) (place : ℕ) : Type 0 where
   pub long : length after ≡ length before
   pub origin : ℕ → ℕ
-  pub from : (at : ℕ) (pair : Pair) → IsFilledAt after at pair → IsFilledAt before (origin at) pair × (origin at ≢ place)
+  pub from : (at : ℕ) (pair : Pair) → IsFilledAt after at pair
+      → IsFilledAt before (origin at) pair × (origin at ≢ place)
   pub apart : (at other : ℕ) (pair another : Pair) → IsFilledAt after at pair → IsFilledAt after other another
       → origin at ≡ origin other → at ≡ other
   pub kept : (at : ℕ) (pair : Pair) → IsFilledAt before at pair → at ≢ place
@@ -53,8 +55,8 @@ IsNoPairWord heap map word =
     (table : ℕ) → word_at heap (map + store_slot) ≡ reference_word table
     → (word < table + store_head) ⊎ (table + (store_head + 2 * capacity_at heap map) ≤ word)
 
--- The pair at a place of the weak map at an address was taken out: the heap is whole again. Only the map's count changed, and
--- words of its table's pairs; no word more is used, and each object stands where it stood.
+-- The pair at a place of the weak map at an address was taken out: the heap is whole again. Only the map's count
+-- changed, and words of its table's pairs; no word more is used, and each object stands where it stood.
 pub record RemovesPair (old new : Mutator) (map place : ℕ) (before : List Pair) : Type 0 where
   pub whole : IsWhole new
   pub paths : new.paths ≡ old.paths

@@ -1,5 +1,5 @@
 -- Which words putting an entry writes.
-use Rattle.std.specs.Prelude.{◌≡◌, ◌≢◌, ℕ, ◌+◌, ◌*◌, ◌<◌, List, Option, Some, None, Result, Ok, Err, replicate}
+use Rattle.std.specs.Prelude.{◌≡◌, ◌≢◌, ℕ, ◌+◌, ◌*◌, ◌<◌, List, Option, Some, None, replicate}
 use Rattle.std.specs.Prelude.{slice_set}
 use Rattle.tagged_word.specs.declared.header.Header.{Header}
 use Rattle.tagged_word.specs.Cells.{store_head, length_offset}
@@ -12,28 +12,16 @@ use Rattle.heap_table.specs.Seats.{heap_words}
 use Rattle.heap_model.specs.Heaps.{Heap}
 use Rattle.heap_model.specs.Slots.{reference_word, hole_word}
 use Rattle.heap_model.specs.Kinds.{count_offset}
-use Rattle.write_barrier.specs.declared.room.NoRoom.{NoRoom}
 use Rattle.write_barrier.specs.Mains.{Mutator, heap_of, reserved}
 use Rattle.write_barrier.specs.Values.{with_range}
-use Rattle.object_cells.specs.Contents.{next_at, filling_at, filled, Allocates, LacksRoom}
+use Rattle.object_cells.specs.Contents.{next_at}
 use Rattle.object_cells.specs.Made.{PutsWords, with_content, content_need, content_word, beside_content}
 use Rattle.ephemeron_table.specs.Probes.{key_in, number_at}
 use Rattle.ephemeron_table.specs.Takings.{with_pair, made_pair}
 use Rattle.ephemeron_table.specs.declared.reading.Table.{Table}
 
--- The slot at the address came to hold the value: the words that it needs are used, and it was filled.
-pub record FillsValue (old new : Mutator) (at : ℕ) (value : Held) : Type 0 where
-  pub between : Mutator
-  pub allocates : Allocates old between (filling_at old at (beside_content value))
-  pub fills : new ≡ filled between at (filling_at old at (beside_content value))
-
--- it did; or there is no room, and nothing has changed
-abbrev pub FillsOrRefuses : Mutator → Mutator → ℕ → Held → Result Unit NoRoom → Type 0
-FillsOrRefuses old new at value (Ok _) = FillsValue old new at value
-FillsOrRefuses old new at value (Err full) = LacksRoom old (filling_at old at (beside_content value)) full × (new ≡ old)
-
--- The pair of a key and a value comes to a place of the map's table, and the map has so many entries; a box that the value
--- needs is made.
+-- The pair of a key and a value comes to a place of the map's table, and the map has so many entries; a box that the
+-- value needs is made.
 pub record PutsInTable (old new : Mutator) (map : ℕ) (table : Table) (place key count : ℕ) (value : Held) : Type 0 where
   pub room : HasRoom old.young (content_need (beside_content value))
   pub words : let boxed = with_content (heap_words old.seat) (beside_content value) (next_at old) in
@@ -48,7 +36,8 @@ table_header = record { shape = table_shape; object = 0 }
 -- the words with a table of pairs that hold nothing
 abbrev pub begun_table : List ℕ → Table → List ℕ
 begun_table words table =
-    with_range (slice_set (slice_set words table.at (header_bits table_header)) (table.at + length_offset) table.capacity)
+    with_range (slice_set (slice_set words table.at (header_bits table_header))
+    (table.at + length_offset) table.capacity)
     (table.at + store_head) (replicate (2 * table.capacity) hole_word)
 
 -- no pair to which probing comes in fewer steps is free

@@ -1,12 +1,13 @@
 -- How a pair is taken out of a table, word by word.
-use Rattle.std.specs.Prelude.{◌≡◌, ◌≢◌, ℕ, ◌+◌, ◌-◌, ◌*◌, ◌≤◌, ◌<◌, ◌⊎◌, List, length, map, Option, Some, None}
+use Rattle.std.specs.Prelude.{◌≡◌, ◌≢◌, ℕ, ◌+◌, ◌-◌, ◌*◌, ◌≤◌, ◌<◌, ◌⊎◌, List, length}
+use Rattle.std.specs.Prelude.{map, Option, Some, None}
 use Rattle.std.specs.Prelude.{option_map}
 use Rattle.std.specs.Prelude.{slice_get, slice_set, slice_range, count_by, not}
 use Rattle.tagged_word.specs.Cells.{store_head}
 use Rattle.tagged_word.specs.Readings.{reference_in}
 use Rattle.page_space.specs.Extents.{marks_start}
 use Rattle.linear_probing.specs.Tables.{FindsAll}
-use Rattle.heap_table.specs.Seats.{heap_words}
+use Rattle.heap_table.specs.Seats.{heap_words, StaysBeside}
 use Rattle.heap_model.specs.Heaps.{Heap}
 use Rattle.heap_model.specs.Kinds.{Pair, free_pair, is_free_pair, pairs_in, count_offset}
 use Rattle.heap_model.specs.Needs.{count_at}
@@ -41,17 +42,16 @@ with_pair words table place pair =
 abbrev pub IsBesidePairs : Table → ℕ → Type 0
 IsBesidePairs table at = (at < table.at + store_head) ⊎ (table.at + (store_head + 2 * table.capacity) ≤ at)
 
--- of all that the mutator has, only words of the table's pairs are others
+-- Of all that the mutator has, only words of the table's pairs are others; so the marks and the board are as they were.
 pub record ChangesPairs (old new : Mutator) (table : Table) : Type 0 where
-  pub space : new.seat.space ≡ old.seat.space
-  pub phase : new.seat.phase ≡ old.seat.phase
+  pub rest : StaysBeside old.seat new.seat
   pub paths : new.paths ≡ old.paths
   pub young : new.young ≡ old.young
   pub long : length (heap_words new.seat) ≡ length (heap_words old.seat)
   pub beside : (at : ℕ) → IsBesidePairs table at
       → slice_get (heap_words new.seat) at ≡ slice_get (heap_words old.seat) at
 
--- a cell stands at the address, before the marks, and has no word of the table's pairs in its header
+-- the address is one before the marks, and not that of a word of the table's pairs
 pub record IsKeyBeside (heap : Heap) (table : Table) (at : ℕ) : Type 0 where
   pub within : at < marks_start heap.space
   pub beside : IsBesidePairs table at
@@ -67,7 +67,8 @@ KeysBeside heap table =
 pub record IsTaken (before after : List Pair) (place : ℕ) : Type 0 where
   pub long : length after ≡ length before
   pub origin : ℕ → ℕ
-  pub from : (at : ℕ) (pair : Pair) → IsFilledAt after at pair → IsFilledAt before (origin at) pair × (origin at ≢ place)
+  pub from : (at : ℕ) (pair : Pair) → IsFilledAt after at pair
+      → IsFilledAt before (origin at) pair × (origin at ≢ place)
   pub apart : (at other : ℕ) (pair another : Pair) → IsFilledAt after at pair → IsFilledAt after other another
       → origin at ≡ origin other → at ≡ other
   pub kept : (at : ℕ) (pair : Pair) → IsFilledAt before at pair → at ≢ place
@@ -91,10 +92,10 @@ pub record ClosesAt (old new : Mutator) (table : Table) (place hole : ℕ) : Typ
   pub found : FindsAll (numbers (heap_of old) (pairs_of (heap_words old.seat) table))
       → FindsAll (slice_set (numbers (heap_of old) (pairs_of (heap_words new.seat) table)) hole None)
 
--- The pair at the place of the map's table was taken out, and the count is one less.
+-- The pair at the place of the map's table was taken out, and the count is one less. All other words are as they were,
+-- those of the marks and the board too.
 pub record TakesAt (old new : Mutator) (map : ℕ) (table : Table) (place : ℕ) : Type 0 where
-  pub space : new.seat.space ≡ old.seat.space
-  pub phase : new.seat.phase ≡ old.seat.phase
+  pub rest : StaysBeside old.seat new.seat
   pub paths : new.paths ≡ old.paths
   pub young : new.young ≡ old.young
   pub long : length (heap_words new.seat) ≡ length (heap_words old.seat)

@@ -12,7 +12,7 @@ ghost use Rattle.write_barrier.specs.Mains.{heap_of, IsTied, MainShows};
 ghost use Rattle.object_cells.specs.HeldValues.{IsValueHeld};
 ghost use Rattle.ephemeron_table.specs.WeakObjects.{IsKeyAt, IsShownPutting, IsWeakAt};
 ghost use Rattle.ephemeron_table.specs.Probes.{ComesTo, IsTableAt, IsWithin, key_in};
-ghost use Rattle.ephemeron_table.specs.EntryChanges.{PutsEntry};
+ghost use Rattle.ephemeron_table.specs.PairChanges.{PutsBoth};
 
 use crate::growing::put_in_new_table;
 use crate::laws::{laws_of_entries, laws_of_tables};
@@ -20,7 +20,7 @@ use crate::putting::put_in_table;
 use crate::reading::Table;
 use crate::stop::TableStop;
 use handle_roots::Held;
-use write_barrier::Main;
+use write_barrier::{Main, laws_of_values};
 
 /// Puts the entry of a key that is new at the free place of the map's table where probing for it
 /// ended. With it the map has no more entries than half of the pairs.
@@ -49,12 +49,13 @@ pub(crate) fn put_free(
         → IsTableAt (heap_of main.old) map table → count_at (heap_of main.old) map ≡ count
         → ComesTo (heap_of main.old) table number (reference_word key) place
         → key_in (heap_of main.old) table.at place ≡ hole_word
-        → PutsEntry main.old main.new graph map key weak number what result }
+        → PutsBoth main.old main.new graph map key weak number value what result }
 {
     // No address of a heap is past 32 bits.
     let _regions = main.regions();
     laws_of_tables();
     laws_of_entries();
+    laws_of_values();
     match put_in_table(main, map, count, table, place, key, value) {
         Ok(()) => Ok(()),
         Err(no_room) => Err(TableStop::Full(no_room)),
@@ -82,12 +83,13 @@ pub(crate) fn put_grown(
         → MainShows main.old graph → IsWeakAt main.old graph map weak
         → IsKeyAt main.old graph key number → IsValueHeld main.old graph value what
         → entry_value weak.entries number ≡ None
-        → PutsEntry main.old main.new graph map key weak number what result }
+        → PutsBoth main.old main.new graph map key weak number value what result }
 {
     // No address of a heap is past 32 bits.
     let _regions = main.regions();
     laws_of_tables();
     laws_of_entries();
+    laws_of_values();
     match put_in_new_table(main, map, count, table, key, value) {
         Ok(()) => Ok(()),
         Err(no_room) => Err(TableStop::Full(no_room)),

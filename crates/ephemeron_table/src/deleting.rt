@@ -1,11 +1,14 @@
 //! The call `delete`.
-ghost use Rattle.std.specs.Prelude.{ℕ};
+ghost use Rattle.std.specs.Prelude.{ℕ, List};
 ghost use Rattle.object_graph.specs.Graphs.{Graph, WeakObject};
-ghost use Rattle.write_barrier.specs.Mains.{MainShows};
+ghost use Rattle.heap_model.specs.Kinds.{Pair};
+ghost use Rattle.write_barrier.specs.Mains.{MainShows, heap_of};
 ghost use Rattle.ephemeron_table.specs.WeakObjects.{IsKeyAt, IsShownKey, IsWeakAt};
 ghost use Rattle.ephemeron_table.specs.EntryChanges.{DeletesEntry};
+ghost use Rattle.ephemeron_table.specs.Pairs.{HasPairsAt};
+ghost use Rattle.ephemeron_table.specs.PairChanges.{DeletesPair};
 
-use crate::laws::{laws_of_entries, laws_of_tables};
+use crate::laws::{laws_of_entries, laws_of_pairs, laws_of_tables};
 use crate::probing::{End, probe};
 use crate::reading::{number_at, table_of};
 use crate::removing::take_out;
@@ -16,12 +19,15 @@ use write_barrier::Main;
 /// so that no pair is marked as deleted. Nothing happens where there is none.
 pub fn delete(main: &mut Main, map: u32, key: u32)
     requires shown { IsShownKey main.old map key }
-    ensures { (graph : Graph) (weak : WeakObject) (number : ℕ) → MainShows main.old graph
+    ensures entry { (graph : Graph) (weak : WeakObject) (number : ℕ) → MainShows main.old graph
         → IsWeakAt main.old graph map weak → IsKeyAt main.old graph key number
         → DeletesEntry main.old main.new graph map weak number }
+    ensures pairs { (before : List Pair) → HasPairsAt (heap_of main.old) map before
+        → DeletesPair main.old main.new map key before }
 {
     // No address of a heap is past 32 bits.
     let _regions = main.regions();
+    laws_of_pairs();
     laws_of_tables();
     laws_of_entries();
     let table = table_of(main, map);

@@ -1,10 +1,13 @@
 //! The call `get`.
-ghost use Rattle.std.specs.Prelude.{◌≡◌, ℕ, ◌+◌, ◌<◌};
+ghost use Rattle.std.specs.Prelude.{◌≡◌, ℕ, ◌+◌, ◌<◌, List};
 ghost use Rattle.page_space.specs.Extents.{marks_start};
 ghost use Rattle.object_graph.specs.Graphs.{Graph, WeakObject};
-ghost use Rattle.write_barrier.specs.Mains.{MainShows};
+ghost use Rattle.heap_model.specs.Kinds.{Pair};
+ghost use Rattle.write_barrier.specs.Mains.{MainShows, heap_of};
 ghost use Rattle.ephemeron_table.specs.WeakObjects.{IsKeyAt, IsShownKey, IsWeakAt};
 ghost use Rattle.ephemeron_table.specs.EntryChanges.{TellsEntry};
+ghost use Rattle.ephemeron_table.specs.Pairs.{HasPairsAt};
+ghost use Rattle.ephemeron_table.specs.PairChanges.{TellsPairValue};
 
 use crate::probing::{End, probe};
 use crate::reading::{TABLE_HEAD, number_at, table_of};
@@ -15,9 +18,11 @@ use write_barrier::{Main, laws_of_values};
 /// The value of the key's entry in a weak map; undefined where there is none.
 pub fn get(main: &Main, map: u32, key: u32) -> Held
     requires shown { IsShownKey main.now map key }
-    ensures { (graph : Graph) (weak : WeakObject) (number : ℕ) → MainShows main.now graph
+    ensures entry { (graph : Graph) (weak : WeakObject) (number : ℕ) → MainShows main.now graph
         → IsWeakAt main.now graph map weak → IsKeyAt main.now graph key number
         → TellsEntry main.now weak number result }
+    ensures pairs { (pairs : List Pair) → HasPairsAt (heap_of main.now) map pairs
+        → TellsPairValue main.now key pairs result }
 {
     // No address of a heap is past 32 bits.
     let _regions = main.regions();

@@ -1,7 +1,8 @@
 //! The calls on the entries of a weak map.
-ghost use Rattle.std.specs.Prelude.{ℕ};
+ghost use Rattle.std.specs.Prelude.{ℕ, List};
 ghost use Rattle.object_graph.specs.declared.value.Value.{Value as GraphValue};
 ghost use Rattle.object_graph.specs.Graphs.{Graph, WeakObject};
+ghost use Rattle.heap_model.specs.Kinds.{Pair};
 ghost use Rattle.heap_model.specs.Slots.{reference_word};
 ghost use Rattle.write_barrier.specs.Mains.{MainShows, heap_of};
 ghost use Rattle.object_cells.specs.HeldValues.{IsValueHeld};
@@ -9,6 +10,8 @@ ghost use Rattle.ephemeron_table.specs.WeakObjects.{IsKeyAt, IsShownPutting, IsW
 ghost use Rattle.ephemeron_table.specs.Probes as probes;
 ghost use Rattle.ephemeron_table.specs.Probes.{EndsNew, IsTableAt};
 ghost use Rattle.ephemeron_table.specs.EntryChanges.{PutsEntry};
+ghost use Rattle.ephemeron_table.specs.Pairs.{HasPairsAt};
+ghost use Rattle.ephemeron_table.specs.PairChanges.{PutsBoth, PutsPair};
 
 use crate::adding::{put_free, put_grown};
 use crate::probing::{End, probe};
@@ -39,7 +42,7 @@ fn put_new(
     ensures { (graph : Graph) (weak : WeakObject) (number : ℕ) (what : GraphValue)
         → MainShows main.old graph → IsWeakAt main.old graph map weak
         → IsKeyAt main.old graph key number → IsValueHeld main.old graph value what
-        → PutsEntry main.old main.new graph map key weak number what result }
+        → PutsBoth main.old main.new graph map key weak number value what result }
 {
     // No address of a heap is past 32 bits.
     let _regions = main.regions();
@@ -64,14 +67,16 @@ fn put_new(
 /// would be more than the table has pairs.
 ///
 /// # Errors
-/// The key is new and the map has 256 entries; there is no room for a table or a box that the entry
-/// needs. In this order; nothing has changed.
+/// The key is new and the map has 256 entries or more; there is no room for a table or a box that
+/// the entry needs. In this order; nothing has changed.
 pub fn put(main: &mut Main, map: u32, key: u32, value: Held) -> Result<(), TableStop>
     requires shown { IsShownPutting main.old map key value }
-    ensures { (graph : Graph) (weak : WeakObject) (number : ℕ) (what : GraphValue)
+    ensures entry { (graph : Graph) (weak : WeakObject) (number : ℕ) (what : GraphValue)
         → MainShows main.old graph → IsWeakAt main.old graph map weak
         → IsKeyAt main.old graph key number → IsValueHeld main.old graph value what
         → PutsEntry main.old main.new graph map key weak number what result }
+    ensures pairs { (before : List Pair) → HasPairsAt (heap_of main.old) map before
+        → PutsPair main.old main.new map key value before result }
 {
     // No address of a heap is past 32 bits.
     let _regions = main.regions();

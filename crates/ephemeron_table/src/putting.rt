@@ -6,10 +6,10 @@ ghost use Rattle.heap_model.specs.Kinds.{count_offset};
 ghost use Rattle.write_barrier.specs.Mains.{heap_of, IsTied};
 ghost use Rattle.object_cells.specs.CellsAt.{IsWhole};
 ghost use Rattle.object_cells.specs.Contents as contents;
-ghost use Rattle.object_cells.specs.Contents.{HoldsSlotWord, IsBeforeMarks};
+ghost use Rattle.object_cells.specs.Contents.{FillsOrRefuses, HoldsSlotWord, IsBeforeMarks};
 ghost use Rattle.object_cells.specs.Made.{RefusesRoom, content_need, beside_content};
 ghost use Rattle.ephemeron_table.specs.Probes.{IsWithin, value_in, value_offset};
-ghost use Rattle.ephemeron_table.specs.Puttings.{FillsOrRefuses, PutsInTable};
+ghost use Rattle.ephemeron_table.specs.Puttings.{PutsInTable};
 
 use crate::reading::{COUNT, TABLE_HEAD, Table};
 use crate::removing::put_pair;
@@ -60,7 +60,8 @@ pub(crate) fn put_value(main: &mut Main, table: Table, at: u32, value: Held) -> 
     requires place { at < table.capacity }
     requires held { let word = value_in (heap_of main.old) table.at at in
         HoldsSlotWord (heap_of main.old) word (beside_content value) }
-    ensures { FillsOrRefuses main.old main.new (table.at + value_offset at) value result }
+    ensures { let content = beside_content value in
+        FillsOrRefuses main.old main.new (table.at + value_offset at) content result }
 {
     // No address of a heap is past 32 bits.
     let _regions = main.regions();

@@ -50,7 +50,8 @@ may_change graph command x target number changed bound is =
     ap (λ y. option_and_then (λ z. get graph.bindings z) y) changed ∙ bound ∙ ap (λ t. Some t) is
 
 -- what a value refers to becomes another object of its kind, and paths are added
-rewrites : (graph : Graph) (command : Command) (x : ℕ) (target : Value) (number : ℕ) (old new : Object) (paths : List Path)
+rewrites : (graph : Graph) (command : Command) (x : ℕ) (target : Value) (number : ℕ)
+    (old new : Object) (paths : List Path)
     → changes command ≡ Some x → get graph.bindings x ≡ Some target
     → (target ≡ Ref number) × (slice_get graph.objects number ≡ Some old)
     → SameKind old new → take (length graph.paths) paths ≡ graph.paths
@@ -81,7 +82,8 @@ refills : (limits : Limits) (graph : Graph) (command : Command) (x : ℕ) (targe
     → with_path limits.paths graph.paths (path_of plain.cap fields) ≡ Some paths
     → Changes graph command (refill graph plain fields paths)
 refills limits graph command x target plain fields paths changed bound at added =
-    rewrites graph command x target plain.number (Plain plain.cap plain.fields) (Plain plain.cap fields) paths changed bound
+    rewrites graph command x target plain.number (Plain plain.cap plain.fields)
+    (Plain plain.cap fields) paths changed bound
     (plain_at-is graph.objects target plain at) refl
     (more_paths limits.paths graph.paths paths (path_of plain.cap fields) added)
 

@@ -7,8 +7,8 @@ use Rattle.object_graph.specs.declared.value.Value.{Value}
 use Rattle.object_graph.specs.declared.value.Value.TheVariants.{Int, Undefined, Ref}
 use Rattle.object_graph.specs.declared.object.Object.{Object}
 use Rattle.object_graph.specs.declared.object.Object.TheVariants.{Plain, List as ListOf, Weak}
-use Rattle.object_graph.specs.Graphs.{PlainObject, ListObject, WeakObject, found_at, plain_at, list_at, weak_at, as_plain}
-use Rattle.object_graph.specs.Graphs.{as_list, as_weak}
+use Rattle.object_graph.specs.Graphs.{PlainObject, ListObject, WeakObject, found_at, plain_at, list_at, weak_at}
+use Rattle.object_graph.specs.Graphs.{as_plain, as_list, as_weak}
 
 -- a view of one kind finds nothing but such an object with its number
 abbrev FindsOnly : (Kind : Type 0) → (ℕ → Object → Option Kind) → (Kind → ℕ) → (Kind → Object) → Type 0

@@ -33,7 +33,17 @@ leads limits names graph (command.LetValue x v) limited fits is = search (each, 
 leads limits names graph (command.DropVar x) limited fits is = search (each, unbinds)
 leads limits names graph (command.Add x v) limited fits is = search (each, if_fails, binds, sum_held) depth 12
 leads limits names graph (command.Set x f v) limited fits is =
-    search (each, if_fails, reshapes, cap_held, fields_held, fields_few, with_field_held, with_field_few, operand_held) depth 14
+    search (
+      each,
+      if_fails,
+      reshapes,
+      cap_held,
+      fields_held,
+      fields_few,
+      with_field_held,
+      with_field_few,
+      operand_held,
+    ) depth 14
 leads limits names graph (command.Get y x f) limited fits is = search (each, binds, field_held, fields_held) depth 12
 leads limits names graph (command.Del x f) limited fits is =
     search (each, if_there, reshapes, cap_held, fields_held, fields_few, without_field_held, without_field_few) depth 14
@@ -49,7 +59,8 @@ leads limits names graph (command.Trunc x n) limited fits is =
 leads limits names graph (command.WPut m k v) limited fits is =
     search (each, if_not, reweaves, with_entry_held, key_held, operand_held, entries_held) depth 14
 leads limits names graph (command.WGet y m k) limited fits is = search (each, binds, entry_held, entries_held) depth 14
-leads limits names graph (command.WDel m k) limited fits is = search (each, reweaves, without_entry_held, entries_held) depth 14
+leads limits names graph (command.WDel m k) limited fits is =
+    search (each, reweaves, without_entry_held, entries_held) depth 14
 leads limits names graph (command.Print v) limited fits is = search each
 leads limits names graph (command.Same a b) limited fits is = search each
 leads limits names graph (command.Alike x y) limited fits is = search each depth 12

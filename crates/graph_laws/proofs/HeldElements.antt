@@ -1,5 +1,5 @@
--- The elements of a list refer to objects of the graph, and are no more than a list may have, after one is added, put or
--- taken out.
+-- The elements of a list refer to objects of the graph, and are no more than a list may have, after one is added, put
+-- or taken out.
 use Rattle.std.proofs.Common.{◌≡◌, ℕ, ◌≤◌, false, List, [], ◌∷◌, ◌++◌, length, take, drop, set, nat_le}
 use Rattle.std.proofs.Common.{arith, length-append, length-set, length-take, length-drop}
 use Rattle.std.specs.Prelude.{All}

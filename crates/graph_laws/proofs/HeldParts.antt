@@ -7,7 +7,8 @@ use Rattle.object_graph.specs.declared.value.Value.{Value}
 use Rattle.object_graph.specs.declared.value.Value.TheVariants.{Undefined}
 use Rattle.object_graph.specs.declared.object.Field.{Field}
 use Rattle.object_graph.specs.declared.object.Entry.{Entry}
-use Rattle.object_graph.specs.Objects.{field_value, with_field, without_field, revalued, entry_value, with_entry, without_entry}
+use Rattle.object_graph.specs.Objects.{field_value, with_field, without_field, revalued, entry_value, with_entry}
+use Rattle.object_graph.specs.Objects.{without_entry}
 use Rattle.object_graph.specs.Invariants.{IsValue, IsEntry, AreFields, AreEntries}
 use Rattle.graph_laws.proofs.DistinctKeys.{with_key-kept, without_key-kept, names_of-with_field, names_of-without_field}
 use Rattle.graph_laws.proofs.DistinctKeys.{keys_in-with_entry, keys_in-without_entry}
@@ -40,7 +41,8 @@ entry_value_all P (entry ∷ entries) key none all =
 pub entry_held : (count : ℕ) (entries : List Entry) (key : ℕ) → AreEntries count entries
     → IsValue count (unwrap_or (entry_value entries key) Undefined)
 entry_held count entries key are =
-    let values = All-weaker (IsEntry count) (λ e. e.key ≡ key → IsValue count e.value) (λ e is same. is.value) entries in
+    let values =
+    All-weaker (IsEntry count) (λ e. e.key ≡ key → IsValue count e.value) (λ e is same. is.value) entries in
     entry_value_all (IsValue count) entries key tt (values are.keys_and_values)
 
 -- what all things have, they have with another in the place of the first, or after a change of the later ones
@@ -56,14 +58,16 @@ gone_all : {X : Type 0} (P : X → Type 0) (test : Bool) (x : X) (xs fewer : Lis
     → (All P xs → All P fewer) → All P (cond test xs (x ∷ fewer))
 gone_all P test x xs fewer all later =
     let rest = All-tail P x xs all in
-    cond_both test xs (x ∷ fewer) (All P) (λ same. rest) (λ other. All-cons P x fewer (All-head P x xs all) (later rest))
+    cond_both test xs (x ∷ fewer) (All P) (λ same. rest)
+    (λ other. All-cons P x fewer (All-head P x xs all) (later rest))
 
 -- what all fields' values have and one more, they have after that one was written
 pub with_field_values : (P : Value → Type 0) (fields : List Field) (name : ℕ) (value : Value) → P value
     → All (λ f. P f.value) fields → All (λ f. P f.value) (with_field fields name value)
 with_field_values P [] name value is all = All-cons (λ f. P f.value) _ [] is (All-nil (λ f. P f.value))
 with_field_values P (field ∷ fields) name value is all =
-    put_all (λ f. P f.value) (field.name == name) field (revalued field value) fields (with_field fields name value) is all
+    put_all (λ f. P f.value) (field.name == name) field (revalued field value) fields
+    (with_field fields name value) is all
     (with_field_values P fields name value is)
 
 -- what all fields' values have, they have after one was taken out
@@ -95,7 +99,8 @@ pub with_entry_all : (P : Entry → Type 0) (entries : List Entry) (key : ℕ) (
     → P (record { key = key; value = value }) → All P entries → All P (with_entry entries key value)
 with_entry_all P [] key value is all = All-cons P _ [] is (All-nil P)
 with_entry_all P (entry ∷ entries) key value is all =
-    put_all P (entry.key == key) entry (record { key = key; value = value }) entries (with_entry entries key value) is all
+    put_all P (entry.key == key) entry (record { key = key; value = value }) entries
+    (with_entry entries key value) is all
     (with_entry_all P entries key value is)
 
 -- what all entries have, they have after one was taken out

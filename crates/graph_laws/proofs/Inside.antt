@@ -13,7 +13,8 @@ use Rattle.object_graph.specs.declared.object.Entry.{Entry}
 use Rattle.object_graph.specs.declared.object.Object.{Object}
 use Rattle.object_graph.specs.declared.object.Object.TheVariants.{Plain, List as ListOf, Weak}
 use Rattle.object_graph.specs.Objects.{field_value, with_field, entry_value, with_entry}
-use Rattle.object_graph.specs.Graphs.{Graph, PlainObject, ListObject, WeakObject, value_of, object_in, plain_at, list_at, weak_at}
+use Rattle.object_graph.specs.Graphs.{Graph, PlainObject, ListObject, WeakObject, value_of, object_in, plain_at}
+use Rattle.object_graph.specs.Graphs.{list_at, weak_at}
 use Rattle.graph_laws.proofs.FoundObjects.{plain_at-is, list_at-is, weak_at-is}
 use Rattle.graph_laws.proofs.Held.{element_all}
 use Rattle.graph_laws.proofs.HeldParts.{field_value_all, with_field_values, entry_value_all, with_entry_all}

@@ -22,9 +22,9 @@ use Rattle.object_graph.proofs.Leads.{Leads, each, if_not, if_there}
 use Rattle.graph_laws.specs.ReachAfter.{made_for}
 use Rattle.graph_laws.proofs.Held.{insert_all, remove_all}
 use Rattle.graph_laws.proofs.HeldParts.{without_field_values, without_entry_all}
-use Rattle.graph_laws.proofs.Inside.{IsInside, FieldsInside, EntryInside, ObjectInside, StaysInside, operand_inside, key_inside}
-use Rattle.graph_laws.proofs.Inside.{fields_inside, elements_inside, entries_inside, field_inside, element_inside, entry_inside}
-use Rattle.graph_laws.proofs.Inside.{with_field_inside, with_entry_inside}
+use Rattle.graph_laws.proofs.Inside.{IsInside, FieldsInside, EntryInside, ObjectInside, StaysInside, operand_inside}
+use Rattle.graph_laws.proofs.Inside.{key_inside, fields_inside, elements_inside, entries_inside, field_inside}
+use Rattle.graph_laws.proofs.Inside.{element_inside, entry_inside, with_field_inside, with_entry_inside}
 
 -- after one was added at the end, an element is that one, at its place, or it was there
 pub pushed : {X : Type 0} (xs : List X) (added : X) (i : ℕ) (x : X) → slice_get (xs ++ added ∷ []) i ≡ Some x
@@ -115,7 +115,8 @@ fewer_entries inside entries key all = without_entry_all (EntryInside inside) en
 pub leads : (inside : ℕ → Bool) (limits : Limits) (names : List (List ℕ)) (graph : Graph) (command : Command)
     → (IsTrue (is_some (made_for command)) → inside (length graph.objects) ≡ true) → StaysInside inside graph
     → Leads (StaysInside inside) (does limits names graph command)
-leads inside limits names graph (command.New x cap) known is = makes inside graph x (Plain cap []) (known refl) is (All-nil _)
+leads inside limits names graph (command.New x cap) known is =
+    makes inside graph x (Plain cap []) (known refl) is (All-nil _)
 leads inside limits names graph (command.List x) known is = makes inside graph x (ListOf []) (known refl) is (All-nil _)
 leads inside limits names graph (command.Weak x) known is = makes inside graph x (Weak []) (known refl) is (All-nil _)
 leads inside limits names graph (command.LetValue x v) known is = search (each, binds, operand_inside)

@@ -37,7 +37,8 @@ keeps_twice before middle after first second = record {
 }
 
 -- and after a command
-command_keeps : (limits : Limits) (names : List (List ℕ)) (graph : Graph) (command : Command) (after : Graph) (text : List ℕ)
+command_keeps : (limits : Limits) (names : List (List ℕ)) (graph : Graph) (command : Command)
+    (after : Graph) (text : List ℕ)
     → IsGraph graph → does limits names graph command ≡ done after text → KeepsLost graph after
 command_keeps limits names graph command after text is carried = record {
   none_gone = (objects_stay limits names graph command after text carried).none_lost;

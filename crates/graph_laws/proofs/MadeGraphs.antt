@@ -17,7 +17,8 @@ use Rattle.object_graph.specs.declared.object.Object.TheVariants.{Plain, List as
 use Rattle.object_graph.specs.declared.path.Path.{Path}
 use Rattle.object_graph.specs.declared.path.PathField.{PathField}
 use Rattle.object_graph.specs.Paths.{path_of, with_path}
-use Rattle.object_graph.specs.Graphs.{Graph, PlainObject, ListObject, WeakObject, start, bind, make, plain_at, list_at, weak_at}
+use Rattle.object_graph.specs.Graphs.{Graph, PlainObject, ListObject, WeakObject, start, bind, make, plain_at, list_at}
+use Rattle.object_graph.specs.Graphs.{weak_at}
 use Rattle.object_graph.specs.Meaning.{Limits, relist, reweave, reshape}
 use Rattle.object_graph.specs.Invariants.{cap_most, fields_most, IsValue, AreFields, AreElements, AreEntries, IsObject}
 use Rattle.object_graph.specs.Invariants.{IsPath, ArePaths, HasItsPath, IsGraph}

@@ -60,7 +60,8 @@ made limits names graph other =
     (λ after x none. absurd (none-some x none))
 
 -- so it is where the command is carried out
-carried_out : (limits : Limits) (names : List (List ℕ)) (graph : Graph) (command : Command) (after : Graph) (text : List ℕ)
+carried_out : (limits : Limits) (names : List (List ℕ)) (graph : Graph) (command : Command)
+    (after : Graph) (text : List ℕ)
     (x : ℕ)
     → does limits names graph command ≡ done after text → made_for command ≡ Some x → Makes graph x after
 carried_out limits names graph command after text x carried =
@@ -103,7 +104,8 @@ make_reached : (graph : Graph) (x : ℕ) (object : Object)
     × IsTrue (is_marked (reach (make graph x object)) (length graph.objects))
 make_reached graph x object =
     let after = make graph x object in
-    let within : length graph.objects < length after.objects = omega (arith, length-append graph.objects (object ∷ [])) in
+    let within : length graph.objects < length after.objects =
+    omega (arith, length-append graph.objects (object ∷ [])) in
     let bound = get-insert_same graph x (Ref (length graph.objects)) in
     (bound, reach_has_bound after x (length graph.objects) within bound)
 
@@ -121,7 +123,8 @@ make_unshared graph x object is bare =
           let passes = bound_cases test (Some (Ref count)) (get graph.bindings y) (Ref count) by_test (old y) in
           eqb-true y x (sym (unsigned_tied y x) ∙ passes);
       objects = λ holder found there mentions. elim (pushed graph.objects object holder found there) [
-        | inl before ↦ unmentioned count found (held_at (IsObject count) graph.objects holder found is.made before) mentions
+        | inl before ↦ unmentioned count found
+            (held_at (IsObject count) graph.objects holder found is.made before) mentions
         | inr new ↦ bare count (subst (λ o. Mentions o count) (sym new.1) mentions)
       ];
     }
@@ -131,7 +134,8 @@ pub made_is_reached : MadeIsReached
 made_is_reached limits names graph command after text x carried made_here =
     let making = carried_out limits names graph command after text x carried made_here in
     let Says = λ (later : Graph).
-    (get later.bindings x ≡ Some (Ref (length graph.objects))) × IsTrue (is_marked (reach later) (length graph.objects)) in
+    (get later.bindings x ≡ Some (Ref (length graph.objects)))
+    × IsTrue (is_marked (reach later) (length graph.objects)) in
     subst Says (sym making.is) (make_reached graph x making.object)
 
 -- a made object is unshared

@@ -6,7 +6,8 @@ use Rattle.heap_command.specs.Executed.{Executed}
 use Rattle.object_graph.specs.Meaning.{Limits}
 use Rattle.object_graph.specs.Run.{Told, told_from}
 
--- what follows from what the next line told and from what the later lines tell then follows from what they tell together
+-- what follows from what the next line told and from what the later lines tell then follows from what they tell
+-- together
 pub next_told : {Said : Type 0} (limits : Limits) (names : List (List ℕ)) (lines : List Executed) (after : Told)
     (next : Option Told)
     → ((middle : Told) → next ≡ Some middle → told_from limits names middle lines ≡ Some after → Said)

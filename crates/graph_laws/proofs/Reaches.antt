@@ -6,10 +6,11 @@ use Rattle.object_graph.specs.declared.value.Value.TheVariants.{Ref}
 use Rattle.object_graph.specs.Graphs.{Graph}
 use Rattle.object_graph.specs.Reach.{is_marked, refers_to, is_linked, bound_marks, rounds, reach}
 use Rattle.object_graph.proofs.BoundValues.{any_value-get, get-any_value}
-use Rattle.object_graph.proofs.Rounds.{marked_within, is_marked-bound, is_marked-round, length-bound, length-rounds, round_keeps}
-use Rattle.object_graph.proofs.Rounds.{round-reach}
+use Rattle.object_graph.proofs.Rounds.{marked_within, is_marked-bound, is_marked-round, length-bound, length-rounds}
+use Rattle.object_graph.proofs.Rounds.{round_keeps, round-reach}
 use Rattle.graph_laws.specs.ReachLaws.{HasBound, IsClosed, ReachHasBound, ReachIsClosed, ReachIsLeast}
-use Rattle.graph_laws.proofs.ReachedLinks.{Ref-refers_to, refers_to-Ref, links-LinksTo, LinksTo-links, is_linked-by, by-is_linked}
+use Rattle.graph_laws.proofs.ReachedLinks.{Ref-refers_to, refers_to-Ref, links-LinksTo, LinksTo-links, is_linked-by}
+use Rattle.graph_laws.proofs.ReachedLinks.{by-is_linked}
 
 -- each round has what variables are bound to
 rounds_have_bound : (graph : Graph) (n : ℕ) → HasBound graph (is_marked (rounds graph n))

@@ -17,7 +17,8 @@ Grew before after = (later : List ℕ) × (after.bytes ≡ before.bytes ++ later
 
 -- nothing was added where the two are the same
 grew_by_none : (before after : Told) → Some before ≡ Some after → Grew before after
-grew_by_none before after is = ([], ap (λ told. told.bytes) (sym (same_Some before after is)) ∙ sym (append-nil before.bytes))
+grew_by_none before after is =
+    ([], ap (λ told. told.bytes) (sym (same_Some before after is)) ∙ sym (append-nil before.bytes))
 
 -- what grew twice grew
 grew_twice : (before middle after : Told) → Grew before middle → Grew middle after → Grew before after

@@ -8,12 +8,13 @@ use Rattle.std.proofs.lemmas.Bool.Decides.{nat_tests}
 use Rattle.heap_command.specs.declared.command.Command.{Command}
 use Rattle.heap_command.specs.Executed.{Executed}
 use Rattle.object_graph.specs.Meaning.{Limits, Outcome, done, fault, does}
-use Rattle.object_graph.specs.Run.{Told, untold, tell, told_from, told_with, lines_most, Ending, end, fault_at, limit_at}
-use Rattle.object_graph.specs.Run.{fault_in, fault_of, ending_here, ending}
+use Rattle.object_graph.specs.Run.{Told, untold, tell, told_from, told_with, lines_most, Ending, end, fault_at}
+use Rattle.object_graph.specs.Run.{limit_at, fault_in, fault_of, ending_here, ending}
 use Rattle.graph_laws.specs.Laws.{RunsEnd}
 
 -- the run ends after some of these lines, before which so many were executed
-record EndsOn (limits : Limits) (names : List (List ℕ)) (so_far : Told) (executed : ℕ) (lines : List Executed) : Type 0 where
+record EndsOn (limits : Limits) (names : List (List ℕ)) (so_far : Told) (executed : ℕ)
+    (lines : List Executed) : Type 0 where
   more : ℕ
   later : Told
   how : Ending
@@ -43,7 +44,8 @@ not_past most executed here within =
     ap (λ test. cond test None here) below
 
 -- a run that ends here ends on these lines
-ends_here : (limits : Limits) (names : List (List ℕ)) (so_far : Told) (executed : ℕ) (lines : List Executed) (how : Ending)
+ends_here : (limits : Limits) (names : List (List ℕ)) (so_far : Told) (executed : ℕ)
+    (lines : List Executed) (how : Ending)
     → executed ≤ lines_most → ending_here limits names so_far.graph executed lines ≡ Some how
     → EndsOn limits names so_far executed lines
 ends_here limits names so_far executed lines how within is =

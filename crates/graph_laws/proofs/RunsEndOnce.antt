@@ -9,8 +9,8 @@ use Rattle.std.proofs.lemmas.Option.{none-some}
 use Rattle.heap_command.specs.declared.command.Command.{Command}
 use Rattle.heap_command.specs.Executed.{Executed}
 use Rattle.object_graph.specs.Meaning.{Limits, Outcome, done, fault, does}
-use Rattle.object_graph.specs.Run.{Told, tell, told, told_from, told_with, lines_most, Ending, limit_at, fault_in, fault_of}
-use Rattle.object_graph.specs.Run.{ending_here, ending, EndsAfter}
+use Rattle.object_graph.specs.Run.{Told, tell, told, told_from, told_with, lines_most, Ending, limit_at, fault_in}
+use Rattle.object_graph.specs.Run.{fault_of, ending_here, ending, EndsAfter}
 use Rattle.object_graph.proofs.Runs.{told-append}
 use Rattle.graph_laws.specs.Laws.{RunsEndOnce}
 
@@ -121,7 +121,8 @@ same_end limits names lines n a b e f first second =
     (same, cc)
 
 -- a run ends after one number of lines
-runs_end_at_once : (limits : Limits) (names : List (List ℕ)) (lines : List Executed) (n m : ℕ) (a b : Told) (e f : Ending)
+runs_end_at_once : (limits : Limits) (names : List (List ℕ)) (lines : List Executed) (n m : ℕ)
+    (a b : Told) (e f : Ending)
     → EndsAfter limits names lines n a e → EndsAfter limits names lines m b f → n ≡ m
 runs_end_at_once limits names lines n m a b e f first second =
     elim (cases_lt n m) [

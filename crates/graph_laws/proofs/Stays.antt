@@ -19,7 +19,8 @@ use Rattle.graph_laws.specs.Laws.{MayChange, SameKind, ObjectsKept, ObjectsStay,
 use Rattle.graph_laws.proofs.Changes.{Changes, binds, makes, puts, changed}
 
 -- a command that is carried out changes what its meaning changes
-carried_out : (limits : Limits) (names : List (List ℕ)) (graph : Graph) (command : Command) (after : Graph) (text : List ℕ)
+carried_out : (limits : Limits) (names : List (List ℕ)) (graph : Graph) (command : Command)
+    (after : Graph) (text : List ℕ)
     → does limits names graph command ≡ done after text → Changes graph command after
 carried_out limits names graph command after text is =
     subst (Leads (Changes graph command)) is (changed limits names graph command)
@@ -67,8 +68,8 @@ kept_push graph command after added is =
     }
 
 -- each object keeps its kind where one of its kind is put in the place of another
-kind_put : (objects : List Object) (place : ℕ) (old new : Object) → slice_get objects place ≡ Some old → SameKind old new
-    → (number : ℕ) (object : Object) → slice_get objects number ≡ Some object
+kind_put : (objects : List Object) (place : ℕ) (old new : Object) → slice_get objects place ≡ Some old
+    → SameKind old new → (number : ℕ) (object : Object) → slice_get objects number ≡ Some object
     → (later : Object) × (slice_get (set objects place new) number ≡ Some later) × SameKind object later
 kind_put objects place old new at kind number object there =
     elim (cases_eq place number) [

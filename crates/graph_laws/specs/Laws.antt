@@ -3,8 +3,8 @@ use Rattle.std.specs.Prelude.{◌≡◌, ℕ, ◌≤◌, List, [], ◌∷◌, �
 use Rattle.std.specs.Prelude.{slice_get, option_and_then}
 use Rattle.std.specs.FinMap.{get}
 use Rattle.heap_command.specs.declared.command.Command.{Command}
-use Rattle.heap_command.specs.declared.command.Command.TheVariants.{Set, Del, Push, Put, Shift, Trunc, WPut, WDel, Scavenge, Mark}
-use Rattle.heap_command.specs.declared.command.Command.TheVariants.{Finish, Gc}
+use Rattle.heap_command.specs.declared.command.Command.TheVariants.{Set, Del, Push, Put, Shift, Trunc, WPut, WDel}
+use Rattle.heap_command.specs.declared.command.Command.TheVariants.{Scavenge, Mark, Finish, Gc}
 use Rattle.object_graph.specs.declared.value.Value.TheVariants.{Ref}
 use Rattle.object_graph.specs.declared.object.Object.{Object}
 use Rattle.object_graph.specs.declared.object.Object.TheVariants.{Plain, List as ListOf, Weak}
@@ -35,7 +35,8 @@ BytesStay =
     → told limits names same ≡ Some before → told limits names (same ++ more) ≡ Some after
     → (later : List ℕ) × (after.bytes ≡ before.bytes ++ later)
 
--- a run ends once: two ways in which the run of these lines ends are one, after the same number of them with the same told
+-- a run ends once: two ways in which the run of these lines ends are one, after the same number of them with the same
+-- told
 abbrev pub RunsEndOnce : Type 0
 RunsEndOnce =
     (limits : Limits) (names : List (List ℕ)) (lines : List Executed) (n m : ℕ) (a b : Told) (e f : Ending)

@@ -39,9 +39,11 @@ OnlyMadeIsNew =
 -- the command's variable is bound to the object that a command made, so the object can be reached
 abbrev pub MadeIsReached : Type 0
 MadeIsReached =
-    (limits : Limits) (names : List (List ℕ)) (graph : Graph) (command : Command) (after : Graph) (text : List ℕ) (x : ℕ)
+    (limits : Limits) (names : List (List ℕ)) (graph : Graph) (command : Command) (after : Graph) (text : List ℕ)
+    (x : ℕ)
     → does limits names graph command ≡ done after text → made_for command ≡ Some x
-    → (get after.bindings x ≡ Some (Ref (length graph.objects))) × IsTrue (is_marked (reach after) (length graph.objects))
+    → (get after.bindings x ≡ Some (Ref (length graph.objects)))
+    × IsTrue (is_marked (reach after) (length graph.objects))
 
 -- a field, an element, a key or a value of the object is the object of this number
 abbrev pub Mentions : Object → ℕ → Type 0
@@ -60,7 +62,8 @@ pub record IsOnlyBoundTo (graph : Graph) (x number : ℕ) : Type 0 where
 -- nothing refers to the object that a command made but the command's variable
 abbrev pub MadeIsUnshared : Type 0
 MadeIsUnshared =
-    (limits : Limits) (names : List (List ℕ)) (graph : Graph) (command : Command) (after : Graph) (text : List ℕ) (x : ℕ)
+    (limits : Limits) (names : List (List ℕ)) (graph : Graph) (command : Command) (after : Graph) (text : List ℕ)
+    (x : ℕ)
     → IsGraph graph → does limits names graph command ≡ done after text → made_for command ≡ Some x
     → IsOnlyBoundTo after x (length graph.objects)
 

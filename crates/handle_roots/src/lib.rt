@@ -2,7 +2,7 @@
 //!
 //! Model: none of its own. `Holds` of `specs/Roots.antt` says what the root words of a variable
 //! stand for.
-//! Invariant: none. Both calls work on any words that a crate above has.
+//! Invariant: none. Each call works on any words that a crate above has.
 #![tactic(auto)]
 
 mod held;
@@ -13,4 +13,4 @@ mod tests;
 
 pub use held::Held;
 pub use laws::laws_of_roots;
-pub use roots::{held_by, hold};
+pub use roots::{copy, held_by, hold, is_bound};

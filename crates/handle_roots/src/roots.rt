@@ -1,7 +1,8 @@
 //! What the variables hold, read off their root words and written to them.
-ghost use Rattle.std.specs.Prelude.{◌≡◌, ◌+◌, ◌<◌, ◌≤◌, length};
+ghost use Rattle.std.specs.Prelude.{◌≡◌, ◌≢◌, ◌↔◌, ◌+◌, ◌<◌, ◌≤◌, length, IsTrue};
 ghost use Rattle.page_space.specs.Extents.{layouts_start};
 ghost use Rattle.handle_roots.specs.declared.held.Held.{Held};
+ghost use Rattle.handle_roots.specs.declared.held.Held.TheVariants.{Unbound};
 ghost use Rattle.handle_roots.specs.Roots.{root_at, FitsHeld, first_of, second_of, first_word};
 ghost use Rattle.handle_roots.specs.Roots.{second_word, Holds, IsRoot, with_root};
 ghost use Rattle.tagged_word.specs.Words.{small};
@@ -13,6 +14,7 @@ use tagged_word::{Class, Word, is_small, odd};
 use word_store::{Reads, Words};
 
 /// What a variable holds. Only an integer that is not small makes it load the second root word.
+#[inline(always)]
 pub fn held_by<W: Reads>(words: &mut W, regions: &Regions, variable: u32) -> Held
     requires known { variable < regions.now.variables }
     requires steady { W.IsSteady words.old }
@@ -27,7 +29,42 @@ pub fn held_by<W: Reads>(words: &mut W, regions: &Regions, variable: u32) -> Hel
     }
 }
 
+/// Whether a variable is bound to something. Its first root word tells it.
+#[inline(always)]
+pub fn is_bound<W: Reads>(words: &mut W, regions: &Regions, variable: u32) -> bool
+    requires known { variable < regions.now.variables }
+    requires steady { W.IsSteady words.old }
+    requires root { IsRoot regions.now (W.words words.old) variable }
+    ensures bound { (held : Held) → Holds regions.now (W.words words.old) variable held →
+        (IsTrue result ↔ (held ≢ Unbound)) }
+    ensures kept { W.words words.new ≡ W.words words.old }
+    ensures rest { W.Rest words.old words.new }
+{
+    words.load(regions.root_at(variable)) != Word::odd(odd::UNBOUND).0
+}
+
+/// Makes a variable hold what another one holds: both of its root words are copied.
+#[inline(always)]
+pub fn copy<W: Words>(words: &mut W, regions: &Regions, from: u32, to: u32)
+    requires known { from < regions.now.variables }
+    requires target_known { to < regions.now.variables }
+    requires steady { W.IsSteady words.old }
+    requires within { layouts_start regions.now ≤ length (W.words words.old) }
+    requires root { IsRoot regions.now (W.words words.old) from }
+    ensures put { (held : Held) → Holds regions.now (W.words words.old) from held →
+        W.words words.new ≡ with_root regions.now (W.words words.old) to held }
+    ensures holds { (held : Held) → Holds regions.now (W.words words.old) from held →
+        Holds regions.now (W.words words.new) to held }
+    ensures rest { W.Rest words.old words.new }
+{
+    let first = words.load(regions.root_at(from));
+    let second = words.load(second_at(regions, from));
+    words.put(regions.root_at(to), first);
+    words.put(second_at(regions, to), second);
+}
+
 /// Makes a variable hold a value: both of its root words are put.
+#[inline(always)]
 pub fn hold<W: Words>(words: &mut W, regions: &Regions, variable: u32, value: Held)
     requires known { variable < regions.now.variables }
     requires steady { W.IsSteady words.old }
@@ -41,6 +78,7 @@ pub fn hold<W: Words>(words: &mut W, regions: &Regions, variable: u32, value: He
 }
 
 // The address of the second root word of a variable.
+#[inline(always)]
 fn second_at(regions: &Regions, variable: u32) -> u32
     requires { variable < regions.now.variables }
     ensures at { result ≡ root_at regions.now variable + 1 }
@@ -52,16 +90,16 @@ fn second_at(regions: &Regions, variable: u32) -> u32
 }
 
 // What a first root word tells by itself; none where the integer is in the second.
+#[inline(always)]
 fn held_by_first(word: u64) -> Option<Held>
+    requires { (held : Held) × FitsHeld held × (word ≡ first_word held) }
     ensures { (held : Held) → FitsHeld held → word ≡ first_word held → result ≡ told held }
 {
-    match Word(word).class() {
-        Some(class) => held_by_class(class),
-        None => None,
-    }
+    held_by_class(Word(word).known_class())
 }
 
 // What the class of a first root word tells.
+#[inline(always)]
 fn held_by_class(class: Class) -> Option<Held>
     ensures { result ≡ told_by class }
 {
@@ -75,6 +113,7 @@ fn held_by_class(class: Class) -> Option<Held>
 }
 
 // The first root word of a value.
+#[inline(always)]
 fn first(value: Held) -> u64
     ensures { result ≡ first_word value }
 {
@@ -87,6 +126,7 @@ fn first(value: Held) -> u64
 }
 
 // The first root word of an integer.
+#[inline(always)]
 fn first_of_integer(v: i64) -> u64
     ensures { result ≡ first_of (small v) v }
 {
@@ -97,6 +137,7 @@ fn first_of_integer(v: i64) -> u64
 }
 
 // The second root word of a value.
+#[inline(always)]
 fn second(value: Held) -> u64
     ensures { result ≡ second_word value }
 {
@@ -107,6 +148,7 @@ fn second(value: Held) -> u64
 }
 
 // The second root word of an integer.
+#[inline(always)]
 fn second_of_integer(v: i64) -> u64
     ensures { result ≡ second_of (small v) v }
 {

@@ -1,7 +1,7 @@
 //! Tables of values, each with the two root words that it makes.
 ghost use Rattle.std.specs.Prelude.{◌≡◌, slice_set};
 
-use crate::{Held, held_by, hold};
+use crate::{Held, copy, held_by, hold, is_bound};
 use page_space::{Regions, Sizes};
 use std::alloc::Global;
 use std::process::Abort;
@@ -73,6 +73,42 @@ fn a_variable_holds_each_value_by_its_two_words(rt: HostRuntime) -> Result<(), F
     ];
     for (value, first, second) in table {
         makes(&rt, rt.alloc(), value, first, second)?;
+    }
+    Ok(())
+}
+
+/// The first of three variables is made to hold a value, and the third to hold what that one holds,
+/// in words of which the third one's second was 7. Both are bound where the value is something.
+fn copies(rt: &impl Abort, alloc: Global, value: Held, bound: bool) -> Result<(), Fail> {
+    let regions = three_roots(rt);
+    let Ok(mut words) = VecWords::new(alloc, regions.layout_at(0)) else {
+        return Err(Fail::from("memory was refused"));
+    };
+    let from = regions.root_at(0);
+    let to = regions.root_at(2);
+    put_at(rt, &mut words, to + 1, 7);
+    hold(&mut words, &regions, 0, value);
+    assert_eq!(rt; is_bound(&mut words, &regions, 0), bound);
+    copy(&mut words, &regions, 0, 2);
+    assert_eq!(rt; is_bound(&mut words, &regions, 2), bound);
+    assert_eq!(rt; held_by(&mut words, &regions, 2), value);
+    assert_eq!(rt; held_by(&mut words, &regions, 0), value);
+    assert_eq!(rt; word_at(rt, &mut words, to - 1), 0);
+    let first = word_at(rt, &mut words, from);
+    assert_eq!(rt; word_at(rt, &mut words, to), first);
+    Ok(())
+}
+
+#[test]
+fn a_variable_is_made_to_hold_what_another_one_holds(rt: HostRuntime) -> Result<(), Fail> {
+    let table = [
+        (Held::Unbound, false),
+        (Held::Undefined, true),
+        (Held::Int(1_073_741_824), true),
+        (Held::Ref(131_072), true),
+    ];
+    for (value, bound) in table {
+        copies(&rt, rt.alloc(), value, bound)?;
     }
     Ok(())
 }

@@ -12,8 +12,9 @@ use Rattle.heap_model.specs.Wholeness.{HasRows, Blank}
 use Rattle.heap_model.proofs.RowEnds.{one_used_row}
 use Rattle.heap_model.proofs.CellsApart.{cell_extent_stands}
 use Rattle.heap_model.proofs.WordsAlike.{extent_below_roots}
+use Rattle.heap_model.proofs.RegionStarts.{one_extent}
 use Rattle.heap_check.specs.RegionRows.{StandsFrom, IsRowAt, EndsRowAt, AreZero, IsBlankFrom}
-use Rattle.heap_check.proofs.Extents.{one_extent, holds_first}
+use Rattle.heap_check.proofs.Extents.{holds_first}
 use Rattle.heap_check.proofs.CountedRows.{row_at}
 use Rattle.heap_check.proofs.Seams.{IsSeam, first_seam, next_seam, seam_stands}
 
@@ -47,7 +48,8 @@ blank_more heap at end limits cells to blank =
             } in
             let same : row.extent ≡ stands.extent =
             disjoint heap.space row.extent stands.extent row.extent.start there
-            (cell_extent_stands heap.space stands.extent stands.among) (holds_first heap.space row.extent limits there) here in
+            (cell_extent_stands heap.space stands.extent stands.among)
+            (holds_first heap.space row.extent limits there) here in
             let is : IsRowAt heap at row = record {
               among = among;
               starts = ap (λ (e : Extent). e.start) same ∙ stands.starts;
@@ -59,8 +61,8 @@ blank_more heap at end limits cells to blank =
     }
 
 -- at the roots all words behind the rows are 0
-pub blank_all : (heap : Heap) (at : ℕ) → IsSpace heap.space → HasRows heap → roots_start heap.space ≤ at → BlankTo heap at
-    → Blank heap
+pub blank_all : (heap : Heap) (at : ℕ) → IsSpace heap.space → HasRows heap → roots_start heap.space ≤ at
+    → BlankTo heap at → Blank heap
 blank_all heap at limits rows past to = record {
   rows = rows.rows;
   are = rows.are;
@@ -79,7 +81,8 @@ pub blank_of : (heap : Heap) (start end : ℕ) → IsSpace heap.space → Stands
 blank_of heap start end limits stands blank row is a from below =
     let found = row_at heap blank.rows row.extent blank.are is.among in
     let other = found.0 in
-    let one = one_used_row heap other row (All-contains (IsUsedRow heap) blank.rows other blank.are.each found.1) is.used
+    let one =
+    one_used_row heap other row (All-contains (IsUsedRow heap) blank.rows other blank.are.each found.1) is.used
     found.2 in
     let same : row.extent ≡ stands.extent =
     one_extent heap.space row.extent stands.extent limits is.among stands.among (is.starts ∙ sym stands.starts) in

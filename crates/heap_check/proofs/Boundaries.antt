@@ -39,7 +39,7 @@ among_first xs ys extent there below =
     ]
 
 -- a region that begins before the roots is one of cells
-among_cells : (space : Space) (extent : Extent) → Contains (extents space) extent → extent.start < roots_start space
+pub among_cells : (space : Space) (extent : Extent) → Contains (extents space) extent → extent.start < roots_start space
     → Contains (cell_extents space) extent
 unfolding extents roots_start
 among_cells space extent there below =

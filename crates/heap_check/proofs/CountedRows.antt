@@ -12,8 +12,8 @@ use Rattle.page_space.specs.RegionLaws.{IsSpace}
 use Rattle.page_space.proofs.Stretches.{extents_from-append}
 use Rattle.heap_model.specs.Heaps.{Heap, Row, IsUsedRow, AreRows, survivors_in, survivors_of, cell_extents}
 use Rattle.heap_model.proofs.RowEnds.{one_used_row}
+use Rattle.heap_model.proofs.RegionStarts.{one_extent}
 use Rattle.heap_check.specs.RegionRows.{StandsFrom, HasNoRowAt, CountsRowAt, CountsRows, HasNoRows, survivors_by}
-use Rattle.heap_check.proofs.Extents.{one_extent}
 use Rattle.heap_check.proofs.UsedRows.{counts_by}
 use Rattle.heap_check.proofs.Seams.{IsSeam, first_seam, next_seam, all_done}
 

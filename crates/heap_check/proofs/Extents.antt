@@ -1,10 +1,10 @@
 -- The regions of cells by their first addresses.
-use Rattle.std.proofs.Common.{◌≡◌, ℕ, ◌<◌, Contains, refl, sym, ◌∙◌, ap, subst, arith, IsTrue}
+use Rattle.std.proofs.Common.{◌≡◌, ◌<◌, Contains, refl, ap, subst, arith, IsTrue}
 use Rattle.page_space.specs.declared.region.Region.{Region}
 use Rattle.page_space.specs.declared.region.Region.TheVariants.{Page, Eden, Segment, Root, Layout, Mark, Board, Outside}
-use Rattle.page_space.specs.Extents.{Space, Extent, Holds, IsIn, IsRegion, StartsAt, extents, is_cell_region, roots_start}
+use Rattle.page_space.specs.Extents.{Space, Extent, Holds, IsIn, IsRegion, StartsAt, extents, is_cell_region}
+use Rattle.page_space.specs.Extents.{roots_start}
 use Rattle.page_space.specs.RegionLaws.{IsSpace}
-use Rattle.page_space.proofs.Covering.{disjoint}
 use Rattle.page_space.proofs.LawsHold.{starts_are_inside, regions_stand_once}
 use Rattle.page_space.proofs.Placed.{placed}
 use Rattle.page_space.proofs.Standing.{start_of}
@@ -19,28 +19,11 @@ pub holds_first : (space : Space) (extent : Extent) → IsSpace space → Contai
 holds_first space extent within there =
     let starts : StartsAt space extent.region extent.start =
     record { extent = extent; stands = there; of_region = refl; starts = refl } in
-    let inside : IsIn space extent.start extent.region = starts_are_inside space extent.region extent.start within starts in
-    let same : inside.extent ≡ extent = regions_stand_once space inside.extent extent inside.stands there inside.of_region in
+    let inside : IsIn space extent.start extent.region =
+    starts_are_inside space extent.region extent.start within starts in
+    let same : inside.extent ≡ extent =
+    regions_stand_once space inside.extent extent inside.stands there inside.of_region in
     subst (λ (one : Extent). Holds one extent.start) same inside.holds
-
--- two regions of cells that begin at one address are one
-pub one_extent : (space : Space) (one other : Extent) → IsSpace space → Contains (cell_extents space) one
-    → Contains (cell_extents space) other → one.start ≡ other.start → one ≡ other
-one_extent space one other within there too same =
-    let stands = cell_extent_stands space one there in
-    let stands_too = cell_extent_stands space other too in
-    let Held : ℕ → Type 0 = λ a. Holds other a in
-    disjoint space one other one.start stands stands_too (holds_first space one within stands)
-    (subst Held (sym same) (holds_first space other within stands_too))
-
--- the address at which a region of cells begins is in that region
-pub region_at_first : (space : Space) (extent : Extent) (region : Region) → IsSpace space
-    → Contains (cell_extents space) extent → IsIn space extent.start region → region ≡ extent.region
-region_at_first space extent region within there inside =
-    let stands = cell_extent_stands space extent there in
-    sym inside.of_region
-    ∙ ap (λ (e : Extent). e.region)
-    (disjoint space inside.extent extent extent.start inside.stands stands inside.holds (holds_first space extent within stands))
 
 -- what begins before the roots is a region of cells, kind by kind
 before_roots : (space : Space) (region : Region) → IsRegion space region → start_of space region < roots_start space

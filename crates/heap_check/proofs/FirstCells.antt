@@ -1,10 +1,9 @@
--- The first cell of a heap from an address on, region by region.
+-- The first cell of a region of cells from an address on.
 use Rattle.std.proofs.Common.{◌≡◌, ℕ, ◌≤◌, ◌<◌, List, Contains, refl, sym, ◌∙◌, ap, subst, inl}
 use Rattle.std.proofs.Common.{inr, arith}
 use Rattle.std.proofs.lemmas.Bool.{cases_lt}
 use Rattle.std.proofs.lemmas.List.Elements.{All-contains}
-use Rattle.page_space.specs.Extents.{Extent, Holds, CellsEndAt, roots_start}
-use Rattle.page_space.specs.RegionLaws.{IsSpace}
+use Rattle.page_space.specs.Extents.{Extent, Holds}
 use Rattle.page_space.proofs.Covering.{disjoint}
 use Rattle.cell_layout.specs.declared.cell.Cell.{Cell}
 use Rattle.cell_layout.specs.Cells.{IsRow}
@@ -16,11 +15,9 @@ use Rattle.heap_model.proofs.CellsApart.{cell_extent_stands, ends_within, used_f
 use Rattle.heap_check.specs.declared.row.Bound.{Bound}
 use Rattle.heap_check.specs.Walks.{IsWalk, HasNoWalk, EndsBefore, IsFirstAmong}
 use Rattle.heap_check.specs.RegionRows.{StandsFrom, BoundsFrom, IsRowAt}
-use Rattle.heap_check.specs.Finding.{HasNoCellFrom, IsFirstCell, HasNoCellOf, IsFirstOf}
+use Rattle.heap_check.specs.Finding.{HasNoCellOf, IsFirstOf}
 use Rattle.heap_check.proofs.UsedRows.{row_walks}
 use Rattle.heap_check.proofs.CountedRows.{row_at}
-use Rattle.heap_check.proofs.Seams.{IsSeam, first_seam, next_seam}
-use Rattle.heap_model.proofs.WordsAlike.{cell_below_roots}
 
 -- the row of the region between two addresses
 pub row_between : (heap : Heap) (start end : ℕ) → HasRows heap → StandsFrom heap.space start end
@@ -78,7 +75,8 @@ walks_to heap start end bound cell words rows stands bounds has from below =
     }
 
 -- a walk of a region is its used row
-used_by_walk : (heap : Heap) (start end at : ℕ) (bound : Bound) (cells : List Cell) → (bounds : BoundsFrom heap start end bound)
+used_by_walk : (heap : Heap) (start end at : ℕ) (bound : Bound) (cells : List Cell)
+    → (bounds : BoundsFrom heap start end bound)
     → IsWalk heap bound start at cells → IsUsedRow heap (record { extent = bounds.extent; end = at; cells = cells })
 used_by_walk heap start end at bound cells bounds walk = record {
   ends = (bounds.bounds.ends at).1 (walk.within, walk.stops);
@@ -87,7 +85,8 @@ used_by_walk heap start end at bound cells bounds walk = record {
 
 -- two walks of a region are one
 one_walk : (heap : Heap) (start end : ℕ) (bound : Bound) (bounds : BoundsFrom heap start end bound) (at other : ℕ)
-    (cells others : List Cell) → IsWalk heap bound start at cells → IsWalk heap bound start other others → cells ≡ others
+    (cells others : List Cell) → IsWalk heap bound start at cells
+    → IsWalk heap bound start other others → cells ≡ others
 one_walk heap start end bound bounds at other cells others walk walk_other =
     let extent = bounds.extent in
     (one_used_row heap (record { extent = extent; end = at; cells = cells })
@@ -113,7 +112,8 @@ pub none_of_region : (heap : Heap) (start end least at : ℕ) (bound : Bound) �
 none_of_region heap start end least at bound rows stands bounds before cell words has from below =
     let to = walks_to heap start end bound cell words rows stands bounds has from below in
     let Has : List Cell → Type 0 = λ cells. Contains cells cell in
-    before.before cell (subst Has (one_walk heap start end bound bounds to.end at to.cells before.cells to.walk before.walk) to.among)
+    before.before cell (subst Has
+    (one_walk heap start end bound bounds to.end at to.cells before.cells to.walk before.walk) to.among)
 
 -- the first cell of the walks of a region is the first of the region's
 pub first_of_walks : (heap : Heap) (start end least : ℕ) (bound : Bound) (cell : Cell) → HasRows heap
@@ -138,44 +138,3 @@ first_of_walks heap start end least bound cell rows stands bounds first =
             omega (arith, past, within.1, walk.within, bounds.bounds.within, bounds.ends)
       ];
     }
-
--- the cells before an address are all before another, so far as the heap has any
-pub record NoneBefore (heap : Heap) (at least : ℕ) : Type 0 where
-  pub seam : IsSeam heap.space at
-  pub none : (cell : Cell) (words : List ℕ) → HasCell heap cell words → cell.at < at → cell.at < least
-
--- so it is of no region
-pub none_before : (heap : Heap) (least : ℕ) → NoneBefore heap 0 least
-none_before heap least = record {
-  seam = first_seam heap.space;
-  none = λ cell words has below. absurd (omega (arith, below));
-}
-
--- and of one region more, where it has no cell at the address or behind it
-pub none_more : (heap : Heap) (at end least : ℕ) → IsSpace heap.space → CellsEndAt heap.space at end
-    → NoneBefore heap at least → HasNoCellOf heap at end least → NoneBefore heap end least
-none_more heap at end least limits cells before none = record {
-  seam = (next_seam heap.space at end before.seam limits cells).next;
-  none = λ cell words has below. elim (cases_lt cell.at at) [
-    | inl early ↦ before.none cell words has early
-    | inr from ↦ none cell words has from below
-  ];
-}
-
--- at the roots no cell is left
-pub none_from : (heap : Heap) (at least : ℕ) → HasRows heap → roots_start heap.space ≤ at → NoneBefore heap at least
-    → HasNoCellFrom heap least
-none_from heap at least rows past before cell words has =
-    before.none cell words has (omega (arith, past, cell_below_roots (used_few rows) has, (first_of_cell has).below))
-
--- the first cell of the first region with one is the first of the heap
-pub first_is : (heap : Heap) (at end least : ℕ) (cell : Cell) → NoneBefore heap at least
-    → IsFirstOf heap at end least cell → IsFirstCell heap least cell
-first_is heap at end least cell before first = record {
-  has = first.has;
-  reached = first.reached;
-  first = λ other words has far. elim (cases_lt other.at at) [
-    | inl early ↦ absurd (omega (arith, far, before.none other words has early))
-    | inr from ↦ first.first other words has from far
-  ];
-}

@@ -11,6 +11,7 @@ pub mod WordSorts
 pub mod SlotKinds
 pub mod SlotsBeside
 pub mod Boundaries
+pub mod RegionStarts
 pub mod CellsOnward
 pub mod NamingSlots
 pub mod ObjectNaming

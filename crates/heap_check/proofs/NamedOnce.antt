@@ -1,6 +1,6 @@
 -- Which stores, weak tables and boxes no two slots name.
-use Rattle.std.proofs.Common.{◌≡◌, ℕ, ◌+◌, ◌<◌, inl, inr, Bool, true, false, not, Option, Some, None, is_some, ◌↔◌}
-use Rattle.std.proofs.Common.{IsTrue, refl, sym, ◌∙◌, ap, subst}
+use Rattle.std.proofs.Common.{◌≡◌, ℕ, ◌+◌, ◌<◌, inl, inr, Bool, true, false, not, Option, Some, None, is_some}
+use Rattle.std.proofs.Common.{◌↔◌, IsTrue, refl, sym, ◌∙◌, ap, subst}
 use Rattle.std.proofs.lemmas.Bool.{false≢true}
 use Rattle.std.proofs.lemmas.Option.{none-some, same_Some}
 use Rattle.cell_layout.specs.declared.cell.Cell.{Cell}

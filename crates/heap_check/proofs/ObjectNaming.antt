@@ -1,6 +1,6 @@
 -- The slots of an object that refer to an address: its own, and those of the cell to which its slot 1 refers.
-use Rattle.std.proofs.Common.{◌≡◌, ℕ, ◌+◌, ◌^◌, ◌<◌, ◌⊎◌, inl, inr, List, Contains, Option, Some, None, slice_get}
-use Rattle.std.proofs.Common.{IsTrue, refl, sym, ◌∙◌, ap, subst}
+use Rattle.std.proofs.Common.{◌≡◌, ℕ, ◌+◌, ◌^◌, ◌<◌, ◌⊎◌, inl, inr, List, Contains, Option, Some, None}
+use Rattle.std.proofs.Common.{slice_get, IsTrue, refl, sym, ◌∙◌, ap, subst}
 use Rattle.std.proofs.lemmas.Option.{same_Some}
 use Rattle.tagged_word.specs.Cells.{store_slot, scavenge_offsets}
 use Rattle.tagged_word.specs.Readings.{reference_in}
@@ -18,7 +18,7 @@ use Rattle.heap_model.proofs.ObjectSlots.{store_slot_in}
 use Rattle.heap_check.specs.Walks.{HasWords}
 use Rattle.heap_check.specs.Spans.{StandsIn}
 use Rattle.heap_check.specs.Naming.{IsOtherOf, IsSlotIn, IsNextTo, IsSlotNextTo, IsSlotOf}
-use Rattle.heap_check.proofs.SpanWords.{word_of_cell, address_few}
+use Rattle.heap_check.proofs.SpanWords.{slice_get-words_of_cell, address_few}
 
 -- an object has a slot 1
 pub slot_within : (heap : Heap) (object : Cell) → StandsIn heap object → IsTrue (is_object_kind object.layout.kind)
@@ -37,7 +37,8 @@ next_to_at heap object other word sized few there is =
 -- a cell that words at that address read as is the one, where one stands there
 pub is_next_to : (heap : Heap) (object cell other : Cell) (word at : ℕ)
     → HasWord (words_of_cell heap object) store_slot word → reference_in word ≡ Some at
-    → IsCell heap.space heap.words cell → cell.at ≡ at → StandsIn heap other → other.at ≡ at → IsNextTo heap object cell
+    → IsCell heap.space heap.words cell → cell.at ≡ at → StandsIn heap other → other.at ≡ at
+    → IsNextTo heap object cell
 is_next_to heap object cell other word at there refers is_cell place stands place_too =
     let same : other ≡ cell =
     one_cell heap.space heap.words other cell (has_is_cell stands) is_cell (place_too ∙ sym place) in
@@ -60,14 +61,14 @@ slot_word : {heap : Heap} {cell : Cell} {words : List ℕ} (offset word : ℕ) �
     → slice_get heap.words (cell.at + offset) ≡ Some word
 slot_word {heap} {cell} {words} offset word has among there =
     let within = (slots_lie_within heap.space heap.words cell offset (has_is_cell has) among).within in
-    sym (word_of_cell heap cell offset within) ∙ ap (λ all. slice_get all offset) has.words_are ∙ there
+    sym (slice_get-words_of_cell heap cell offset within) ∙ ap (λ all. slice_get all offset) has.words_are ∙ there
 
 -- and the other way round
 word_of_slot : (heap : Heap) (cell : Cell) (named slot : ℕ) → StandsIn heap cell → (is : IsSlotIn heap cell named slot)
     → HasWord (words_of_cell heap cell) is.offset (reference_word named)
 word_of_slot heap cell named slot stands is =
     let within = (slots_lie_within heap.space heap.words cell is.offset (has_is_cell stands) is.among).within in
-    word_of_cell heap cell is.offset within ∙ ap (slice_get heap.words) is.place ∙ is.refers
+    slice_get-words_of_cell heap cell is.offset within ∙ ap (slice_get heap.words) is.place ∙ is.refers
 
 -- an own slot is one of the object's
 pub own_slot : (heap : Heap) (object : Cell) (named slot : ℕ) → StandsIn heap object → IsSlotIn heap object named slot

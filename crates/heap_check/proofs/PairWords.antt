@@ -1,6 +1,6 @@
 -- The pairs of weak tables, by their words, and the table to which a word refers.
-use Rattle.std.proofs.Common.{◌≡◌, ℕ, zero, suc, ◌-◌, ◌*◌, ◌/◌, ◌⊎◌, inl, inr, List, [], ◌∷◌, length, drop}
-use Rattle.std.proofs.Common.{Some, slice_get, refl, sym, ◌∙◌, ap, subst, arith, length-drop}
+use Rattle.std.proofs.Common.{◌≡◌, ℕ, zero, suc, ◌-◌, ◌*◌, ◌/◌, ◌⊎◌, inl, inr, List, [], ◌∷◌}
+use Rattle.std.proofs.Common.{length, drop, Some, slice_get, refl, sym, ◌∙◌, ap, subst, arith, length-drop}
 use Rattle.std.proofs.lemmas.Option.{none-some, same_Some}
 use Rattle.tagged_word.specs.declared.layout.Kind.TheVariants as kind
 use Rattle.tagged_word.specs.Cells.{store_head}
@@ -11,17 +11,12 @@ use Rattle.heap_model.specs.Kinds.{Pair, pairs_in, IsPowerOfTwo, HasTable}
 use Rattle.heap_model.proofs.CellWords.{words_by_kind}
 use Rattle.heap_model.proofs.SlotWords.{same_target}
 use Rattle.heap_model.proofs.WordClasses.{undefined_refers_not}
+use Rattle.heap_model.proofs.PairLists.{length-pairs_in}
 use Rattle.heap_check.specs.declared.spans.Span.{Span}
 use Rattle.heap_check.specs.Spans.{span_words, IsSpan, IsBesideAs, HasNoBeside}
 use Rattle.heap_check.specs.TablePairs.{table_pairs, HasNoTable}
 use Rattle.heap_check.proofs.SpanWords.{length-span}
 use Rattle.heap_check.proofs.SlotsBeside.{Beside, beside_is, target_stands}
-
--- there are half as many pairs as words
-pub length-pairs_in : (words : List ℕ) → length (pairs_in words) ≡ length words / 2
-length-pairs_in [] = refl
-length-pairs_in (key ∷ []) = omega arith
-length-pairs_in (key ∷ value ∷ words) = omega (arith, length-pairs_in words)
 
 -- so it is of a table
 pub length-table_pairs : (heap : Heap) (table : Span) → IsSpan heap table
@@ -60,24 +55,6 @@ table_is HasTable.none = TableBeside.no_table refl refl
 table_is (HasTable.table to cell words refers is power) =
     TableBeside.to_table cell (target_stands refers) is power
     (ap (λ all. pairs_in (drop store_head all)) (sym refers.has.words_are))
-
--- a word says it of one list of pairs, case by case
-one_table_of : {heap : Heap} {word : ℕ} {pairs others : List Pair} → TableBeside heap word pairs
-    → TableBeside heap word others → pairs ≡ others
-one_table_of (TableBeside.no_table undefined are) (TableBeside.no_table undefined_too are_too) = are ∙ sym are_too
-one_table_of (TableBeside.no_table undefined are) (TableBeside.to_table cell refers is power are_too) =
-    absurd (undefined_refers_not cell.at (sym undefined ∙ refers.refers))
-one_table_of (TableBeside.to_table cell refers is power are) (TableBeside.no_table undefined are_too) =
-    absurd (undefined_refers_not cell.at (sym undefined ∙ refers.refers))
-one_table_of {heap} (TableBeside.to_table cell refers is power are)
-    (TableBeside.to_table other refers_other is_too power_too are_too) =
-    are ∙ ap (λ one. pairs_in (drop store_head (words_of_cell heap one))) (same_target refers refers_other)
-    ∙ sym are_too
-
--- a word says it of one list of pairs
-pub one_table : {heap : Heap} {word : ℕ} {pairs others : List Pair} → HasTable heap word pairs
-    → HasTable heap word others → pairs ≡ others
-one_table has has_other = one_table_of (table_is has) (table_is has_other)
 
 -- a table of a span has half as many pairs as the span has words
 table_capacity : (heap : Heap) (word : ℕ) (cell : Cell) (table : Span)

@@ -1,7 +1,7 @@
 -- Probing a weak table, and counting what it holds.
-use Rattle.std.proofs.Common.{◌≡◌, ◌≢◌, ℕ, ◌+◌, ◌%◌, ◌≤◌, ◌<◌, inl, inr, true, false, not, List, length, take}
-use Rattle.std.proofs.Common.{Some, slice_get, refl, sym, ◌∙◌, ap, arith}
-use Rattle.std.proofs.lemmas.Bool.{false≢true, cases_lt}
+use Rattle.std.proofs.Common.{◌≡◌, ◌≢◌, ℕ, ◌+◌, ◌%◌, ◌≤◌, ◌<◌, inl, inr, true, false, not, List}
+use Rattle.std.proofs.Common.{length, take, Some, slice_get, refl, sym, ◌∙◌, ap, arith}
+use Rattle.std.proofs.lemmas.Bool.{cases_lt}
 use Rattle.std.proofs.lemmas.Bool.Decides.{nat_tests}
 use Rattle.std.proofs.lemmas.List.Sums.{count_by_more_yes, count_by_more_no}
 use Rattle.std.proofs.lemmas.Option.{slice_get_within, get_or_from_slice_get}
@@ -24,10 +24,6 @@ free_from pair is =
     let valued : record { key = hole_word; value = pair.value } ≡ free_pair =
     ap (λ v. record { key = hole_word; value = v }) value in
     keyed ∙ valued
-
--- and one that is tested not to be is not
-pub not_free : (pair : Pair) → is_free_pair pair ≡ false → pair ≡ free_pair → ⊥
-not_free pair is same = false≢true (sym is ∙ ap is_free_pair same)
 
 -- a free pair more is no entry more
 pub count_free : (pairs : List Pair) (at : ℕ) (pair : Pair) → slice_get pairs at ≡ Some pair

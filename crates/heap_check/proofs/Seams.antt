@@ -2,9 +2,10 @@
 use Rattle.std.proofs.Common.{◌≡◌, ℕ, ◌+◌, ◌≤◌, List, [], ◌∷◌, ◌++◌, Contains, refl, sym}
 use Rattle.std.proofs.Common.{◌∙◌, ap, subst, arith}
 use Rattle.std.proofs.Common.{append_assoc, append-nil}
-use Rattle.page_space.specs.Extents.{Space, Stretch, Extent, CellsEndAt, cell_stretches, extents_from, words_in, roots_start}
+use Rattle.page_space.specs.Extents.{Space, Stretch, Extent, CellsEndAt, cell_stretches, extents_from, words_in}
+use Rattle.page_space.specs.Extents.{roots_start}
 use Rattle.page_space.specs.RegionLaws.{IsSpace}
-use Rattle.page_space.proofs.Lists.{contains_first}
+use Rattle.tagged_word.proofs.Members.{first_in}
 use Rattle.page_space.proofs.Stretches.{words_in-append, words_in-cons, stands_then}
 use Rattle.page_space.proofs.Covering.{disjoint}
 use Rattle.page_space.proofs.CellEnds.{before_end, end_before_roots}
@@ -47,13 +48,14 @@ first_behind space at seam stretch more is =
     let All : List Stretch → Type 0 = λ all. Contains (extents_from 0 all) extent in
     let Behind : List Stretch → Type 0 = λ rest. Contains (extents_from at rest) extent in
     let From : ℕ → Type 0 = λ start. Contains (extents_from start seam.rest) extent in
-    let there : Behind seam.rest = subst Behind (sym is) (contains_first extent (extents_from (at + stretch.words) more)) in
+    let there : Behind seam.rest =
+    subst Behind (sym is) (first_in extent (extents_from (at + stretch.words) more)) in
     subst All (sym seam.joined)
     (stands_then 0 seam.done seam.rest extent (subst From (sym seam.reached ∙ omega arith) there))
 
 -- the seam behind the next region
-next_of : (space : Space) (at end : ℕ) (seam : IsSeam space at) (stretch : Stretch) (more : List Stretch) → IsSpace space
-    → CellsEndAt space at end → seam.rest ≡ stretch ∷ more → IsNextSeam space at end seam
+next_of : (space : Space) (at end : ℕ) (seam : IsSeam space at) (stretch : Stretch) (more : List Stretch)
+    → IsSpace space → CellsEndAt space at end → seam.rest ≡ stretch ∷ more → IsNextSeam space at end seam
 next_of space at end seam stretch more limits cells is =
     let extent : Extent = record { region = stretch.region; start = at; words = stretch.words } in
     let there = first_behind space at seam stretch more is in

@@ -1,6 +1,7 @@
 -- The words of cells and of spans, by their addresses.
-use Rattle.std.proofs.Common.{◌≡◌, ℕ, ◌+◌, ◌-◌, ◌^◌, ◌≤◌, ◌<◌, List, length, take, drop, Some, slice_get, slice_range}
-use Rattle.std.proofs.Common.{All, get_or, refl, sym, ◌∙◌, ap, subst, arith, length-take, length-drop}
+use Rattle.std.proofs.Common.{◌≡◌, ℕ, ◌+◌, ◌-◌, ◌^◌, ◌≤◌, ◌<◌, List, length, take, drop, Some}
+use Rattle.std.proofs.Common.{slice_get, slice_range, All, get_or, refl, sym, ◌∙◌, ap, subst, arith, length-take}
+use Rattle.std.proofs.Common.{length-drop}
 use Rattle.std.proofs.lemmas.List.{drop-take, drop-drop}
 use Rattle.std.proofs.lemmas.Option.{slice_get_within, slice_get-get_or}
 use Rattle.page_space.specs.Extents.{words_count}
@@ -60,10 +61,10 @@ cell_ends_few heap cell most sized stands few =
       words_count_is heap.space,
     )
 
--- a word of a cell stands at its address
-pub word_of_cell : (heap : Heap) (cell : Cell) (offset : ℕ) → offset < cell.size
+-- a word of a cell is the one at its address
+pub slice_get-words_of_cell : (heap : Heap) (cell : Cell) (offset : ℕ) → offset < cell.size
     → slice_get (words_of_cell heap cell) offset ≡ slice_get heap.words (cell.at + offset)
-word_of_cell heap cell offset within =
+slice_get-words_of_cell heap cell offset within =
     slice_get-slice_range heap.words cell.at (cell.at + cell.size) offset (omega arith)
 
 -- the words behind a cell's first ones

@@ -17,14 +17,16 @@ use Rattle.cell_layout.proofs.Rows.{cell_within, rows_part_around, row_ascends}
 use Rattle.heap_model.specs.Heaps.{Heap, Row, EndsUsed, cell_extents, survivors_in}
 use Rattle.heap_model.proofs.CellsApart.{cell_extent_stands, ends_within}
 use Rattle.heap_model.proofs.WordsAlike.{extent_below_roots}
+use Rattle.heap_model.proofs.RegionStarts.{one_extent, region_at_start}
 use Rattle.heap_check.specs.declared.row.Bound.{Bound}
 use Rattle.heap_check.specs.Walks.{Stops, IsWalk, IsFirstAmong}
 use Rattle.heap_check.specs.RegionRows.{IsFew, StandsFrom, BoundsFrom, IsBoundOf, IsRowAt, EndsRowAt, CountsRowAt}
 use Rattle.heap_check.specs.RegionRows.{bound_in, survivors_by}
-use Rattle.heap_check.proofs.Extents.{one_extent, region_at_first, holds_first, cells_only}
+use Rattle.heap_check.proofs.Extents.{holds_first, cells_only}
 
 -- a walk within a limit that may end nowhere else ends there
-ends_at_limit : (heap : Heap) (bound : Bound) (end : ℕ) → bound.blank ≡ false → Stops heap bound end → end ≡ bound.limit
+ends_at_limit : (heap : Heap) (bound : Bound) (end : ℕ) → bound.blank ≡ false
+    → Stops heap bound end → end ≡ bound.limit
 ends_at_limit heap bound end full (inl at_limit) = at_limit
 ends_at_limit heap bound end full (inr blank) = absurd (false≢true (sym full ∙ blank.0))
 
@@ -32,7 +34,8 @@ ends_at_limit heap bound end full (inr blank) = absurd (false≢true (sym full �
 bound_of_kind : (heap : Heap) (extent : Extent) (end : ℕ) (region : Region) → IsFew heap
     → extent.start + extent.words ≡ end → extent.words ≡ length_of heap.space region → (at : ℕ)
     → EndsUsed heap extent at region
-    → (at ≤ (bound_in region extent.start end heap.used).limit) × Stops heap (bound_in region extent.start end heap.used) at
+    → (at ≤ (bound_in region extent.start end heap.used).limit)
+    × Stops heap (bound_in region extent.start end heap.used) at
 bound_of_kind heap extent end (Page page) few ends long at is = (omega (arith, is, ends), inl (is ∙ ends))
 bound_of_kind heap extent end Eden few ends long at is = (omega (arith, is), inl is)
 bound_of_kind heap extent end (Segment half worker) few ends long at is =
@@ -97,8 +100,9 @@ pub bounds_from : (heap : Heap) (start end : ℕ) (region : Region) → IsSpace 
     → BoundsFrom heap start end (bound_in region start end heap.used)
 bounds_from heap start end region within few stands inside =
     let extent = stands.extent in
-    let here : IsIn heap.space extent.start region = subst (λ (a : ℕ). IsIn heap.space a region) (sym stands.starts) inside in
-    let same : region ≡ extent.region = region_at_first heap.space extent region within stands.among here in
+    let here : IsIn heap.space extent.start region =
+    subst (λ (a : ℕ). IsIn heap.space a region) (sym stands.starts) inside in
+    let same : region ≡ extent.region = region_at_start heap.space extent region within stands.among here in
     let B : Bound → Type 0 = λ bound. IsBoundOf heap extent bound in
     let bound : bound_in extent.region extent.start end heap.used ≡ bound_in region start end heap.used =
     ap (λ (r : Region). bound_in r extent.start end heap.used) (sym same)
@@ -135,7 +139,8 @@ pub row_walks : (heap : Heap) (start end : ℕ) (bound : Bound) (row : Row) → 
     → IsRowAt heap start row → IsWalk heap bound start row.end row.cells
 row_walks heap start end bound row bounds is =
     let same : row.extent ≡ bounds.extent =
-    one_extent heap.space row.extent bounds.extent bounds.limits is.among bounds.among (is.starts ∙ sym bounds.starts) in
+    one_extent heap.space row.extent bounds.extent bounds.limits is.among bounds.among
+    (is.starts ∙ sym bounds.starts) in
     let Ends : Extent → Type 0 = λ extent. EndsUsed heap extent row.end extent.region in
     let ends = (bounds.bounds.ends row.end).0 (subst Ends same is.used.ends) in
     record {
@@ -170,7 +175,8 @@ no_cell_at_limit heap bound from end cells cell walk first =
     omega (arith, within.1, walk.within, first.reached, some)
 
 -- the words of survivors of a row, by its region
-pub counts_by : (row : Row) (region : Region) → survivors_in row region ≡ survivors_by region (row.end - row.extent.start)
+pub counts_by : (row : Row) (region : Region)
+    → survivors_in row region ≡ survivors_by region (row.end - row.extent.start)
 counts_by row (Page page) = refl
 counts_by row Eden = refl
 counts_by row (Segment half worker) = refl
@@ -193,12 +199,13 @@ few_survivors Outside words = omega arith
 
 -- a row's survivors, by the region that its first address is in
 pub counts_row : (heap : Heap) (start end : ℕ) (region : Region) → IsSpace heap.space
-    → EndsRowAt heap start end → IsIn heap.space start region → CountsRowAt heap start (survivors_by region (end - start))
+    → EndsRowAt heap start end → IsIn heap.space start region
+    → CountsRowAt heap start (survivors_by region (end - start))
 counts_row heap start end region within ends inside =
     let row = ends.row in
     let here : IsIn heap.space row.extent.start region =
     subst (λ (a : ℕ). IsIn heap.space a region) (sym ends.is.starts) inside in
-    let same : region ≡ row.extent.region = region_at_first heap.space row.extent region within ends.is.among here in
+    let same : region ≡ row.extent.region = region_at_start heap.space row.extent region within ends.is.among here in
     record {
       row = row;
       is = ends.is;
@@ -215,7 +222,8 @@ pub row_within : (heap : Heap) (start end at : ℕ) → IsSpace heap.space → I
 row_within heap start end at limits few stands ends =
     let row = ends.row in
     let same : row.extent ≡ stands.extent =
-    one_extent heap.space row.extent stands.extent limits ends.is.among stands.among (ends.is.starts ∙ sym stands.starts) in
+    one_extent heap.space row.extent stands.extent limits ends.is.among stands.among
+    (ends.is.starts ∙ sym stands.starts) in
     let below = ends_within heap row few ends.is.among ends.is.used in
     let above = row_ascends heap.space heap.words row.extent.start row.end row.cells ends.is.used.stands in (
       omega (arith, above, ends.is.starts, ends.ends),

@@ -2,8 +2,8 @@
 use Rattle.std.proofs.Common.{◌≡◌, ℕ, ◌+◌, ◌≤◌, ◌<◌, inl, inr, List, [], ◌∷◌, slice_get, Contains}
 use Rattle.std.proofs.Common.{refl, sym, ◌∙◌, ap, subst, arith}
 use Rattle.std.proofs.lemmas.Bool.{cases_lt}
-use Rattle.tagged_word.proofs.Members.{in_cases}
-use Rattle.page_space.proofs.Lists.{contains_first, contains_later, contains_none}
+use Rattle.tagged_word.proofs.Members.{first_in, rest_in, in_cases}
+use Rattle.page_space.proofs.Lists.{contains_none}
 use Rattle.cell_layout.specs.declared.cell.Cell.{Cell}
 use Rattle.cell_layout.specs.Cells.{IsCell, IsRow, HasNoCell, none}
 use Rattle.cell_layout.proofs.OneCell.{one_cell}
@@ -93,7 +93,7 @@ behind_cell heap bound at least end cell (other ∷ cells) goes below walk =
         | inl first ↦ absurd (omega (arith, far, below, ap (λ (c : Cell). c.at) first, begins.starts, goes.starts))
         | inr later ↦ later
       ];
-      back = λ one has. contains_later other one cells has;
+      back = λ one has. rest_in other cells one has;
     }
 
 -- a walk from behind a cell is one from its address
@@ -148,7 +148,7 @@ has_first heap bound at end cell (other ∷ cells) goes walk =
     let begins = row_begins walk.row in
     let same : other ≡ cell =
     one_cell heap.space heap.words other cell begins.is_cell goes.is_cell (begins.starts ∙ sym goes.starts) in
-    subst (λ (one : Cell). Contains (other ∷ cells) one) same (contains_first other cells)
+    subst (λ (one : Cell). Contains (other ∷ cells) one) same (first_in other cells)
 
 -- a cell at the address or behind it, to which all walks come, is the first of each
 pub first_found : (heap : Heap) (bound : Bound) (from at least : ℕ) (cell : Cell) → Passes heap bound from at least

@@ -4,9 +4,9 @@ use Rattle.std.proofs.lemmas.Option.{same_Some}
 use Rattle.tagged_word.specs.Cells.{store_slot}
 use Rattle.heap_model.specs.Heaps.{Heap}
 use Rattle.heap_model.specs.Kinds.{HasWord, Pair, HasTable, IsWeakCell, count_offset}
+use Rattle.heap_model.proofs.NewKeys.{one_table}
 use Rattle.heap_check.specs.declared.spans.Span.{Span}
 use Rattle.heap_check.specs.TablePairs.{table_pairs, filled_pairs, IsTableAs, AreHeldPairs}
-use Rattle.heap_check.proofs.PairWords.{one_table}
 
 -- the pairs hold nothing or entries where probing finds them, and so many entries
 abbrev pub HasEntries : Heap → List Pair → ℕ → Type 0
@@ -31,7 +31,7 @@ pub table_is_span : {heap : Heap} {pairs : List Pair} (words : List ℕ) (offset
     → pairs ≡ table_pairs heap table
 table_is_span {heap} {pairs} words offset store other table slot slot_too has stands =
     let same : other ≡ store = same_Some _ _ (sym slot_too ∙ slot) in
-    one_table (subst (λ w. HasTable heap w pairs) same stands) has.has
+    one_table heap store pairs (table_pairs heap table) (subst (λ w. HasTable heap w pairs) same stands) has.has
 
 -- and then these pairs hold its entries
 pub weak_to : (heap : Heap) (words : List ℕ) (store count : ℕ) (table : Span) → HasWord words store_slot store

@@ -14,6 +14,7 @@ use Rattle.heap_model.specs.Slots.{small_word, undefined_word, hole_word, refere
 use Rattle.heap_model.specs.Slots.{RefersTo, RefersToPlace, RefersToBox}
 use Rattle.heap_model.proofs.WordClasses.{small_refers_not, undefined_refers_not, hole_refers_not}
 use Rattle.heap_model.proofs.SlotWords.{same_target}
+use Rattle.heap_model.proofs.NewKeys.{one_number}
 use Rattle.heap_check.specs.declared.slots.Sort.{Sort}
 use Rattle.heap_check.specs.declared.slots.Sort.TheVariants as sort
 use Rattle.heap_check.specs.Sorts.{IsSort, RefersToOther, is_box_kind}
@@ -37,13 +38,6 @@ same_raw v other fits fits_too same =
 pub place_target : {heap : Heap} {word number : ℕ} (to : RefersToPlace heap word number)
     → RefersTo heap word to.place.cell to.place.words
 place_target to = record { refers = to.refers ∙ ap reference_word (sym to.place.stands); has = to.place.has }
-
--- where two references to the place of an object are one word, the numbers are one
-same_number : {heap : Heap} {word number other : ℕ} → RefersToPlace heap word number → RefersToPlace heap word other
-    → number ≡ other
-same_number to to_other =
-    let same = same_target (place_target to) (place_target to_other) in
-    sym to.place.carries ∙ ap (λ (one : Cell). one.header.object) same ∙ to_other.place.carries
 
 -- and so are the integers of two boxes
 same_integer : {heap : Heap} {word : ℕ} {v other : ℤ} → RefersToBox heap word v → RefersToBox heap word other
@@ -116,7 +110,8 @@ pub object_sort : (heap : Heap) (word number : ℕ) (of : Sort) → RefersToPlac
 object_sort heap word number sort.Small to has = absurd (small_refers_not has.0 to.at (sym has.2 ∙ to.refers))
 object_sort heap word number sort.Undefined to has = absurd (undefined_refers_not to.at (sym has ∙ to.refers))
 object_sort heap word number sort.Hole to has = absurd (hole_refers_not to.at (sym has ∙ to.refers))
-object_sort heap word number (sort.Object other) to has = ap (λ n. sort.Object n) (same_number has to)
+object_sort heap word number (sort.Object other) to has =
+    ap (λ n. sort.Object n) (one_number heap word other number has to)
 object_sort heap word number (sort.Boxed v) to has = absurd (place_no_box to has)
 object_sort heap word number (sort.Other cell) to has = absurd (place_no_other to has)
 object_sort heap word number sort.Nothing to has =

@@ -1,36 +1,44 @@
 //! The cells of a heap by their addresses. All here stands on rows that were found whole.
-ghost use Rattle.std.specs.Prelude.{◌≡◌, MatchOption};
+ghost use Rattle.std.specs.Prelude.{◌≡◌, ◌≤◌, MatchOption};
+ghost use Rattle.page_space.specs.Extents.{words_count, CellsEndAt};
 ghost use Rattle.heap_model.specs.Images.{image_heap};
 ghost use Rattle.heap_model.specs.Heaps.{HasCell, words_of_cell};
 ghost use Rattle.heap_model.specs.Wholeness.{HasRows};
 ghost use Rattle.heap_check.specs.Walks.{HasWords};
 ghost use Rattle.heap_check.specs.RegionRows.{StandsFrom};
-ghost use Rattle.heap_check.specs.Finding.{HasNoCellFrom, IsFirstCell, HasNoCellOf};
-ghost use Rattle.heap_check.specs.Finding.{IsFirstOf, HasNoCellAt};
+ghost use Rattle.heap_check.specs.Finding.{HasNoCellOf, IsFirstOf, HasNoCellAt};
 
 use crate::region_rows::bound_of;
 use crate::row::{Step, first_of_row};
 use cell_layout::Cell;
 use heap_model::HeapImage;
 
-/// The first cell of a heap that stands at an address or behind it. It walks from the first page
-/// on, so it takes as long as the heap has cells.
-pub(crate) fn first_cell(image: &HeapImage, least: u32) -> Option<Cell>
+/// The cell of a heap at an address. It walks from the first address of its page, of eden or of its
+/// segment on, so it takes as long as there are cells before it there.
+pub fn find_cell(image: &HeapImage, address: u32) -> Option<Cell>
     requires sized { HasWords (image_heap image.now) }
     requires rows { HasRows (image_heap image.now) }
-    ensures { MatchOption result (HasNoCellFrom (image_heap image.now) least)
-        (λ cell. IsFirstCell (image_heap image.now) least cell) }
+    ensures { let heap = image_heap image.now in MatchOption result (HasNoCellAt heap address)
+        (λ cell. (cell.at ≡ address) × HasCell heap cell (words_of_cell heap cell)) }
 {
-    // Tells that the sizes are within their limits, so that no region is empty.
-    let _words_count = image.regions.count();
-    let mut at = 0;
-    while let Some(end) = image.regions.cells_end(at) {
-        if let Some(cell) = first_of_region(image, at, end, least) {
-            return Some(cell);
-        }
-        at = end;
+    let Some(end) = image.regions.cells_end(address) else {
+        return None;
+    };
+    match first_of_region(image, start_before(image, address, end), end, address) {
+        Some(cell) => { if cell.at == address { Some(cell) } else { None } }
+        None => None,
     }
-    None
+}
+
+/// The first address of the page, of eden or of the segment that an address is in and that ends at
+/// another.
+fn start_before(image: &HeapImage, address: u32, end: u32) -> u32
+    requires within { CellsEndAt image.now.regions address end }
+    requires inside { end ≤ words_count image.now.regions }
+    ensures stands { StandsFrom image.now.regions result end }
+    ensures before { result ≤ address }
+{
+    image.regions.start(image.regions.region(address))
 }
 
 /// The first cell of the region between two addresses that stands at another address or behind it.
@@ -47,18 +55,5 @@ fn first_of_region(image: &HeapImage, start: u32, end: u32, least: u32) -> Optio
         Step::Ended(_) => None,
         // The rows are whole.
         Step::Broken => None,
-    }
-}
-
-/// The cell of a heap at an address.
-pub fn find_cell(image: &HeapImage, address: u32) -> Option<Cell>
-    requires sized { HasWords (image_heap image.now) }
-    requires rows { HasRows (image_heap image.now) }
-    ensures { let heap = image_heap image.now in MatchOption result (HasNoCellAt heap address)
-        (λ cell. (cell.at ≡ address) × HasCell heap cell (words_of_cell heap cell)) }
-{
-    match first_cell(image, address) {
-        Some(cell) => { if cell.at == address { Some(cell) } else { None } }
-        None => None,
     }
 }

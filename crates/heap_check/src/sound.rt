@@ -8,8 +8,8 @@ ghost use Rattle.heap_check.specs.Walks.{HasWords};
 ghost use Rattle.heap_check.specs.Spans.{StandsIn};
 ghost use Rattle.heap_check.specs.SoundCells.{HasSoundCells};
 
-use crate::finding::first_cell;
 use crate::lists::is_list;
+use crate::onward::next_from;
 use crate::plain::is_plain;
 use crate::stores::{has_no_number, is_boxed, is_store};
 use crate::weak::is_weak;
@@ -18,20 +18,19 @@ use heap_model::HeapImage;
 use tagged_word::Kind;
 
 /// Whether the words of each cell are what its kind has, of a cell that nothing refers to as well.
-/// The rows are whole. It looks for each cell from the first page on.
+/// The rows are whole. It walks through the heap once, and with `find_cell` to the cell of each
+/// reference.
 pub fn has_sound_cells(image: &HeapImage) -> bool
     requires sized { HasSizes (image_heap image.now) }
     requires rows { HasRows (image_heap image.now) }
     ensures { IsTrue result ↔ HasSoundCells (image_heap image.now) }
 {
-    // No address of a heap is past 32 bits.
-    let _words_count = image.regions.count();
-    let mut least = 0;
-    while let Some(cell) = first_cell(image, least) {
+    let mut at = 0;
+    while let Some(cell) = next_from(image, at) {
         if !is_sound(image, cell) {
             return false;
         }
-        least = cell.at + cell.size;
+        at = cell.at + cell.size;
     }
     true
 }

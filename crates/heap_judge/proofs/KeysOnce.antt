@@ -7,10 +7,9 @@ use Rattle.object_graph.specs.declared.object.Entry.{Entry}
 use Rattle.object_graph.specs.Reach.{is_marked}
 use Rattle.heap_model.specs.Heaps.{Heap}
 use Rattle.heap_model.specs.Slots.{RefersToPlace}
-use Rattle.heap_model.specs.Kinds.{Pair, free_pair, is_free_pair}
+use Rattle.heap_model.specs.Kinds.{Pair}
 use Rattle.heap_model.specs.Showing.{ShowsValue, ShowsOnce, IsKnownKey}
-use Rattle.heap_check.specs.declared.slots.Sort.TheVariants as sort
-use Rattle.heap_check.proofs.SlotKinds.{number_to}
+use Rattle.heap_model.proofs.NewKeys.{one_number}
 use Rattle.heap_judge.specs.KeyPairs.{HasNoPairFrom, IsFirstPair, IsKnownNumber}
 
 -- where the first pair with the key has the value, and no pair behind it has the key, they show the entry once
@@ -52,12 +51,6 @@ not_twice heap pairs entry at other first second once =
       second.reached,
     )
 
--- two numbers of the object to which a word refers are one
-same_key : {heap : Heap} {word number other : ℕ} → RefersToPlace heap word number → RefersToPlace heap word other
-    → number ≡ other
-same_key {heap} {word} {number} {other} to to_other =
-    same_Some number other (number_to heap word other (sort.Object number) to to_other)
-
 -- the key of the pair is known where its number is
 pub known_from : {heap : Heap} {pair : Pair} (marks : List Bool) (entries : List Entry) (number : ℕ)
     → RefersToPlace heap pair.key number → IsKnownNumber marks entries number → IsKnownKey heap marks entries pair
@@ -74,10 +67,10 @@ known_from {heap} {pair} marks entries number refers known =
 -- and the other way round
 pub known_to : {heap : Heap} {pair : Pair} (marks : List Bool) (entries : List Entry) (number : ℕ)
     → RefersToPlace heap pair.key number → IsKnownKey heap marks entries pair → IsKnownNumber marks entries number
-known_to marks entries number refers (IsKnownKey.of_entry entry at there marked refers_too) reached =
-    record { at = at; entry = entry; stands = there; is = same_key refers_too refers }
-known_to marks entries number refers (IsKnownKey.unreached other refers_too unmarked) reached =
-    let same = same_key refers_too refers in
+known_to {heap} {pair} marks entries number refers (IsKnownKey.of_entry entry at there marked refers_too) reached =
+    record { at = at; entry = entry; stands = there; is = one_number heap pair.key entry.key number refers_too refers }
+known_to {heap} {pair} marks entries number refers (IsKnownKey.unreached other refers_too unmarked) reached =
+    let same = one_number heap pair.key other number refers_too refers in
     absurd (false≢true (sym unmarked ∙ ap (is_marked marks) same ∙ reached))
 
 -- a key that is known is that of an object
@@ -85,7 +78,3 @@ pub known_refers : {heap : Heap} {marks : List Bool} {entries : List Entry} {pai
     → IsKnownKey heap marks entries pair → (number : ℕ) × RefersToPlace heap pair.key number
 known_refers (IsKnownKey.of_entry entry at there marked refers) = (entry.key, refers)
 known_refers (IsKnownKey.unreached number refers unmarked) = (number, refers)
-
--- a pair that does not test as free is not the free one
-pub not_free : (pair : Pair) → is_free_pair pair ≡ false → pair ≡ free_pair → ⊥
-not_free pair is same = false≢true (sym is ∙ ap is_free_pair same)

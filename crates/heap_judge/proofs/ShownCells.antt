@@ -65,8 +65,8 @@ plain_shown_to heap cell words cap fields store own beside slot own_are stands s
     (λ at word there field has. shows.each at field word has there)
 
 -- a cell shows a list by its length and the slots of its store
-pub list_shown_from : (heap : Heap) (cell : Cell) (words : List ℕ) (elements : List Value) (store count : ℕ) (span : Span)
-    → cell.layout.kind ≡ kind.List → HasWord words count_offset count → count ≡ length elements
+pub list_shown_from : (heap : Heap) (cell : Cell) (words : List ℕ) (elements : List Value) (store count : ℕ)
+    (span : Span) → cell.layout.kind ≡ kind.List → HasWord words count_offset count → count ≡ length elements
     → HasWord words store_slot store → IsBesideAs heap kind.Store store span
     → EachWord (span_words heap span) (ShowsElementAt heap elements) → ShowsList heap cell words elements
 list_shown_from heap cell words elements store count span is counted long slot stands each = record {
@@ -89,9 +89,10 @@ list_shown_to heap cell words elements store span slot stands shows =
     (λ at word there value has. shows.each at value word has there)
 
 -- a cell shows a weak map by the pairs of its table
-pub weak_shown_from : (heap : Heap) (marks : List Bool) (cell : Cell) (words : List ℕ) (entries : List Entry) (store : ℕ)
-    (table : Span) → cell.layout.kind ≡ kind.Weak → HasWord words store_slot store → IsTableAs heap store table
-    → ShowPairs heap marks (table_pairs heap table) entries → ShowsWeak heap marks cell words entries
+pub weak_shown_from : (heap : Heap) (marks : List Bool) (cell : Cell) (words : List ℕ) (entries : List Entry)
+    (store : ℕ) (table : Span) → cell.layout.kind ≡ kind.Weak → HasWord words store_slot store
+    → IsTableAs heap store table → ShowPairs heap marks (table_pairs heap table) entries
+    → ShowsWeak heap marks cell words entries
 weak_shown_from heap marks cell words entries store table is slot has shows = record {
   of_kind = is;
   store = store;

@@ -13,7 +13,8 @@ use Rattle.heap_model.specs.Laws.{BindsAnew}
 pub get-insert_same : (bindings : FinMap nat_cmp Value) (variable : ℕ) (value : Value)
     → get (insert bindings variable value) variable ≡ Some value
 get-insert_same bindings variable value =
-    let test : eq_by_cmp nat_cmp variable variable ≡ true = unsigned_tied variable variable ∙ eq-eqb variable variable refl in
+    let test : eq_by_cmp nat_cmp variable variable ≡ true =
+    unsigned_tied variable variable ∙ eq-eqb variable variable refl in
     get-insert nat_cmp_total bindings variable value variable
     ∙ ap (λ b. cond b (Some value) (get bindings variable)) test
 

@@ -117,14 +117,18 @@ new_keys_stay : (heap : Heap) (before after : List Bool) (objects : List Object)
     → ((other : ℕ) → IsTrue (is_marked after other) → other ≢ number → IsTrue (is_marked before other))
     → slice_get objects holder ≡ Some what → (shown : ShowsReached heap before holder what)
     → ObjectKeysStay heap before after shown.words what
-new_keys_stay heap before after objects number holder (graph_object.Plain cap fields) no_entry no_key reached there shown = tt
-new_keys_stay heap before after objects number holder (graph_object.List elements) no_entry no_key reached there shown = tt
-new_keys_stay heap before after objects number holder (graph_object.Weak entries) no_entry no_key reached there shown = record {
-  of_entries = λ at entry stands marked. reached entry.key marked (no_entry holder at entries entry there stands);
-  of_pairs = λ pair other has refers marked.
-      reached other marked (λ same.
-      no_key shown.cell shown.words shown.has shown.shows.of_kind pair has (subst (RefersToPlace heap pair.key) same refers));
-}
+new_keys_stay heap before after objects number holder (graph_object.Plain cap fields) no_entry no_key
+    reached there shown = tt
+new_keys_stay heap before after objects number holder (graph_object.List elements) no_entry no_key
+    reached there shown = tt
+new_keys_stay heap before after objects number holder (graph_object.Weak entries) no_entry no_key
+    reached there shown = record {
+      of_entries = λ at entry stands marked. reached entry.key marked (no_entry holder at entries entry there stands);
+      of_pairs = λ pair other has refers marked.
+          reached other marked (λ same.
+          no_key shown.cell shown.words shown.has shown.shows.of_kind pair has
+          (subst (RefersToPlace heap pair.key) same refers));
+    }
 
 -- the marks of both graphs are of as many objects
 marked_below : (before after : Graph) → after.objects ≡ before.objects
@@ -133,11 +137,13 @@ marked_below before after same number marked = omega (arith, reach_below after n
 
 -- and where one object more can be reached, whose cell shows it, that is the key of nothing
 pub new_bindings_show : NewBindingsShow
-new_bindings_show heap before after variable one number what below shows anew fits holds there shown no_entry no_key reached =
+new_bindings_show heap before after variable one number what below shows anew fits holds there shown
+    no_entry no_key reached =
     let moves = bound_moves heap variable one below shows.whole in
     let count : ℕ = length before.objects in
     let new_marked = marked_below before after anew.objects in
-    bound_shows heap before after variable one below (frame_of shows) anew fits holds (λ other object other_there marked.
+    bound_shows heap before after variable one below (frame_of shows) anew fits holds
+    (λ other object other_there marked.
     elim (cases_eq other number) [
       | inl same ↦
           let is : what ≡ object =

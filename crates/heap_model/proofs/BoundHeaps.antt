@@ -35,7 +35,7 @@ alike_move heap other alike few = record {
 }
 
 -- no change is some objects' own
-no_own_change : (old new : Heap) → IsOwnChange old new [] [] []
+pub no_own_change : (old new : Heap) → IsOwnChange old new [] [] []
 no_own_change old new = record {
   own = λ cell there. absurd (none_in cell there);
   objects_stay = λ cell there. absurd (none_in cell there);

@@ -51,8 +51,8 @@ words_are_size {heap} {cell} has =
     sym (ap length has.words_are) ∙ long
 
 -- a word stands at each offset of the cell
-pub word_there : {heap : Heap} {cell : Cell} {words : List ℕ} (offset : ℕ) → HasCell heap cell words → offset < cell.size
-    → (word : ℕ) × HasWord words offset word
+pub word_there : {heap : Heap} {cell : Cell} {words : List ℕ} (offset : ℕ) → HasCell heap cell words
+    → offset < cell.size → (word : ℕ) × HasWord words offset word
 word_there {words = words} offset has within =
     (get_or words offset 0, slice_get-get_or words offset 0 (omega (arith, words_are_size has)))
 
@@ -61,7 +61,8 @@ pub words_by_kind : {heap : Heap} {cell : Cell} {words : List ℕ} (of : Kind) �
     → cell.layout.kind ≡ of → length words ≡ words_of of cell.layout.cap cell.length
 words_by_kind {heap} {cell} of has of_kind =
     let sized = (cell_is_sized heap.space heap.words cell (has_is_cell has)).sized in
-    let is = size_is (words_least cell.layout.kind) (words_of cell.layout.kind cell.layout.cap cell.length) cell.size sized in
+    let is =
+    size_is (words_least cell.layout.kind) (words_of cell.layout.kind cell.layout.cap cell.length) cell.size sized in
     words_are_size has ∙ sym is.0 ∙ ap (λ k. words_of k cell.layout.cap cell.length) of_kind
 
 -- the slots of a cell are those of its kind

@@ -32,8 +32,8 @@ has_is_cell {heap} {cell} has =
     (rows_part_around heap.space heap.words row.extent.start row.end row.cells cell has.used.stands has.in_row).is_cell
 
 -- the cell at an address is one
-pub one_at : {heap : Heap} {cell other : Cell} {words others : List ℕ} → HasCell heap cell words → HasCell heap other others
-    → cell.at ≡ other.at → cell ≡ other
+pub one_at : {heap : Heap} {cell other : Cell} {words others : List ℕ} → HasCell heap cell words
+    → HasCell heap other others → cell.at ≡ other.at → cell ≡ other
 one_at {heap} {cell} {other} has has_other same =
     one_cell heap.space heap.words cell other (has_is_cell has) (has_is_cell has_other) same
 
@@ -126,5 +126,6 @@ cells_apart {heap} {cell} {other} at rows has has_other of_cell of_other =
     (row_holds at few has of_cell) (row_holds at few has_other of_other) in
     let one = one_used_row heap has.row has_other.row has.used has_other.used same in
     let P : List Cell → Type 0 = λ some. Contains some other in
-    one_of_row heap.space heap.words has.row.extent.start has.row.end has.row.cells cell other at has.used.stands has.in_row
+    one_of_row heap.space heap.words has.row.extent.start has.row.end has.row.cells cell other at
+    has.used.stands has.in_row
     (subst P (sym one.cells) has_other.in_row) of_cell of_other

@@ -1,4 +1,5 @@
--- What a change of cells does to each cell: it went, or it stands as before. Places of objects stay, and boxes that did not go.
+-- What a change of cells does to each cell: it went, or it stands as before. Places of objects stay, and boxes that did
+-- not go.
 use Rattle.std.proofs.Common.{◌≡◌, ◌≢◌, ℕ, ◌⊎◌, inl, inr, List, [], ◌∷◌, ◌++◌, Contains}
 use Rattle.std.proofs.Common.{IsTrue, ℤ}
 use Rattle.std.proofs.Common.{refl, ◌∙◌, ap, subst, arith}
@@ -45,7 +46,8 @@ data IsAmong (cells : List Cell) (at : ℕ) : Type 0 where
 -- so it is with a cell more that stands elsewhere
 among_later : (first : Cell) (cells : List Cell) (at : ℕ) → (first.at ≡ at → ⊥) → IsAmong cells at
     → IsAmong (first ∷ cells) at
-among_later first cells at apart (IsAmong.found cell among same) = IsAmong.found cell (rest_in first cells cell among) same
+among_later first cells at apart (IsAmong.found cell among same) =
+    IsAmong.found cell (rest_in first cells cell among) same
 among_later first cells at apart (IsAmong.missing none) =
     IsAmong.missing (λ cell among same. elim (in_cases first cells cell among) [
       | inl is ↦ apart (ap (λ (one : Cell). one.at) is ∙ same)
@@ -67,8 +69,8 @@ pub data Fate (new : Heap) (gone : List Cell) (cell : Cell) (words : List ℕ) :
   stands : HasCell new cell words → (Contains gone cell → ⊥) → Fate new gone cell words
 
 -- what stands among the cells that went at the address of a cell is that cell
-fate_of : {old new : Heap} {gone came made : List Cell} {cell : Cell} {words : List ℕ} → CellsMove old new gone came made
-    → HasCell old cell words → IsAmong gone cell.at → Fate new gone cell words
+fate_of : {old new : Heap} {gone came made : List Cell} {cell : Cell} {words : List ℕ}
+    → CellsMove old new gone came made → HasCell old cell words → IsAmong gone cell.at → Fate new gone cell words
 fate_of {gone = gone} cells has (IsAmong.found other among same) =
     Fate.has_gone (subst (Contains gone) (one_at (cells.went other among) has same) among)
 fate_of {gone = gone} {cell = cell} {words} cells has (IsAmong.missing none) =
@@ -76,17 +78,18 @@ fate_of {gone = gone} {cell = cell} {words} cells has (IsAmong.missing none) =
     Fate.stands (cells.kept cell words has stays) stays
 
 -- each cell of the old heap went or stands
-pub fate : {old new : Heap} {gone came made : List Cell} {cell : Cell} {words : List ℕ} → CellsMove old new gone came made
-    → HasCell old cell words → Fate new gone cell words
+pub fate : {old new : Heap} {gone came made : List Cell} {cell : Cell} {words : List ℕ}
+    → CellsMove old new gone came made → HasCell old cell words → Fate new gone cell words
 fate {gone = gone} {cell = cell} cells has = fate_of cells has (among gone cell.at)
 
 -- each object that went stands where it stood
 abbrev pub ObjectsStay : List Cell → List Cell → Type 0
-ObjectsStay gone came = (cell : Cell) → Contains gone cell → IsTrue (is_object_kind cell.layout.kind) → IsStill came cell
+ObjectsStay gone came =
+    (cell : Cell) → Contains gone cell → IsTrue (is_object_kind cell.layout.kind) → IsStill came cell
 
 -- the place of an object stays
-pub places_stay : {old new : Heap} {gone came made : List Cell} → CellsMove old new gone came made → ObjectsStay gone came
-    → PlacesStay old new
+pub places_stay : {old new : Heap} {gone came made : List Cell} → CellsMove old new gone came made
+    → ObjectsStay gone came → PlacesStay old new
 places_stay {old} {new} {gone} {came} {made} cells stay number at place =
     elim (fate cells place.has) [
       | Fate.has_gone there ↦

@@ -1,18 +1,14 @@
 -- A cell of the old heap that no patch has stays.
-use Rattle.std.proofs.Common.{◌≡◌, ℕ, ◌+◌, ◌≤◌, List, ◌++◌, length, Contains, IsTrue, slice_get}
+use Rattle.std.proofs.Common.{◌≡◌, ℕ, ◌+◌, List, ◌++◌, length, Contains, slice_get}
 use Rattle.std.proofs.Common.{sym, ◌∙◌, ap, subst, arith}
-use Rattle.std.proofs.lemmas.Bool.{false≢true}
 use Rattle.std.proofs.lemmas.List.Elements.{All-contains, All-weaker, All-contains_itself}
-use Rattle.tagged_word.specs.declared.layout.Kind.{Kind}
-use Rattle.tagged_word.specs.declared.layout.Kind.TheVariants as kind
-use Rattle.tagged_word.specs.Cells.{has_length, words_of, words_least}
-use Rattle.tagged_word.proofs.Cells.{size_is}
 use Rattle.object_graph.specs.declared.path.Path.{Path}
 use Rattle.page_space.specs.Extents.{Space, marks_start}
 use Rattle.cell_layout.specs.declared.cell.Cell.{Cell}
 use Rattle.cell_layout.specs.Cells.{IsCell, layouts_in}
 use Rattle.cell_layout.specs.CellLaws.{ReadsAlike}
-use Rattle.cell_layout.proofs.OneCell.{cell_is_sized, cells_stay}
+use Rattle.cell_layout.proofs.OneCell.{cells_stay}
+use Rattle.cell_layout.proofs.Puts.{two_words}
 use Rattle.heap_model.specs.Heaps.{Heap, HasCell, words_of_cell}
 use Rattle.heap_model.specs.Changes.{Patch, IsPatched}
 use Rattle.heap_model.proofs.CellsApart.{IsOfCell, has_is_cell, first_of_cell, used_few}
@@ -49,23 +45,6 @@ free_words {old} {new} {cell = cell} patching has free =
     stretch_alike cell.at cell.size old.words new.words
     (λ at above below. free_word at patching has free record { from = above; below = below })
 
--- a cell with a length has a second word, kind by kind
-second_word_of : (k : Kind) (cap long size : ℕ) → IsTrue (has_length k) → words_of k cap long ≡ size
-    → words_least k ≤ size → 2 ≤ size
-second_word_of kind.Store cap long size has is least = omega arith
-second_word_of kind.Table cap long size has is least = omega arith
-second_word_of kind.Gap cap long size has is least = omega arith
-second_word_of _ cap long size has is least = absurd (false≢true has)
-
--- a cell with a length has a second word
-pub second_word : (space : Space) (words : List ℕ) (cell : Cell) → IsCell space words cell
-    → IsTrue (has_length cell.layout.kind) → 2 ≤ cell.size
-second_word space words cell is_cell has =
-    let k = cell.layout.kind in
-    let sized = (cell_is_sized space words cell is_cell).sized in
-    let is = size_is (words_least k) (words_of k cell.layout.cap cell.length) cell.size sized in
-    second_word_of k cell.layout.cap cell.length cell.size has is.0 (omega (arith, is.0, is.1))
-
 -- there are as many words as before
 pub as_long : {old new : Heap} {patches : List Patch} {made : List Cell} → Patching old new patches made
     → length new.words ≡ length old.words
@@ -74,8 +53,8 @@ as_long patching =
     ∙ sym patching.sized.words
 
 -- the layout word of a cell's shape stays
-pub free_layout : {old new : Heap} {patches : List Patch} {made : List Cell} (cell : Cell) → Patching old new patches made
-    → IsCell old.space old.words cell
+pub free_layout : {old new : Heap} {patches : List Patch} {made : List Cell} (cell : Cell)
+    → Patching old new patches made → IsCell old.space old.words cell
     → slice_get (layouts_in old.space new.words) cell.header.shape
     ≡ slice_get (layouts_in old.space old.words) cell.header.shape
 free_layout {old} {new} cell patching is_cell =
@@ -96,7 +75,7 @@ free_stays {old} {new} {cell = cell} patching has free =
       first = free_word cell.at patching has free (first_of_cell has);
       second = λ long. free_word (cell.at + 1) patching has free record {
         from = omega arith;
-        below = omega (arith, second_word old.space old.words cell is_cell long);
+        below = omega (arith, two_words old.space old.words cell is_cell long);
       };
       of_shape = free_layout cell patching is_cell;
     } in

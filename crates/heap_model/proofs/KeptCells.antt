@@ -5,7 +5,7 @@ use Rattle.std.proofs.lemmas.List.Elements.{All-contains, Contains-append_left, 
 use Rattle.tagged_word.proofs.Members.{map_from}
 use Rattle.page_space.specs.declared.region.Region.TheVariants.{Eden}
 use Rattle.page_space.specs.Extents.{Space, Extent, eden_start, extents_from, words_in, half_of}
-use Rattle.page_space.proofs.Lists.{contains_first}
+use Rattle.tagged_word.proofs.Members.{first_in}
 use Rattle.page_space.proofs.Stretches.{stands_first, stands_then}
 use Rattle.page_space.proofs.Standing.{extent_of, pages, eden, to_eden, to_half, words_in-pages}
 use Rattle.cell_layout.specs.declared.cell.Cell.{Cell}
@@ -31,8 +31,8 @@ record RegionRow (old new : Heap) (patches : List Patch) (made : List Cell) (ext
   pub same : row.extent ≡ extent
 
 -- each region of cells has one
-region_row : {old new : Heap} {patches : List Patch} {made : List Cell} {extent : Extent} → Patching old new patches made
-    → Contains (cell_extents old.space) extent → RegionRow old new patches made extent
+region_row : {old new : Heap} {patches : List Patch} {made : List Cell} {extent : Extent}
+    → Patching old new patches made → Contains (cell_extents old.space) extent → RegionRow old new patches made extent
 region_row {extent = extent} patching there =
     let rows = patching.rows in
     let among = map_from (λ (row : Row). row.extent) rows.rows extent
@@ -47,10 +47,11 @@ eden_there space =
     let begins : eden_start space ≡ 0 + words_in (pages space) = omega (arith, words_in-pages space) in
     stands_first 0 (to_half space) (half_of space 1) one
     (stands_first 0 (to_eden space) (half_of space 0) one
-    (stands_then 0 (pages space) (eden space) one (subst P begins (contains_first one []))))
+    (stands_then 0 (pages space) (eden space) one (subst P begins (first_in one []))))
 
 -- what has an address of a cell that was made is that cell
-made_has : {old new : Heap} {patches : List Patch} {made : List Cell} {cell other : Cell} → Patching old new patches made
+made_has : {old new : Heap} {patches : List Patch} {made : List Cell} {cell other : Cell}
+    → Patching old new patches made
     → Contains made cell → IsOfCell cell cell.at → IsOfCell other cell.at → OriginAt old new patches made other cell.at
     → other ≡ cell
 made_has patching there of_cell of_other (OriginAt.in_patch patch there_too after patched) =
@@ -87,7 +88,8 @@ kept_has {patches = patches} {cell = cell} patching has free of_other (OriginAt.
     absurd (All-contains (λ (one : Patch). IsPatched cell.at one → ⊥) patches patch free there patched)
 kept_has {cell = cell} patching has free of_other (OriginAt.in_none has_other is_free) =
     cells_apart cell.at patching.rows has_other has of_other (first_of_cell has)
-kept_has patching has free of_other (OriginAt.in_new among is_new) = absurd (not_new patching has (first_of_cell has) is_new)
+kept_has patching has free of_other (OriginAt.in_new among is_new) =
+    absurd (not_new patching has (first_of_cell has) is_new)
 
 -- a cell that no patch has stands as before
 pub kept_cell : {old new : Heap} {patches : List Patch} {made : List Cell} {cell : Cell} {words : List ℕ}

@@ -28,7 +28,8 @@ pub record Keeps (old new : Heap) (gone : List Cell) (cell : Cell) (words : List
   pub object : IsTrue (is_object_kind cell.layout.kind)
 
 -- what a slot of it refers to as its own stays
-pub owned_stays : {old new : Heap} {gone came made : List Cell} {owner cell : Cell} {words others : List ℕ} {slot word : ℕ}
+pub owned_stays : {old new : Heap} {gone came made : List Cell} {owner cell : Cell}
+    {words others : List ℕ} {slot word : ℕ}
     → Moves old new gone came made → Keeps old new gone owner words → HasSlotAt old owner words slot word
     → RefersTo old word cell others → IsOwnedKind cell.layout.kind → RefersTo new word cell others
 owned_stays {old} {owner = owner} {cell} {words} {others} {slot} {word} moves keeps at refers owned =
@@ -72,7 +73,8 @@ kept_beside store moves keeps slot (IsBeside.store to cell others refers is) =
     (owned_stays moves keeps (store_slot_at store keeps.object slot) refers (store_is_owned (inl is))) is
 
 -- its table stays
-pub kept_table : {old new : Heap} {gone came made : List Cell} {owner : Cell} {words : List ℕ} {pairs : List Pair} (store : ℕ)
+pub kept_table : {old new : Heap} {gone came made : List Cell} {owner : Cell} {words : List ℕ}
+    {pairs : List Pair} (store : ℕ)
     → Moves old new gone came made → Keeps old new gone owner words → HasWord words store_slot store
     → HasTable old store pairs → HasTable new store pairs
 kept_table store moves keeps slot HasTable.none = HasTable.none
@@ -82,7 +84,8 @@ kept_table store moves keeps slot (HasTable.table to cell others refers is power
 
 -- its slots stay
 pub kept_slots : {old new : Heap} {gone came made : List Cell} {owner : Cell} {words slots : List ℕ}
-    → Moves old new gone came made → Keeps old new gone owner words → HasSlots old words slots → HasSlots new words slots
+    → Moves old new gone came made → Keeps old new gone owner words → HasSlots old words slots
+    → HasSlots new words slots
 kept_slots moves keeps slots = record {
   store = slots.store;
   slot = slots.slot;
@@ -111,4 +114,7 @@ kept_path {old} {new} shape cells is =
 pub kept_shape : {old new : Heap} {gone came made : List Cell} (shape : ℕ) → CellsMove old new gone came made
     → IsPathShape old.paths shape → IsPathShape new.paths shape
 kept_shape {old} {new} shape cells is =
-    record { from = is.from; below = omega (arith, is.below, ap length cells.paths, length-append old.paths cells.more) }
+    record {
+      from = is.from;
+      below = omega (arith, is.below, ap length cells.paths, length-append old.paths cells.more);
+    }

@@ -1,15 +1,14 @@
 -- The layout word of a cell's shape stays where paths are only added.
-use Rattle.std.proofs.Common.{◌≡◌, ℕ, ◌+◌, ◌≤◌, ◌<◌, inl, inr, List, ◌++◌}
+use Rattle.std.proofs.Common.{◌≡◌, ℕ, ◌+◌, ◌<◌, inl, inr, List, ◌++◌}
 use Rattle.std.proofs.Common.{length, map, Some, slice_get, unwrap_or}
 use Rattle.std.proofs.Common.{sym, ◌∙◌, ap, arith}
 use Rattle.std.proofs.lemmas.List.{map-append}
 use Rattle.std.proofs.lemmas.Bool.{cases_lt}
 use Rattle.std.proofs.lemmas.Option.{slice_get_past, same_Some}
-use Rattle.tagged_word.specs.declared.layout.Kind.{Kind}
-use Rattle.tagged_word.specs.declared.layout.Kind.TheVariants as kind
 use Rattle.tagged_word.specs.declared.layout.LayoutWord.{LayoutWord}
-use Rattle.tagged_word.specs.Layouts.{layout_bits, kind_number}
+use Rattle.tagged_word.specs.Layouts.{layout_bits}
 use Rattle.tagged_word.specs.Shapes.{shapes_most, fixed_layout_words}
+use Rattle.tagged_word.proofs.Layouts.{kind_number-some}
 use Rattle.page_space.specs.Extents.{Space, layouts_start}
 use Rattle.object_graph.specs.declared.path.Path.{Path}
 use Rattle.shape_tree.specs.ShapeLayouts.{layout_of, layout_words, layout_word}
@@ -18,20 +17,9 @@ use Rattle.cell_layout.specs.Cells.{IsCell, layouts_in}
 use Rattle.cell_layout.proofs.CellsThere.{slice_get-layouts_in, slice_get-layouts_past}
 use Rattle.heap_model.proofs.CellWords.{slice_get-append_left}
 
--- a kind has a number from 1 on
-some_number : (k : Kind) → 1 ≤ kind_number k
-some_number kind.Plain = omega arith
-some_number kind.List = omega arith
-some_number kind.Weak = omega arith
-some_number kind.Store = omega arith
-some_number kind.Table = omega arith
-some_number kind.Boxed = omega arith
-some_number kind.Filler = omega arith
-some_number kind.Gap = omega arith
-
 -- a layout word is no 0
 layout_counts : (layout : LayoutWord) → layout_bits layout ≡ 0 → ⊥
-layout_counts layout none = omega (arith, none, some_number layout.kind)
+layout_counts layout none = omega (arith, none, kind_number-some layout.kind)
 
 -- the layout words with more paths: those from before, and others
 more_layout_words : (paths more : List Path)

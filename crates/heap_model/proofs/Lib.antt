@@ -22,11 +22,13 @@ pub mod ShownObjects
 pub mod ReachedStays
 pub mod ShownGraphs
 pub mod CountsStay
+pub mod RegionStarts
 pub mod WordsAlike
 pub mod BoundRoots
 pub mod BoundHeaps
 pub mod BoundGraphs
 pub mod MadeCells
+pub mod PairLists
 pub mod NewKeys
 pub mod AnewBindings
 pub mod NewObjects

@@ -15,8 +15,10 @@ use Rattle.heap_model.proofs.BoundHeaps.{none_in}
 -- no slot of an object that refers to nothing refers to a cell
 no_slot_refers : {heap : Heap} {cell : Cell} {words : List ℕ} {slot word : ℕ} (at : ℕ) → RefersToNothing cell words
     → IsTrue (is_object_kind cell.layout.kind) → HasSlotAt heap cell words slot word → word ≡ reference_word at → ⊥
-no_slot_refers at nothing object (HasSlotAt.own offset word there stands) refers = nothing offset word at there stands refers
-no_slot_refers {cell = cell} at nothing object (HasSlotAt.beside store other others offset word slot target there stands) refers =
+no_slot_refers at nothing object (HasSlotAt.own offset word there stands) refers =
+    nothing offset word at there stands refers
+no_slot_refers {cell = cell} at nothing object
+    (HasSlotAt.beside store other others offset word slot target there stands) refers =
     let here = store_slot_in cell.layout.kind cell.layout cell.length object in
     nothing store_slot store other.at here slot target.refers
 
@@ -30,7 +32,8 @@ names_nothing {heap} {cell} {slot = slot} has nothing names =
 -- a cell that was made, is sound and refers to nothing is a change of its own
 pub made_cells_are_own : MadeCellsAreOwn
 made_cells_are_own old new cell sound nothing change =
-    let no_names = λ (owner : Cell) (slot at : ℕ) (there : Contains (cell ∷ []) owner) (names : NamesFrom new owner slot at).
+    let no_names = λ (owner : Cell) (slot at : ℕ) (there : Contains (cell ∷ []) owner)
+    (names : NamesFrom new owner slot at).
     let same : owner ≡ cell = sym (one_in cell owner there) in
     let names_cell = subst (λ (one : Cell). NamesFrom new one slot at) same names in
     let has : HasCell new cell (words_of_cell new cell) =

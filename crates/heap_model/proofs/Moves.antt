@@ -1,4 +1,5 @@
--- A change of cells that is some objects' own: what its objects name and what others name stays apart; dead boxes stay boxes.
+-- A change of cells that is some objects' own: what its objects name and what others name stays apart; dead boxes stay
+-- boxes.
 use Rattle.std.proofs.Common.{◌≡◌, ℕ, inl, inr, List, Contains, IsTrue, ℤ}
 use Rattle.std.proofs.Common.{sym, ◌∙◌, ap, subst}
 use Rattle.std.proofs.lemmas.List.Elements.{Contains-append_left}
@@ -38,7 +39,8 @@ named_stays {old} {gone = gone} {owner = owner} {cell} {named = named} moves nam
           subst (λ (one : Cell). IsTrue (is_object_kind one.layout.kind)) (sym is) own.object in
           object_is_not_owned cell.layout.kind object owned
       | inr other ↦
-          let other_names : NamesFrom old own.owner other.0 named = subst (NamesFrom old own.owner other.0) at other.1 in
+          let other_names : NamesFrom old own.owner other.0 named =
+          subst (NamesFrom old own.owner other.0) at other.1 in
           let one : own.owner ≡ owner = one_owner moves.whole other_names names in
           stays (subst (Contains gone) one own.among)
     ]

@@ -36,9 +36,11 @@ slot_named : {old new : Heap} {cell : Cell} {words : List ℕ} (word : ℕ)
     → Named old word cell.at
 slot_named {cell = cell} word places (IsSlotWord.small_integer v is) refers owned =
     absurd (small_refers_not v cell.at refers.refers)
-slot_named {cell = cell} word places IsSlotWord.undefined refers owned = absurd (undefined_refers_not cell.at refers.refers)
+slot_named {cell = cell} word places IsSlotWord.undefined refers owned =
+    absurd (undefined_refers_not cell.at refers.refers)
 slot_named {cell = cell} word places IsSlotWord.hole refers owned = absurd (hole_refers_not cell.at refers.refers)
-slot_named word places (IsSlotWord.object to object) refers owned = absurd (object_there word places object refers owned)
+slot_named word places (IsSlotWord.object to object) refers owned =
+    absurd (object_there word places object refers owned)
 slot_named {cell = cell} word places (IsSlotWord.boxed to v box) refers owned = record {
   cell = box.cell;
   words = box.words;
@@ -53,17 +55,18 @@ holding_named : {old new : Heap} {cell : Cell} {words : List ℕ} (word : ℕ)
     → Named old word cell.at
 holding_named {cell = cell} word places (Holding.to_store (IsStoreWord.none is)) refers owned =
     absurd (undefined_refers_not cell.at (sym is ∙ refers.refers))
-holding_named {cell = cell} word places (Holding.to_store (IsStoreWord.store other others target is)) refers owned = record {
-  cell = other;
-  words = others;
-  refers = target;
-  owned = store_is_owned is;
-  place = same_reference other.at cell.at (sym target.refers ∙ refers.refers);
-}
+holding_named {cell = cell} word places
+    (Holding.to_store (IsStoreWord.store other others target is)) refers owned = record {
+      cell = other;
+      words = others;
+      refers = target;
+      owned = store_is_owned is;
+      place = same_reference other.at cell.at (sym target.refers ∙ refers.refers);
+    }
 holding_named word places (Holding.as_slot is) refers owned = slot_named word places is refers owned
 
--- A slot of an object in the old heap, whose word refers in the new heap to a cell that belongs to an object, named in the
--- old heap the cell at that address.
+-- A slot of an object in the old heap, whose word refers in the new heap to a cell that belongs to an object, named in
+-- the old heap the cell at that address.
 pub slot_named_before : {old new : Heap} {owner cell : Cell} {words others : List ℕ} {slot word : ℕ} → Whole old
     → PlacesStay old new → HasCell old owner words → IsTrue (is_object_kind owner.layout.kind)
     → HasSlotAt old owner words slot word → RefersTo new word cell others → IsOwnedKind cell.layout.kind

@@ -59,7 +59,8 @@ pub record Found (old new : Heap) (patches : List Patch) (made cells : List Cell
   pub origin : OriginAt old new patches made cell at
 
 -- the new row has each of its addresses
-pub found : {old new : Heap} {patches : List Patch} {made : List Cell} {row : Row} (at : ℕ) → Patching old new patches made
+pub found : {old new : Heap} {patches : List Patch} {made : List Cell} {row : Row} (at : ℕ)
+    → Patching old new patches made
     → (one : NewRow old new patches made row row.extent.region) → row.extent.start ≤ at → at < one.end
     → Found old new patches made one.cells at
 found {old} {new} {patches} {made} {row} at patching one above below =
@@ -101,9 +102,11 @@ patch_has {old} {new} {patch = patch} {cell} {other} patching there after of_cel
     let patched_cell : IsPatched cell.at patch = after_is_patched patching there after of_cell in
     let same : another ≡ patch = patching.change.apart another patch cell.at there_too there patched patched_cell in
     let among : Contains patch.after other = subst (λ (one : Patch). Contains one.after other) same after_too in
-    one_of_row old.space new.words patch.from patch.to patch.after other cell cell.at (after_stands patching there) among after
+    one_of_row old.space new.words patch.from patch.to patch.after other cell cell.at
+    (after_stands patching there) among after
     of_other of_cell
-patch_has {patches = patches} {patch = patch} {cell} patching there after of_cell of_other (OriginAt.in_none has is_free) =
+patch_has {patches = patches} {patch = patch} {cell} patching there after of_cell of_other
+    (OriginAt.in_none has is_free) =
     absurd (All-contains (λ (one : Patch). IsPatched cell.at one → ⊥) patches patch is_free there
     (after_is_patched patching there after of_cell))
 patch_has patching there after of_cell of_other (OriginAt.in_new among is_new) =
@@ -118,7 +121,8 @@ came_cell {old} {new} {patches} {made} {patch} {cell} patching there after =
     let context : RowPatching old new patches made is.row =
     record { patching = patching; there = is.in_region; used = is.used } in
     let one = new_row context in
-    let of_cell = first_of_row old.space new.words patch.from patch.to patch.after cell (after_stands patching there) after in
+    let of_cell =
+    first_of_row old.space new.words patch.from patch.to patch.after cell (after_stands patching there) after in
     let patched = after_is_patched patching there after of_cell in
     let part = in_own_row cell.at is patched in
     let spot = found cell.at patching one (omega (arith, part.from, patched.from))

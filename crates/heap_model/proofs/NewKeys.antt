@@ -34,16 +34,16 @@ table_cases heap word pairs (HasTable.table to cell words refers is power) =
     inr record { cell = cell; words = words; refers = refers; are = refl }
 
 -- a word that refers to a table stands for that one
-one_table_at : (heap : Heap) (word : ℕ) (pairs others : List Pair) → IsTableAt heap word pairs → IsTableAt heap word others
-    → pairs ≡ others
+one_table_at : (heap : Heap) (word : ℕ) (pairs others : List Pair) → IsTableAt heap word pairs
+    → IsTableAt heap word others → pairs ≡ others
 one_table_at heap word pairs others one other =
     let same : one.cell ≡ other.cell = same_target one.refers other.refers in
     let has = subst (λ cell. HasCell heap cell one.words) same one.refers.has in
     one.are ∙ ap (λ words. pairs_in (drop store_head words)) (one_words has other.refers.has) ∙ sym other.are
 
 -- a word stands for one table
-pub one_table : (heap : Heap) (word : ℕ) (pairs others : List Pair) → HasTable heap word pairs → HasTable heap word others
-    → pairs ≡ others
+pub one_table : (heap : Heap) (word : ℕ) (pairs others : List Pair) → HasTable heap word pairs
+    → HasTable heap word others → pairs ≡ others
 one_table heap word pairs others one other =
     elim (table_cases heap word pairs one) [
       | inl none ↦ elim (table_cases heap word others other) [
@@ -83,13 +83,15 @@ kept_no_key {old} {new} before number cell words pair moves shows above keeps is
       | inl free ↦ hole_refers_not refers.at (sym (ap (λ (one : Pair). one.key) free) ∙ refers.refers)
       | inr found ↦
           let key = found.filled.key in
-          let same = one_number new pair.key number found.number refers (refers_to_place_stays (place_stays moves) key) in
+          let same = one_number new pair.key number found.number refers
+          (refers_to_place_stays (place_stays moves) key) in
           omega (arith, shows.made found.number key.at key.place, same, above)
     ]
 
 -- an object that was just made is no key, where no weak map that came or was made has it as one
 pub new_objects_are_no_keys : NewObjectsAreNoKeys
-new_objects_are_no_keys old new before gone came made number shows change own above fresh cell words has is pair has_pair refers =
+new_objects_are_no_keys old new before gone came made number shows change own above fresh cell words has
+    is pair has_pair refers =
     let moves : Moves old new gone came made = record { whole = shows.whole; cells = cells_move change; own = own } in
     elim (change.back cell words has) [
       | inl comes ↦ fresh cell comes is pair (subst (λ all. HasPair new all pair) (sym has.words_are) has_pair) refers

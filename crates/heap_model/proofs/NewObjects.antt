@@ -59,7 +59,8 @@ frame_made old new before cell what shows whole paths change moves carries =
       paths = paths;
       bindings = λ variable within.
           let below = subst (λ (space : Space). variable < space.variables) change.same_space within in
-          binding_shown before (with_object before what) variable moves change refl below (shows.bindings variable below);
+          binding_shown before (with_object before what) variable moves change refl below
+          (shows.bindings variable below);
       no_others = λ variable past.
           shows.no_others variable (subst (λ (space : Space). space.variables ≤ variable) change.same_space past);
       made = made_below count (length (before.objects ++ what ∷ [])) moves (omega (arith, more)) shows.made
@@ -134,11 +135,13 @@ made_reached : (old new : Heap) (before : Graph) (after : List Bool) (cell : Cel
     → IsTrue (is_marked (reach before) other))
     → slice_get (before.objects ++ what ∷ []) number ≡ Some object → IsTrue (is_marked after number)
     → ShowsReached new after number object
-made_reached old new before after cell what number object shows change moves carries shown no_entry reached there marked =
+made_reached old new before after cell what number object shows change moves carries shown
+    no_entry reached there marked =
     elim (cases_eq number (length before.objects)) [
       | inl same ↦
           let is : what ≡ object =
-          same_Some what object (sym (slice_get-append_right before.objects (what ∷ []) 0 number (omega arith)) ∙ there) in
+          same_Some what object
+          (sym (slice_get-append_right before.objects (what ∷ []) 0 number (omega arith)) ∙ there) in
           subst (λ n. ShowsReached new after n object) (sym same)
           (subst (ShowsReached new after (length before.objects)) is
           (new_reached old new before after cell what shows change carries shown))
@@ -151,8 +154,10 @@ made_reached old new before after cell what number object shows change moves car
 
 -- a heap in which an object was made shows the graph in which it is
 pub new_objects_show : NewObjectsShow
-new_objects_show old new before variable cell what below shows whole paths change own fits carries shown no_entry reached =
-    let moves : Moves old new [] [] (cell ∷ []) = record { whole = shows.whole; cells = cells_move change; own = own } in
+new_objects_show old new before variable cell what below shows whole paths change own fits carries
+    shown no_entry reached =
+    let moves : Moves old new [] [] (cell ∷ []) =
+    record { whole = shows.whole; cells = cells_move change; own = own } in
     let after : Graph = make before variable what in
     let count : ℕ = length after.objects in
     let here : IsPlace new (length before.objects) cell.at = record {
@@ -164,12 +169,18 @@ new_objects_show old new before variable cell what below shows whole paths chang
       carries = carries;
     } in
     let holds : ShowsHeld new (held.Ref cell.at) (get after.bindings variable) =
-    subst (ShowsHeld new (held.Ref cell.at)) (sym (get-insert_same before.bindings variable (Ref (length before.objects))))
+    subst (ShowsHeld new (held.Ref cell.at))
+    (sym (get-insert_same before.bindings variable (Ref (length before.objects))))
     (ShowsHeld.object cell.at (length before.objects) here) in
     let anew : BindsAnew (with_object before what) after variable =
-    record { objects = refl; paths = refl; others = (binds_anew before variable (Ref (length before.objects))).others } in
+    record {
+      objects = refl;
+      paths = refl;
+      others = (binds_anew before variable (Ref (length before.objects))).others;
+    } in
     bound_shows new (with_object before what) after variable (held.Ref cell.at) below
-    (frame_made old new before cell what shows whole paths change moves carries) anew fits holds (λ number object there marked.
+    (frame_made old new before cell what shows whole paths change moves carries) anew fits holds
+    (λ number object there marked.
     let before_bound =
     made_reached old new before (reach after) cell what number object shows change moves carries shown no_entry reached
     there marked in

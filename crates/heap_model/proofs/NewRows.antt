@@ -3,7 +3,8 @@ use Rattle.std.proofs.Common.{◌≡◌, ℕ, ◌+◌, ◌≤◌, ◌<◌, inl, 
 use Rattle.std.proofs.Common.{◌++◌, map, Contains, All, slice_get}
 use Rattle.std.proofs.Common.{refl, sym, ◌∙◌, ap, subst, arith}
 use Rattle.std.proofs.lemmas.Bool.{cases_lt}
-use Rattle.std.proofs.lemmas.List.Elements.{All-nil, All-cons, All-append, All-contains, All-weaker, All-contains_itself}
+use Rattle.std.proofs.lemmas.List.Elements.{All-nil, All-cons, All-append, All-contains, All-weaker}
+use Rattle.std.proofs.lemmas.List.Elements.{All-contains_itself}
 use Rattle.std.proofs.lemmas.List.Sums.{sum_by-cons}
 use Rattle.tagged_word.proofs.Members.{first_in, rest_in, in_map}
 use Rattle.page_space.specs.declared.region.Region.{Region}
@@ -24,31 +25,35 @@ use Rattle.heap_model.proofs.PatchedRows.{RowPatching, patch_in_row}
 use Rattle.heap_model.proofs.RowParts.{Origin, new_part}
 
 -- The new row of a region: it ends where the old one does, or behind it in eden.
-pub record NewRow (old new : Heap) (patches : List Patch) (made : List Cell) (row : Row) (region : Region) : Type 0 where
+pub record NewRow (old new : Heap) (patches : List Patch) (made : List Cell) (row : Row)
+    (region : Region) : Type 0 where
   pub end : ℕ
   pub cells : List Cell
   pub ends : EndsUsed new row.extent end region
   pub stands : IsRow old.space new.words row.extent.start end cells
   pub each : All (Origin old patches made) cells
   pub grows : row.end ≤ end
-  pub survivors : survivors_in (record { extent = row.extent; end = end; cells = cells }) region ≡ survivors_in row region
+  pub survivors : survivors_in (record { extent = row.extent; end = end; cells = cells }) region
+      ≡ survivors_in row region
 
 -- no patch has the address where a row ends before its region does
-end_is_free : {old new : Heap} {patches : List Patch} {made : List Cell} {row : Row} → RowPatching old new patches made row
-    → Holds row.extent row.end → Spot patches row.end → IsFree patches row.end
+end_is_free : {old new : Heap} {patches : List Patch} {made : List Cell} {row : Row}
+    → RowPatching old new patches made row → Holds row.extent row.end → Spot patches row.end → IsFree patches row.end
 end_is_free context holds (Spot.free is_free) = is_free
 end_is_free context holds (Spot.in_patch patch there patched) =
     absurd (omega (arith, (patch_in_row context there patched holds).to, patched.below))
 
 -- the word there stays, where eden ends before the region
-end_stays : {old new : Heap} {patches : List Patch} {made : List Cell} {row : Row} → RowPatching old new patches made row
+end_stays : {old new : Heap} {patches : List Patch} {made : List Cell} {row : Row}
+    → RowPatching old new patches made row
     → eden_start old.space + old.space.sizes.young ≤ row.extent.start → row.end < row.extent.start + row.extent.words
     → slice_get new.words row.end ≡ slice_get old.words row.end
 end_stays {old} {new} {patches} {row = row} context behind below =
     let from = row_ascends old.space old.words row.extent.start row.end row.cells context.used.stands in
     let few = new_few context.patching in
     context.patching.change.cells_stay row.end (omega (arith, extent_below_roots old.space row.extent context.there))
-    (end_is_free context record { from = from; below = below } (spot patches row.end)) (λ is_new. omega (arith, is_new.below))
+    (end_is_free context record { from = from; below = below } (spot patches row.end))
+    (λ is_new. omega (arith, is_new.below))
 
 -- what was made stands in the new words
 pub made_stands : {old new : Heap} {patches : List Patch} {made : List Cell} → Patching old new patches made
@@ -125,8 +130,8 @@ new_row_of (Board place) context start ends = absurd ends
 new_row_of Outside context start ends = absurd ends
 
 -- the new row of a row
-pub new_row : {old new : Heap} {patches : List Patch} {made : List Cell} {row : Row} → RowPatching old new patches made row
-    → NewRow old new patches made row row.extent.region
+pub new_row : {old new : Heap} {patches : List Patch} {made : List Cell} {row : Row}
+    → RowPatching old new patches made row → NewRow old new patches made row row.extent.region
 new_row {old} {row = row} context =
     let place = (placed old.space row.extent (cell_extent_stands old.space row.extent context.there)).place in
     new_row_of row.extent.region context (ap (λ (extent : Extent). extent.start) place) context.used.ends
@@ -166,12 +171,14 @@ new_rows {new = new} (row ∷ rows) patching contexts =
       others = row_of found ∷ later.others;
       everywhere = ap (λ more. row.extent ∷ more) later.everywhere;
       each = All-cons (IsUsedRow new) (row_of found) later.others (new_row_used patching found) later.each;
-      survivors = sum_by-cons count (row_of found) later.others ∙ ap (λ n. n + survivors_of later.others) found.survivors
+      survivors = sum_by-cons count (row_of found) later.others
+          ∙ ap (λ n. n + survivors_of later.others) found.survivors
           ∙ ap (λ n. count row + n) later.survivors ∙ sym (sum_by-cons count row rows);
     }
 
 -- a row of the old heap, beside the patches
-pub of_rows : {old new : Heap} {patches : List Patch} {made : List Cell} {row : Row} (patching : Patching old new patches made)
+pub of_rows : {old new : Heap} {patches : List Patch} {made : List Cell} {row : Row}
+    (patching : Patching old new patches made)
     → Contains patching.rows.rows row → RowPatching old new patches made row
 of_rows {old} {row = row} patching there =
     let rows = patching.rows in

@@ -1,4 +1,5 @@
--- The slots of an object: that of its store or table, those of its fields in the object, and those in the store or table.
+-- The slots of an object: that of its store or table, those of its fields in the object, and those in the store or
+-- table.
 use Rattle.std.proofs.Common.{◌≡◌, ℕ, zero, suc, ◌+◌, ◌-◌, ◌*◌, ◌<◌, Bool, true, false, List, []}
 use Rattle.std.proofs.Common.{◌∷◌, ◌++◌, length, drop, Some, Contains, slice_get, IsTrue, nat_lt, refl, sym}
 use Rattle.std.proofs.Common.{◌∙◌, ap, subst, arith, inl, inr, length-drop, ◌==◌}
@@ -10,7 +11,8 @@ use Rattle.tagged_word.specs.declared.layout.Kind.{Kind}
 use Rattle.tagged_word.specs.declared.layout.Kind.TheVariants as kind
 use Rattle.tagged_word.specs.declared.layout.LayoutWord.{LayoutWord}
 use Rattle.tagged_word.specs.Layouts.{is_raw}
-use Rattle.tagged_word.specs.Cells.{words_of, scavenge_offsets_of, in_object_offsets, store_head, store_slot, plain_head}
+use Rattle.tagged_word.specs.Cells.{words_of, scavenge_offsets_of, in_object_offsets, store_head, store_slot}
+use Rattle.tagged_word.specs.Cells.{plain_head}
 use Rattle.tagged_word.proofs.Members.{first_in, rest_in, in_range}
 use Rattle.tagged_word.proofs.Offsets.{IsInObject, in_object_in}
 use Rattle.object_graph.specs.declared.path.Path.{Path}
@@ -51,7 +53,8 @@ beside_slot : {heap : Heap} {cell other : Cell} {words others : List ℕ} (store
 beside_slot {other = other} {others = others} store k many word of slot refers of_kind sized run there =
     let few : k < many = behind_head_few others k many word (words_by_kind of refers.has of_kind ∙ sized) there in
     let offset : ℕ = store_head + k in
-    let within : Contains (range_with_len store_head many) offset = in_range store_head many offset (omega arith) (omega arith) in
+    let within : Contains (range_with_len store_head many) offset =
+    in_range store_head many offset (omega arith) (omega arith) in
     let slots = subst (λ offsets. Contains offsets offset) (sym run) within in
     HasSlotAt.beside store other others offset word slot refers (slots_by_kind other of offset of_kind slots)
     (behind_head others k word there)
@@ -79,7 +82,8 @@ pair_words (key ∷ value ∷ words) zero zero pair is there =
 pair_words (key ∷ value ∷ words) zero (suc place) pair is there = absurd (omega arith)
 pair_words (key ∷ value ∷ words) (suc at) zero pair is there = absurd (omega arith)
 pair_words (key ∷ value ∷ words) (suc at) (suc zero) pair is there = absurd (omega arith)
-pair_words (key ∷ value ∷ words) (suc at) (suc (suc place)) pair is there = pair_words words at place pair (omega arith) there
+pair_words (key ∷ value ∷ words) (suc at) (suc (suc place)) pair is there =
+    pair_words words at place pair (omega arith) there
 
 -- a weak map has the slot of the value of each pair of its table
 pub value_slot : {heap : Heap} {cell : Cell} {words : List ℕ} {pairs : List Pair} (store at : ℕ) (pair : Pair)
@@ -94,7 +98,8 @@ value_slot store at pair slot (HasTable.table to other others refers of_kind pow
     )
 
 -- A field of a plain object: raw in the object, or in a slot.
-pub data FieldSlot (heap : Heap) (cell : Cell) (words : List ℕ) (own : Bool) (field : PathField) (word : ℕ) : Type 0 where
+pub data FieldSlot (heap : Heap) (cell : Cell) (words : List ℕ) (own : Bool) (field : PathField)
+    (word : ℕ) : Type 0 where
   raw : own ≡ true → field.rep ≡ rep.Wide → FieldSlot heap cell words own field word
   in_slot : HasSlotOf heap cell words word → FieldSlot heap cell words own field word
 
@@ -143,7 +148,8 @@ field_slot {heap} {cell} {words} at word field sized has of_kind shape slots the
     let in_both : HasWord (own ++ slots.beside) at word = subst (λ all. HasWord all at word) slots.are stands in
     elim (cases_lt at path.cap) [
       | inl below ↦
-          let here : HasWord own at word = sym (slice_get-append_left own slots.beside at (omega (arith, long))) ∙ in_both in
+          let here : HasWord own at word =
+          sym (slice_get-append_left own slots.beside at (omega (arith, long))) ∙ in_both in
           let test : nat_lt at path.cap ≡ true = grind (arith, nat_tests) in
           let word_there : HasWord words (plain_head + at) word =
           sym (slice_get-drop plain_head words at (plain_head + at) refl) ∙ here in

@@ -24,7 +24,8 @@ stood_before {old} {new} {cell} {other} {words} {others} had has has_other at =
     subst (HasCell old other) (one_words (subst Has same has) has_other) (subst Had same had)
 
 -- the store to which a slot of a kept object refers is the one to which it referred
-store_before : {old new : Heap} {gone came made : List Cell} {owner other : Cell} {words others : List ℕ} {slot store : ℕ}
+store_before : {old new : Heap} {gone came made : List Cell} {owner other : Cell}
+    {words others : List ℕ} {slot store : ℕ}
     → Moves old new gone came made → Keeps old new gone owner words → HasSlotAt old owner words slot store
     → IsStoreWord old store → RefersTo new store other others → RefersTo old store other others
 store_before {other = other} moves keeps at (IsStoreWord.none is) refers =

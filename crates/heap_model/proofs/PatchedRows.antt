@@ -31,7 +31,8 @@ in_own_row {old} {patch = patch} at is patched =
     let cover = λ (k : ℕ) (above : patch.from ≤ k) (below : k < patch.to).
     covered old.space old.words patch.from patch.to patch.before k is.stood above below in
     let first = cover patch.from (omega arith) (omega (arith, patched.from, patched.below)) in
-    let last = cover (patch.to - 1) (omega (arith, patched.from, patched.below)) (omega (arith, patched.from, patched.below)) in
+    let last = cover (patch.to - 1) (omega (arith, patched.from, patched.below))
+    (omega (arith, patched.from, patched.below)) in
     let begins = cell_within old.space old.words row.extent.start row.end row.cells first.cell is.used.stands
     (before_in_row is first.among) in
     let ends = cell_within old.space old.words row.extent.start row.end row.cells last.cell is.used.stands

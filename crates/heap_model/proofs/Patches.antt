@@ -59,17 +59,18 @@ spot [] at = Spot.free (All-nil (λ (one : Patch). IsPatched at one → ⊥))
 spot (patch ∷ patches) at = spot_more patch patches at (patched_or_not patch at) (spot patches at)
 
 -- each of the patches is one
-pub patch_is : {old new : Heap} {patches : List Patch} {made : List Cell} {patch : Patch} → Patching old new patches made
-    → Contains patches patch → IsPatch old new patch
+pub patch_is : {old new : Heap} {patches : List Patch} {made : List Cell} {patch : Patch}
+    → Patching old new patches made → Contains patches patch → IsPatch old new patch
 patch_is {old} {new} {patches} {patch = patch} patching there =
     All-contains (IsPatch old new) patches patch patching.change.each there
 
 -- the cells before are those of the patch's row
-pub before_in_row : {old new : Heap} {patch : Patch} {cell : Cell} (is : IsPatch old new patch) → Contains patch.before cell
-    → Contains is.row.cells cell
+pub before_in_row : {old new : Heap} {patch : Patch} {cell : Cell} (is : IsPatch old new patch)
+    → Contains patch.before cell → Contains is.row.cells cell
 before_in_row {patch = patch} {cell} is there =
     subst (λ (all : List Cell). Contains all cell) (sym is.part)
-    (Contains-append_left (is.front ++ patch.before) is.back cell (Contains-append_right is.front patch.before cell there))
+    (Contains-append_left (is.front ++ patch.before) is.back cell
+    (Contains-append_right is.front patch.before cell there))
 
 -- so the old heap has them
 pub before_has : {old new : Heap} {patch : Patch} {cell : Cell} → IsPatch old new patch → Contains patch.before cell

@@ -38,7 +38,8 @@ raw_mask_at : (fields : List PathField) (k : ℕ) (field : PathField) → slice_
     → raw_mask fields / 2 ^ k % 2 ≡ raw_bit field.rep
 raw_mask_at [] k field there = cc
 raw_mask_at (first ∷ fields) zero field there =
-    let same : raw_bit first.rep ≡ raw_bit field.rep = ap (λ (f : PathField). raw_bit f.rep) (same_Some first field there) in
+    let same : raw_bit first.rep ≡ raw_bit field.rep =
+    ap (λ (f : PathField). raw_bit f.rep) (same_Some first field there) in
     omega (arith, same, raw_bit_most first.rep)
 raw_mask_at (first ∷ fields) (suc k) field there =
     let mask : ℕ = raw_mask (first ∷ fields) in

@@ -13,7 +13,8 @@ AreNumberedFrom count made =
     (cell : Cell) → Contains made cell → IsTrue (is_object_kind cell.layout.kind) → count ≤ cell.header.object
 
 -- a place of an object of a lower number was its place before
-pub place_before : {old new : Heap} {gone came made : List Cell} {number at : ℕ} (count : ℕ) → Moves old new gone came made
+pub place_before : {old new : Heap} {gone came made : List Cell} {number at : ℕ} (count : ℕ)
+    → Moves old new gone came made
     → AreNumberedFrom count made → number < count → IsPlace new number at → IsPlace old number at
 place_before {old} {new} {gone} {came} {made} {number} {at} count moves numbered below place =
     elim (moves.cells.back place.cell place.words place.has) [

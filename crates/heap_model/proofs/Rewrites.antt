@@ -18,12 +18,14 @@ use Rattle.heap_model.proofs.WordChanges.{changes_keep_cells}
 use Rattle.heap_model.proofs.CellsApart.{IsOfCell, has_is_cell, cells_apart}
 
 -- a cell that is rewritten is a patch
-pub rewrite_is_patch : {old new : Heap} (rewrite : Rewrite) → IsRewrite old new rewrite → IsPatch old new (patch_of rewrite)
+pub rewrite_is_patch : {old new : Heap} (rewrite : Rewrite) → IsRewrite old new rewrite
+    → IsPatch old new (patch_of rewrite)
 rewrite_is_patch {old} rewrite is =
     let cell : Cell = rewrite.cell in
     let has = is.stood in
     let row = has.row in
-    let parts = rows_part_around old.space old.words row.extent.start row.end row.cells cell has.used.stands has.in_row in
+    let parts =
+    rows_part_around old.space old.words row.extent.start row.end row.cells cell has.used.stands has.in_row in
     let end : ℕ = cell.at + cell.size in
     record {
       row = row;
@@ -74,7 +76,8 @@ rewrites_are_patches old new rewrites rows each = (
 )
 
 -- the cells that went with these patches are those that were rewritten
-gone_with_rewrites : (rewrites : List Rewrite) → gone_with (map patch_of rewrites) ≡ map (λ rewrite. rewrite.cell) rewrites
+gone_with_rewrites : (rewrites : List Rewrite)
+    → gone_with (map patch_of rewrites) ≡ map (λ rewrite. rewrite.cell) rewrites
 gone_with_rewrites [] = refl
 gone_with_rewrites (rewrite ∷ rewrites) = ap (λ more. rewrite.cell ∷ more) (gone_with_rewrites rewrites)
 
@@ -98,7 +101,8 @@ pub row_of_one : {space : Space} {words : List ℕ} {cell : Cell} (from to : ℕ
 row_of_one {space} {words} {cell} from to is_cell at ends =
     let end : ℕ = cell.at + cell.size in
     let P : ℕ → Type 0 = λ start. IsRow space words start end (cell ∷ []) in
-    subst (λ (last : ℕ). IsRow space words from last (cell ∷ [])) ends (subst P at (next cell end [] is_cell (none end)))
+    subst (λ (last : ℕ). IsRow space words from last (cell ∷ [])) ends
+    (subst P at (next cell end [] is_cell (none end)))
 
 -- a cell of the new words that stands where another stood, and is as long, is rewritten from it
 pub rewrite_by_one : {old new : Heap} {cell other : Cell} → HasCell old cell (words_of_cell old cell)

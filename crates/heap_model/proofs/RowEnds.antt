@@ -43,13 +43,15 @@ one_end space words from to other limit [] (first ∷ others) row row_other with
 one_end space words from to other limit (cell ∷ cells) [] row row_other within within_other stops stops_other =
     let from_stops : Stops words limit from = subst (Stops words limit) (sym (row_of_none row_other)) stops_other in
     absurd (goes_on space words from to limit cell cells (row_begins row) within from_stops)
-one_end space words from to other limit (cell ∷ cells) (first ∷ others) row row_other within within_other stops stops_other =
+one_end space words from to other limit (cell ∷ cells) (first ∷ others) row row_other within
+    within_other stops stops_other =
     let begins = row_begins row in
     let begins_other = row_begins row_other in
     let same : cell ≡ first =
     one_cell space words cell first begins.is_cell begins_other.is_cell (begins.starts ∙ sym begins_other.starts) in
     let P : Cell → Type 0 = λ one. IsRow space words (one.at + one.size) other others in
-    one_end space words (cell.at + cell.size) to other limit cells others begins.rest (subst P (sym same) begins_other.rest)
+    one_end space words (cell.at + cell.size) to other limit cells others begins.rest
+    (subst P (sym same) begins_other.rest)
     within within_other stops stops_other
 
 -- the used row of a region has one end
@@ -74,8 +76,8 @@ pub record AreOneRow (row other : Row) : Type 0 where
   pub cells : row.cells ≡ other.cells
 
 -- two used rows of one region are one
-pub one_used_row : (heap : Heap) (row other : Row) → IsUsedRow heap row → IsUsedRow heap other → row.extent ≡ other.extent
-    → AreOneRow row other
+pub one_used_row : (heap : Heap) (row other : Row) → IsUsedRow heap row → IsUsedRow heap other
+    → row.extent ≡ other.extent → AreOneRow row other
 one_used_row heap row other used used_other same =
     let Ends : Extent → Type 0 = λ extent. EndsUsed heap extent other.end extent.region in
     let Stands : Extent → Type 0 = λ extent. IsRow heap.space heap.words extent.start other.end other.cells in

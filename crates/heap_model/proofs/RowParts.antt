@@ -29,8 +29,8 @@ pub record Part (old new : Heap) (patches : List Patch) (made : List Cell) (from
   pub each : All (Origin old patches made) cells
 
 -- a cell that no patch has stands before the rest
-free_then : {old new : Heap} {patches : List Patch} {made : List Cell} (cell : Cell) (to : ℕ) → Patching old new patches made
-    → HasCell old cell (words_of_cell old cell) → IsFree patches cell.at
+free_then : {old new : Heap} {patches : List Patch} {made : List Cell} (cell : Cell) (to : ℕ)
+    → Patching old new patches made → HasCell old cell (words_of_cell old cell) → IsFree patches cell.at
     → Part old new patches made (cell.at + cell.size) to → Part old new patches made cell.at to
 free_then {old} {patches = patches} {made} cell to patching has free part = record {
   cells = cell ∷ part.cells;
@@ -39,8 +39,8 @@ free_then {old} {patches = patches} {made} cell to patching has free part = reco
 }
 
 -- the cells after stand in the new words
-pub after_stands : {old new : Heap} {patches : List Patch} {made : List Cell} {patch : Patch} → Patching old new patches made
-    → Contains patches patch → IsRow old.space new.words patch.from patch.to patch.after
+pub after_stands : {old new : Heap} {patches : List Patch} {made : List Cell} {patch : Patch}
+    → Patching old new patches made → Contains patches patch → IsRow old.space new.words patch.from patch.to patch.after
 after_stands {new = new} {patch = patch} patching there =
     subst (λ (space : Space). IsRow space new.words patch.from patch.to patch.after) patching.change.same_space
     (patch_is patching there).stands
@@ -57,7 +57,8 @@ patch_then {old} {new} {patches} {made} patch to patching there part =
       stands = rows_join old.space new.words patch.from patch.to to patch.after part.cells
           (after_stands patching there) part.stands;
       each = All-append (Origin old patches made) patch.after part.cells
-          (All-weaker (Contains patch.after) (Origin old patches made) from_patch patch.after (All-contains_itself patch.after))
+          (All-weaker (Contains patch.after) (Origin old patches made) from_patch patch.after
+          (All-contains_itself patch.after))
           part.each;
     }
 
@@ -87,7 +88,8 @@ turn_even : {old new : Heap} {patches : List Patch} {made : List Cell} {row : Ro
     → RowPatching old new patches made row → Contains row.cells cell → cell.at + cell.size ≤ row.end
     → IsSeam patches cell.at row.end → Rest old new patches made (cell.at + cell.size) row.end
     → Spot patches cell.at → Part old new patches made cell.at row.end
-turn_even {old} {new} {patches} {made} {row} {cell} context in_row within seam rest (Spot.in_patch patch there patched) =
+turn_even {old} {new} {patches} {made} {row} {cell} context in_row within seam rest
+    (Spot.in_patch patch there patched) =
     let has = row_has context in_row in
     let holds = row_holds context.patching.rows context.there context.used in_row (first_of_cell has) in
     let part = patch_in_row context there patched holds in
@@ -139,8 +141,8 @@ walk {old} {patches = patches} {row = row} (cell ∷ cells) at next context stan
     here
 
 -- the new row of a row
-pub new_part : {old new : Heap} {patches : List Patch} {made : List Cell} {row : Row} → RowPatching old new patches made row
-    → Part old new patches made row.extent.start row.end
+pub new_part : {old new : Heap} {patches : List Patch} {made : List Cell} {row : Row}
+    → RowPatching old new patches made row → Part old new patches made row.extent.start row.end
 new_part {old} {row = row} context =
     let start : ℕ = row.extent.start in
     walk row.cells start start context context.used.stands (λ cell there. there) (seam_at_start context)

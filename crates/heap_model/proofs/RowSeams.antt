@@ -21,7 +21,8 @@ abbrev pub IsSeam : List Patch → ℕ → ℕ → Type 0
 IsSeam patches next to = (patch : Patch) → Contains patches patch → next < to → IsPatched next patch → patch.from ≡ next
 
 -- no patch goes on from a cell that none has
-pub seam_behind_free : {old new : Heap} {patches : List Patch} {made : List Cell} {cell : Cell} {words : List ℕ} (to : ℕ)
+pub seam_behind_free : {old new : Heap} {patches : List Patch} {made : List Cell} {cell : Cell}
+    {words : List ℕ} (to : ℕ)
     → Patching old new patches made → HasCell old cell words → IsFree patches cell.at
     → IsSeam patches (cell.at + cell.size) to
 seam_behind_free {patches = patches} {cell = cell} to patching has free patch there some_left patched =

@@ -28,7 +28,8 @@ pub held_shown : {old new : Heap} {gone came made : List Cell} (one : Held) (val
 held_shown one value moves ShowsHeld.unbound = ShowsHeld.unbound
 held_shown one value moves ShowsHeld.undefined = ShowsHeld.undefined
 held_shown one value moves (ShowsHeld.integer v) = ShowsHeld.integer v
-held_shown one value moves (ShowsHeld.object at number place) = ShowsHeld.object at number (place_stays moves number at place)
+held_shown one value moves (ShowsHeld.object at number place) =
+    ShowsHeld.object at number (place_stays moves number at place)
 
 -- the root words of a variable show what it is bound to
 pub binding_shown : {old new : Heap} {gone came made : List Cell} (before after : Graph) (variable : ℕ)
@@ -46,8 +47,11 @@ was_shown : (old : Heap) (before : Graph) (number : ℕ) → Shows old before �
     → (was : Object) × ShowsReached old (reach before) number was
 was_shown old before number shows marked =
     let none : Object = graph_object.List [] in
-    let was : Object = get_or before.objects number none in
-    (was, shows.reached number was (slice_get-get_or before.objects number none (reach_below before number marked)) marked)
+    let was : Object = get_or before.objects number none in (
+      was,
+      shows.reached number was (slice_get-get_or before.objects number none (reach_below before number marked))
+          marked,
+    )
 
 -- a heap shows the graph in which these objects are what their cells show
 pub own_changes_show : OwnChangesShow
@@ -70,7 +74,8 @@ own_changes_show old new before after gone came made shows whole change own grap
           elim (graphs.each number what there marked) [
             | inl stays ↦
                 let shown = shows.reached number what stays.same was_marked in
-                reached_stays count (reach before) (reach after) number what moves numbered (reach_below before) below shown
+                reached_stays count (reach before) (reach after) number what moves numbered
+                (reach_below before) below shown
                 stays.stood (keys_stay old (reach before) (reach after) shown.words what graphs.reached)
             | inr comes ↦
                 let was = was_shown old before number shows was_marked in

@@ -20,7 +20,8 @@ use Rattle.heap_model.specs.Showing.{ShowsPlain, ShowsList, ShowsOnce, IsKnownKe
 use Rattle.heap_model.proofs.ObjectSlots.{FieldSlot, field_slot, slot_beside, value_slot}
 use Rattle.heap_model.proofs.WordsStay.{refers_to_place_stays, shown_value, shown_field}
 use Rattle.heap_model.proofs.Moves.{Moves, place_stays}
-use Rattle.heap_model.proofs.KeptObjects.{kept_box, Keeps, kept_beside, kept_table, kept_slots, slot_unless_raw, kept_path}
+use Rattle.heap_model.proofs.KeptObjects.{kept_box, Keeps, kept_beside, kept_table, kept_slots, slot_unless_raw}
+use Rattle.heap_model.proofs.KeptObjects.{kept_path}
 use Rattle.heap_model.proofs.PlacesBefore.{AreNumberedFrom, refers_to_place_before}
 
 -- the field of a path that stands for a field
@@ -28,7 +29,8 @@ abbrev path_field : Field → PathField
 path_field field = record { name = field.name; rep = field.rep }
 
 -- a plain object
-plain_shown : {old new : Heap} {gone came made : List Cell} {cell : Cell} {words : List ℕ} (cap : ℕ) (fields : List Field)
+plain_shown : {old new : Heap} {gone came made : List Cell} {cell : Cell} {words : List ℕ}
+    (cap : ℕ) (fields : List Field)
     → Moves old new gone came made → Keeps old new gone cell words → ShowsPlain old cell words cap fields
     → ShowsPlain new cell words cap fields
 plain_shown {old} {new} {cell = cell} {words} cap fields moves keeps shows =
@@ -44,7 +46,8 @@ plain_shown {old} {new} {cell = cell} {words} cap fields moves keeps shows =
           let path_there : slice_get path.fields at ≡ Some (path_field field) =
           ap (λ (one : Path). slice_get one.fields at) shows.path ∙ slice_get-map path_field fields at
           ∙ ap (option_map path_field) there in
-          let slot = field_slot at word (path_field field) moves.whole.sized keeps.had shows.of_kind sound.shape shows.has
+          let slot =
+          field_slot at word (path_field field) moves.whole.sized keeps.had shows.of_kind sound.shape shows.has
           path_there stands in
           let slot_at = subst (λ own. FieldSlot old cell words own (path_field field) word)
           (ap (λ (one : Path). nat_lt at one.cap) shows.path) slot in
@@ -65,7 +68,8 @@ list_shown elements moves keeps shows = record {
   slots = shows.slots;
   has = kept_beside shows.store moves keeps shows.slot shows.has;
   each = λ at value word there stands.
-      shown_value word (place_stays moves) (kept_box moves keeps (slot_beside shows.store at word shows.slot shows.has stands))
+      shown_value word (place_stays moves)
+      (kept_box moves keeps (slot_beside shows.store at word shows.slot shows.has stands))
       (shows.each at value word there stands);
 }
 
@@ -92,7 +96,8 @@ mark_cases true = inl refl
 mark_cases false = inr refl
 
 -- an entry in one pair
-once_shown : {old new : Heap} {gone came made : List Cell} {cell : Cell} {words : List ℕ} (count : ℕ) (marks : List Bool)
+once_shown : {old new : Heap} {gone came made : List Cell} {cell : Cell} {words : List ℕ}
+    (count : ℕ) (marks : List Bool)
     (entries : List Entry) (entry : Entry) → Moves old new gone came made → Keeps old new gone cell words
     → AreNumberedFrom count made → entry.key < count → (shows : ShowsWeak old marks cell words entries)
     → ShowsOnce old shows.pairs entry → ShowsOnce new shows.pairs entry
@@ -103,14 +108,16 @@ once_shown count marks entries entry moves keeps numbered below shows once = rec
   shows = record {
     key = refers_to_place_stays (place_stays moves) once.shows.key;
     value = shown_value once.pair.value (place_stays moves)
-        (kept_box moves keeps (value_slot shows.store once.at once.pair shows.slot shows.table once.stands)) once.shows.value;
+        (kept_box moves keeps
+        (value_slot shows.store once.at once.pair shows.slot shows.table once.stands)) once.shows.value;
   };
   once = λ other another stands refers.
       once.once other another stands (refers_to_place_before count moves numbered below refers);
 }
 
 -- a key is known
-known_shown : {old new : Heap} {gone came made : List Cell} {words : List ℕ} (before after : List Bool) (entries : List Entry)
+known_shown : {old new : Heap} {gone came made : List Cell} {words : List ℕ}
+    (before after : List Bool) (entries : List Entry)
     (pair : Pair) → Moves old new gone came made → KeysStay old before after words entries → HasPair old words pair
     → IsKnownKey old before entries pair → IsKnownKey new after entries pair
 known_shown before after entries pair moves keys has (IsKnownKey.of_entry entry at there marked refers) =

@@ -59,7 +59,8 @@ beside_word word slots (IsBeside.store to cell words refers of_kind) = IsStoreWo
 -- a weak table
 table_word : {heap : Heap} (word : ℕ) (pairs : List Pair) → HasTable heap word pairs → IsStoreWord heap word
 table_word word pairs HasTable.none = IsStoreWord.none refl
-table_word word pairs (HasTable.table to cell words refers of_kind power) = IsStoreWord.store cell words refers (inr of_kind)
+table_word word pairs (HasTable.table to cell words refers of_kind power) =
+    IsStoreWord.store cell words refers (inr of_kind)
 
 -- the slot of an object's store holds that, kind by kind
 store_word_of : (heap : Heap) (cell : Cell) (words : List ℕ) (k : Kind) (word : ℕ) → IsTrue (is_object_kind k)

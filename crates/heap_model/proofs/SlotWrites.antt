@@ -12,12 +12,13 @@ use Rattle.cell_layout.specs.Cells.{none}
 use Rattle.cell_layout.specs.CellLaws.{ReadsAlike, IsOfSlot}
 use Rattle.heap_model.specs.Heaps.{Heap}
 use Rattle.heap_model.specs.Wholeness.{HasRows, HasSizes, Whole}
-use Rattle.heap_model.specs.Changes.{IsPatched, Rewrite, IsRewrite, patch_of, written, WritesSlots, IsChange, CellsChange}
+use Rattle.heap_model.specs.Changes.{IsPatched, Rewrite, IsRewrite, patch_of, written, WritesSlots, IsChange}
+use Rattle.heap_model.specs.Changes.{CellsChange}
 use Rattle.heap_model.specs.Laws.{SlotWritesKeepCells}
 use Rattle.heap_model.proofs.CellsApart.{IsOfCell, has_is_cell, cells_apart, first_of_cell, used_few}
 use Rattle.heap_model.proofs.WordsAlike.{cell_below_roots}
 use Rattle.heap_model.proofs.LayoutsStay.{SayLayouts, layout_stays}
-use Rattle.heap_model.proofs.FreeCells.{second_word}
+use Rattle.cell_layout.proofs.Puts.{two_words}
 use Rattle.heap_model.proofs.Rewrites.{rewrite_slots, rewrites_are_patches, rewrites_keep_cells}
 
 -- a slot's address is one of its cell
@@ -54,8 +55,8 @@ sizes_stay heap words cells whole writes = record {
 }
 
 -- each of the cells is read as before
-reads_stay : (heap : Heap) (words : List ℕ) (cells : List Cell) (cell : Cell) → Whole heap → WritesSlots heap words cells
-    → Contains cells cell → ReadsAlike heap.space heap.words words cell
+reads_stay : (heap : Heap) (words : List ℕ) (cells : List Cell) (cell : Cell) → Whole heap
+    → WritesSlots heap words cells → Contains cells cell → ReadsAlike heap.space heap.words words cell
 reads_stay heap words cells cell whole writes there =
     let has = writes.stood cell there in
     let is_cell = has_is_cell has in
@@ -65,7 +66,7 @@ reads_stay heap words cells cell whole writes there =
       first = stays_in_cell cell.at whole.rows writes there (first_of_cell has)
           (λ offset slot same. omega (arith, same, slot.behind_header));
       second = λ long. stays_in_cell (cell.at + 1) whole.rows writes there
-          (record { from = omega arith; below = omega (arith, second_word heap.space heap.words cell is_cell long) })
+          (record { from = omega arith; below = omega (arith, two_words heap.space heap.words cell is_cell long) })
           (λ offset slot same. omega (arith, same, slot.behind_length long));
       of_shape = layout_stays heap.space heap.words words heap.paths [] cell whole.sized.layouts
           (subst P (sym (append-nil heap.paths)) say) is_cell;

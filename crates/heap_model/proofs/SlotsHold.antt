@@ -7,7 +7,8 @@ use Rattle.tagged_word.specs.declared.layout.Kind.{Kind}
 use Rattle.tagged_word.specs.declared.layout.Kind.TheVariants as kind
 use Rattle.tagged_word.specs.declared.layout.LayoutWord.{LayoutWord}
 use Rattle.tagged_word.specs.Layouts.{is_raw}
-use Rattle.tagged_word.specs.Cells.{scavenge_offsets, scavenge_offsets_of, in_object_offsets, store_head, store_slot, plain_head}
+use Rattle.tagged_word.specs.Cells.{scavenge_offsets, scavenge_offsets_of, in_object_offsets, store_head, store_slot}
+use Rattle.tagged_word.specs.Cells.{plain_head}
 use Rattle.tagged_word.proofs.Members.{in_cases, one_in, range_bounds}
 use Rattle.tagged_word.proofs.Offsets.{in_object_is}
 use Rattle.object_graph.specs.declared.path.Path.{Path}
@@ -24,8 +25,8 @@ use Rattle.heap_model.specs.Wholeness.{HasSlotAt, Whole}
 use Rattle.heap_model.proofs.CellsApart.{IsOfCell, has_is_cell}
 use Rattle.heap_model.proofs.CellWords.{slice_get-drop, slice_get-append_left, slots_of_kind}
 use Rattle.heap_model.proofs.PathLayouts.{layout_is}
-use Rattle.heap_model.proofs.SlotWords.{IsStoreKind, IsStoreWord, store_word, store_target, field_is_slot, in_object_not_wide}
-use Rattle.heap_model.proofs.SlotWords.{All-slice_get}
+use Rattle.heap_model.proofs.SlotWords.{IsStoreKind, IsStoreWord, store_word, store_target, field_is_slot}
+use Rattle.heap_model.proofs.SlotWords.{in_object_not_wide, All-slice_get}
 
 -- what a slot of an object holds: what the slot of a store or table holds, or a slot word
 pub data Holding (heap : Heap) (word : ℕ) : Type 0 where
@@ -85,14 +86,17 @@ beside_holds : {heap : Heap} {other : Cell} {others : List ℕ} (offset word : �
     → IsStoreKind other.layout.kind → Contains (scavenge_offsets other.layout other.length) offset
     → HasWord others offset word → IsSlotWord heap word
 beside_holds {heap} {other} {others} offset word whole has (inl is) there slot =
-    let sound : IsStoreCell heap other others = subst (λ k. IsSoundOf k heap other others) is (whole.sound other others has) in
+    let sound : IsStoreCell heap other others =
+    subst (λ k. IsSoundOf k heap other others) is (whole.sound other others has) in
     let behind = (range_bounds store_head other.length offset (slots_of_kind other kind.Store offset is there)).0 in
     let at : ℕ = offset - store_head in
     All-slice_get (IsSlotWord heap) (drop store_head others) at word sound.slots
     (slice_get-drop store_head others at offset (omega (arith, behind)) ∙ slot)
 beside_holds {heap} {other} {others} offset word whole has (inr is) there slot =
-    let sound : IsStoreCell heap other others = subst (λ k. IsSoundOf k heap other others) is (whole.sound other others has) in
-    let behind = (range_bounds store_head (2 * other.length) offset (slots_of_kind other kind.Table offset is there)).0 in
+    let sound : IsStoreCell heap other others =
+    subst (λ k. IsSoundOf k heap other others) is (whole.sound other others has) in
+    let behind = (range_bounds store_head (2 * other.length) offset
+    (slots_of_kind other kind.Table offset is there)).0 in
     let at : ℕ = offset - store_head in
     All-slice_get (IsSlotWord heap) (drop store_head others) at word sound.slots
     (slice_get-drop store_head others at offset (omega (arith, behind)) ∙ slot)
@@ -102,7 +106,8 @@ pub slot_holds : {heap : Heap} {cell : Cell} {words : List ℕ} {slot word : ℕ
     → IsTrue (is_object_kind cell.layout.kind) → HasSlotAt heap cell words slot word → Holding heap word
 slot_holds {heap} {cell} {words} whole has object (HasSlotAt.own offset word there stands) =
     own_slot_holds cell.layout.kind offset word whole has object object (whole.sound cell words has) there stands
-slot_holds {heap} {cell} {words} whole has object (HasSlotAt.beside store other others offset word slot refers there stands) =
+slot_holds {heap} {cell} {words} whole has object
+    (HasSlotAt.beside store other others offset word slot refers there stands) =
     let is = store_target (store_word store whole has object slot) refers in
     Holding.as_slot (beside_holds offset word whole refers.has is there stands)
 

@@ -15,11 +15,12 @@ use Rattle.heap_model.specs.Kinds.{IsStoreCell, IsSoundOf, IsSound}
 use Rattle.heap_model.proofs.ObjectSlots.{field_slot, slot_beside, value_slot}
 use Rattle.heap_model.proofs.WordsStay.{refers_to_place_stays, value_stays, field_stays}
 use Rattle.heap_model.proofs.Moves.{Moves, place_stays, slot_words_stay}
-use Rattle.heap_model.proofs.KeptObjects.{Keeps, kept_box, kept_beside, kept_table, kept_slots, slot_unless_raw, kept_path}
-use Rattle.heap_model.proofs.KeptObjects.{kept_shape}
+use Rattle.heap_model.proofs.KeptObjects.{Keeps, kept_box, kept_beside, kept_table, kept_slots, slot_unless_raw}
+use Rattle.heap_model.proofs.KeptObjects.{kept_path, kept_shape}
 
 -- a plain object stays sound
-plain_stays : {old new : Heap} {gone came made : List Cell} {cell : Cell} {words : List ℕ} → Moves old new gone came made
+plain_stays : {old new : Heap} {gone came made : List Cell} {cell : Cell} {words : List ℕ}
+    → Moves old new gone came made
     → Keeps old new gone cell words → cell.layout.kind ≡ kind.Plain → IsPlainCell old cell words
     → IsPlainCell new cell words
 plain_stays {old} {new} {cell = cell} moves keeps is sound =
@@ -36,7 +37,9 @@ plain_stays {old} {new} {cell = cell} moves keeps is sound =
       shape = kept_shape cell.header.shape moves.cells sound.shape;
       slots = sound.slots;
       has = kept_slots moves keeps sound.has;
-      hold = subst (λ one. HoldFields new one sound.slots) (sym (kept_path cell.header.shape moves.cells sound.shape)) hold;
+      hold =
+          subst (λ one. HoldFields new one sound.slots)
+          (sym (kept_path cell.header.shape moves.cells sound.shape)) hold;
     }
 
 -- a list stays sound
@@ -89,8 +92,8 @@ weak_stays moves keeps sound = record {
 }
 
 -- a store or a weak table stays sound
-store_stays : {old new : Heap} {gone came made : List Cell} (cell : Cell) (words : List ℕ) → Moves old new gone came made
-    → IsStoreCell old cell words → IsStoreCell new cell words
+store_stays : {old new : Heap} {gone came made : List Cell} (cell : Cell) (words : List ℕ)
+    → Moves old new gone came made → IsStoreCell old cell words → IsStoreCell new cell words
 store_stays {old} {new} cell words moves sound = record {
   no_number = sound.no_number;
   slots = All-weaker (IsSlotWord old) (IsSlotWord new) (λ word is. slot_words_stay word moves is)

@@ -1,4 +1,5 @@
--- Where only patches and newly used words change, cells stand in rows again, and all but those of the patches are as before.
+-- Where only patches and newly used words change, cells stand in rows again, and all but those of the patches are as
+-- before.
 use Rattle.std.proofs.Common.{◌≢◌, ℕ, ◌+◌, inl, inr, List, ◌++◌, Contains}
 use Rattle.std.proofs.Common.{sym, subst}
 use Rattle.std.proofs.lemmas.List.Elements.{Contains-append_cases}

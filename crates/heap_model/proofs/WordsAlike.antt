@@ -1,13 +1,9 @@
 -- Words that are alike everywhere but in the roots: the same cells stand in them.
 use Rattle.std.proofs.Common.{◌≡◌, ℕ, ◌+◌, ◌<◌, ◌≤◌, inl, inr, List, length, Contains, slice_get}
-use Rattle.std.proofs.Common.{slice_range, IsTrue, sym, ◌∙◌, subst, arith}
-use Rattle.std.proofs.lemmas.Bool.{false≢true, cases_lt}
+use Rattle.std.proofs.Common.{slice_range, sym, ◌∙◌, subst, arith}
+use Rattle.std.proofs.lemmas.Bool.{cases_lt}
 use Rattle.std.proofs.lemmas.List.Elements.{All-weaker, All-contains, All-contains_itself}
-use Rattle.tagged_word.specs.declared.layout.Kind.{Kind}
-use Rattle.tagged_word.specs.declared.layout.Kind.TheVariants as kind
 use Rattle.tagged_word.specs.Shapes.{shapes_most}
-use Rattle.tagged_word.specs.Cells.{has_length, words_of, words_least}
-use Rattle.tagged_word.proofs.Cells.{size_is}
 use Rattle.tagged_word.proofs.Members.{in_map}
 use Rattle.page_space.specs.declared.region.Region.{Region}
 use Rattle.page_space.specs.declared.region.Region.TheVariants.{Page, Eden, Segment, Root, Layout, Mark, Board, Outside}
@@ -16,9 +12,10 @@ use Rattle.page_space.proofs.Covering.{between}
 use Rattle.cell_layout.specs.declared.cell.Cell.{Cell}
 use Rattle.cell_layout.specs.Cells.{IsCell, IsRow, layouts_in}
 use Rattle.cell_layout.specs.CellLaws.{ReadsAlike}
-use Rattle.cell_layout.proofs.OneCell.{cell_is_sized, cells_have_words}
+use Rattle.cell_layout.proofs.OneCell.{cells_have_words}
 use Rattle.cell_layout.proofs.Rows.{rows_part_around, rows_stay, cell_within}
 use Rattle.cell_layout.proofs.CellsThere.{slice_get-layouts_in, slice_get-layouts_past}
+use Rattle.cell_layout.proofs.Puts.{two_words}
 use Rattle.heap_model.specs.Heaps.{Heap, Row, EndsUsed, IsUsedRow, HasCell, cell_extents}
 use Rattle.heap_model.specs.Wholeness.{HasSizes, HasRows}
 use Rattle.heap_model.proofs.CellsApart.{ends_within, used_few}
@@ -32,7 +29,8 @@ pub record AreAlike (space : Space) (words other : List ℕ) : Type 0 where
   pub long : length other ≡ length words
   pub cells : (at : ℕ) → at < roots_start space → slice_get other at ≡ slice_get words at
   pub parts : (from to : ℕ) → to ≤ roots_start space → slice_range other from to ≡ slice_range words from to
-  pub layouts : (shape : ℕ) → slice_get other (layouts_start space + shape) ≡ slice_get words (layouts_start space + shape)
+  pub layouts : (shape : ℕ)
+      → slice_get other (layouts_start space + shape) ≡ slice_get words (layouts_start space + shape)
 
 -- and the other way round
 pub alike_back : {space : Space} {words other : List ℕ} → AreAlike space words other → AreAlike space other words
@@ -62,23 +60,6 @@ cell_below_roots {heap} {cell} few has =
       extent_below_roots heap.space row.extent has.in_region,
     )
 
--- a cell with a length has two words, kind by kind
-two_words_of : (k : Kind) (cap long size : ℕ) → IsTrue (has_length k) → words_of k cap long ≡ size
-    → words_least k ≤ size → 2 ≤ size
-two_words_of kind.Store cap long size has is least = omega arith
-two_words_of kind.Table cap long size has is least = omega arith
-two_words_of kind.Gap cap long size has is least = omega arith
-two_words_of _ cap long size has is least = absurd (false≢true has)
-
--- a cell with a length has two words
-two_words : (space : Space) (words : List ℕ) (cell : Cell) → IsCell space words cell → IsTrue (has_length cell.layout.kind)
-    → 2 ≤ cell.size
-two_words space words cell is_cell has =
-    let k = cell.layout.kind in
-    let sized = (cell_is_sized space words cell is_cell).sized in
-    let is = size_is (words_least k) (words_of k cell.layout.cap cell.length) cell.size sized in
-    two_words_of k cell.layout.cap cell.length cell.size has is.0 (omega (arith, is.0, is.1))
-
 -- the layout words are alike
 layouts_alike : (space : Space) (words other : List ℕ) (shape : ℕ) → AreAlike space words other
     → slice_get (layouts_in space other) shape ≡ slice_get (layouts_in space words) shape
@@ -91,7 +72,8 @@ layouts_alike space words other shape alike =
     ]
 
 -- a cell before the roots reads alike
-reads_alike : (space : Space) (words other : List ℕ) (cell : Cell) → AreAlike space words other → IsCell space words cell
+reads_alike : (space : Space) (words other : List ℕ) (cell : Cell) → AreAlike space words other
+    → IsCell space words cell
     → cell.at + cell.size ≤ roots_start space → 1 ≤ cell.size → ReadsAlike space words other cell
 reads_alike space words other cell alike is_cell below some = record {
   first = alike.cells cell.at (omega arith);
@@ -169,7 +151,8 @@ rows_alike {heap} other alike rows =
       rows = rows.rows;
       are = record {
         everywhere = rows.are.everywhere;
-        each = All-weaker (Contains rows.rows) (IsUsedRow (with_words heap other)) used rows.rows (All-contains_itself rows.rows);
+        each = All-weaker (Contains rows.rows) (IsUsedRow (with_words heap other)) used rows.rows
+            (All-contains_itself rows.rows);
       };
       counted = rows.counted;
       few = rows.few;

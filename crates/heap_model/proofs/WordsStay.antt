@@ -1,12 +1,13 @@
--- Words that refer to objects and boxes, in two heaps: where places stay and the box stays, what a word is and shows stays.
+-- Words that refer to objects and boxes, in two heaps: where places stay and the box stays, what a word is and shows
+-- stays.
 use Rattle.std.proofs.Common.{◌≡◌, ℕ, Bool, true, false, ℤ}
 use Rattle.std.proofs.lemmas.Bool.{false≢true}
 use Rattle.object_graph.specs.declared.value.Value.{Value}
 use Rattle.object_graph.specs.declared.value.Rep.{Rep}
 use Rattle.object_graph.specs.declared.value.Rep.TheVariants as rep
 use Rattle.heap_model.specs.Heaps.{Heap}
-use Rattle.heap_model.specs.Slots.{IsPlace, RefersToPlace, RefersToObject, RefersToBox, IsSlotWord, IsValueWord, IsWideWord}
-use Rattle.heap_model.specs.Slots.{IsFieldWord}
+use Rattle.heap_model.specs.Slots.{IsPlace, RefersToPlace, RefersToObject, RefersToBox, IsSlotWord, IsValueWord}
+use Rattle.heap_model.specs.Slots.{IsWideWord, IsFieldWord}
 use Rattle.heap_model.specs.Showing.{ShowsValue, ShowsWide, ShowsField}
 
 -- each place of an object is one in the new heap

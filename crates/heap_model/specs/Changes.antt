@@ -143,8 +143,8 @@ abbrev pub IsNewPlace : Heap → ℕ → Type 0
 IsNewPlace heap at = (cell : Cell) (words : List ℕ) → HasCell heap cell words → cell.at ≢ at
 
 -- What a change of cells owes. All that went is some objects' own, and these went too. Each object that went stands
--- where it stood, and each box. What came is sound. A cell that an object of those that came or were made names was named
--- by an object that went, or stands where none began before; and none is named twice by these.
+-- where it stood, and each box. What came is sound. A cell that an object of those that came or were made names was
+-- named by an object that went, or stands where none began before; and none is named twice by these.
 pub record IsOwnChange (old new : Heap) (gone came made : List Cell) : Type 0 where
   pub own : (cell : Cell) → Contains gone cell → IsOwnOf old gone cell
   pub objects_stay : (cell : Cell) → Contains gone cell → IsTrue (is_object_kind cell.layout.kind) → IsStill came cell
@@ -154,13 +154,15 @@ pub record IsOwnChange (old new : Heap) (gone came made : List Cell) : Type 0 wh
   pub named : (owner : Cell) (slot at : ℕ) → Contains (came ++ made) owner → NamesFrom new owner slot at
       → ((before : Cell) × ((place : ℕ) × Contains gone before × NamesFrom old before place at))
       ⊎ IsNewPlace old at
-  pub once : (owner another : Cell) (slot other at : ℕ) → Contains (came ++ made) owner → Contains (came ++ made) another
+  pub once : (owner another : Cell) (slot other at : ℕ) → Contains (came ++ made) owner
+      → Contains (came ++ made) another
       → NamesFrom new owner slot at → NamesFrom new another other at → slot ≡ other
 
 -- the object was the same, and no cell of it went
 pub record Stays (before : Graph) (gone : List Cell) (number : ℕ) (what : Object) : Type 0 where
   pub same : slice_get before.objects number ≡ Some what
-  pub stood : (cell : Cell) → Contains gone cell → IsTrue (is_object_kind cell.layout.kind) → cell.header.object ≢ number
+  pub stood : (cell : Cell) → Contains gone cell → IsTrue (is_object_kind cell.layout.kind)
+      → cell.header.object ≢ number
 
 -- a cell that came carries the number and shows the object
 pub record IsShown (new : Heap) (marks : List Bool) (came : List Cell) (number : ℕ) (what : Object) : Type 0 where
@@ -170,14 +172,15 @@ pub record IsShown (new : Heap) (marks : List Bool) (came : List Cell) (number :
   pub shows : ShowsObject new marks cell (words_of_cell new cell) what
 
 -- What a change of cells does to a graph: no variable is bound anew, nothing can be reached that could not before, and
--- each object that can be reached is the same and its cell did not go, or a cell that came shows it. What was made carries
--- numbers that are new.
+-- each object that can be reached is the same and its cell did not go, or a cell that came shows it. What was made
+-- carries numbers that are new.
 pub record IsGraphChange (old new : Heap) (before after : Graph) (gone came made : List Cell) : Type 0 where
   pub paths : new.paths ≡ after.paths
   pub bindings : after.bindings ≡ before.bindings
   pub few : length before.objects ≤ length after.objects
   pub reached : (number : ℕ) → IsTrue (is_marked (reach after) number) → IsTrue (is_marked (reach before) number)
   pub each : (number : ℕ) (what : Object) → slice_get after.objects number ≡ Some what
-      → IsTrue (is_marked (reach after) number) → Stays before gone number what ⊎ IsShown new (reach after) came number what
+      → IsTrue (is_marked (reach after) number) → Stays before gone number what
+      ⊎ IsShown new (reach after) came number what
   pub numbered : (cell : Cell) → Contains made cell → IsTrue (is_object_kind cell.layout.kind)
       → (length before.objects ≤ cell.header.object) × (cell.header.object < length after.objects)

@@ -99,6 +99,7 @@ pub record IsFoundPair (heap : Heap) (pairs : List Pair) (at : ℕ) (pair : Pair
   pub filled : IsFilledPair heap pair number
   pub probed : IsProbed pairs number at
 
+-- a power of two, as the capacity of a table of a weak map must be
 abbrev pub IsPowerOfTwo : ℕ → Type 0
 IsPowerOfTwo n = (k : ℕ) × (n ≡ 2 ^ k)
 
@@ -138,6 +139,7 @@ pub record IsBoxCell (cell : Cell) (words : List ℕ) : Type 0 where
   pub fits : FitsSigned w64 integer
   pub holds : HasWord words 1 (raw_word integer)
 
+-- what the words of a cell must be, by its kind
 abbrev pub IsSoundOf : Kind → Heap → Cell → List ℕ → Type 0
 IsSoundOf kind.Plain heap cell words = IsPlainCell heap cell words
 IsSoundOf kind.List heap cell words = IsListCell heap words

@@ -21,14 +21,16 @@ use Rattle.heap_model.specs.Showing.{HasPair, ShowsObject, ShowsReached, ShowsHe
 use Rattle.heap_model.specs.Changes.{Patch, IsPatch, AreApart, Rewrite, IsRewrite, patch_of, IsChange, CellsChange}
 use Rattle.heap_model.specs.Changes.{IsOwnChange, IsGraphChange, written, WritesSlots}
 
--- the cells that went with the patches, and those that came
+-- the cells that went with the patches
 abbrev pub gone_with : List Patch → List Cell
 gone_with patches = flat_map (λ patch. patch.before) patches
 
+-- and those that came
 abbrev pub come_with : List Patch → List Cell
 come_with patches = flat_map (λ patch. patch.after) patches
 
--- Where only patches and newly used words change, cells stand in rows again, and all but those of the patches are as before.
+-- Where only patches and newly used words change, cells stand in rows again, and all but those of the patches are as
+-- before.
 abbrev pub ChangesKeepCells : Type 0
 ChangesKeepCells =
     (old new : Heap) (patches : List Patch) (made : List Cell) → Whole old → IsChange old new patches made
@@ -52,7 +54,8 @@ RewritesKeepCells =
 abbrev pub SlotWritesKeepCells : Type 0
 SlotWritesKeepCells =
     (heap : Heap) (words : List ℕ) (cells : List Cell) → Whole heap → WritesSlots heap words cells
-    → HasSizes (written heap words) × HasRows (written heap words) × CellsChange heap (written heap words) cells cells []
+    → HasSizes (written heap words) × HasRows (written heap words)
+    × CellsChange heap (written heap words) cells cells []
 
 -- A heap whose objects change inside their own cells is whole again.
 abbrev pub OwnChangesKeepWhole : Type 0
@@ -76,7 +79,8 @@ RefersToNothing cell words =
 -- A cell that was made, is sound and refers to nothing is such a change.
 abbrev pub MadeCellsAreOwn : Type 0
 MadeCellsAreOwn =
-    (old new : Heap) (cell : Cell) → IsSound new cell (words_of_cell new cell) → RefersToNothing cell (words_of_cell new cell)
+    (old new : Heap) (cell : Cell) → IsSound new cell (words_of_cell new cell)
+    → RefersToNothing cell (words_of_cell new cell)
     → CellsChange old new [] [] (cell ∷ []) → IsOwnChange old new [] [] (cell ∷ [])
 
 -- nothing can be reached in the second graph that could not be in the first
@@ -99,8 +103,8 @@ pub record BindsAnew (before after : Graph) (variable : ℕ) : Type 0 where
 abbrev pub bound : Heap → ℕ → Held → Heap
 bound heap variable held = record heap { words = with_root heap.space heap.words variable held }
 
--- A heap in which the root words of a variable become those of a value shows the graph in which it is bound to that, where
--- nothing more can be reached than before.
+-- A heap in which the root words of a variable become those of a value shows the graph in which it is bound to that,
+-- where nothing more can be reached than before.
 abbrev pub BindingsShow : Type 0
 BindingsShow =
     (heap : Heap) (before after : Graph) (variable : ℕ) (held : Held) → variable < heap.space.variables
@@ -123,8 +127,8 @@ IsNoEntryKey objects number =
     (holder at : ℕ) (entries : List Entry) (entry : Entry) → slice_get objects holder ≡ Some (Weak entries)
     → slice_get entries at ≡ Some entry → entry.key ≢ number
 
--- The same where one object more can be reached than before, as one that was just made: its cell shows it, and it is the
--- key of nothing.
+-- The same where one object more can be reached than before, as one that was just made: its cell shows it, and it is
+-- the key of nothing.
 abbrev pub NewBindingsShow : Type 0
 NewBindingsShow =
     (heap : Heap) (before after : Graph) (variable : ℕ) (held : Held) (number : ℕ) (what : Object)
@@ -134,8 +138,9 @@ NewBindingsShow =
     → IsNoEntryKey before.objects number → IsNoKey heap number
     → ReachesOneMore before after number → Shows (bound heap variable held) after
 
--- A heap in which one cell more was made and a variable bound to it shows the graph in which an object is made: where the
--- cell carries its number and shows it, no entry has it as a key, and nothing else can be reached that could not be before.
+-- A heap in which one cell more was made and a variable bound to it shows the graph in which an object is made: where
+-- the cell carries its number and shows it, no entry has it as a key, and nothing else can be reached that could not be
+-- before.
 abbrev pub NewObjectsShow : Type 0
 NewObjectsShow =
     (old new : Heap) (before : Graph) (variable : ℕ) (cell : Cell) (what : Object) → variable < new.space.variables

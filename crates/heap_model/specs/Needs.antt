@@ -1,8 +1,7 @@
 -- How many words a command allocates on a heap, in one run: its cell, or a store and then a box.
-use Rattle.std.specs.Prelude.{ℕ, zero, suc, ◌+◌, ◌-◌, ◌*◌, ◌/◌, max, min, Bool, true, false, not, ◌&&◌, ◌==◌, List, []}
-use Rattle.std.specs.Prelude.{ℤ, pos, negsuc}
-use Rattle.std.specs.Prelude.{◌∷◌, length, Option, Some, None, option_map, slice_get, unwrap_or, nat_lt}
-use Rattle.std.specs.Prelude.{if◌then◌else◌}
+use Rattle.std.specs.Prelude.{ℕ, zero, suc, ◌+◌, ◌-◌, ◌*◌, ◌/◌, max, min, Bool, true, false, not, ◌&&◌}
+use Rattle.std.specs.Prelude.{◌==◌, List, [], ℤ, pos, negsuc, ◌∷◌, length, Option, Some, None, option_map, slice_get}
+use Rattle.std.specs.Prelude.{unwrap_or, nat_lt, if◌then◌else◌}
 use Rattle.tagged_word.specs.declared.word.Class.TheVariants.{Odd}
 use Rattle.tagged_word.specs.Words.{small, bits_of}
 use Rattle.tagged_word.specs.Odds.{wide_code}
@@ -52,6 +51,7 @@ abbrev pub capacity_by : Heap → Option ℕ → ℕ
 capacity_by heap None = 0
 capacity_by heap (Some store) = word_at heap (store + length_offset)
 
+-- the capacity of what belongs to the object at an address: its store or its table
 abbrev pub capacity_at : Heap → ℕ → ℕ
 capacity_at heap at = capacity_by heap (reference_in (word_at heap (at + store_slot)))
 
@@ -60,17 +60,19 @@ abbrev pub beside_by : Heap → Option ℕ → ℕ → ℕ
 beside_by heap None slot = 0
 beside_by heap (Some store) slot = word_at heap (store + store_head + slot)
 
--- the word of field `field` of the object at an address: an in-object slot below its cap, and else in the property store
+-- the word of field `field` of the object at an address: an in-object slot below its cap, and else in the property
+-- store
 abbrev pub field_word : Heap → ℕ → ℕ → ℕ → ℕ
 field_word heap at cap field =
     if nat_lt field cap then word_at heap (at + plain_head + field)
     else beside_by heap (reference_in (word_at heap (at + store_slot))) (field - cap)
 
--- whether the word refers to a box
+-- whether a box stands at the address, if there is one
 abbrev pub is_box_at : Heap → Option ℕ → Bool
 is_box_at heap None = false
 is_box_at heap (Some at) = shape_at heap at == box_shape
 
+-- whether the word refers to a box
 abbrev pub is_box_word : Heap → ℕ → Bool
 is_box_word heap word = is_box_at heap (reference_in word)
 
@@ -119,6 +121,7 @@ field_need heap at path field wide =
     (wide && not (is_raw_after path field (slice_get path.fields field))
     && not (is_box_word heap (field_word heap at path.cap field)))
 
+-- `set` of a field of the object at an address, by its path and by the place of the field in it, if it is there
 abbrev pub set_need_by : Heap → ℕ → Path → Option ℕ → Bool → ℕ
 set_need_by heap at path None wide = new_field_need heap at path wide
 set_need_by heap at path (Some field) wide = field_need heap at path field wide
@@ -214,8 +217,8 @@ pair_from heap at key pair (suc more) =
 abbrev pub pair_of : Heap → ℕ → ℕ → Option ℕ
 pair_of heap at key = pair_from heap at key 0 (capacity_at heap at)
 
--- A key that is new: a table where the map has none, or one that would be too full, and a box where the value is wide. A key
--- that is there: a box where the value is wide and the entry's is in none.
+-- A key that is new: a table where the map has none, or one that would be too full, and a box where the value is wide.
+-- A key that is there: a box where the value is wide and the entry's is in none.
 abbrev pub wput_need_by : Heap → ℕ → Bool → Option ℕ → ℕ
 wput_need_by heap at wide None = table_need (capacity_at heap at) (count_at heap at) + box_need wide
 wput_need_by heap at wide (Some pair) = box_need (wide && not (is_box_word heap (pair_word heap at pair)))

@@ -35,12 +35,13 @@ pub data ShowsValue (heap : Heap) (word : ℕ) : Value → Type 0 where
   undefined : word ≡ undefined_word → ShowsValue heap word Undefined
   object : (number : ℕ) → RefersToPlace heap word number → ShowsValue heap word (Ref number)
 
--- The word of a field of this representation shows a value: a wide one is raw in the object, and in a box in the
--- property store.
+-- The word of a wide field shows an integer: it is raw in the object, and refers to a box in the property store.
 abbrev pub ShowsWide : Heap → Bool → ℕ → ℤ → Type 0
 ShowsWide heap true word v = (word ≡ raw_word v) × FitsSigned w64 v
 ShowsWide heap false word v = RefersToBox heap word v
 
+-- The word of a field of this representation shows a value. A wide field is read by where it stands: in the object
+-- itself, or beside it.
 pub data ShowsField (heap : Heap) (own : Bool) (word : ℕ) : Rep → Value → Type 0 where
   small_integer : (v : ℤ) → IsTrue (small v) → word ≡ small_word v → ShowsField heap own word rep.Small (Int v)
   wide : (v : ℤ) → ShowsWide heap own word v → ShowsField heap own word rep.Wide (Int v)
@@ -89,7 +90,8 @@ pub data IsKnownKey (heap : Heap) (marks : List Bool) (entries : List Entry) (pa
 
 -- The cell of a weak map shows each entry whose key can be reached, in one pair each; the key of any other pair that
 -- holds something cannot be reached.
-pub record ShowsWeak (heap : Heap) (marks : List Bool) (cell : Cell) (words : List ℕ) (entries : List Entry) : Type 0 where
+pub record ShowsWeak (heap : Heap) (marks : List Bool) (cell : Cell) (words : List ℕ)
+    (entries : List Entry) : Type 0 where
   pub of_kind : cell.layout.kind ≡ kind.Weak
   pub store : ℕ
   pub slot : HasWord words store_slot store

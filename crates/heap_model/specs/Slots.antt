@@ -12,16 +12,19 @@ use Rattle.object_graph.specs.declared.value.Rep.TheVariants as rep
 use Rattle.cell_layout.specs.declared.cell.Cell.{Cell}
 use Rattle.heap_model.specs.Heaps.{Heap, HasCell}
 
--- the word of a small integer, of `undefined`, of a hole, and of a reference
+-- the word of a small integer
 abbrev pub small_word : ℤ → ℕ
 small_word v = bits_of (Small v)
 
+-- the word of `undefined`
 abbrev pub undefined_word : ℕ
 undefined_word = bits_of (Odd undefined_code)
 
+-- the word of a hole, which stands where a store or a table holds nothing
 abbrev pub hole_word : ℕ
 hole_word = bits_of (Odd hole_code)
 
+-- the word of a reference to the cell at an address
 abbrev pub reference_word : ℕ → ℕ
 reference_word at = bits_of (Ref at)
 
@@ -77,7 +80,8 @@ pub data IsSlotWord (heap : Heap) : ℕ → Type 0 where
   object : (word : ℕ) → RefersToObject heap word → IsSlotWord heap word
   boxed : (word : ℕ) (v : ℤ) → RefersToBox heap word v → IsSlotWord heap word
 
--- The word of a value in a tagged slot: a small integer, undefined, an object, or a box of an integer that is not small.
+-- The word of a value in a tagged slot: a small integer, undefined, an object, or a box of an integer that is not
+-- small.
 pub data IsValueWord (heap : Heap) : ℕ → Type 0 where
   small_integer : (v : ℤ) → IsTrue (small v) → IsValueWord heap (small_word v)
   undefined : IsValueWord heap undefined_word

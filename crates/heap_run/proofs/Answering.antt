@@ -39,7 +39,8 @@ status-apart last.BadWords e = cc
 
 -- a kept heap shows the graph of the bytes that the source had left
 pub keeps-comes : (words : List (List ℕ)) (input : Input) (answer : Answer) → Comes words input answer
-    → IfSome answer.kept (λ kept. (sizes : Sizes) × (bytes : List ℕ) × AsksToRun words sizes × IsInput input.before bytes
+    → IfSome answer.kept
+    (λ kept. (sizes : Sizes) × (bytes : List ℕ) × AsksToRun words sizes × IsInput input.before bytes
     × KeepsGraph sizes (reading bytes) kept)
 keeps-comes words input _ (Comes.bad_words refused unread steady) = tt
 keeps-comes words input _ (Comes.no_memory begins read) = tt
@@ -60,7 +61,8 @@ reads-comes words input _ (Comes.read_fault sizes asks rose) = tt
 reads-comes words input _ (Comes.too_long sizes asks many) = tt
 reads-comes words input _ (Comes.no_script sizes bytes stop line asks reads is refusal) = tt
 reads-comes words input _ (Comes.ended sizes bytes script kept came asks reads is keeps comes need) = reads.none_left
-reads-comes words input _ (Comes.cut_short sizes bytes script kept asks reads is keeps line need fills) = reads.none_left
+reads-comes words input _
+    (Comes.cut_short sizes bytes script kept asks reads is keeps line need fills) = reads.none_left
 
 -- the status of the end of a script
 opened-ended : (came : How) (line : ℕ) → Contains (0 ∷ 1 ∷ 3 ∷ 5 ∷ 8 ∷ []) (status_of (last_line_of came line))
@@ -142,6 +144,7 @@ Answers-keeps words input old new faults_old faults_new ended a =
     × KeepsGraph sizes (reading bytes) kept) in
     subst P a.kept (keeps-comes words input a.answer a.comes)
 
+-- a run that kept a heap has read its input to the end
 pub Answers-reads : (words : List (List ℕ)) (input : Input) (old new : List ℕ → Type 0) (faults_old faults_new : ℕ)
     (ended : Ended) → Answers words input old new faults_old faults_new ended
     → IfSome ended.kept (λ _. IfSome input.before (λ _. input.after ≡ Some []))
@@ -149,6 +152,7 @@ Answers-reads words input old new faults_old faults_new ended a =
     let P : Option Kept → Type 0 = λ kept. IfSome kept (λ _. IfSome input.before (λ _. input.after ≡ Some [])) in
     subst P a.kept (reads-comes words input a.answer a.comes)
 
+-- whether a heap is kept goes with the status of the run
 pub Answers-opened : (words : List (List ℕ)) (input : Input) (old new : List ℕ → Type 0) (faults_old faults_new : ℕ)
     (ended : Ended) → Answers words input old new faults_old faults_new ended → IsKeptAt ended.status ended.kept
 Answers-opened words input old new faults_old faults_new ended a =

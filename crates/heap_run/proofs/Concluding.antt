@@ -59,7 +59,8 @@ Runs-ended : (sizes : Sizes) (bytes : List ℕ) (script : ScriptText) (image : H
     → Appends old mid reached.so_far.bytes → faults_mid ≡ faults_old
     → Lasts how line mid new faults_mid faults_new status → (status ≡ 5) ⊎ (status ≢ 5)
     → Runs sizes bytes old new faults_old faults_new (ended_by image how line n status)
-Runs-ended sizes bytes script image how line n status old mid new faults_old faults_mid faults_new is keepable reached spent
+Runs-ended sizes bytes script image how line n status old mid new faults_old faults_mid faults_new
+    is keepable reached spent
     comes told steady lasts (inl five) =
     let (some, rose) = lasts.failed five in
     let last = last_line_of how line in
@@ -75,7 +76,8 @@ Runs-ended sizes bytes script image how line n status old mid new faults_old fau
           Comes.ended sizes bytes script kept how asks reads is (keeps how line n keepable reached spent) comes refl;
       taken = rw five (Taken.front answer all near (subst (λ f. Rose f faults_new) steady rose));
     }
-Runs-ended sizes bytes script image how line n status old mid new faults_old faults_mid faults_new is keepable reached spent
+Runs-ended sizes bytes script image how line n status old mid new faults_old faults_mid faults_new
+    is keepable reached spent
     comes told steady lasts (inr other) =
     let (status-is, appends, same) = lasts.written other in
     let kept = kept_by image how line n in
@@ -85,7 +87,8 @@ Runs-ended sizes bytes script image how line n status old mid new faults_old fau
       comes = λ words input asks reads.
           Comes.ended sizes bytes script kept how asks reads is (keeps how line n keepable reached spent) comes refl;
       taken = rw status-is
-          (Taken.all reached.so_far.bytes (last_line_of how line) (Some kept) (Appends-append told appends) (same ∙ steady));
+          (Taken.all reached.so_far.bytes (last_line_of how line) (Some kept)
+          (Appends-append told appends) (same ∙ steady));
     }
 
 -- a run that the sink cut short: between two lines, or at an end
@@ -124,7 +127,8 @@ Runs-cut sizes bytes script image need line n old new faults_old faults_new is k
     ]
 
 -- a run on a heap, by how it finished and what the last line came to
-pub Runs-finished : (sizes : Sizes) (bytes : List ℕ) (script : ScriptText) (image : HeapImage) (how : How) (line n status : ℕ)
+pub Runs-finished : (sizes : Sizes) (bytes : List ℕ) (script : ScriptText) (image : HeapImage)
+    (how : How) (line n status : ℕ)
     (old mid new : List ℕ → Type 0) (faults_old faults_mid faults_new : ℕ) → reading bytes ≡ Ok script
     → IsKeepable sizes script image
     → Finishes script (image_heap image) (finished_by how line n) old mid faults_old faults_mid
@@ -136,14 +140,17 @@ Runs-finished sizes bytes script image End line n status old mid new fo fm fn is
     Runs-ended sizes bytes script image End line n status old mid new fo fm fn is keepable f.reached f.spent
     f.writes.0 f.writes.1 f.writes.2
     (lasts (λ no. no)) dec
-Runs-finished sizes bytes script image (Fault word) line n status old mid new fo fm fn is keepable f five cut lasts dec =
+Runs-finished sizes bytes script image (Fault word) line n status old mid new fo fm fn is
+    keepable f five cut lasts dec =
     Runs-ended sizes bytes script image (Fault word) line n status old mid new fo fm fn is keepable f.reached f.spent
     f.writes.0 f.writes.1 f.writes.2
     (lasts (λ no. no)) dec
-Runs-finished sizes bytes script image (HeapFull need) line n status old mid new fo fm fn is keepable f five cut lasts dec =
+Runs-finished sizes bytes script image (HeapFull need) line n status old mid new fo fm fn is
+    keepable f five cut lasts dec =
     Runs-ended sizes bytes script image (HeapFull need) line n status old mid new fo fm fn is keepable f.reached f.spent
     f.writes.0 f.writes.1 f.writes.2 (lasts (λ no. no)) dec
-Runs-finished sizes bytes script image (SinkFault need) line n status old mid new fo fm fn is keepable f five cut lasts dec =
+Runs-finished sizes bytes script image (SinkFault need) line n status old mid new fo fm fn is
+    keepable f five cut lasts dec =
     rw (five tt) (Runs-cut sizes bytes script image need line n old new fo fn is keepable (cut tt))
 Runs-finished sizes bytes script image LineLimit line n status old mid new fo fm fn is keepable f five cut lasts dec =
     Runs-ended sizes bytes script image LineLimit line n status old mid new fo fm fn is keepable f.reached f.spent

@@ -54,8 +54,11 @@ block_below : (variables fields : ℕ) (block : Block) (body : List Executed) (n
     → AllBelow variables fields (unrolled_block block body number)
 block_below variables fields block body number before inside =
     let turn : List Executed = body ++ executed number None ∷ [] in
-    both variables fields block.before (executed block.number None ∷ turns block.times turn) before
-    (tt, again variables fields block.times turn (both variables fields body (executed number None ∷ []) inside (tt, tt)))
+    both variables fields block.before (executed block.number None ∷ turns block.times turn) before (
+      tt,
+      again variables fields block.times turn
+          (both variables fields body (executed number None ∷ []) inside (tt, tt)),
+    )
 
 -- lines that are unrolled behind what was unrolled so far
 abbrev Unrolls : ℕ → ℕ → List Line → Type 0

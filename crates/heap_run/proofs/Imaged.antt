@@ -15,8 +15,8 @@ use Rattle.collector.specs.ImageLaws.{ImagesShow, ImagesKeepStores, ImagesNeedAs
 use Rattle.heap_script.specs.declared.finished.How.{How}
 use Rattle.heap_script.specs.declared.finished.How.TheVariants as how
 use Rattle.heap_script.specs.declared.finished.Finished.{Finished}
-use Rattle.heap_script.specs.Runs.{left_after, Reached, HasSpent, IsFull, IsFullFor, IsFullAt, ComesTo, FailedAt, Writes}
-use Rattle.heap_script.specs.Runs.{Finishes}
+use Rattle.heap_script.specs.Runs.{left_after, Reached, HasSpent, IsFull, IsFullFor, IsFullAt, ComesTo, FailedAt}
+use Rattle.heap_script.specs.Runs.{Writes, Finishes}
 use Rattle.heap_run.proofs.ExecutedNames.{NamesBelow, AllBelow, left_below}
 
 -- the laws of images
@@ -94,7 +94,8 @@ comes_imaged {script = script} {heap = heap} {image = image} {n = n} (how.HeapFu
     (sym r.variables) (left_below script n numbered) in
     record {
       goes_on = comes.goes_on;
-      full = full_at {heap = heap} {image = image} r.so_far.graph line need fields (left_after script n) laws r.shown.whole is
+      full = full_at {heap = heap} {image = image} r.so_far.graph line need fields
+          (left_after script n) laws r.shown.whole is
           below
           comes.full;
     }

@@ -60,7 +60,8 @@ pub record ReadsAll (input : Input) (bytes : List ℕ) : Type 0 where
 
 -- the source had more bytes than it may have; one byte more than that was read
 pub record ReadsTooMany (input : Input) : Type 0 where
-  pub many : IfSome input.before (λ left. (source_most < length left) × (input.after ≡ Some (drop (source_most + 1) left)))
+  pub many : IfSome input.before
+      (λ left. (source_most < length left) × (input.after ≡ Some (drop (source_most + 1) left)))
   pub steady : NoReadFailed input
 
 -- the last line of a source that is no script
@@ -93,8 +94,8 @@ abbrev pub unopened : LastLine → Answer
 unopened line = record { told = []; last = Some line; kept = None }
 
 -- The kept heap of a script that was run with these sizes: its regions are those of the sizes and of the script's
--- variables, it shows the graph after the executed lines, as many words are used as these lines needed, and all words that
--- no cell uses are 0.
+-- variables, it shows the graph after the executed lines, as many words are used as these lines needed, and all words
+-- that no cell uses are 0.
 pub record Keeps (sizes : Sizes) (script : ScriptText) (kept : Kept) : Type 0 where
   pub regions : kept.image.regions ≡ record { sizes = sizes; variables = length script.variables }
   pub blank : Blank (image_heap kept.image)
@@ -106,7 +107,8 @@ pub data Comes (words : List (List ℕ)) (input : Input) : Answer → Type 0 whe
   -- the words are refused, and nothing is read
   bad_words : AsksForNothing words → input.after ≡ input.before → NoReadFailed input
       → Comes words input (unopened last.BadWords)
-  -- memory was refused, which is free; but not where the words begin with no command that is built, nor between two reads
+  -- memory was refused, which is free; but not where the words begin with no command that is built, nor between two
+  -- reads
   no_memory : BeginsBuilt words → ReadsNoneOrAll input → Comes words input (unopened last.NoMemory)
   -- a read failed
   read_fault : (sizes : Sizes) → AsksToRun words sizes → Rose input.faults_before input.faults_after
@@ -141,8 +143,8 @@ bytes_of None = []
 bytes_of (Some line) = last_bytes line
 
 -- What the sink took of an answer, with which status. It took all, no write failed, and the status is that of the last
--- line. Or a write failed, and the status is 5: it took a front of the answer, not all of it; of what was told no more is
--- missing than one output holds.
+-- line. Or a write failed, and the status is 5: it took a front of the answer, not all of it; of what was told no more
+-- is missing than one output holds.
 pub data Taken (old new : List ℕ → Type 0) (faults_old faults_new : ℕ) : Answer → ℕ → Type 0 where
   all : (told : List ℕ) (line : LastLine) (kept : Option Kept)
       → Appends old new (told ++ last_bytes line) → faults_new ≡ faults_old
@@ -154,9 +156,11 @@ pub data Taken (old new : List ℕ → Type 0) (faults_old faults_new : ℕ) : A
 -- a heap is kept at the statuses of a script that was run, and none at the others; the sink may fail before or after
 abbrev pub IsKeptAt : ℕ → Option Kept → Type 0
 IsKeptAt status kept =
-    MatchOption kept (Contains (2 ∷ 4 ∷ 5 ∷ 6 ∷ 7 ∷ 64 ∷ []) status) (λ _. Contains (0 ∷ 1 ∷ 3 ∷ 5 ∷ 8 ∷ []) status)
+    MatchOption kept (Contains (2 ∷ 4 ∷ 5 ∷ 6 ∷ 7 ∷ 64 ∷ []) status)
+    (λ _. Contains (0 ∷ 1 ∷ 3 ∷ 5 ∷ 8 ∷ []) status)
 
--- The source is a script, and the heap that is kept of its run with these sizes shows the graph after the executed lines.
+-- The source is a script, and the heap that is kept of its run with these sizes shows the graph after the executed
+-- lines.
 abbrev pub KeepsGraph : Sizes → Result ScriptText BadScript → Kept → Type 0
 KeepsGraph sizes (Ok script) kept = Keeps sizes script kept
 KeepsGraph sizes (Err stop) kept = ⊥
@@ -171,7 +175,8 @@ pub record Answers (words : List (List ℕ)) (input : Input) (old new : List ℕ
   pub taken : Taken old new faults_old faults_new answer ended.status
 
 -- the same of a run whose source was read as these bytes, for all words that ask for a run with these sizes
-pub record Runs (sizes : Sizes) (bytes : List ℕ) (old new : List ℕ → Type 0) (faults_old faults_new : ℕ) (ended : Ended) : Type 0 where
+pub record Runs (sizes : Sizes) (bytes : List ℕ) (old new : List ℕ → Type 0) (faults_old faults_new : ℕ)
+    (ended : Ended) : Type 0 where
   pub answer : Answer
   pub kept : answer.kept ≡ ended.kept
   pub comes : (words : List (List ℕ)) (input : Input) → AsksToRun words sizes → ReadsAll input bytes

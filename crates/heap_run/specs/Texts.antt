@@ -5,7 +5,8 @@ use Rattle.object_graph.specs.Texts.{line}
 use Rattle.script_text.specs.Grammar.{why_text}
 use Rattle.heap_run.specs.declared.last_line.LastLine.{LastLine}
 use Rattle.heap_run.specs.declared.last_line.LastLine.TheVariants.{Nothing, Fault, BadScript, TooManyNames, HeapFull}
-use Rattle.heap_run.specs.declared.last_line.LastLine.TheVariants.{ReadFault, SourceTooLong, NoMemory, LineLimit, BadWords}
+use Rattle.heap_run.specs.declared.last_line.LastLine.TheVariants.{ReadFault, SourceTooLong, NoMemory, LineLimit}
+use Rattle.heap_run.specs.declared.last_line.LastLine.TheVariants.{BadWords}
 
 -- a head, the number of a line, and a reason
 abbrev pub reason_line : List ℕ → ℕ → List ℕ → List ℕ

@@ -1,5 +1,5 @@
 -- What a call that carries a command out does to a heap, of which it lends the mutator's side.
-use Rattle.std.proofs.Common.{◌≡◌, ℕ, ◌≤◌, List, Err, sym, subst}
+use Rattle.std.proofs.Common.{◌≡◌, ℕ, ◌≤◌, List, Result, Ok, Err, IsErrAnd, ap, sym, ◌∙◌, subst}
 use Rattle.tagged_word.specs.Cells.{cell_words_most}
 use Rattle.heap_command.specs.declared.command.Command.{Command}
 use Rattle.heap_command.specs.Commands.{IsWithin}
@@ -32,3 +32,23 @@ pub refused_for : (names : List (List ℕ)) (old new : Mutator) (graph : Graph) 
     → Carries names old new graph command text (Err (NoRoom need))
 refused_for names old new graph command text stop need is carries =
     subst (λ (s : Stop). Carries names old new graph command text (Err s)) is carries
+
+-- where there is no room, the command leaves the heap as it was
+pub refused_leaves : (names : List (List ℕ)) (before old new : Mutator) (graph : Graph) (command : Command)
+    (text : List ℕ) (need : ℕ) → old ≡ before → Carries names old new graph command text (Err (NoRoom need))
+    → new ≡ before
+refused_leaves names before old new graph command text need lent (after, written, does-is, need-is, room, same) =
+    same ∙ lent
+
+-- and is refused again on what it leaves
+pub refused_there : (names : List (List ℕ)) (old new : Mutator) (graph : Graph) (command : Command) (text : List ℕ)
+    (need : ℕ) → old ≡ new → Carries names old new graph command text (Err (NoRoom need))
+    → Carries names new new graph command text (Err (NoRoom need))
+refused_there names old new graph command text need same carries =
+    subst (λ (main : Mutator). Carries names main new graph command text (Err (NoRoom need))) same carries
+
+-- an answer that hands this stop on is this stop
+pub handed_on : {A : Type 0} (answer : Result A Stop) (stop : Stop) → IsErrAnd answer (λ one. one ≡ stop)
+    → answer ≡ Err stop
+handed_on (Ok done) stop is = absurd is
+handed_on (Err one) stop is = ap (λ (e : Stop). Err e) is

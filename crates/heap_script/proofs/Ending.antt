@@ -13,7 +13,7 @@ use Rattle.script_text.specs.Unrolled.{executed}
 use Rattle.script_text.specs.Left.{IsLeft, Goes}
 use Rattle.script_text.proofs.Left.{at_end}
 use Rattle.mutator.specs.declared.stop.Stop.{Stop}
-use Rattle.mutator.specs.declared.stop.Stop.TheVariants.{Fault, NoRoom}
+use Rattle.mutator.specs.declared.stop.Stop.TheVariants.{Fault, NoRoom, NoClear}
 use Rattle.object_graph.specs.Limits.{ideal_limits}
 use Rattle.nursery.specs.Young.{HasRoom}
 use Rattle.heap_model.specs.Heaps.{Heap}
@@ -39,7 +39,8 @@ ending-below names graph n next more below =
     let few : n ≤ lines_most = omega (arith, below) in
     let apart : (n == lines_most) ≡ false = grind (arith, nat_tests) in
     ending-within names graph n (next ∷ more) few
-    ∙ ap (λ test. cond test (Some (limit_at next.number)) (fault_of ideal_limits names graph next.number next.command)) apart
+    ∙ ap (λ test. cond test (Some (limit_at next.number))
+    (fault_of ideal_limits names graph next.number next.command)) apart
 
 -- at the limit, it ends at whatever line is next
 ending-limit : (names : List (List ℕ)) (graph : Graph) (next : Executed) (more : List Executed)
@@ -58,7 +59,8 @@ pub ComesTo-end : (script : ScriptText) (heap : Heap) (at n : ℕ) (ts : List �
 ComesTo-end script heap at n ts r left none =
     let ended = at_end script.lines at ts (left_after script n) left none in
     let ends : ending ideal_limits script.fields r.so_far.graph n (left_after script n) ≡ Some end =
-    ap (ending ideal_limits script.fields r.so_far.graph n) ended.1 ∙ ending-within script.fields r.so_far.graph n [] r.few in
+    ap (ending ideal_limits script.fields r.so_far.graph n) ended.1
+    ∙ ending-within script.fields r.so_far.graph n [] r.few in
     (refl, EndsAs-reached script heap n end r ends)
 
 -- a line is left, and no more may be executed
@@ -108,9 +110,12 @@ ComesTo-stopped script main after at' n number ts' command text (NoRoom need) ti
       full = subst (IsFullAt (heap_of main) graph number need) (sym goes.is)
           (refl, (need-is, full_for main need tied full));
     }
+ComesTo-stopped script main after at' n number ts' command text (NoClear entries) tied r below goes carries =
+    absurd carries
 
 -- a line was not executed
-pub ComesTo-line : (script : ScriptText) (main after : Mutator) (at' n number : ℕ) (ts' : List ℕ) (command : Option Command)
+pub ComesTo-line : (script : ScriptText) (main after : Mutator) (at' n number : ℕ) (ts' : List ℕ)
+    (command : Option Command)
     (text : List ℕ) (stop : Stop)
     → IsTied main → (r : Reached script (heap_of main) n) → n < lines_most
     → Goes script.lines at' ts' (left_after script n) (executed number command)
@@ -125,20 +130,27 @@ same-stopped : (names : List (List ℕ)) (main after : Mutator) (graph : Graph) 
     (stop : Stop) → Carries names main after graph command text (Err stop) → after ≡ main
 same-stopped names main after graph command text (Fault word) (does-is, same) = same
 same-stopped names main after graph command text (NoRoom need) (next, written, does-is, need-is, full, same) = same
+same-stopped names main after graph command text (NoClear entries) carries = absurd carries
 
 -- and so does a line
-pub same-line : (names : List (List ℕ)) (main after : Mutator) (graph : Graph) (command : Option Command) (text : List ℕ)
+pub same-line : (names : List (List ℕ)) (main after : Mutator) (graph : Graph) (command : Option Command)
+    (text : List ℕ)
     (stop : Stop) → CarriesLine names main after graph command text (Err stop) → after ≡ main
 same-line names main after graph None text stop (same, nothing, is) = same
-same-line names main after graph (Some command) text stop carries = same-stopped names main after graph command text stop carries
+same-line names main after graph (Some command) text stop carries = same-stopped names main after graph command
+    text stop carries
 
 -- a run that halts at a line whose command was not carried out
 pub Pauses-stopped : (script : ScriptText) (heap : Heap) (waiting : List ℕ) (n number : ℕ) (stop : Stop)
     (old new : List ℕ → Type 0) (faults_old faults_new : ℕ)
     → (r : Reached script heap n) → Spends script heap n → ComesTo script heap n r.so_far (how_of stop) number
     → Handed old new waiting r.so_far.bytes → faults_new ≡ faults_old
-    → Pauses script heap waiting (record { how = how_of stop; line = number; executed = n }) old new faults_old faults_new
+    → Pauses script heap waiting (record { how = how_of stop; line = number; executed = n }) old new faults_old
+    faults_new
 Pauses-stopped script heap waiting n number (Fault word) old new faults_old faults_new r spends comes handed steady =
     record { reached = r; spends = spends; halts = (comes, handed, steady) }
 Pauses-stopped script heap waiting n number (NoRoom need) old new faults_old faults_new r spends comes handed steady =
+    record { reached = r; spends = spends; halts = (comes, handed, steady) }
+Pauses-stopped script heap waiting n number (NoClear entries) old new faults_old faults_new r spends comes handed
+    steady =
     record { reached = r; spends = spends; halts = (comes, handed, steady) }

@@ -1,5 +1,6 @@
 -- A command allocates at most as many words as a cell may have.
-use Rattle.std.proofs.Common.{◌≡◌, ℕ, suc, ◌+◌, ◌-◌, ◌*◌, ◌≤◌, Bool, true, false, List, [], length, Option, Some}
+use Rattle.std.proofs.Common.{◌≡◌, ℕ, suc, ◌+◌, ◌-◌, ◌*◌, ◌≤◌, Bool}
+use Rattle.std.proofs.Common.{true, false, List, [], length, Option, Some}
 use Rattle.std.proofs.Common.{None, ◌&&◌, not}
 use Rattle.std.proofs.Common.{arith, refl, sym, subst, inl, inr, cond, nat_lt, slice_get, ◌==◌}
 use Rattle.std.proofs.Math.Nat.{max-le, min-le_left}
@@ -19,12 +20,14 @@ use Rattle.object_graph.specs.Meaning.{list_most}
 use Rattle.heap_model.specs.Heaps.{Heap}
 use Rattle.handle_roots.specs.Roots.{root_at}
 use Rattle.tagged_word.specs.Readings.{reference_in}
-use Rattle.heap_model.specs.Needs.{box_need, grown, store_need, new_field_need, field_need, set_need_by, set_need, need_of}
+use Rattle.heap_model.specs.Needs.{box_need, grown, store_need, new_field_need}
+use Rattle.heap_model.specs.Needs.{field_need, set_need_by, set_need, need_of}
 use Rattle.heap_model.specs.Needs.{capacity_at, count_at, grown_list, list_store_need, is_list_at, push_need}
 use Rattle.heap_model.specs.Needs.{element_word, element_of, put_need}
 use Rattle.heap_model.specs.Needs.{pairs_most, grown_table, pair_word, pair_of, wput_need_by, wput_need_at, is_weak_at}
 use Rattle.heap_model.specs.Needs.{wput_need, key_of}
-use Rattle.heap_model.specs.Needs.{word_at, shape_at, path_at, index_of, is_wide_operand, is_raw_after, is_box_word, field_word}
+use Rattle.heap_model.specs.Needs.{word_at, shape_at, path_at, index_of}
+use Rattle.heap_model.specs.Needs.{is_wide_operand, is_raw_after, is_box_word, field_word}
 
 -- a box has two words
 box_few : (wide : Bool) → box_need wide ≤ 2
@@ -63,7 +66,8 @@ added_few false store wide few = omega (arith, few, box_few wide)
 -- so it is with what a new field needs
 new_few : (heap : Heap) (at : ℕ) (path : Path) (wide : Bool) → length path.fields ≤ fields_most
     → new_field_need heap at path wide ≤ 132
-new_few heap at path wide few = added_few (nat_lt (length path.fields) path.cap) _ wide (store_few _ _ (omega (arith, few)))
+new_few heap at path wide few = added_few (nat_lt (length path.fields) path.cap) _ wide
+    (store_few _ _ (omega (arith, few)))
 
 -- a field that is there needs a box at most
 field_few : (heap : Heap) (at : ℕ) (path : Path) (field : ℕ) (wide : Bool) → field_need heap at path field wide ≤ 132
@@ -145,7 +149,8 @@ pub need_few : (heap : Heap) (fields : ℕ) (command : Command) → AreShapes he
     → IsWithin heap.space.variables fields command → need_of heap command ≤ cell_words_most
 need_few heap fields (command.New x slots) are within = omega (arith, within.1)
 need_few heap fields (command.Set x name v) are within =
-    let few = root_set_few heap (reference_in (word_at heap (root_at heap.space x))) name (is_wide_operand heap v) are in
+    let few = root_set_few heap (reference_in (word_at heap (root_at heap.space x))) name
+    (is_wide_operand heap v) are in
     omega (arith, few)
 need_few heap fields (command.Push x v) are within =
     let few = push_few heap (reference_in (word_at heap (root_at heap.space x))) (is_wide_operand heap v) in

@@ -75,19 +75,22 @@ Finishes-written script heap waiting End line n old mid new faults_old faults_mi
       spent = spent_all p.spends;
       writes = (p.halts.0, Appends-handed p.halts.1 wrote, same ∙ p.halts.2);
     }
-Finishes-written script heap waiting (Fault word) line n old mid new faults_old faults_mid faults_new other p wrote same =
+Finishes-written script heap waiting (Fault word) line n old mid new faults_old faults_mid faults_new other p
+    wrote same =
     record {
       reached = p.reached;
       spent = spent_all p.spends;
       writes = (p.halts.0, Appends-handed p.halts.1 wrote, same ∙ p.halts.2);
     }
-Finishes-written script heap waiting (HeapFull need) line n old mid new faults_old faults_mid faults_new other p wrote same =
+Finishes-written script heap waiting (HeapFull need) line n old mid new faults_old faults_mid faults_new other p
+    wrote same =
     record {
       reached = p.reached;
       spent = spent_all p.spends;
       writes = (p.halts.0, Appends-handed p.halts.1 wrote, same ∙ p.halts.2);
     }
-Finishes-written script heap waiting (SinkFault need) line n old mid new faults_old faults_mid faults_new other p wrote same =
+Finishes-written script heap waiting (SinkFault need) line n old mid new faults_old faults_mid faults_new other p
+    wrote same =
     absurd (other need refl)
 Finishes-written script heap waiting LineLimit line n old mid new faults_old faults_mid faults_new other p wrote same =
     record {

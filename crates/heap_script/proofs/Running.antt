@@ -18,12 +18,11 @@ use Rattle.script_text.specs.Left.{IsLeft, Goes}
 use Rattle.script_text.proofs.Left.{begins}
 use Rattle.object_graph.specs.Limits.{ideal_limits}
 use Rattle.page_space.specs.Extents.{Space, marks_start}
-use Rattle.heap_model.specs.declared.image.HeapImage.{HeapImage}
 use Rattle.heap_model.specs.Needs.{need_of, lacks_room}
 use Rattle.nursery.specs.Young.{Young, HasRoom}
 use Rattle.write_barrier.specs.Mains.{Mutator, heap_of, MainShows, IsTied, IsOpened}
 use Rattle.object_cells.specs.Uses.{UsesMore}
-use Rattle.collector.specs.States.{HeapState, HeapShows}
+use Rattle.collector.specs.States.{HeapState, HeapShows, Spare, IsReady}
 use Rattle.mutator.specs.Capacities.{KeepsStores}
 use Rattle.mutator.specs.Carries.{Carries}
 use Rattle.heap_script.specs.Runs.{left_after, Reached, Spends, Allocates}
@@ -94,7 +93,7 @@ allocates : {old new : Mutator} (command : Command) → IsTied old → HasRoom o
     → UsesMore old new (need_of (heap_of old) command) → KeepsStores (heap_of old) (heap_of new) command
     → Allocates (heap_of old) (heap_of new) command
 allocates {old} {new} command tied room uses stores = record {
-  space = uses.space;
+  space = uses.beside.space;
   room = not_lacking old (need_of (heap_of old) command) tied room;
   used = ap (λ (young : Young). young.used) uses.young;
   survivors = ap (λ (young : Young). young.survivors) uses.young;
@@ -191,7 +190,7 @@ Running-passed script heap objects waiting old new at at' ts ts' n number r belo
 pub same_heap : (heap after : HeapState) → after.main ≡ heap.main → after.spare ≡ heap.spare → after ≡ heap
 same_heap heap after main spare =
     ap (λ (m : Mutator). record { main = m; spare = after.spare }) main
-    ∙ ap (λ (s : HeapImage). record { main = heap.main; spare = s }) spare
+    ∙ ap (λ (s : Spare). record { main = heap.main; spare = s }) spare
 
 -- where the mutator's side shows a graph, and the regions and the memory for an image are the same, the heap shows it
 still_shows : (heap after : HeapState) (graph : Graph) {before : Graph} → HeapShows heap before
@@ -199,8 +198,9 @@ still_shows : (heap after : HeapState) (graph : Graph) {before : Graph} → Heap
     → HeapShows after graph
 still_shows heap after graph shown spare space shows = record {
   main = shows;
-  regions = ap (λ (image : HeapImage). image.regions) spare ∙ shown.regions ∙ sym space;
-  ready = ap (λ (image : HeapImage). length image.words) spare ∙ shown.ready ∙ ap marks_start (sym space);
+  regions = ap (λ (s : Spare). s.image.regions) spare ∙ shown.regions ∙ sym space;
+  ready = subst (λ (s : Spare). IsReady s (marks_start after.main.seat.space)) (sym spare)
+      (subst (λ (regions : Space). IsReady heap.spare (marks_start regions)) (sym space) shown.ready);
 }
 
 -- a command was carried out
@@ -211,7 +211,8 @@ pub Running-carried : (script : ScriptText) (heap after : HeapState) (objects : 
     → after.spare ≡ heap.spare
     → Carries script.fields heap.main after.main r.reached.so_far.graph command text (Ok tt)
     → Running script after (objects + objects_made command) (waiting ++ text) old new at' ts' (n + 1)
-Running-carried script heap after objects waiting old new at at' ts ts' n number command text r below goes spare carries =
+Running-carried script heap after objects waiting old new at at' ts ts' n number command text r below goes spare
+    carries =
     let (graph, does-is, shown, room, uses, stores) = carries in
     let so_far = r.reached.so_far in
     let later : Told = record { graph = graph; bytes = so_far.bytes ++ text } in
@@ -220,7 +221,7 @@ Running-carried script heap after objects waiting old new at at' ts ts' n number
     let reached : Reached script (heap_of after.main) (n + 1) = record {
       within = omega (arith, next.within);
       few = omega (arith, below);
-      variables = ap (λ (space : Space). space.variables) uses.space ∙ r.reached.variables;
+      variables = ap (λ (space : Space). space.variables) uses.beside.space ∙ r.reached.variables;
       so_far = later;
       said = said-next script n so_far later line goes.rest next r.reached.said (ap (told_with so_far) does-is);
       shown = shown.shows;
@@ -230,7 +231,7 @@ Running-carried script heap after objects waiting old new at at' ts ts' n number
       spends = Spends.one_more (heap_of heap.main) (heap_of after.main) n line r.spends
           (next_at (executed_lines script.lines) n line goes.rest goes.is)
           (allocates command r.shown.main.tied room uses stores) reached;
-      shown = still_shows heap after graph r.shown spare uses.space shown;
+      shown = still_shows heap after graph r.shown spare uses.beside.space shown;
       left = subst (IsLeft script.lines at' ts') (sym (dropped-next script n next)) goes.left;
       handed = Handed-told text r.handed;
       made = ap (λ m. m + objects_made command) r.made
@@ -239,10 +240,11 @@ Running-carried script heap after objects waiting old new at at' ts ts' n number
     }
 
 -- a line that was executed leaves the regions as they were
-pub same_space : (heap after : HeapState) (graph : Graph) (command : Option Command) (names : List (List ℕ)) (text : List ℕ)
+pub same_space : (heap after : HeapState) (graph : Graph) (command : Option Command) (names : List (List ℕ))
+    (text : List ℕ)
     → CarriesLine names heap.main after.main graph command text (Ok tt) → after.main.seat.space ≡ heap.main.seat.space
 same_space heap after graph None names text (same, nothing, is) = ap (λ (m : Mutator). m.seat.space) same
-same_space heap after graph (Some command) names text (next, does-is, shown, room, uses, stores) = uses.space
+same_space heap after graph (Some command) names text (next, does-is, shown, room, uses, stores) = uses.beside.space
 
 -- a line was executed
 pub Running-line : (script : ScriptText) (heap after : HeapState) (objects : ℕ) (waiting : List ℕ)
@@ -259,4 +261,5 @@ Running-line script heap after objects waiting old new at at' ts ts' n number No
     rw (same_heap heap after same spare, nothing, append-nil, add-zero) passed
 Running-line script heap after objects waiting old new at at' ts ts' n number (Some command) text r below goes spare
     carries =
-    Running-carried script heap after objects waiting old new at at' ts ts' n number command text r below goes spare carries
+    Running-carried script heap after objects waiting old new at at' ts ts' n number command text r below goes
+    spare carries

@@ -42,7 +42,8 @@ here lines all at same within = ap (λ xs. slice_get xs at) (sym same) ∙ slice
 -- where a run goes on after the line that an index reads
 pub goes_on : (lines all : List Line) (at : ℕ) (ts : List ℕ) (left : List Executed) → lines ≡ all → at < length lines
     → IsLeft all at ts left → let line = get_or lines at past_end in
-    Goes all (next_of at ts line.what).at (next_of at ts line.what).turns left (executed line.number (command_in line.what))
+    Goes all (next_of at ts line.what).at (next_of at ts line.what).turns left
+    (executed line.number (command_in line.what))
 goes_on lines all at ts left same within is =
     let line = get_or lines at past_end in
     goes-by all at ts left line.number line.what is (here lines all at same within)

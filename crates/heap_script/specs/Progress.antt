@@ -2,6 +2,7 @@
 use Rattle.std.specs.Prelude.{◌≡◌, ℕ, List, [], ◌++◌, Option, Some, None, Result, Ok}
 use Rattle.heap_command.specs.declared.command.Command.{Command}
 use Rattle.heap_command.specs.declared.command.Command.TheVariants as command
+use Rattle.heap_command.specs.declared.command.FaultWord.TheVariants.{WeakFull}
 use Rattle.object_graph.specs.Graphs.{Graph}
 use Rattle.object_graph.specs.Run.{Told}
 use Rattle.script_text.specs.declared.script.What.{What}
@@ -42,10 +43,12 @@ abbrev pub CarriesLine : List (List ℕ) → Mutator → Mutator → Graph → O
 CarriesLine names old new graph None text result = (new ≡ old) × (text ≡ []) × (result ≡ Ok tt)
 CarriesLine names old new graph (Some command) text result = Carries names old new graph command text result
 
--- how a run ends at a line whose command was not carried out
+-- How a run ends at a line whose command was not carried out. Where the entries that are refused one more are not
+-- cleared, the map is full.
 abbrev pub how_of : Stop → How
 how_of (stop.Fault word) = Fault word
 how_of (stop.NoRoom need) = HeapFull need
+how_of (stop.NoClear entries) = Fault WeakFull
 
 -- of these bytes the first were handed to the sink, and the others wait
 pub record Handed (old new : List ℕ → Type 0) (waiting all : List ℕ) : Type 0 where

@@ -1,5 +1,6 @@
 -- How far a script was run on a heap, and how the run ended.
-use Rattle.std.specs.Prelude.{◌≡◌, ◌⊎◌, ℕ, ◌+◌, ◌<◌, ◌≤◌, List, ◌∷◌, length, take, drop, All, Option, Some, None, IsTrue}
+use Rattle.std.specs.Prelude.{◌≡◌, ◌⊎◌, ℕ, ◌+◌, ◌<◌, ◌≤◌, List, ◌∷◌}
+use Rattle.std.specs.Prelude.{length, take, drop, All, Option, Some, None, IsTrue}
 use Rattle.std.specs.Prelude.{false, slice_get}
 use Rattle.heap_command.specs.declared.command.Command.{Command}
 use Rattle.heap_command.specs.Executed.{Executed}
@@ -31,8 +32,8 @@ AreBuilt lines = All (λ line. IsBuilt unbuilt_today line.what) lines
 abbrev pub left_after : ScriptText → ℕ → List Executed
 left_after script executed = drop executed (executed_lines script.lines)
 
--- The heap, which shows this graph, is full for so many words: the survivors, the used words and these are more than the
--- words of the young generation.
+-- The heap, which shows this graph, is full for so many words: the survivors, the used words and these are more than
+-- the words of the young generation.
 abbrev pub IsFull : Heap → Graph → ℕ → Type 0
 IsFull heap graph need = IsTrue (lacks_room heap need)
 
@@ -46,8 +47,8 @@ pub record Reached (script : ScriptText) (heap : Heap) (executed : ℕ) : Type 0
   pub said : told ideal_limits script.fields (take executed (executed_lines script.lines)) ≡ Some so_far
   pub shown : Shows heap so_far.graph
 
--- A command allocates on the heap: there was room for the words that it needs, and exactly so many more of eden are used.
--- The regions stay, and no survivor comes or goes. Property stores have the slots that the command gives them.
+-- A command allocates on the heap: there was room for the words that it needs, and exactly so many more of eden are
+-- used. The regions stay, and no survivor comes or goes. Property stores have the slots that the command gives them.
 pub record Allocates (old new : Heap) (command : Command) : Type 0 where
   pub space : new.space ≡ old.space
   pub room : lacks_room old (need_of old command) ≡ false
@@ -129,8 +130,8 @@ abbrev pub IsCut : How → Type 0
 IsCut (how.SinkFault need) = Unit {0}
 IsCut _ = ⊥
 
--- Where the sink failed: between two lines, which is the line 0 and the need 0, once so much was told that an output was
--- to be handed on. Or at an end with this line and this need.
+-- Where the sink failed: between two lines, which is the line 0 and the need 0, once so much was told that an output
+-- was to be handed on. Or at an end with this line and this need.
 abbrev pub FailedAt : ScriptText → Heap → ℕ → Told → ℕ → ℕ → Type 0
 FailedAt script heap executed so_far line need =
     ((line ≡ 0) × (need ≡ 0) × FillsOutput so_far.bytes)

@@ -1,5 +1,8 @@
 //! One command of a script on the heap. Which line comes next stands in `interpreter` and `turns`.
-ghost use Rattle.std.specs.Prelude.{◌≡◌, ◌+◌, ◌<◌, ◌≤◌, ℕ, List, ◌++◌, length, is_ok, if◌then◌else◌, OnOk, false};
+ghost use Rattle.std.specs.Prelude.{◌≡◌, ◌+◌, ◌<◌, ◌≤◌, ◌^◌};
+ghost use Rattle.std.specs.Prelude.{ℕ, List, ◌++◌, length, if◌then◌else◌};
+ghost use Rattle.std.specs.Prelude.{false, is_ok, Err, OnOk, OnErr, IfOk};
+ghost use Rattle.std.specs.Result.{result_map_both};
 ghost use Rattle.object_graph.specs.Graphs.{Graph};
 ghost use Rattle.object_graph.specs.Run.{lines_most};
 ghost use Rattle.heap_command.specs.Commands.{IsWithin};
@@ -7,41 +10,55 @@ ghost use Rattle.script_text.specs.declared.script.What.TheVariants.{Run};
 ghost use Rattle.script_text.specs.Table.{unbuilt_today};
 ghost use Rattle.script_text.specs.Sound.{IsBuilt, NamesWithin, AreShort};
 ghost use Rattle.write_barrier.specs.Mains.{MainShows};
+ghost use Rattle.mutator.specs.declared.stop.Stop.TheVariants.{NoRoom};
 ghost use Rattle.mutator.specs.Carries.{Carries, field_numbers};
 ghost use Rattle.collector.specs.States.{HeapShows};
 ghost use Rattle.heap_script.specs.Progress.{objects_made, made_by, command_in, CarriesLine};
+ghost use Rattle.heap_script.specs.Turns.{next_of};
 
+use crate::turns::Turns;
 use collector::{Full, Heap};
 use heap_command::Command;
 use mutator::{OUTPUT_BYTES, Output, ROOM, Stop};
 use script_text::{Script, What};
 use write_barrier::Main;
 
-/// Carries the command of a line out, if it runs one. `objects` counts the objects made so far.
+/// Executes a line, and answers where the run goes on. `objects` counts the objects made so far.
 #[inline(always)]
 pub(crate) fn execute_line(
     heap: &mut Heap,
     script: &Script<'_>,
     objects: &mut u32,
+    turns: &mut Turns,
+    at: usize,
     what: &What,
     out: &mut Output,
-) -> Result<(), Stop>
+) -> Result<usize, Stop>
     requires built { IsBuilt unbuilt_today what.now }
     requires shown { (graph : Graph) × HeapShows heap.old graph × (objects.old ≡ length graph.objects) }
     requires within { NamesWithin heap.old.main.seat.space.variables field_numbers what.now }
     requires few { objects.old < lines_most }
     requires short { AreShort script.now.fields }
     requires room { length out.old + ROOM ≤ OUTPUT_BYTES }
+    requires small { at < 2 ^ 63 }
+    requires deep { length (next_of at turns.old what.now).turns ≤ 4 }
     ensures carried { (graph : Graph) → HeapShows heap.old graph →
         objects.old ≡ length graph.objects → (text : List ℕ)
-        × CarriesLine script.now.fields heap.old.main heap.new.main graph (command_in what.now) text result
+        × CarriesLine script.now.fields heap.old.main heap.new.main graph (command_in what.now) text
+        (result_map_both (λ _. tt) (λ stop. stop) result)
         × (out.new ≡ (if is_ok result then out.old ++ text else out.old)) }
+    ensures place { IfOk result (λ place. place ≡ (next_of at turns.old what.now).at) }
+    ensures turned { OnOk result (turns.new ≡ (next_of at turns.old what.now).turns) }
+    ensures unturned { OnErr result (turns.new ≡ turns.old) }
     ensures spare { heap.new.spare ≡ heap.old.spare }
     ensures counted { OnOk result (objects.new ≡ objects.old + made_by (command_in what.now)) }
 {
     match what {
-        What::Run(command) => carry_out(heap, script, objects, command, out),
-        What::Repeat { .. } | What::End { .. } => Ok(()),
+        What::Run(command) => {
+            carry_out(heap, script, objects, command, out)?;
+            Ok(at + 1)
+        }
+        What::Repeat { .. } | What::End { .. } => Ok(turns.next(at, what)),
     }
 }
 
@@ -69,11 +86,41 @@ fn carry_out(
     ensures counted { OnOk result (objects.new ≡ objects.old + objects_made command.now) }
 {
     match execute(heap.main_mut(), script, objects, command, out) {
-        Err(Stop::NoRoom { need }) => match heap.ensure(need) {
-            Ok(()) => execute(heap.main_mut(), script, objects, command, out),
-            Err(Full { need }) => Err(Stop::NoRoom { need }),
-        },
+        Err(Stop::NoRoom { need }) => retry_with_room(heap, script, objects, command, out, need),
         carried => carried,
+    }
+}
+
+/// Asks the heap for so many words, for which a command found no room, and tries the command again.
+#[cold]
+#[inline(never)]
+fn retry_with_room(
+    heap: &mut Heap,
+    script: &Script<'_>,
+    objects: &mut u32,
+    command: &Command,
+    out: &mut Output,
+    need: u32,
+) -> Result<(), Stop>
+    requires built { IsBuilt unbuilt_today (Run command.now) }
+    requires shown { (graph : Graph) × HeapShows heap.old graph × (objects.old ≡ length graph.objects) }
+    requires within { IsWithin heap.old.main.seat.space.variables field_numbers command.now }
+    requires few { objects.old < lines_most }
+    requires short { AreShort script.now.fields }
+    requires room { length out.old + ROOM ≤ OUTPUT_BYTES }
+    requires refused { (graph : Graph) → HeapShows heap.old graph →
+        objects.old ≡ length graph.objects → (text : List ℕ)
+        × Carries script.now.fields heap.old.main heap.old.main graph command.now text (Err (NoRoom need)) }
+    ensures carried { (graph : Graph) → HeapShows heap.old graph →
+        objects.old ≡ length graph.objects → (text : List ℕ)
+        × Carries script.now.fields heap.old.main heap.new.main graph command.now text result
+        × (out.new ≡ (if is_ok result then out.old ++ text else out.old)) }
+    ensures spare { heap.new.spare ≡ heap.old.spare }
+    ensures counted { OnOk result (objects.new ≡ objects.old + objects_made command.now) }
+{
+    match heap.ensure(need) {
+        Ok(()) => execute(heap.main_mut(), script, objects, command, out),
+        Err(Full { need }) => Err(Stop::NoRoom { need }),
     }
 }
 
@@ -99,28 +146,28 @@ fn execute(
     ensures counted { OnOk result (objects.new ≡ objects.old + objects_made command.now) }
     ensures uncounted { is_ok result ≡ false → objects.new ≡ objects.old }
 {
-    match *command {
-        Command::New { x, cap } => counted(mutator::new_plain(main, x, *objects, cap), objects),
-        Command::List { x } => counted(mutator::list(main, x, *objects), objects),
-        Command::Weak { x } => counted(mutator::weak(main, x, *objects), objects),
-        Command::LetValue { x, v } => mutator::let_value(main, x, v),
-        Command::DropVar { x } => mutator::drop_var(main, x),
-        Command::Add { x, v } => mutator::add(main, x, v),
-        Command::Set { x, f, v } => mutator::set(main, x, f, v),
-        Command::Get { y, x, f } => mutator::get(main, y, x, f),
-        Command::Del { x, f } => mutator::del(main, x, f),
-        Command::Push { x, v } => mutator::push(main, x, v),
-        Command::Put { x, i, v } => mutator::put(main, x, i, v),
-        Command::At { y, x, i } => mutator::at(main, y, x, i),
-        Command::Shift { x, n } => mutator::shift(main, x, n),
-        Command::Trunc { x, n } => mutator::trunc(main, x, n),
-        Command::WPut { m, k, v } => mutator::wput(main, m, k, v),
-        Command::WGet { y, m, k } => mutator::wget(main, y, m, k),
-        Command::WDel { m, k } => mutator::wdel(main, m, k),
-        Command::Print { v } => mutator::print(main, v, out),
-        Command::Same { a, b } => mutator::same(main, a, b, out),
-        Command::Alike { x, y } => mutator::alike(main, x, y, out),
-        Command::Shape { x } => mutator::shape(main, script, x, out),
+    match command {
+        Command::New { x, cap } => counted(mutator::new_plain(main, *x, *objects, *cap), objects),
+        Command::List { x } => counted(mutator::new_list(main, *x, *objects), objects),
+        Command::Weak { x } => counted(mutator::new_weak(main, *x, *objects), objects),
+        Command::LetValue { x, v } => mutator::let_value(main, *x, *v),
+        Command::DropVar { x } => mutator::drop_var(main, *x),
+        Command::Add { x, v } => mutator::add(main, *x, *v),
+        Command::Set { x, f, v } => mutator::set(main, *x, *f, *v),
+        Command::Get { y, x, f } => mutator::get(main, *y, *x, *f),
+        Command::Del { x, f } => mutator::del(main, *x, *f),
+        Command::Push { x, v } => mutator::push(main, *x, *v),
+        Command::Put { x, i, v } => mutator::put(main, *x, *i, *v),
+        Command::At { y, x, i } => mutator::at(main, *y, *x, *i),
+        Command::Shift { x, n } => mutator::shift(main, *x, *n),
+        Command::Trunc { x, n } => mutator::trunc(main, *x, *n),
+        Command::WPut { m, k, v } => mutator::wput(main, *m, *k, *v),
+        Command::WGet { y, m, k } => mutator::wget(main, *y, *m, *k),
+        Command::WDel { m, k } => mutator::wdel(main, *m, *k),
+        Command::Print { v } => mutator::print(main, *v, out),
+        Command::Same { a, b } => mutator::same(main, *a, *b, out),
+        Command::Alike { x, y } => mutator::alike(main, *x, *y, out),
+        Command::Shape { x } => mutator::shape(main, script, *x, out),
         _ => unreachable!(),
     }
 }

@@ -16,6 +16,7 @@ use crate::turns::Turns;
 use byte_ends::{Failed, Sink};
 use collector::Heap;
 use crew::Gate;
+use heap_command::FaultWord;
 use mutator::{OUTPUT_BYTES, Output, ROOM, Stop};
 use script_text::Script;
 use std::thread::Threads;
@@ -92,10 +93,10 @@ fn run_lines<K: Sink>(
                 executed,
             };
         }
-        if let Err(stop) = execute_line(heap, script, &mut objects, &line.what, out) {
-            return stopped(stop, line.number, executed);
+        match execute_line(heap, script, &mut objects, &mut turns, at, &line.what, out) {
+            Ok(next) => at = next,
+            Err(stop) => return stopped(stop, line.number, executed),
         }
-        at = turns.next(at, &line.what);
         executed += 1;
         let Ok(()) = make_room(sink, out) else {
             return Finished {
@@ -119,6 +120,7 @@ fn stopped(stop: Stop, line: u32, executed: u64) -> Finished
     let how = match stop {
         Stop::Fault(word) => How::Fault(word),
         Stop::NoRoom { need } => How::HeapFull { need },
+        Stop::NoClear { entries: _ } => How::Fault(FaultWord::WeakFull),
     };
     Finished {
         how,

@@ -38,6 +38,7 @@ impl Turns {
     }
 
     /// Where the run goes on after the line at this place.
+    #[inline(always)]
     pub(crate) fn next(&mut self, at: usize, what: &What) -> usize
         requires small { at < 2 ^ 63 }
         requires deep { length (next_of at self.old what.now).turns ≤ 4 }
@@ -56,6 +57,7 @@ impl Turns {
     }
 
     /// One block more is open, with so many turns left.
+    #[inline(always)]
     fn enter(&mut self, turns: u32)
         requires room { length self.old < 4 }
         ensures { self.new ≡ turns ∷ self.old }
@@ -66,6 +68,7 @@ impl Turns {
     }
 
     /// Where the run goes on after the `end` at this place, of the `repeat` at the other.
+    #[inline(always)]
     fn end(&mut self, at: usize, repeat_at: u32) -> usize
         requires small { at < 2 ^ 63 }
         ensures place { result ≡ (closed at self.old repeat_at).at }

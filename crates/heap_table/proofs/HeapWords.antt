@@ -1,11 +1,11 @@
 -- The words before the marks, among all words of the table.
 use Rattle.std.proofs.Common.{◌≡◌, ◌∙◌, ℕ, ◌<◌, ◌≤◌, List, length, take, slice_get, slice_set}
-use Rattle.std.proofs.Common.{Some, ap, sym, arith}
-use Rattle.std.proofs.Math.Seq.{take-set-lt}
+use Rattle.std.proofs.Common.{Some, refl, ap, sym, arith}
+use Rattle.std.proofs.Math.Seq.{take-set-lt, drop-set-lt}
 use Rattle.std.proofs.lemmas.List.{get_or-take, length-take-le}
 use Rattle.std.proofs.lemmas.Option.{slice_get-get_or}
 use Rattle.page_space.specs.Extents.{marks_start, words_count}
-use Rattle.heap_table.specs.Seats.{Seat, heap_words}
+use Rattle.heap_table.specs.Seats.{Seat, heap_words, StaysBeside}
 use Rattle.heap_table.proofs.MarksStart.{marks_start_within}
 
 -- a word of the first so many is the word of them all
@@ -32,3 +32,12 @@ slice_get-heap_words seat a counted below =
 pub heap_words-put : (seat : Seat) (a word : ℕ) → a < marks_start seat.space →
     heap_words (record seat { table = slice_set seat.table a word }) ≡ slice_set (heap_words seat) a word
 heap_words-put seat a word below = take-set-lt (marks_start seat.space) seat.table a word below
+
+-- a word that is put before the marks changes nothing beside the heap words
+pub stays_beside-put : (seat : Seat) (a word : ℕ) → a < marks_start seat.space →
+    StaysBeside seat (record seat { table = slice_set seat.table a word })
+stays_beside-put seat a word below = record {
+  space = refl;
+  phase = refl;
+  behind = drop-set-lt (marks_start seat.space) seat.table a word below;
+}

@@ -64,6 +64,7 @@ impl MainSeat {
     }
 
     /// Where the regions of the heap stand.
+    #[inline(always)]
     pub fn regions(&self) -> Regions
         ensures regions { result ≡ self.now.space }
         ensures counted { length self.now.table ≡ words_count self.now.space }
@@ -73,7 +74,7 @@ impl MainSeat {
     }
 
     /// The word at an address before the marks.
-    #[inline]
+    #[inline(always)]
     pub fn word(&self, a: u32) -> u64
         requires within { a < marks_start self.now.space }
         requires steady { self.now.phase ≢ Scavenge }
@@ -86,7 +87,7 @@ impl MainSeat {
     }
 
     /// Puts a word at an address before the marks. No other word changes.
-    #[inline]
+    #[inline(always)]
     pub fn put(&mut self, a: u32, word: u64)
         requires quiet { self.old.phase ≡ Quiet }
         requires within { a < marks_start self.old.space }
@@ -99,6 +100,7 @@ impl MainSeat {
     }
 
     /// All words of the table, to read and write while no other thread runs.
+    #[inline(always)]
     pub fn paused(&mut self) -> Paused<'_>
         requires { self.old.phase ≡ Quiet }
         ensures lender { result.seat.ghost_name ≡ self.entry.ghost_name }
@@ -108,7 +110,7 @@ impl MainSeat {
     }
 
     /// How many words the table has.
-    #[inline]
+    #[inline(always)]
     pub(crate) fn table_count(&self) -> u32
         ensures length { result ≡ length self.now.table }
         ensures counted { result ≡ words_count self.now.space }
@@ -117,7 +119,7 @@ impl MainSeat {
     }
 
     /// Any word of the table.
-    #[inline]
+    #[inline(always)]
     pub(crate) fn any_word(&self, a: u32) -> u64
         requires { a < length self.now.table }
         ensures { slice_get self.now.table a ≡ Some result }
@@ -126,7 +128,7 @@ impl MainSeat {
     }
 
     /// Puts any word of the table.
-    #[inline]
+    #[inline(always)]
     pub(crate) fn put_any(&mut self, a: u32, word: u64)
         requires { a < length self.old.table }
         ensures { self.new ≡ record self.old { table = slice_set self.old.table a word } }
@@ -148,10 +150,12 @@ impl Reads for MainSeat {
 
     ghost stays_steady = { stays_steady_beside };
 
+    #[inline(always)]
     fn count(&self) -> u32 {
         self.heap_count
     }
 
+    #[inline(always)]
     fn load(&mut self, a: u32) -> u64 {
         self.word(a)
     }

@@ -24,16 +24,19 @@ impl<'s> Reads for Paused<'s> {
 
     ghost stays_steady = { λ _ _ _ _. tt };
 
+    #[inline(always)]
     fn count(&self) -> u32 {
         self.seat.table_count()
     }
 
+    #[inline(always)]
     fn load(&mut self, a: u32) -> u64 {
         self.seat.any_word(a)
     }
 }
 
 impl<'s> Words for Paused<'s> {
+    #[inline(always)]
     fn put(&mut self, a: u32, word: u64) {
         self.seat.put_any(a, word);
     }

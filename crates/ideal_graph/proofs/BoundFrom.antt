@@ -17,7 +17,8 @@ AreBelow least [] = Unit {0}
 AreBelow least (x ∷ xs) = (x < least) × AreBelow least xs
 
 -- and so with one behind them that is
-pub AreBelow-push : (least : ℕ) (xs : List ℕ) (x : ℕ) → AreBelow least xs → x < least → AreBelow least (xs ++ x ∷ [])
+pub AreBelow-push : (least : ℕ) (xs : List ℕ) (x : ℕ) → AreBelow least xs → x < least
+    → AreBelow least (xs ++ x ∷ [])
 AreBelow-push least [] x below is = (is, tt)
 AreBelow-push least (y ∷ ys) x below is = (below.0, AreBelow-push least ys x below.1 is)
 

@@ -1,5 +1,6 @@
 -- A loop over all objects, each with its mark: what one object more adds.
-use Rattle.std.proofs.Common.{◌≡◌, ℕ, ◌+◌, ◌<◌, ◌≤◌, Bool, ◌&&◌, List, length, get_or, take, sym, ap, ◌∙◌, arith}
+use Rattle.std.proofs.Common.{◌≡◌, ℕ, ◌+◌, ◌<◌, ◌≤◌, Bool, ◌&&◌, List, length, get_or, take, sym, ap}
+use Rattle.std.proofs.Common.{◌∙◌, arith}
 use Rattle.std.specs.List.{list_any, sum_by, zip}
 use Rattle.std.proofs.lemmas.List.{take_all}
 use Rattle.std.proofs.lemmas.List.Sums.{sum_by_more}
@@ -10,7 +11,8 @@ use Rattle.object_graph.specs.Marks.{MarksAlso}
 use Rattle.object_graph.proofs.Marking.{MarksAlso-more, MarksAlso-all}
 
 -- each object has a mark, and this one stands at its number with its own
-pub record Stands (marks : List Bool) (objects : List Object) (holder : ℕ) (mark : Bool) (object : Object) : Type 0 where
+pub record Stands (marks : List Bool) (objects : List Object) (holder : ℕ) (mark : Bool)
+    (object : Object) : Type 0 where
   pub long : length marks ≡ length objects
   pub within : holder < length objects
   pub marked : get_or marks holder mark ≡ mark
@@ -67,8 +69,10 @@ pub entries_more : (marks : List Bool) (objects : List Object) (holder : ℕ) (m
     → Stands marks objects holder mark object
     → entries_by marks objects (holder + 1) ≡ entries_by marks objects holder + entries_if marks mark object
 entries_more marks objects holder mark object at =
-    sum_by_more (entries_of marks) (zip marks objects) holder (mark, object) (pair_within marks objects holder mark object at)
-    ∙ ap (λ pair. entries_by marks objects holder + entries_of marks pair) (sym (pair_at marks objects holder mark object at))
+    sum_by_more (entries_of marks) (zip marks objects) holder (mark, object)
+    (pair_within marks objects holder mark object at)
+    ∙ ap (λ pair. entries_by marks objects holder + entries_of marks pair)
+    (sym (pair_at marks objects holder mark object at))
 
 -- all objects count for what all pairs do
 pub entries_all : (marks : List Bool) (objects : List Object) (holder : ℕ) → length objects ≤ holder

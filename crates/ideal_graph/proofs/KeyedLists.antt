@@ -1,6 +1,6 @@
 -- Lists that go by keys, by the place of the first item of a key.
-use Rattle.std.proofs.Common.{◌≡◌, ◌==◌, ◌∙◌, sym, ap, refl, ℕ, suc, ◌+◌, Bool, true, false, not, cond, nat_lt, arith}
-use Rattle.std.proofs.Common.{List, [], ◌∷◌, ◌++◌, length, get_or, set, Option, Some, None}
+use Rattle.std.proofs.Common.{◌≡◌, ◌==◌, ◌∙◌, sym, ap, refl, ℕ, suc, ◌+◌, Bool, true, false, not, cond}
+use Rattle.std.proofs.Common.{nat_lt, arith, List, [], ◌∷◌, ◌++◌, length, get_or, set, Option, Some, None}
 use Rattle.std.specs.Prelude.{if◌then◌else◌, option_map}
 use Rattle.std.specs.List.{position, position_or_len, remove}
 use Rattle.std.proofs.lemmas.Bool.Decides.{nat_tests}
@@ -44,7 +44,8 @@ position-cons : {A : Type 0} (p : A → Bool) (x : A) (xs : List A)
 position-cons p x xs = place_first (p x) (position_or_len p xs) (length xs)
 
 -- what is read of a longer list, by whether its first item has the key
-value_first : {Item : Type 0} (k : Keying Item) (here : Bool) (item : Item) (items : List Item) (d : Item) (at : Option ℕ)
+value_first : {Item : Type 0} (k : Keying Item) (here : Bool) (item : Item) (items : List Item)
+    (d : Item) (at : Option ℕ)
     → (if here then Some (k.value item) else value_at k items d at)
     ≡ value_at k (item ∷ items) d (if here then Some 0 else option_map suc at)
 value_first k true item items d at = refl
@@ -79,7 +80,8 @@ value_under-position k by (item ∷ items) key d =
     ∙ sym (ap (value_at k (item ∷ items) d) (position-cons (has_key k key) item items))
 
 -- a key's value is changed at its first place
-pub with_value-position : {Item : Type 0} (k : Keying Item) → GoesByKeys k → (items : List Item) (key : ℕ) (value : Value)
+pub with_value-position : {Item : Type 0} (k : Keying Item) → GoesByKeys k
+    → (items : List Item) (key : ℕ) (value : Value)
     (d : Item) → k.with_value items key value ≡ with_value_at k items key value d (position (has_key k key) items)
 with_value-position k by [] key value d = by.with_none key value
 with_value-position k by (item ∷ items) key value d =

@@ -1,5 +1,4 @@
 mod KeyedLists
-mod WeakMost
 mod SamePaths
 mod PathLists
 mod Bindings

@@ -16,7 +16,8 @@ use Rattle.ideal_graph.specs.Steps.{NamedGraph}
 abbrev pub graph_code : Coded Graph
 graph_code =
     code_by (List Object × (FinMap nat_cmp Value × List Path))
-    (coded× (coded_list object.the_row.coded) (coded× (code coded_ℕ value.the_row.coded) (coded_list path.the_row.coded)))
+    (coded× (coded_list object.the_row.coded)
+    (coded× (code coded_ℕ value.the_row.coded) (coded_list path.the_row.coded)))
     (λ g. (g.objects, (g.bindings, g.paths)))
     (λ p. record { objects = p.0; bindings = p.1.0; paths = p.1.1 })
     (λ _. refl)

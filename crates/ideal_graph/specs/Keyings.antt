@@ -1,14 +1,17 @@
 -- Lists in which each item stands under a key, and how they are read and changed by keys.
-use Rattle.std.specs.Prelude.{◌≡◌, ℕ, Bool, true, false, List, [], ◌∷◌, Option, Some, None, ◌==◌, if◌then◌else◌, refl}
+use Rattle.std.specs.Prelude.{◌≡◌, ℕ, Bool, true, false, List, [], ◌∷◌, Option, Some, None, ◌==◌}
+use Rattle.std.specs.Prelude.{if◌then◌else◌, refl}
 use Rattle.std.proofs.Common.{sym, ap}
 use Rattle.std.proofs.lemmas.Bool.{eqb-true}
 use Rattle.object_graph.specs.declared.value.Value.{Value}
 use Rattle.object_graph.specs.declared.object.Field.{Field}
 use Rattle.object_graph.specs.declared.object.Entry.{Entry}
 use Rattle.object_graph.specs.Values.{rep_of}
-use Rattle.object_graph.specs.Objects.{field_value, revalued, with_field, without_field, entry_value, with_entry, without_entry}
+use Rattle.object_graph.specs.Objects.{field_value, revalued, with_field, without_field, entry_value, with_entry}
+use Rattle.object_graph.specs.Objects.{without_entry}
 
--- what is read of an item, how one is made and given another value; how a list of them is read, changed and cut by a key
+-- what is read of an item, how one is made and given another value; how a list of them is read, changed and cut by a
+-- key
 pub record Keying (Item : Type 0) : Type 0 where
   pub key : Item → ℕ
   pub value : Item → Value
@@ -68,13 +71,14 @@ field_keys = record {
 }
 
 -- an entry of the key keeps it
-same_entry : (here : Bool) (entry : Entry) (key : ℕ) (value : Value) (entries rest : List Entry) → (entry.key == key) ≡ here
-    → (if here then record { key = key; value = value } ∷ entries else rest)
+same_entry : (here : Bool) (entry : Entry) (key : ℕ) (value : Value) (entries rest : List Entry)
+    → (entry.key == key) ≡ here → (if here then record { key = key; value = value } ∷ entries else rest)
     ≡ (if here then record { key = entry.key; value = value } ∷ entries else rest)
 same_entry true entry key value entries rest is =
     ap (λ n. record { key = n; value = value } ∷ entries) (sym (eqb-true entry.key key is))
 same_entry false entry key value entries rest is = refl
 
+-- the entries of a weak map go by their keys, as the look-ups and changes of them say
 pub entry_keys : GoesByKeys entry_keying
 entry_keys = record {
   value_under_none = λ key. refl;

@@ -1,6 +1,6 @@
 -- How far the numbers of a table stand from their homes, all together.
-use Rattle.std.proofs.Common.{ℕ, suc, zero, ◌+◌, ◌-◌, ◌<◌, ◌≤◌, ◌≡◌, ◌≢◌, List, [], ◌∷◌, length, slice_get, slice_set}
-use Rattle.std.proofs.Common.{Option, Some, None, sym, ap, ◌∙◌, arith}
+use Rattle.std.proofs.Common.{ℕ, suc, zero, ◌+◌, ◌-◌, ◌<◌, ◌≤◌, ◌≡◌, ◌≢◌, List, [], ◌∷◌}
+use Rattle.std.proofs.Common.{length, slice_get, slice_set, Option, Some, None, sym, ap, ◌∙◌, arith}
 use Rattle.std.proofs.lemmas.List.{set-set}
 use Rattle.linear_probing.specs.Tables.{place_after, steps_to, HoldsNumber}
 use Rattle.linear_probing.proofs.Places.{slice_get-set_other, slice_get-set_same}

@@ -90,7 +90,8 @@ put_is_number table at put other number within same holds =
     (subst (λ (place : ℕ). HoldsNumber (slice_set table at (Some put)) place number) same holds)
 
 -- what is said of the place and the number that were put is said of those that are the same
-pub at_put : (P : ℕ → ℕ → Type 0) (at put other number : ℕ) → other ≡ at → put ≡ number → P put at → P number other
+pub at_put : (P : ℕ → ℕ → Type 0) (at put other number : ℕ) → other ≡ at → put ≡ number
+    → P put at → P number other
 at_put P at put other number place same holds =
     subst (λ (n : ℕ). P n other) same (subst (P put) (sym place) holds)
 

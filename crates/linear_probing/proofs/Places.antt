@@ -1,6 +1,7 @@
 -- The places of a table where a number was put, or taken out.
-use Rattle.std.proofs.Common.{ℕ, suc, zero, ◌+◌, ◌<◌, ◌≡◌, ◌≢◌, List, [], ◌∷◌, length, slice_get, slice_set}
-use Rattle.std.proofs.Common.{Option, Some, None, is_some, cond, count_by, replicate, refl, sym, ◌∙◌, ap, arith}
+use Rattle.std.proofs.Common.{ℕ, suc, zero, ◌+◌, ◌<◌, ◌≡◌, ◌≢◌, List, [], ◌∷◌, length, slice_get}
+use Rattle.std.proofs.Common.{slice_set, Option, Some, None, is_some, cond, count_by, replicate, refl, sym, ◌∙◌, ap}
+use Rattle.std.proofs.Common.{arith}
 use Rattle.std.proofs.lemmas.Option.{slice_get_within}
 use Rattle.std.proofs.lemmas.List.Sums.{sum_by-cons}
 use Rattle.linear_probing.specs.Tables.{HoldsNumber, IsFree}

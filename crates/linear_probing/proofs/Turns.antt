@@ -1,6 +1,6 @@
 -- A turn of the removal of a number, as it is computed.
-use Rattle.std.proofs.Common.{ℕ, ◌+◌, ◌<◌, ◌≤◌, ◌≡◌, List, length, get_or, slice_get, slice_set, Option, Some, None}
-use Rattle.std.proofs.Common.{inl, inr, refl, sym, ap, subst, ◌∙◌, arith}
+use Rattle.std.proofs.Common.{ℕ, ◌+◌, ◌<◌, ◌≤◌, ◌≡◌, List, length, get_or, slice_get, slice_set, Option}
+use Rattle.std.proofs.Common.{Some, None, inl, inr, refl, sym, ap, subst, ◌∙◌, arith}
 use Rattle.std.proofs.lemmas.Option.{slice_get-get_or}
 use Rattle.linear_probing.specs.Tables.{place_after, steps_to, FindsAll}
 use Rattle.linear_probing.specs.ClosingLaws.{next_place}
@@ -63,7 +63,8 @@ ends_at_last old new at capacity hole passed removal as_long full =
 -- a number that is not too far from its home is passed
 pub turn_passes : (old new : List (Option ℕ)) (at capacity hole passed next number steps : ℕ)
     → IsRemoval old at new hole passed → IsTurn new capacity hole passed next
-    → ◌≡◌ {A = Option ℕ} (get_or new next None) (Some number) → steps ≡ steps_to capacity number next → steps ≤ passed
+    → ◌≡◌ {A = Option ℕ} (get_or new next None) (Some number)
+    → steps ≡ steps_to capacity number next → steps ≤ passed
     → IsRemoval old at new hole (passed + 1)
 turn_passes old new at capacity hole passed next number steps removal turn read counted near =
     let as_long : length new ≡ capacity = turn.as_long in
@@ -76,7 +77,8 @@ turn_passes old new at capacity hole passed next number steps removal turn read 
 -- each other moves
 pub turn_moves : (old new : List (Option ℕ)) (at capacity hole passed next number steps : ℕ)
     → IsRemoval old at new hole passed → IsTurn new capacity hole passed next
-    → ◌≡◌ {A = Option ℕ} (get_or new next None) (Some number) → steps ≡ steps_to capacity number next → passed < steps
+    → ◌≡◌ {A = Option ℕ} (get_or new next None) (Some number)
+    → steps ≡ steps_to capacity number next → passed < steps
     → IsRemoval old at (slice_set new hole (Some number)) next 0
 turn_moves old new at capacity hole passed next number steps removal turn read counted far =
     let as_long : length new ≡ capacity = turn.as_long in
@@ -91,7 +93,8 @@ turn_moves old new at capacity hole passed next number steps removal turn read c
 -- and then less is left to do
 pub turn_left : (old new : List (Option ℕ)) (at capacity hole passed next number steps : ℕ)
     → IsRemoval old at new hole passed → IsTurn new capacity hole passed next
-    → ◌≡◌ {A = Option ℕ} (get_or new next None) (Some number) → steps ≡ steps_to capacity number next → passed < steps
+    → ◌≡◌ {A = Option ℕ} (get_or new next None) (Some number)
+    → steps ≡ steps_to capacity number next → passed < steps
     → left (slice_set new hole (Some number)) next 0 < left new hole passed
 turn_left old new at capacity hole passed next number steps removal turn read counted far =
     let as_long : length new ≡ capacity = turn.as_long in

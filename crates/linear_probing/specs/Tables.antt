@@ -29,8 +29,8 @@ pub record IsProbed (table : List (Option ℕ)) (number at : ℕ) : Type 0 where
 abbrev pub FindsAll : List (Option ℕ) → Type 0
 FindsAll table = (at number : ℕ) → HoldsNumber table at number → IsProbed table number at
 
--- Probing for the number comes to the place and has met it nowhere before: from its home on no place before this one is free,
--- or holds the number. It ends there where the place is free or holds the number.
+-- Probing for the number comes to the place and has met it nowhere before: from its home on no place before this one is
+-- free, or holds the number. It ends there where the place is free or holds the number.
 pub record EndsAt (table : List (Option ℕ)) (number at : ℕ) : Type 0 where
   pub steps : ℕ
   pub within : steps < length table

@@ -1,73 +1,54 @@
 -- The integer of a wide element is put into the box to which its slot refers.
-use Rattle.std.proofs.Common.{◌≡◌, ◌≢◌, ℕ, ◌+◌, ◌≤◌, ◌<◌, inl, inr, List, [], ◌∷◌, length, drop, Contains, Some}
-use Rattle.std.proofs.Common.{false, slice_get, refl, sym, ◌∙◌, ap, subst, arith, length-set, length-drop}
-use Rattle.std.specs.Prelude.{ℤ, slice_set, FitsSigned}
-use Rattle.std.specs.Int.{w64}
+use Rattle.std.proofs.Common.{◌≡◌, ◌≢◌, ℕ, ◌+◌, ◌≤◌, ◌<◌, inl, inr, List, [], ◌∷◌, length}
+use Rattle.std.proofs.Common.{drop, Some, false, slice_get, refl, sym, ◌∙◌, ap, subst, arith, length-drop}
 use Rattle.std.proofs.lemmas.Option.{same_Some}
-use Rattle.tagged_word.specs.declared.layout.Kind.{Kind}
-use Rattle.tagged_word.specs.declared.layout.Kind.TheVariants as kind
+use Rattle.std.specs.Int.{w64}
+use Rattle.std.specs.Prelude.{ℤ, FitsSigned}
 use Rattle.tagged_word.specs.Cells.{store_head, store_slot}
-use Rattle.tagged_word.proofs.Members.{first_in, rest_in, one_in, in_cases}
-use Rattle.page_space.specs.Extents.{Space, marks_start}
-use Rattle.object_graph.specs.declared.value.Value.{Value}
+use Rattle.tagged_word.specs.declared.layout.Kind.TheVariants as kind
+use Rattle.tagged_word.proofs.Members.{one_in, in_cases}
+use Rattle.nursery.specs.Young.{HasRoom}
 use Rattle.object_graph.specs.Graphs.{Graph, ListObject}
 use Rattle.object_graph.specs.Meaning.{relist}
 use Rattle.object_graph.specs.Values.{rep_of}
 use Rattle.object_graph.specs.declared.value.Rep.TheVariants as rep
-use Rattle.object_graph.proofs.Lists.{slice_get-set_same, slice_get-set_other}
+use Rattle.object_graph.specs.declared.value.Value.{Value}
+use Rattle.object_graph.proofs.Lists.{slice_get-set_same}
 use Rattle.cell_layout.specs.declared.cell.Cell.{Cell}
 use Rattle.handle_roots.specs.declared.held.Held.{Held}
 use Rattle.heap_table.specs.Seats.{heap_words}
 use Rattle.heap_model.specs.Heaps.{HasCell, words_of_cell}
-use Rattle.heap_model.specs.Slots.{is_object_kind, reference_word, IsBeside}
-use Rattle.heap_model.specs.Kinds.{HasWord, HasNoNumber, IsBoxCell, IsSoundOf, count_offset}
-use Rattle.heap_model.specs.Wholeness.{NamesFrom}
+use Rattle.heap_model.specs.Kinds.{HasWord, HasNoNumber, IsSoundOf, count_offset, IsBoxCell}
 use Rattle.heap_model.specs.Needs.{capacity_at}
-use Rattle.heap_model.specs.Changes.{CellsChange}
+use Rattle.heap_model.specs.Slots.{is_object_kind, reference_word, IsBeside, raw_word, RefersTo}
+use Rattle.heap_model.specs.Wholeness.{NamesFrom, IsOwnedKind}
 use Rattle.heap_model.proofs.BoundHeaps.{none_in}
-use Rattle.heap_model.proofs.CellsApart.{IsOfCell, first_of_cell, cells_apart}
 use Rattle.heap_model.proofs.CellWords.{words_by_kind, words_are_size}
+use Rattle.heap_model.proofs.CellsApart.{IsOfCell}
 use Rattle.heap_model.proofs.OneOwner.{names_store}
-use Rattle.write_barrier.specs.Mains.{Mutator, heap_of, MainShows}
-use Rattle.object_cells.specs.declared.content.Content.TheVariants as content
-use Rattle.object_cells.specs.declared.stores.Store.{Store}
+use Rattle.write_barrier.specs.Mains.{Mutator, heap_of, MainShows, with_word}
 use Rattle.object_cells.specs.Capacities.{ChangesObject}
-use Rattle.object_cells.specs.CellWrites.{IsWrittenBeside}
-use Rattle.object_cells.specs.Contents.{next_at}
 use Rattle.object_cells.specs.ElementChanges.{WritesList, ElementComes}
 use Rattle.object_cells.specs.Made.{IsStoreAt, beside_content}
-use Rattle.object_cells.proofs.CellsRead.{word_stands}
+use Rattle.object_cells.specs.SlotChanges.{IsNoBoxOf}
+use Rattle.object_cells.specs.declared.content.Content.TheVariants as content
+use Rattle.object_cells.specs.declared.stores.Store.{Store}
 use Rattle.object_cells.proofs.HeldContents.{HoldsValue}
 use Rattle.object_cells.proofs.HeldNeeds.{new_value_held}
 use Rattle.object_cells.proofs.KeptCapacities.{list_capacities_stay}
-use Rattle.object_cells.proofs.ListWrites.{written_list_keeps_cells}
-use Rattle.object_cells.proofs.OneElement.{PutsElement, element_refills}
-use Rattle.object_cells.proofs.OwnPlaces.{has_own_words}
-use Rattle.object_cells.proofs.RefilledLists.{written_elements_show}
-use Rattle.object_cells.proofs.SlotsNow.{word_at_offset}
-use Rattle.object_cells.proofs.StoresRead.{StoredAt, stored_at}
-use Rattle.heap_model.specs.Slots.{raw_word, RefersTo}
-use Rattle.heap_model.specs.Wholeness.{IsOwnedKind}
-use Rattle.nursery.specs.Young.{HasRoom}
-use Rattle.write_barrier.specs.Mains.{with_word}
-use Rattle.std.proofs.Common.{add-zero}
-use Rattle.object_cells.specs.SlotChanges.{IsNoBoxOf}
 use Rattle.object_cells.proofs.ListSlots.{element_of_number}
-use Rattle.object_cells.proofs.MadeBoxes.{boxed_integer, row_of_none}
+use Rattle.object_cells.proofs.MadeBoxes.{boxed_integer}
 use Rattle.object_cells.proofs.NumberedSlots.{IsNumbered, one_number}
+use Rattle.object_cells.proofs.OneElement.{PutsElement, element_refills}
 use Rattle.object_cells.proofs.OwnPlaces.{box_size}
+use Rattle.object_cells.proofs.RefilledLists.{written_elements_show}
 use Rattle.object_cells.proofs.SlotBoxes.{IsBoxOf}
-use Rattle.object_cells.proofs.WordsPut.{heap_with_word}
-use Rattle.object_cells.proofs.CellsRead.{cell_before_marks}
+use Rattle.object_cells.proofs.SlotsNow.{word_at_offset}
+use Rattle.object_cells.proofs.StoresRead.{StoredAt}
+use Rattle.list_store.proofs.BoxedWords as of_box
+use Rattle.list_store.proofs.BoxedWords.{BoxWriting}
 use Rattle.list_store.proofs.ElementValues.{box_value}
-use Rattle.list_store.proofs.ListWriting.{PutsList, list_writes}
-use Rattle.list_store.proofs.WrittenSlots.{Changing, Elements, store_is_no_box, slot_stands, slot_few}
-
--- a list is no box
-list_is_no_box : {k : Kind} → k ≡ kind.List → k ≡ kind.Boxed → ⊥
-list_is_no_box list box =
-    let apart : kind.List ≡ kind.Boxed = sym list ∙ box in
-    cc
+use Rattle.list_store.proofs.ListChanging.{Changing, Elements, store_is_no_box, slot_stands, slot_few}
 
 module _ {old new : Mutator} {graph : Graph} {at slot count : ℕ} {list : ListObject} {value : Held} {what : Value}
     {store : Store} (w : ℕ) {box : ℕ} {v : ℤ} (known : Changing old graph at list value what)
@@ -75,162 +56,49 @@ module _ {old new : Mutator} {graph : Graph} {at slot count : ℕ} {list : ListO
     (below : slot < store.capacity) (enough : count ≤ store.capacity) (counted : length list.elements ≡ count)
     (holds_box : HasWord known.shown.shows.slots slot w) (box_of : IsBoxOf (heap_of old) w box)
     (boxed : beside_content value ≡ content.Boxed v) (puts_it : new ≡ with_word old (box + 1) (raw_word v)) where
+  -- how the word was put
+  abbrev writing : BoxWriting old new graph at slot w box v list value what store
+  writing = record { known = known; is_store = is_store; below = below; box_of = box_of; puts_it = puts_it }
+
   -- the list's cell, its store's, and the box's
-  abbrev pub cell : Cell
+  abbrev cell : Cell
   cell = known.shown.cell
 
-  pub there : StoredAt (heap_of old) known.shown.shows.store known.shown.shows.slots store
-  there =
-      let shown = known.shown in
-      stored_at at shown.shows.store shown.shows.slots store is_store shown.has shown.stands shown.shows.slot
-      shown.shows.has (omega (arith, below))
+  abbrev there : StoredAt (heap_of old) known.shown.shows.store known.shown.shows.slots store
+  there = of_box.there writing
 
-  abbrev pub other : Cell
-  other = there.found.cell
+  abbrev other : Cell
+  other = of_box.other writing
 
-  other_has : HasCell (heap_of old) other (words_of_cell (heap_of old) other)
-  other_has = has_own_words there.found.refers.has
-
-  abbrev pub one_box : Cell
+  abbrev one_box : Cell
   one_box = box_of.cell
 
-  box_has : HasCell (heap_of old) one_box (words_of_cell (heap_of old) one_box)
-  box_has = has_own_words box_of.refers.has
+  abbrev others : List Cell
+  others = of_box.others writing
 
-  abbrev pub others : List Cell
-  others = one_box ∷ other ∷ []
+  -- the box and the store were written, and stand in the new heap
+  abbrev writes : WritesList (heap_of old) (heap_of new) cell others []
+  writes = of_box.writes writing
 
-  -- the integer is the second word of the box
-  of_box : IsOfCell one_box (box + 1)
-  of_box = record {
-    from = omega (arith, box_of.stands);
-    below = omega (arith, box_of.stands, box_size box_has box_of.box);
-  }
+  abbrev box_now : HasCell (heap_of new) one_box (words_of_cell (heap_of new) one_box)
+  box_now = of_box.box_now writing
 
-  -- so it is no word of the list or of its store
-  not_of_list : (a : ℕ) → IsOfCell cell a → a ≢ box + 1
-  not_of_list a of_cell same =
-      let cells = cells_apart a known.shows.shows.whole.rows known.shown.has box_has of_cell
-      (subst (IsOfCell one_box) (sym same) of_box) in
-      list_is_no_box known.shown.shows.of_kind (ap (λ (c : Cell). c.layout.kind) cells ∙ box_of.box)
-
-  not_of_store : (a : ℕ) → IsOfCell other a → a ≢ box + 1
-  not_of_store a of_other same =
-      let cells = cells_apart a known.shows.shows.whole.rows other_has box_has of_other
-      (subst (IsOfCell one_box) (sym same) of_box) in
-      store_is_no_box there.found.of_kind (ap (λ (c : Cell). c.layout.kind) cells ∙ box_of.box)
-
-  -- the words
-  abbrev put : List ℕ
-  put = slice_set (heap_words old.seat) (box + 1) (raw_word v)
-
-  within : box + 1 < marks_start old.seat.space
-  within =
-      omega (
-        arith,
-        box_of.stands,
-        box_size box_has box_of.box,
-        cell_before_marks known.shows.shows.whole.sized box_has,
-      )
-
-  put_heap : heap_words new.seat ≡ put
-  put_heap = ap (λ (m : Mutator). heap_words m.seat) puts_it ∙ heap_with_word old (box + 1) (raw_word v) within
-
-  kept : (a : ℕ) → a ≢ box + 1 → slice_get (heap_words new.seat) a ≡ slice_get (heap_words old.seat) a
-  kept a apart =
-      ap (λ all. slice_get all a) put_heap ∙ slice_get-set_other (heap_words old.seat) (box + 1) a (raw_word v) apart
+  abbrev store_now : HasCell (heap_of new) other (words_of_cell (heap_of new) other)
+  store_now = of_box.store_now writing
 
   -- what is used stays
   pub same_young : new.young ≡ record old.young { used = old.young.used + 0 }
-  same_young =
-      ap (λ (m : Mutator). m.young) puts_it ∙ ap (λ n. record old.young { used = n }) (sym (add-zero old.young.used))
+  same_young = (of_box.puts writing).puts.young
 
+  -- there is room for no more
   pub room_for_none : HasRoom old.young 0
-  room_for_none =
-      let young = ap (λ (space : Space). space.sizes.young) known.shows.tied in
-      omega (arith, known.shows.shows.whole.rows.few, young)
+  room_for_none = (of_box.puts writing).room
 
-  -- both cells stand there
-  stood : (one : Cell) → Contains others one → HasCell (heap_of old) one (words_of_cell (heap_of old) one)
-  stood one among = elim (in_cases one_box (other ∷ []) one among) [
-    | inl same ↦ subst (λ (c : Cell). HasCell (heap_of old) c (words_of_cell (heap_of old) c)) same box_has
-    | inr rest ↦ subst (λ (c : Cell). HasCell (heap_of old) c (words_of_cell (heap_of old) c)) (one_in other one rest)
-        other_has
-  ]
-
-  puts : PutsList old new cell others 0 put
-  puts = record {
-    tied = known.shows.tied;
-    whole = known.shows.shows.whole;
-    has = known.shown.has;
-    list = known.shown.shows.of_kind;
-    stood = stood;
-    room = room_for_none;
-    puts = record {
-      space = ap (λ (m : Mutator). m.seat.space) puts_it;
-      phase = ap (λ (m : Mutator). m.seat.phase) puts_it;
-      paths = ap (λ (m : Mutator). m.paths) puts_it;
-      young = same_young;
-      heap = put_heap;
-    };
-    long = length-set (heap_words old.seat) (box + 1) (raw_word v);
-    stay = λ a not_cell not_others not_new. slice_get-set_other (heap_words old.seat) (box + 1) a (raw_word v)
-        (λ same. not_others one_box (first_in one_box (other ∷ []))
-        (record { from = omega (arith, same, of_box.from); below = omega (arith, same, of_box.below) }));
-  }
-
-  -- neither a header nor a length changed
-  beside : (one : Cell) → Contains others one → IsWrittenBeside (heap_of old) (heap_of new) one
-  beside one among = elim (in_cases one_box (other ∷ []) one among) [
-    | inl same ↦ subst (IsWrittenBeside (heap_of old) (heap_of new)) same (record {
-      stood = box_has;
-      of_kind = inr box_of.box;
-      header = kept one_box.at (λ is. omega (arith, is, box_of.stands));
-      length = λ kind_is. absurd (store_is_no_box kind_is box_of.box);
-    })
-    | inr rest ↦
-        let first = first_of_cell other_has in
-        let second : IsOfCell other (other.at + 1) =
-        record { from = omega arith; below = omega (arith, there.found.size) } in
-        subst (IsWrittenBeside (heap_of old) (heap_of new)) (one_in other one rest) (record {
-          stood = other_has;
-          of_kind = inl there.found.of_kind;
-          header = kept other.at (not_of_store other.at first);
-          length = λ kind_is. kept (other.at + 1) (not_of_store (other.at + 1) second);
-        })
-  ]
-
-  pub writes : WritesList (heap_of old) (heap_of new) cell others []
-  writes =
-      list_writes [] puts (kept cell.at (not_of_list cell.at (first_of_cell known.shown.has))) beside
-      (row_of_none (heap_of new) (next_at old))
-
-  cells : CellsChange (heap_of old) (heap_of new) (cell ∷ others) (cell ∷ others) []
-  cells = (written_list_keeps_cells (heap_of old) (heap_of new) cell others [] known.shows.shows.whole writes).1
-
-  cell_has : HasCell (heap_of new) cell (words_of_cell (heap_of new) cell)
-  cell_has = cells.comes cell (first_in cell others)
-
-  box_now : HasCell (heap_of new) one_box (words_of_cell (heap_of new) one_box)
-  box_now = cells.comes one_box (rest_in cell others one_box (first_in one_box (other ∷ [])))
-
-  store_now : HasCell (heap_of new) other (words_of_cell (heap_of new) other)
-  store_now = cells.comes other (rest_in cell others other (rest_in one_box (other ∷ []) other (first_in other [])))
-
-  -- the words of the list's cell
-  word_now : (k word : ℕ) → HasWord (words_of_cell (heap_of old) cell) k word → k < 3
-      → HasWord (words_of_cell (heap_of new) cell) k word
-  word_now k word stands few =
-      let size : cell.size ≡ 3 =
-      sym (words_are_size known.shown.has) ∙ words_by_kind kind.List known.shown.has known.shown.shows.of_kind in
-      let of_cell : IsOfCell cell (cell.at + k) = record { from = omega arith; below = omega (arith, few, size) } in
-      word_at_offset k cell_has (omega (arith, few, size)) ∙ kept (cell.at + k) (not_of_list (cell.at + k) of_cell)
-      ∙ word_stands k word known.shown.has stands
-
-  -- each slot of the store holds what it held
+  -- the slots of the store
   abbrev now : List ℕ
   now = drop store_head (words_of_cell (heap_of new) other)
 
+  -- each slot of the store holds what it held
   keeps : (k x : ℕ) → HasWord now k x → HasWord known.shown.shows.slots k x
   keeps k x holds =
       let inside = slot_few k x store_now there.found.of_kind holds in
@@ -238,7 +106,8 @@ module _ {old new : Mutator} {graph : Graph} {at slot count : ℕ} {list : ListO
       let of_other : IsOfCell other a =
       record { from = omega arith; below = omega (arith, inside, there.found.size) } in
       ap (λ all. slice_get all k) there.found.are ∙ slot_stands k there.found.refers.has there.found.of_kind inside
-      ∙ sym (kept a (not_of_store a of_other)) ∙ sym (slot_stands k store_now there.found.of_kind inside) ∙ holds
+      ∙ sym (of_box.kept writing a (of_box.not_of_store writing a of_other))
+      ∙ sym (slot_stands k store_now there.found.of_kind inside) ∙ holds
 
   -- a slot that refers to the box names it
   names : (k x : ℕ) → HasWord known.shown.shows.slots k x → RefersTo (heap_of old) x one_box box_of.words
@@ -288,16 +157,18 @@ module _ {old new : Mutator} {graph : Graph} {at slot count : ℕ} {list : ListO
   abbrev holds_all : HoldsValue (heap_of old) false rep.Small (rep_of what) what (beside_content value)
   holds_all = new_value_held false value what known.held.shows
 
+  -- the integer is one of 64 bits
   fits : FitsSigned w64 v
   fits = boxed_integer (length graph.objects) v holds_all known.fits boxed
 
   -- the box holds the integer
   box_holds : HasWord (words_of_cell (heap_of new) one_box) 1 (raw_word v)
   box_holds =
-      word_at_offset 1 box_now (omega (arith, box_size box_has box_of.box))
-      ∙ ap (λ n. slice_get (heap_words new.seat) (n + 1)) box_of.stands ∙ ap (λ all. slice_get all (box + 1)) put_heap
+      word_at_offset 1 box_now (omega (arith, box_size (of_box.box_has writing) box_of.box))
+      ∙ ap (λ n. slice_get (heap_words new.seat) (n + 1)) box_of.stands
+      ∙ ap (λ all. slice_get all (box + 1)) (of_box.put_heap writing)
       ∙ slice_get-set_same (heap_words old.seat) (box + 1) (raw_word v)
-      (omega (arith, within, known.shows.shows.whole.sized.words))
+      (omega (arith, of_box.within writing, known.shows.shows.whole.sized.words))
 
   -- so an element is put
   puts_element : PutsElement (heap_of old) (heap_of new) cell others [] list.elements becomes.after slot what
@@ -309,11 +180,11 @@ module _ {old new : Mutator} {graph : Graph} {at slot count : ℕ} {list : ListO
     now = now;
     are = record {
       store = known.shown.shows.store;
-      slot = word_now store_slot known.shown.shows.store known.shown.shows.slot (omega arith);
+      slot = of_box.word_now writing store_slot known.shown.shows.store known.shown.shows.slot (omega arith);
       stands = IsBeside.store known.shown.shows.store other (words_of_cell (heap_of new) other)
           (record { refers = there.found.refers.refers; has = store_now }) there.found.of_kind;
     };
-    counted = word_now count_offset (length becomes.after)
+    counted = of_box.word_now writing count_offset (length becomes.after)
         (known.shown.shows.counted ∙ ap (λ n. Some n) (counted ∙ sym becomes.long)) (omega arith);
     few = omega (arith, becomes.long, becomes.few);
     enough = omega (
@@ -368,7 +239,8 @@ module _ {old new : Mutator} {graph : Graph} {at slot count : ℕ} {list : ListO
         holds = box_holds;
       })
       | inr rest ↦
-          absurd (store_is_no_box there.found.of_kind (ap (λ (c : Cell). c.layout.kind) (one_in other one rest) ∙ is_box))
+          absurd
+          (store_is_no_box there.found.of_kind (ap (λ (c : Cell). c.layout.kind) (one_in other one rest) ∙ is_box))
     ];
   }
 
@@ -391,5 +263,5 @@ module _ {old new : Mutator} {graph : Graph} {at slot count : ℕ} {list : ListO
         writes = writes;
         belong = puts_element.belong;
         kinds = λ one among. absurd (none_in one among);
-      }) (kept (cell.at + store_slot) (not_of_list (cell.at + store_slot)
+      }) (of_box.kept writing (cell.at + store_slot) (of_box.not_of_list writing (cell.at + store_slot)
       (record { from = omega arith; below = omega (arith, size) })))

@@ -72,13 +72,3 @@ box_value {new = new} word v (HoldsValue.tagged_box w wide was) boxed refers =
     ShowsValue.boxed w wide (subst (RefersToBox new word) same refers)
 box_value word v HoldsValue.undefined boxed refers = cc
 box_value word v (HoldsValue.object at number place) boxed refers = cc
-
--- no slot of a store is raw
-pub no_raw : {heap : Heap} {one : Rep} {what : Value} {holds : Content} (word : ℕ)
-    → HoldsValue heap false rep.Small one what holds → holds ≡ content.Raw word → ⊥
-no_raw word (HoldsValue.small_integer one v is apart) raw = cc
-no_raw word (HoldsValue.raw v own apart) raw = false≢true own
-no_raw word (HoldsValue.wide_box v beside apart small_stays) raw = cc
-no_raw word (HoldsValue.tagged_box v wide was) raw = cc
-no_raw word HoldsValue.undefined raw = cc
-no_raw word (HoldsValue.object at number place) raw = cc

@@ -1,5 +1,6 @@
 -- The slots of the elements of a list, as they are read.
-use Rattle.std.proofs.Common.{◌≡◌, ℕ, suc, ◌+◌, ◌≤◌, ◌<◌, List, drop, Some, ℤ, slice_get, get_or, nat_le, sym}
+use Rattle.std.proofs.Common.{◌≡◌, ℕ, suc, ◌+◌, ◌≤◌, ◌<◌, List}
+use Rattle.std.proofs.Common.{drop, Some, ℤ, slice_get, get_or, nat_le, sym}
 use Rattle.std.proofs.Common.{◌∙◌, ap, subst, arith}
 use Rattle.std.specs.Prelude.{pos, negsuc}
 use Rattle.std.proofs.lemmas.Bool.Decides.{nat_tests}
@@ -15,9 +16,6 @@ use Rattle.heap_model.specs.Wholeness.{Whole}
 use Rattle.heap_model.proofs.CellWords.{behind_head}
 use Rattle.heap_model.proofs.SlotWords.{All-slice_get}
 use Rattle.object_cells.specs.declared.stores.Store.{Store}
-use Rattle.object_cells.specs.declared.content.Content.{Content}
-use Rattle.object_cells.specs.declared.content.Content.TheVariants as content
-use Rattle.object_cells.specs.Contents.{HoldsSlotWord}
 use Rattle.object_cells.specs.Made.{IsStoreAt}
 use Rattle.object_cells.proofs.CellsRead.{word_stands}
 use Rattle.object_cells.proofs.StoresRead.{stored_at}
@@ -57,9 +55,3 @@ slot_read {heap} {cell} {words} at word place slots store whole is has stands sl
           ∙ word_stands (store_head + place) (get_or slots place 0) found.refers.has in_store;
       is = All-slice_get (IsSlotWord heap) (drop store_head found.words) place (get_or slots place 0) sound.slots here;
     }
-
--- a slot that holds a slot word may come to hold anything
-pub held_before : (heap : Heap) (word : ℕ) (holds : Content) → IsSlotWord heap word → HoldsSlotWord heap word holds
-held_before heap word (content.Tagged other) is = tt
-held_before heap word (content.Raw other) is = tt
-held_before heap word (content.Boxed v) is = is

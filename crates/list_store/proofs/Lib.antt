@@ -4,9 +4,12 @@ pub mod ElementsRead
 pub mod Places
 mod ListWriting
 mod ElementValues
-pub mod WrittenSlots
+pub mod ListChanging
+mod SlotWords
+mod WrittenSlots
+mod NewStoreWords
 mod PushedToNewStore
 mod PushOutcomes
-mod PutWords
+mod BoxedWords
 mod BoxedElements
 mod PutOutcomes

@@ -1,5 +1,6 @@
 -- The cells of lists, by their addresses, and the stores beside them.
-use Rattle.std.proofs.Common.{◌≡◌, ℕ, ◌+◌, ◌≤◌, ◌<◌, length, Some, slice_get, unwrap_or, sym, ◌∙◌, ap, subst, arith}
+use Rattle.std.proofs.Common.{◌≡◌, ℕ, ◌+◌, ◌≤◌, ◌<◌, length, Some}
+use Rattle.std.proofs.Common.{slice_get, unwrap_or, sym, ◌∙◌, ap, subst, arith}
 use Rattle.std.proofs.lemmas.Option.{slice_get_within, same_Some}
 use Rattle.page_space.specs.Extents.{marks_start}
 use Rattle.object_graph.specs.declared.object.Object.TheVariants.{List as ListOf}
@@ -44,7 +45,8 @@ count_read {heap} count read there counted reads =
     ∙ word_stands count_offset count there.has counted)
 
 -- so many are counted
-pub count_is : {heap : Heap} {at : ℕ} (count : ℕ) (there : IsListCellAt heap at) → HasWord there.words count_offset count
+pub count_is : {heap : Heap} {at : ℕ} (count : ℕ) (there : IsListCellAt heap at)
+    → HasWord there.words count_offset count
     → count_at heap at ≡ count
 count_is {heap} count there counted =
     ap (λ n. count_at heap n) (sym there.stands)

@@ -1,5 +1,6 @@
 -- What comes of a push: the heap shows the graph in which the value is the list's last element.
-use Rattle.std.proofs.Common.{◌≡◌, ℕ, ◌+◌, ◌<◌, ◌==◌, ◌++◌, ◌∷◌, [], true, false, length, length-append, cond, sym, ◌∙◌, ap}
+use Rattle.std.proofs.Common.{◌≡◌, ℕ, ◌+◌, ◌<◌, ◌==◌, ◌++◌, ◌∷◌, []}
+use Rattle.std.proofs.Common.{true, false, length, length-append, cond, sym, ◌∙◌, ap}
 use Rattle.std.proofs.Common.{subst, arith}
 use Rattle.std.proofs.lemmas.Bool.Decides.{nat_tests}
 use Rattle.page_space.specs.Sizes.{AreWithin}
@@ -19,11 +20,13 @@ use Rattle.heap_model.specs.Needs.{count_at, grown_list, push_need_at}
 use Rattle.list_store.specs.ListChanges.{HasPushed}
 use Rattle.list_store.specs.Pushes.{PushesAt}
 use Rattle.list_store.proofs.PushNeeds.{need_to_store, need_to_new_store}
-use Rattle.list_store.proofs.WrittenSlots.{Changing, Elements, slot_shown, slot_keeps}
+use Rattle.list_store.proofs.ListChanging.{Changing, Elements}
+use Rattle.list_store.proofs.WrittenSlots.{slot_shown, slot_keeps}
 use Rattle.list_store.proofs.PushedToNewStore.{to_new_store_shown, to_new_store_becomes}
 
 -- one element more
-abbrev pushed_elements : {old : Mutator} {graph : Graph} {at : ℕ} {list : ListObject} {value : Held} {what : Value} (count : ℕ)
+abbrev pushed_elements : {old : Mutator} {graph : Graph} {at : ℕ} {list : ListObject} {value : Held}
+    {what : Value} (count : ℕ)
     → Changing old graph at list value what → count ≡ length list.elements → length list.elements < list_most
     → Elements graph list what count (count + 1)
 pushed_elements {graph = graph} {list = list} {what = what} count known is few = record {
@@ -41,7 +44,8 @@ pub has_pushed : {old new : Mutator} {graph : Graph} {at count : ℕ} {list : Li
     → Changing old graph at list value what → count ≡ length list.elements → length list.elements < list_most
     → AreWithin old.seat.space.sizes old.seat.space.variables → PushesAt old new at count value
     → HasPushed old new graph at list what
-has_pushed {old} {new} {at = at} {count} {value = value} {what} known is few sizes (PushesAt.to_store store can room pushes) =
+has_pushed {old} {new} {at = at} {count} {value = value} {what} known is few sizes
+    (PushesAt.to_store store can room pushes) =
     let heap = heap_of old in
     let need = sym (need_to_store value can (λ same. omega (arith, same, room)))
     ∙ ap (push_need_at heap at) (wide_is value what known.held.shows) in
@@ -51,7 +55,7 @@ has_pushed {old} {new} {at = at} {count} {value = value} {what} known is few siz
     record {
       few = few;
       room = subst (HasRoom old.young) need pushes.room;
-      uses = subst (UsesMore old new) need (record { space = pushes.words.space; young = pushes.words.young });
+      uses = subst (UsesMore old new) need (record { beside = pushes.words.beside; young = pushes.words.young });
       changes = subst (ChangesObject heap (heap_of new) at) (sym kept)
           (subst (λ a. ChangesObject heap (heap_of new) a (capacity_at heap a)) known.shown.stands
           (slot_keeps known (pushed_elements count known is few) can.is room (omega (arith, room)) pushes));
@@ -72,7 +76,7 @@ has_pushed {old} {new} {at = at} {count} {value = value} {what} known is few siz
     record {
       few = few;
       room = subst (HasRoom old.young) need pushes.room;
-      uses = subst (UsesMore old new) need (record { space = pushes.words.space; young = pushes.words.young });
+      uses = subst (UsesMore old new) need (record { beside = pushes.words.beside; young = pushes.words.young });
       changes = subst (ChangesObject heap (heap_of new) at) (sym grows)
           (subst (λ a. ChangesObject heap (heap_of new) a (grown_list count)) known.shown.stands
           (to_new_store_becomes known can is few full pushes sizes));

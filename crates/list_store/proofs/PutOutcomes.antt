@@ -1,5 +1,6 @@
 -- What comes of a put: the heap shows the graph in which the value is in the place of the element.
-use Rattle.std.proofs.Common.{◌≡◌, ℕ, ◌+◌, ◌≤◌, ◌<◌, length, Some, not, ◌&&◌, slice_get, get_or, set, length-set, unwrap_or}
+use Rattle.std.proofs.Common.{◌≡◌, ℕ, ◌+◌, ◌≤◌, ◌<◌, length, Some}
+use Rattle.std.proofs.Common.{not, ◌&&◌, slice_get, get_or, set, length-set, unwrap_or}
 use Rattle.std.proofs.Common.{refl, sym, ◌∙◌, ap, subst, arith}
 use Rattle.std.specs.Prelude.{slice_set}
 use Rattle.tagged_word.specs.declared.layout.Kind.TheVariants as kind
@@ -22,7 +23,7 @@ use Rattle.heap_model.proofs.CellWords.{words_by_kind, words_are_size}
 use Rattle.write_barrier.specs.Mains.{Mutator, heap_of}
 use Rattle.object_cells.specs.declared.stores.Store.{Store}
 use Rattle.object_cells.specs.Capacities.{ChangesObject}
-use Rattle.object_cells.specs.Contents.{next_at, box_in, filling_of, filling_need}
+use Rattle.object_cells.specs.Contents.{next_at, box_in, filling_of, filling_need, FillsSlot}
 use Rattle.object_cells.specs.Made.{IsStoreAt, with_content, content_need, content_word, beside_content, is_wide_held}
 use Rattle.object_cells.specs.HeldValues.{is_wide}
 use Rattle.object_cells.specs.Uses.{UsesMore}
@@ -36,16 +37,18 @@ use Rattle.object_cells.proofs.StoresRead.{stored_at}
 use Rattle.object_cells.proofs.UnusedWords.{cell_is_used, next_before_segments}
 use Rattle.object_cells.proofs.WordsTold.{cell_fits}
 use Rattle.heap_model.specs.Needs.{element_word, put_need_at}
+use Rattle.object_cells.proofs.FilledSlots.{FilledBy, held_put, set_there}
 use Rattle.list_store.specs.ListChanges.{HasPut}
-use Rattle.list_store.specs.Pushes.{WritesSlot, FillsElement}
+use Rattle.list_store.specs.Pushes.{WritesSlot}
 use Rattle.list_store.proofs.BoxedElements.{box_shown, box_keeps, room_for_none, same_young}
 use Rattle.list_store.proofs.ElementsRead.{SlotRead, slot_read}
-use Rattle.list_store.proofs.PutWords.{PutBy, value_put, set_there}
-use Rattle.list_store.proofs.WrittenSlots.{Changing, Elements, list_is_no_store, slot_shown, slot_keeps}
+use Rattle.list_store.proofs.ListChanging.{Changing, Elements, list_is_no_store}
+use Rattle.list_store.proofs.WrittenSlots.{slot_shown, slot_keeps}
 
 -- one element in the place of another
 abbrev pub put_elements : {old : Mutator} {graph : Graph} {at : ℕ} {list : ListObject} {value : Held} {what : Value}
-    (place : ℕ) → Changing old graph at list value what → place < length list.elements → length list.elements ≤ list_most
+    (place : ℕ) → Changing old graph at list value what → place < length list.elements
+    → length list.elements ≤ list_most
     → Elements graph list what place (length list.elements)
 put_elements {graph = graph} {list = list} {what = what} place known there few = record {
   after = set list.elements place what;
@@ -61,13 +64,15 @@ abbrev pub place_at : Store → ℕ → ℕ
 place_at store place = store.at + (store_head + place)
 
 module _ {old : Mutator} {graph : Graph} {at : ℕ} {list : ListObject} {value : Held} {what : Value}
-    (store : Store) (place : ℕ) (known : Changing old graph at list value what) (is_store : IsStoreAt (heap_of old) at store)
+    (store : Store) (place : ℕ) (known : Changing old graph at list value what)
+    (is_store : IsStoreAt (heap_of old) at store)
     (below : place < store.capacity) where
   -- the word of the slot
   pub slot : SlotRead (heap_of old) known.shown.shows.slots store.at place (get_or known.shown.shows.slots place 0)
   slot =
       let shown = known.shown in
-      slot_read at shown.shows.store place shown.shows.slots store known.shows.shows.whole is_store shown.has shown.stands
+      slot_read at shown.shows.store place shown.shows.slots store known.shows.shows.whole is_store shown.has
+      shown.stands
       shown.shows.slot shown.shows.has below
 
   pub word_is : word_at (heap_of old) (place_at store place) ≡ get_or known.shown.shows.slots place 0
@@ -79,7 +84,8 @@ module _ {old : Mutator} {graph : Graph} {at : ℕ} {list : ListObject} {value :
   element_is sizes =
       let heap = heap_of old in
       let shown = known.shown in
-      let found = (stored_at at shown.shows.store shown.shows.slots store is_store shown.has shown.stands shown.shows.slot
+      let found = (stored_at at shown.shows.store shown.shows.slots store is_store shown.has shown.stands
+      shown.shows.slot
       shown.shows.has (omega (arith, below))).found in
       let refers = ap (λ n. word_at heap (n + store_slot)) (sym shown.stands)
       ∙ ap (λ o. unwrap_or o 0) (word_stands store_slot shown.shows.store shown.has shown.shows.slot) in
@@ -95,7 +101,7 @@ module _ {old : Mutator} {graph : Graph} {at : ℕ} {list : ListObject} {value :
       (beside_content value)) ≡ put_need_at (heap_of old) at place (is_wide what)
   put_need sizes =
       let heap = heap_of old in
-      value_put heap (word_at heap (place_at store place)) (next_at old) value
+      held_put heap (word_at heap (place_at store place)) (next_at old) value
       ∙ ap (λ x. box_need (is_wide_held value && not (is_box_word heap x))) (sym (element_is sizes))
       ∙ ap (put_need_at heap at place) (wide_is value what known.held.shows)
 
@@ -106,7 +112,8 @@ module _ {old : Mutator} {graph : Graph} {at : ℕ} {list : ListObject} {value :
       ≡ Some (length list.elements)
   count_stays room =
       let shown = known.shown in
-      let found = (stored_at at shown.shows.store shown.shows.slots store is_store shown.has shown.stands shown.shows.slot
+      let found = (stored_at at shown.shows.store shown.shows.slots store is_store shown.has shown.stands
+      shown.shows.slot
       shown.shows.has (omega (arith, below))) in
       let rows = known.shows.shows.whole.rows in
       let size : shown.cell.size ≡ 3 =
@@ -117,7 +124,8 @@ module _ {old : Mutator} {graph : Graph} {at : ℕ} {list : ListObject} {value :
         from = omega (arith, found.found.stands);
         below = omega (arith, found.found.stands, found.found.size, found.capacity, below);
       } in
-      slice_get-set_other (with_content (heap_words old.seat) (beside_content value) (next_at old)) (place_at store place)
+      slice_get-set_other (with_content (heap_words old.seat) (beside_content value) (next_at old))
+      (place_at store place)
       (at + count_offset) (content_word (beside_content value) (next_at old))
       (λ same.
       let cells = cells_apart (place_at store place) rows shown.has found.found.refers.has
@@ -130,21 +138,22 @@ module _ {old : Mutator} {graph : Graph} {at : ℕ} {list : ListObject} {value :
       ∙ word_stands count_offset (length list.elements) shown.has shown.shows.counted
 
 -- so the element is the value
-pub has_put : {old new : Mutator} {graph : Graph} {at : ℕ} {list : ListObject} {value : Held} {what : Value} (store : Store)
+pub has_put : {old new : Mutator} {graph : Graph} {at : ℕ} {list : ListObject} {value : Held} {what : Value}
+    (store : Store)
     (place : ℕ) → Changing old graph at list value what → IsStoreAt (heap_of old) at store → place < store.capacity
     → place < length list.elements → length list.elements ≤ list_most → length list.elements ≤ store.capacity
-    → AreWithin old.seat.space.sizes old.seat.space.variables → FillsElement old new (place_at store place) value
-    → PutBy old new (place_at store place) (word_at (heap_of old) (place_at store place)) (beside_content value)
+    → AreWithin old.seat.space.sizes old.seat.space.variables
+    → FillsSlot old new (place_at store place) (beside_content value)
+    → FilledBy old new (place_at store place) (word_at (heap_of old) (place_at store place)) (beside_content value)
     → HasPut old new graph at list place what
 has_put {old} {new} {at = at} {list} {value} {what} store place known is_store below there few enough sizes fills
-    (PutBy.slot room words needs) =
+    (FilledBy.slot room words needs) =
     let heap = heap_of old in
     let need = sym needs ∙ put_need store place known is_store below sizes in
     let pushes : WritesSlot old new at place (length list.elements) value store = record {
       room = room;
       words = record {
-        space = words.space;
-        phase = words.phase;
+        beside = words.beside;
         paths = words.paths;
         young = words.young;
         heap = words.heap
@@ -155,7 +164,7 @@ has_put {old} {new} {at = at} {list} {value} {what} store place known is_store b
     let becomes = put_elements place known there few in
     record {
       room = subst (HasRoom old.young) need room;
-      uses = subst (UsesMore old new) need (record { space = words.space; young = words.young });
+      uses = subst (UsesMore old new) need (record { beside = words.beside; young = words.young });
       changes = subst (λ a. ChangesObject heap (heap_of new) a (capacity_at heap a)) known.shown.stands
           (slot_keeps known becomes is_store below enough pushes);
       shows = slot_shown known becomes is_store below enough pushes;
@@ -166,7 +175,7 @@ has_put {old} {new} {at = at} {list} {value} {what} store place known is_store b
       puts = fills;
     }
 has_put {old} {new} {at = at} {list} {value} {what} store place known is_store below there few enough sizes fills
-    (PutBy.of_box box v boxed found same) =
+    (FilledBy.of_box box v boxed found same) =
     let heap = heap_of old in
     let w : ℕ = get_or known.shown.shows.slots place 0 in
     let read = slot store place known is_store below in
@@ -182,7 +191,7 @@ has_put {old} {new} {at = at} {list} {value} {what} store place known is_store b
       room = subst (HasRoom old.young) need
           (room_for_none w known becomes is_store below enough refl read.holds box_of boxed same);
       uses = subst (UsesMore old new) need (record {
-        space = ap (λ (m : Mutator). m.seat.space) same;
+        beside = fills.beside;
         young = same_young w known becomes is_store below enough refl read.holds box_of boxed same;
       });
       changes = subst (λ a. ChangesObject heap (heap_of new) a (capacity_at heap a)) known.shown.stands

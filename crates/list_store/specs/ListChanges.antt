@@ -1,6 +1,7 @@
 -- What the calls on the elements of a list do.
 use Rattle.tagged_word.specs.Cells.{store_head}
-use Rattle.std.specs.Prelude.{◌≡◌, ℕ, ◌+◌, ◌<◌, ◌≤◌, [], ◌∷◌, ◌++◌, length, Some, None, slice_get, slice_set, ℤ}
+use Rattle.std.specs.Prelude.{◌≡◌, ℕ, ◌+◌, ◌<◌, ◌≤◌, [], ◌∷◌}
+use Rattle.std.specs.Prelude.{◌++◌, length, Some, None, slice_get, slice_set, ℤ}
 use Rattle.std.specs.Prelude.{Result, Ok, Err}
 use Rattle.object_graph.specs.declared.value.Value.{Value}
 use Rattle.object_graph.specs.Graphs.{Graph, ListObject}
@@ -13,11 +14,12 @@ use Rattle.write_barrier.specs.Mains.{Mutator, heap_of, MainShows}
 use Rattle.object_cells.specs.ListObjects.{IsListAt}
 use Rattle.object_cells.specs.HeldValues.{IsValueHeld, is_wide}
 use Rattle.object_cells.specs.declared.stores.Store.{Store}
-use Rattle.object_cells.specs.Made.{IsStoreAt}
+use Rattle.object_cells.specs.Contents.{FillsSlot}
+use Rattle.object_cells.specs.Made.{IsStoreAt, beside_content}
 use Rattle.object_cells.specs.Uses.{UsesMore}
 use Rattle.object_cells.specs.Capacities.{ChangesObject}
 use Rattle.list_store.specs.Growth.{push_capacity_at}
-use Rattle.list_store.specs.Pushes.{PushesAt, FillsElement}
+use Rattle.list_store.specs.Pushes.{PushesAt}
 use Rattle.list_store.specs.declared.stop.PushStop.{PushStop}
 use Rattle.list_store.specs.declared.stop.PushStop.TheVariants as push
 use Rattle.list_store.specs.declared.stop.PutStop.{PutStop}
@@ -34,8 +36,9 @@ pub record IsShownSetting (main : Mutator) (at : ℕ) (held : Held) : Type 0 whe
   pub is_held : IsValueHeld main graph held value
 
 -- How a value comes to be the last element of the list at the address: it allocates what that needs, for which there is
--- room, and the heap shows the graph in which it is. Which words are put is said: only words of the list change, and those
--- that it allocates, a store and behind it a box. The store is made anew where it is full or absent; no other object's is.
+-- room, and the heap shows the graph in which it is. Which words are put is said: only words of the list change, and
+-- those that it allocates, a store and behind it a box. The store is made anew where it is full or absent; no other
+-- object's is.
 pub record HasPushed (old new : Mutator) (graph : Graph) (at : ℕ) (list : ListObject) (value : Value) : Type 0 where
   pub few : length list.elements < list_most
   pub room : HasRoom old.young (push_need_at (heap_of old) at (is_wide value))
@@ -46,8 +49,8 @@ pub record HasPushed (old new : Mutator) (graph : Graph) (at : ℕ) (list : List
   pub holds : ShowsHeld (heap_of old) held (Some value)
   pub puts : PushesAt old new at (length list.elements) held
 
--- `push`: the value becomes the last element; or the list has as many as it may have, or there is no room, in this order,
--- and nothing changes.
+-- `push`: the value becomes the last element; or the list has as many as it may have, or there is no room, in this
+-- order, and nothing changes.
 abbrev pub PushesElement : Mutator → Mutator → Graph → ℕ → ListObject → Value → Result Unit PushStop → Type 0
 PushesElement old new graph at list value (Ok _) = HasPushed old new graph at list value
 PushesElement old new graph at list value (Err push.ListFull) = (list_most ≤ length list.elements) × (new ≡ old)
@@ -62,10 +65,11 @@ IsPlaceIn list index place = below (length list.elements) index ≡ Some place
 abbrev pub IsOutside : ListObject → ℤ → Type 0
 IsOutside list index = below (length list.elements) index ≡ None
 
--- How the element at a place of the list at the address comes to be a value: it allocates what that needs, for which there
--- is room, and the heap shows the graph in which it is. Which words are put is said: that of the element's slot and of a box
--- that is made, or the integer of the box that stands there. Each store keeps its capacity.
-pub record HasPut (old new : Mutator) (graph : Graph) (at : ℕ) (list : ListObject) (place : ℕ) (value : Value) : Type 0 where
+-- How the element at a place of the list at the address comes to be a value: it allocates what that needs, for which
+-- there is room, and the heap shows the graph in which it is. Which words are put is said: that of the element's slot
+-- and of a box that is made, or the integer of the box that stands there. Each store keeps its capacity.
+pub record HasPut (old new : Mutator) (graph : Graph) (at : ℕ) (list : ListObject) (place : ℕ)
+    (value : Value) : Type 0 where
   pub room : HasRoom old.young (put_need_at (heap_of old) at place (is_wide value))
   pub uses : UsesMore old new (put_need_at (heap_of old) at place (is_wide value))
   pub changes : ChangesObject (heap_of old) (heap_of new) at (capacity_at (heap_of old) at)
@@ -74,7 +78,7 @@ pub record HasPut (old new : Mutator) (graph : Graph) (at : ℕ) (list : ListObj
   pub is_store : IsStoreAt (heap_of old) at store
   pub held : Held
   pub holds : ShowsHeld (heap_of old) held (Some value)
-  pub puts : FillsElement old new (store.at + (store_head + place)) held
+  pub puts : FillsSlot old new (store.at + (store_head + place)) (beside_content held)
 
 -- `put`: the element that an index names becomes the value; or it names none, or there is no room, in this order, and
 -- nothing changes.
@@ -84,7 +88,8 @@ PutsElement old new graph at list index value (Ok _) =
 PutsElement old new graph at list index value (Err put.Range) = IsOutside list index × (new ≡ old)
 PutsElement old new graph at list index value (Err (put.Full room)) =
     (place : ℕ) × IsPlaceIn list index place
-    × (room.need ≡ put_need_at (heap_of old) at place (is_wide value)) × (HasRoom old.young room.need → ⊥) × (new ≡ old)
+    × (room.need ≡ put_need_at (heap_of old) at place (is_wide value)) × (HasRoom old.young room.need → ⊥)
+    × (new ≡ old)
 
 -- the element that an index names
 pub record IsElementAt (list : ListObject) (index : ℤ) (value : Value) : Type 0 where

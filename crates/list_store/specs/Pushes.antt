@@ -1,5 +1,5 @@
 -- How a value comes behind the elements of a list, or in place of one: which words that puts.
-use Rattle.std.specs.Prelude.{◌≡◌, ℕ, ◌+◌, ◌<◌, List, slice_set, Result, Ok, Err}
+use Rattle.std.specs.Prelude.{◌≡◌, ℕ, ◌+◌, ◌<◌, List, slice_set}
 use Rattle.tagged_word.specs.declared.layout.Kind.TheVariants as kind
 use Rattle.tagged_word.specs.Cells.{store_head, store_slot}
 use Rattle.nursery.specs.Young.{HasRoom}
@@ -9,11 +9,10 @@ use Rattle.heap_table.specs.Seats.{heap_words}
 use Rattle.heap_model.specs.Heaps.{Heap, HasCell}
 use Rattle.heap_model.specs.Slots.{reference_word}
 use Rattle.heap_model.specs.Kinds.{count_offset}
-use Rattle.write_barrier.specs.declared.room.NoRoom.{NoRoom}
 use Rattle.write_barrier.specs.Mains.{Mutator, heap_of, IsTied, reserved}
 use Rattle.object_cells.specs.declared.stores.Store.{Store}
 use Rattle.object_cells.specs.CellsAt.{IsWhole}
-use Rattle.object_cells.specs.Contents.{next_at, filling_at, filled, Allocates, LacksRoom}
+use Rattle.object_cells.specs.Contents.{next_at}
 use Rattle.object_cells.specs.Made.{PutsWords, IsStoreAt, begun_store, with_content, content_need, content_word}
 use Rattle.object_cells.specs.Made.{beside_content}
 use Rattle.heap_model.specs.Needs.{count_at, grown_list}
@@ -69,21 +68,10 @@ pub record PushesToNewStore (old new : Mutator) (list count : ℕ) (value : Held
       PutsWords (reserved old (store_head + grown_list count + content_need (beside_content value))) new
       (with_count linked list (count + 1))
 
--- How the value comes behind so many elements of the list at the address: to the list's store, which is made anew where it
--- is full or absent.
+-- How the value comes behind so many elements of the list at the address: to the list's store, which is made anew where
+-- it is full or absent.
 pub data PushesAt (old new : Mutator) (list count : ℕ) (value : Held) : Type 0 where
   to_store : (store : Store) → CanChange old list count store → count < store.capacity
       → PushesToStore old new list count value store → PushesAt old new list count value
   to_new_store : (store : Store) → CanChange old list count store → count ≡ store.capacity
       → PushesToNewStore old new list count value store → PushesAt old new list count value
-
--- The slot at the address came to hold the value: the words that it needs are used, and it was filled.
-pub record FillsElement (old new : Mutator) (at : ℕ) (value : Held) : Type 0 where
-  pub between : Mutator
-  pub allocates : Allocates old between (filling_at old at (beside_content value))
-  pub fills : new ≡ filled between at (filling_at old at (beside_content value))
-
--- it did; or there is no room, and nothing has changed
-abbrev pub FillsOrRefuses : Mutator → Mutator → ℕ → Held → Result Unit NoRoom → Type 0
-FillsOrRefuses old new at value (Ok _) = FillsElement old new at value
-FillsOrRefuses old new at value (Err full) = LacksRoom old (filling_at old at (beside_content value)) full × (new ≡ old)

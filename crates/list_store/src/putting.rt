@@ -6,11 +6,10 @@ ghost use Rattle.object_graph.specs.Graphs.{Graph, ListObject};
 ghost use Rattle.heap_model.specs.Needs.{word_at};
 ghost use Rattle.write_barrier.specs.Mains.{heap_of, IsTied, MainShows};
 ghost use Rattle.object_cells.specs.CellsAt.{IsWhole};
-ghost use Rattle.object_cells.specs.Contents.{HoldsSlotWord};
+ghost use Rattle.object_cells.specs.Contents.{HoldsSlotWord, FillsOrRefuses};
 ghost use Rattle.object_cells.specs.HeldValues.{IsValueHeld};
 ghost use Rattle.object_cells.specs.ListObjects.{IsListAt};
 ghost use Rattle.object_cells.specs.Made.{beside_content};
-ghost use Rattle.list_store.specs.Pushes.{FillsOrRefuses};
 ghost use Rattle.list_store.specs.ListChanges.{IsShownSetting, PutsElement};
 
 use crate::elements::{content_for, count_of, place_of};
@@ -27,7 +26,8 @@ fn fill_slot(main: &mut Main, store: u32, offset: u32, value: Held) -> Result<()
     requires within { store + offset < marks_start main.old.seat.space }
     requires held { let word = word_at (heap_of main.old) (store + offset) in
         HoldsSlotWord (heap_of main.old) word (beside_content value) }
-    ensures { FillsOrRefuses main.old main.new (store + offset) value result }
+    ensures { let content = beside_content value in
+        FillsOrRefuses main.old main.new (store + offset) content result }
 {
     // No address of a heap is past 32 bits.
     let _regions = main.regions();

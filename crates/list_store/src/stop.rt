@@ -20,6 +20,7 @@ pub enum PutStop {
     Full(NoRoom),
 }
 
-/// An index is below 0, or not below the length.
+/// An integer is below 0 or too large: an index that is not below the length, or a number of elements
+/// that is over it.
 #[derive(Clone, Copy, Debug, PartialEq, Eq)]
 pub struct Range;

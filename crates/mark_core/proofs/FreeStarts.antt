@@ -1,9 +1,7 @@
 -- What holds of each free start, from a walk along the list of starts.
-use Rattle.std.proofs.Common.{ℕ, inl, inr, ◌<◌, ◌≡◌, Bool, true, false, IsTrue, List, length, get_or, refl, sym, subst, ◌∙◌, ◌↔◌}
-use Rattle.std.specs.List.{Contains}
+use Rattle.std.proofs.Common.{ℕ, ◌<◌, ◌≡◌, true, IsTrue, List, length, get_or, refl, sym}
+use Rattle.std.proofs.Common.{subst, ◌∙◌, ◌↔◌}
 use Rattle.std.proofs.lemmas.List.{get_or_default}
-use Rattle.seat_steps.specs.Lists.{is_in}
-use Rattle.seat_steps.proofs.Joining.{in_found, found_in, decided}
 use Rattle.mark_laws.proofs.Stores.{free_is}
 use Rattle.mark_world.specs.declared.views.MainView.{MainView}
 use Rattle.mark_world.specs.Pages.{is_free, EachFree}
@@ -19,14 +17,6 @@ each_of_starts main P each start free =
     let c = (free_is main start free).0 in
     let same : get_or main.starts c.0 0 ≡ start = get_or_default main.starts c.0 0 start c.1 ∙ c.2 in
     subst P same (each c.0 c.1 (subst (λ s. IsTrue (is_free main s)) (sym same) free))
-
--- a test that tells whether a list has an address is that test
-pub same_test : (list : List ℕ) (at : ℕ) (b : Bool) → IsTrue b ↔ Contains list at → b ≡ is_in list at
-same_test list at true tells = sym (found_in list at (tells.0 refl))
-same_test list at false tells = elim (decided (is_in list at)) [
-  | inl t ↦ absurd (let e : false ≡ true = tells.1 (in_found list at t) in cc)
-  | inr f ↦ sym f
-]
 
 -- what holds of each of all starts that is free tells a test of free starts that passed
 pub all_passed : (main : MainView) (P : ℕ → Type 0) (list : List ℕ) (count : ℕ)

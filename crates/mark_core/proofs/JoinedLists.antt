@@ -1,6 +1,6 @@
 -- Lists that others join, as far as a walk along these has come.
-use Rattle.std.proofs.Common.{ℕ, ◌<◌, ◌+◌, ◌≡◌, List, length, get_or, drop, ap, sym, drop-cons, add-one, map, subst}
-use Rattle.std.proofs.Common.{arith}
+use Rattle.std.proofs.Common.{ℕ, ◌<◌, ◌+◌, ◌≡◌, List, length, get_or, drop, ap, sym, drop-cons, add-one, map}
+use Rattle.std.proofs.Common.{subst, arith}
 use Rattle.std.proofs.lemmas.List.{length-map, get_or-map}
 use Rattle.mark_world.specs.declared.snap.SnapSlot.{SnapSlot}
 use Rattle.seat_steps.specs.Lists.{joined}

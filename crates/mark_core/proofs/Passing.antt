@@ -1,7 +1,7 @@
 -- What holds of each offset of a list, from a walk over numbers that passes each of the list.
-use Rattle.std.proofs.Common.{ℕ, ◌<◌, ◌+◌, ◌≡◌, ◌==◌, ◌↔◌, inl, inr, Bool, true, IsTrue, List, length, get_or, map, All}
-use Rattle.std.proofs.Common.{Some, None, refl, sym, ap, subst, ◌∙◌, arith, [], ◌∷◌, ◌||◌, ◌&&◌, ◌⊎◌, not}
-use Rattle.std.proofs.Common.{if◌then◌else◌, Option}
+use Rattle.std.proofs.Common.{ℕ, ◌<◌, ◌+◌, ◌≡◌, ◌==◌, ◌↔◌, inl, inr, Bool, true, IsTrue, List, length}
+use Rattle.std.proofs.Common.{get_or, map, All, Some, None, refl, sym, ap, subst, ◌∙◌, arith, [], ◌∷◌, ◌||◌}
+use Rattle.std.proofs.Common.{◌&&◌, ◌⊎◌, not, if◌then◌else◌, Option}
 use Rattle.std.proofs.lemmas.Bool.{cases_lt}
 use Rattle.std.proofs.lemmas.List.Elements.{Contains-get_or}
 use Rattle.std.specs.List.{Contains, list_any}
@@ -25,8 +25,8 @@ abbrev pub PassBelow : List ℕ → (ℕ → Type 0) → ℕ → Type 0
 PassBelow list P count = (k : ℕ) → k < count → Contains list k → P k
 
 -- the next number passes too
-pub pass_more : (list : List ℕ) (P : ℕ → Type 0) (count : ℕ) → PassBelow list P count → (Contains list count → P count)
-    → PassBelow list P (count + 1)
+pub pass_more : (list : List ℕ) (P : ℕ → Type 0) (count : ℕ) → PassBelow list P count
+    → (Contains list count → P count) → PassBelow list P (count + 1)
 pass_more list P count before here k l c = elim (cases_lt k count) [
   | inl early ↦ before k early c
   | inr late ↦ let same : count ≡ k = omega arith in

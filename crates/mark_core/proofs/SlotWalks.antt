@@ -1,7 +1,7 @@
 -- The slots of a cell as a walk along its offsets comes to them.
-use Rattle.std.proofs.Common.{ℕ, suc, ◌<◌, ◌≤◌, ◌+◌, ◌≡◌, ◌≢◌, ◌==◌, ◌||◌, inl, inr, true, false, cond, nat_lt}
-use Rattle.std.proofs.Common.{List, [], ◌∷◌, ◌++◌, map, filter, length, get_or, Some, refl, ap, sym, ◌∙◌, arith}
-use Rattle.std.proofs.Common.{if◌then◌else◌, All}
+use Rattle.std.proofs.Common.{ℕ, suc, ◌<◌, ◌≤◌, ◌+◌, ◌≡◌, ◌==◌, ◌||◌, inl, inr, true}
+use Rattle.std.proofs.Common.{false, cond, nat_lt, List, [], ◌∷◌, ◌++◌, map, filter, length, get_or, Some, refl, ap}
+use Rattle.std.proofs.Common.{sym, ◌∙◌, arith, if◌then◌else◌, All}
 use Rattle.std.proofs.lemmas.Bool.{cases_lt}
 use Rattle.std.proofs.lemmas.Bool.Decides.{nat_tests}
 use Rattle.std.specs.List.Sorted.{IsStrictlyIncreasing}
@@ -12,6 +12,7 @@ use Rattle.tagged_word.specs.Readings.{read_cell}
 use Rattle.tagged_word.proofs.Cells.{slot_within, tagged_is_scavenged}
 use Rattle.tagged_word.proofs.CellReadings.{cell_from}
 use Rattle.seat_steps.specs.Lists.{is_in}
+use Rattle.seat_steps.proofs.Tested.{nat_lt-yes, not_equal}
 use Rattle.mark_world.specs.Pages.{slots_of}
 
 -- the offsets below a number
@@ -22,17 +23,9 @@ below k xs = filter (λ x. nat_lt x k) xs
 abbrev pub itself : List ℕ → ℕ → List ℕ
 itself xs k = if is_in xs k then k ∷ [] else []
 
--- a smaller number passes the test
-passes : (x k : ℕ) → x < k → nat_lt x k ≡ true
-passes x k l = grind (arith, nat_tests)
-
 -- another fails it
 fails : (x k : ℕ) → k ≤ x → nat_lt x k ≡ false
 fails x k l = grind (arith, nat_tests)
-
--- two numbers differ by the test
-differs : (x k : ℕ) → x ≢ k → (x == k) ≡ false
-differs x k n = grind (arith, nat_tests)
 
 -- a number is itself by the test
 agrees : (x k : ℕ) → x ≡ k → (x == k) ≡ true
@@ -60,17 +53,17 @@ none_later k x (y ∷ ys) h l =
 
 -- a number below the first is not in an ascending list
 absent : (k x : ℕ) (xs : List ℕ) → IsStrictlyIncreasing (x ∷ xs) → k < x → is_in (x ∷ xs) k ≡ false
-absent k x [] h l = ap (λ b. b || false) (differs x k (λ e. absurd (omega arith)))
+absent k x [] h l = ap (λ b. b || false) (not_equal x k (λ e. absurd (omega arith)))
 absent k x (y ∷ ys) h l =
     let above : x < y = second_above x y ys h in
-    ap (λ b. b || is_in (y ∷ ys) k) (differs x k (λ e. absurd (omega arith)))
+    ap (λ b. b || is_in (y ∷ ys) k) (not_equal x k (λ e. absurd (omega arith)))
     ∙ absent k y ys (rest_ascends x (y ∷ ys) h) (omega arith)
 
 -- the first is below the number
 below_behind : (k x : ℕ) (xs : List ℕ) → x < k → below (k + 1) xs ≡ below k xs ++ itself xs k
     → below (k + 1) (x ∷ xs) ≡ below k (x ∷ xs) ++ itself (x ∷ xs) k
 below_behind k x xs early rest =
-    rw (passes x (k + 1) (omega arith), passes x k early, differs x k (λ e. absurd (omega arith)))
+    rw (nat_lt-yes x (k + 1) (omega arith), nat_lt-yes x k early, not_equal x k (λ e. absurd (omega arith)))
     (ap (λ ys. x ∷ ys) rest)
 
 -- the first is above it
@@ -90,7 +83,7 @@ below_at : (k x : ℕ) (xs : List ℕ) → IsStrictlyIncreasing (x ∷ xs) → k
     → below (k + 1) (x ∷ xs) ≡ below k (x ∷ xs) ++ itself (x ∷ xs) k
 below_at k x xs h e =
     rw (
-      passes x (k + 1) (omega arith),
+      nat_lt-yes x (k + 1) (omega arith),
       fails x k (omega arith),
       agrees x k (sym e),
       none_later (k + 1) x xs h (omega arith),
@@ -118,7 +111,7 @@ pub below_all : (xs : List ℕ) (k : ℕ) → All (λ x. x < k) xs → below k x
 below_all [] k each = refl
 below_all (x ∷ xs) k each =
     let first : x < k = each 0 0 (omega arith) in
-    rw (passes x k first) (ap (λ ys. x ∷ ys) (below_all xs k (λ i d l. each (suc i) d (omega arith))))
+    rw (nat_lt-yes x k first) (ap (λ ys. x ∷ ys) (below_all xs k (λ i d l. each (suc i) d (omega arith))))
 
 -- a walk that puts a value for each offset puts one at an offset of the list
 pub put_at : (f : ℕ → ℕ) (xs : List ℕ) (k : ℕ) (values : List ℕ) → IsStrictlyIncreasing xs

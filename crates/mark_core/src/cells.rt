@@ -1,6 +1,6 @@
 //! The cells of pages, and which of their words stores may change.
-ghost use Rattle.std.specs.Prelude.{◌≡◌, ◌+◌, ◌≤◌, ◌<◌, ◌↔◌, ◌⊎◌, IsTrue, true, false, OnOk, min, slice_index};
-ghost use Rattle.std.specs.Prelude.{Option};
+ghost use Rattle.std.specs.Prelude.{◌≡◌, ◌+◌, ◌≤◌, ◌<◌, ◌↔◌, ◌⊎◌, IsTrue, true, false, OnOk, min};
+ghost use Rattle.std.specs.Prelude.{slice_index, Option};
 ghost use Rattle.tagged_word.specs.declared.reading.Reading.{Reading};
 ghost use Rattle.seat_steps.specs.Lists.{is_in};
 ghost use Rattle.mark_world.specs.Pages.{page_end, cell_at, slots_of, is_inside, is_head, is_head_of};

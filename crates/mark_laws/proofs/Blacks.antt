@@ -1,7 +1,7 @@
 -- Which free starts turn black: none by a step of the mutator, and by a helper's step only the one whose snap it
 -- settles.
-use Rattle.std.proofs.Common.{ℕ, ◌≡◌, ◌≢◌, ◌∙◌, ◌⊎◌, inl, inr, IsTrue, List, length, Option, Some, None, Contains}
-use Rattle.std.proofs.Common.{IsSomeAnd, slice_index, slice_set, sym, ap, subst, arith}
+use Rattle.std.proofs.Common.{ℕ, ◌≡◌, ◌≢◌, ◌∙◌, ◌⊎◌, inl, inr, IsTrue, List, length, Option, Some, None}
+use Rattle.std.proofs.Common.{Contains, IsSomeAnd, slice_index, slice_set, sym, ap, subst, arith}
 use Rattle.std.specs.Option.{option_map}
 use Rattle.std.proofs.lemmas.Bool.{cases_lt}
 use Rattle.std.proofs.lemmas.Bool.Decides.{nat_tests}

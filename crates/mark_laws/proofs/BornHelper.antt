@@ -1,6 +1,6 @@
 -- What is born stays so through the steps of helpers.
-use Rattle.std.proofs.Common.{ℕ, ◌+◌, ◌≤◌, ◌≡◌, ◌≢◌, ◌==◌, ◌∙◌, ◌⊎◌, inl, inr, Bool, true, false, List, []}
-use Rattle.std.proofs.Common.{◌∷◌, slice_index, Option, Some, None, IfSome, IsSomeAnd, All, Contains}
+use Rattle.std.proofs.Common.{ℕ, ◌+◌, ◌≤◌, ◌≡◌, ◌≢◌, ◌==◌, ◌⊎◌, inl, inr, Bool, true}
+use Rattle.std.proofs.Common.{false, List, [], ◌∷◌, slice_index, Option, Some, None, IfSome, IsSomeAnd, All, Contains}
 use Rattle.std.proofs.Common.{if◌then◌else◌, get_or, refl, sym, subst, arith, eqb-true}
 use Rattle.std.proofs.lemmas.List.Elements.{All-append, All-contains, All-set}
 use Rattle.std.specs.Option.{option_map}
@@ -26,9 +26,9 @@ use Rattle.mark_world.specs.Lineage.{Born, HasBorn}
 use Rattle.mark_laws.proofs.BornSlots.{Grows, SnapBorn, ViewBorn, view_born, views_born}
 use Rattle.mark_laws.proofs.Helped.{helped, helper_helped, views_after}
 use Rattle.mark_laws.proofs.Joins.{all_from, of_slot, of_target, some_and, targets_from}
-use Rattle.mark_laws.proofs.Listing.{IsLoad, load_colours, some_weaker, loads_heap, loads_layout}
+use Rattle.mark_laws.proofs.Listing.{load_coloured, put_colour, some_weaker, loads_heap, loads_layout}
 use Rattle.mark_laws.proofs.Names.{named_in_cell}
-use Rattle.mark_laws.proofs.Slots.{WereGrey, free_cell, grey_before, grey_free, put_or_stays, some_at}
+use Rattle.mark_laws.proofs.Slots.{WereGrey, free_cell, grey_before, grey_free, some_at}
 use Rattle.mark_laws.proofs.TrueSnaps.{GreyTrue, ViewTrue}
 
 -- what was read of a snap is born where a layout word is read
@@ -166,16 +166,10 @@ settle_colours : (world : World) (word : ℕ) (snap : Option Snap) → IfSome sn
     → (at : ℕ) → colour_of (with_word world (option_map (λ s. Spot.Colour s.cell) snap) word) at ≢ white
     → (colour_of world at ≢ white) ⊎ Contains world.main.born at
 settle_colours world word None born at coloured = inl coloured
-settle_colours world word (Some snap) born at coloured = elim (put_or_stays world.colours snap.cell word at) [
-  | inl same ↦ inr (subst (Contains world.main.born) (sym same) born)
-  | inr stays ↦ inl (λ is_white. coloured (stays ∙ is_white))
+settle_colours world word (Some snap) born at coloured = elim (put_colour world.colours snap.cell word at coloured) [
+  | inl before ↦ inl before
+  | inr same ↦ inr (subst (Contains world.main.born) (sym same) born)
 ]
-
--- a cell that is coloured after a load was so before
-load_coloured : (world : World) (spot : Option Spot) → IsLoad spot → (at : ℕ)
-    → colour_of (with_word world spot (word_at world spot)) at ≢ white → colour_of world at ≢ white
-load_coloured world spot load at coloured =
-    subst (λ (cs : List ℕ). slice_index cs at ≢ white) (load_colours world spot (word_at world spot) load) coloured
 
 -- a cell that is coloured after a step of a helper was so before, or is born
 own_colours : (world : World) (number : ℕ) (view : HelperView) (of : Event) → AreIn world.main.born view.visit
@@ -183,10 +177,10 @@ own_colours : (world : World) (number : ℕ) (view : HelperView) (of : Event) �
     → colour_of (after_helper world number of (Some view)) at ≢ white
     → (colour_of world at ≢ white) ⊎ Contains world.main.born at
 own_colours world number view (event.ShadeHelper n a) among snap may at coloured =
-    elim (put_or_stays world.colours a (becomes (event.ShadeHelper n a) (slice_index world.colours a)) at) [
-      | inl same ↦ inr (subst (Contains world.main.born) (sym same)
+    elim (put_colour world.colours a (becomes (event.ShadeHelper n a) (slice_index world.colours a)) at coloured) [
+      | inl before ↦ inl before
+      | inr same ↦ inr (subst (Contains world.main.born) (sym same)
           (All-contains (Contains world.main.born) view.visit a among may))
-      | inr stays ↦ inl (λ is_white. coloured (stays ∙ is_white))
     ]
 own_colours world number view (event.Settle n) among snap may at coloured =
     settle_colours world (becomes (event.Settle n) (word_at world (helper_spot view (event.Settle n)))) view.snap
@@ -234,7 +228,8 @@ helper_born world number view of cells lists snaps born has is_true read visits 
     let born_cell : IfSome view.snap (λ s. Contains world.main.born s.cell) =
     some_weaker (λ (s : Snap). IsReached world s.cell) (λ (s : Snap). Contains world.main.born s.cell) view.snap
     (λ s reached. born.reached s.cell reached) has.snap in
-    let coloured : (at : ℕ) → colour_of later at ≢ white → (colour_of world at ≢ white) ⊎ Contains world.main.born at =
+    let coloured : (at : ℕ) → colour_of later at ≢ white → (colour_of world at ≢ white)
+    ⊎ Contains world.main.born at =
     subst (λ (w : World). (at : ℕ) → colour_of w at ≢ white
     → (colour_of world at ≢ white) ⊎ Contains world.main.born at)
     step.is (own_colours world number view of visits born_cell may) in

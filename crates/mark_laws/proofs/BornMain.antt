@@ -19,10 +19,10 @@ use Rattle.mark_world.specs.Soundness.{AreIn, HasCells, HasLists, HasSizes, HasS
 use Rattle.mark_world.specs.Lineage.{Born}
 use Rattle.mark_laws.proofs.BornSlots.{Grows, StartBorn, ViewBorn, header_slots_born, layout_slots_born}
 use Rattle.mark_laws.proofs.BornSlots.{owned_slots_born, slot_slots_born, slots_grow, views_born}
-use Rattle.mark_laws.proofs.Colours.{step_rises}
+use Rattle.mark_laws.proofs.Colours.{step_rises, put_or_stays}
 use Rattle.mark_laws.proofs.Coverage.{with_word_views}
 use Rattle.mark_laws.proofs.Listing.{all_weaker, some_weaker}
-use Rattle.mark_laws.proofs.Slots.{grey_before, put_or_stays}
+use Rattle.mark_laws.proofs.Slots.{grey_before}
 use Rattle.mark_laws.proofs.Stores.{free_is, free_made}
 
 -- what is born is born after a step of the mutator

@@ -24,10 +24,11 @@ use Rattle.mark_laws.proofs.Cells.{layout_keeps, owned_no_head}
 use Rattle.mark_laws.proofs.Joins.{of_slot}
 use Rattle.mark_laws.proofs.Listing.{all_weaker, some_weaker}
 use Rattle.mark_laws.proofs.Reading.{store_keeps}
-use Rattle.mark_laws.proofs.Slots.{WereGrey, each_slot, free_cell, outside_no_head, put_or_stays, put_there}
+use Rattle.mark_laws.proofs.Slots.{WereGrey, each_slot, free_cell, outside_no_head, put_there}
 use Rattle.mark_laws.proofs.Slots.{slot_there, some_at, some_from}
 use Rattle.mark_laws.proofs.Stores.{header_outside, header_slot, header_slot_word, outside_no_slot}
 use Rattle.mark_laws.proofs.Stores.{owned_no_slot, stored}
+use Rattle.mark_laws.proofs.Colours.{put_or_stays}
 
 -- what is born is born later
 abbrev pub Grows : World → World → Type 0

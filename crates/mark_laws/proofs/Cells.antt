@@ -1,14 +1,14 @@
 -- Each free start reads its cell as before, through each step of the mutator but a store of its own header.
-use Rattle.std.proofs.Common.{ℕ, ◌+◌, ◌≤◌, ◌≡◌, ◌≢◌, ◌&&◌, ◌||◌, ◌∙◌, ◌⊎◌, inl, inr, Bool, true, false, not, IsTrue}
-use Rattle.std.proofs.Common.{List, min, slice_set, slice_get, Option, Some, refl, sym, ap, subst, arith}
+use Rattle.std.proofs.Common.{ℕ, ◌+◌, ◌≤◌, ◌≡◌, ◌≢◌, ◌&&◌, ◌||◌, ◌∙◌, ◌⊎◌, inl, inr}
+use Rattle.std.proofs.Common.{Bool, true, false, not, IsTrue, List, min, slice_set, slice_get, Option, Some, refl, sym}
+use Rattle.std.proofs.Common.{ap, subst, arith}
 use Rattle.std.proofs.lemmas.Bool.Decides.{nat_tests}
-use Rattle.tagged_word.specs.declared.layout.Kind.{Kind}
-use Rattle.tagged_word.specs.declared.layout.Kind.TheVariants as kind
 use Rattle.tagged_word.specs.declared.reading.Reading.{Reading}
-use Rattle.tagged_word.specs.Layouts.{kind_number, layout_bits}
+use Rattle.tagged_word.specs.Layouts.{layout_bits}
 use Rattle.tagged_word.specs.Readings.{read_cell}
 use Rattle.tagged_word.proofs.Cells.{some_same}
 use Rattle.tagged_word.proofs.CellReadings.{cell_from, cell_to}
+use Rattle.tagged_word.proofs.Layouts.{kind_number-some}
 use Rattle.seat_steps.specs.Lists.{is_in}
 use Rattle.mark_world.specs.declared.event.Event.{Event}
 use Rattle.mark_world.specs.declared.event.Event.TheVariants as event
@@ -43,17 +43,6 @@ behind_outside : (start : ℕ) (cell : Reading) (at : ℕ) → start + cell.size
     → is_inside start (Some cell) at ≡ false
 behind_outside start cell at behind = grind (arith, nat_tests)
 
--- a layout word is not 0
-kind_some : (k : Kind) → 1 ≤ kind_number k
-kind_some kind.Plain = omega arith
-kind_some kind.List = omega arith
-kind_some kind.Weak = omega arith
-kind_some kind.Store = omega arith
-kind_some kind.Table = omega arith
-kind_some kind.Boxed = omega arith
-kind_some kind.Filler = omega arith
-kind_some kind.Gap = omega arith
-
 -- a layout word that goes where 0 stands leaves each cell
 pub layout_keeps : (words layouts : List ℕ) (start bound shape word : ℕ) (cell : Reading)
     → slice_get layouts shape ≡ Some 0
@@ -63,7 +52,7 @@ layout_keeps words layouts start bound shape word cell unused e =
     let reads = cell_from words layouts start bound cell e in
     let other : cell.header.shape ≢ shape = λ same.
     let bits : 0 ≡ layout_bits cell.layout = some_same unused (sym (ap (slice_get layouts) same) ∙ reads.of_shape) in
-    absurd (omega (arith, bits, kind_some cell.layout.kind)) in
+    absurd (omega (arith, bits, kind_number-some cell.layout.kind)) in
     cell_to words (slice_set layouts shape word) start bound cell record {
       is_header = reads.is_header;
       first = reads.first;

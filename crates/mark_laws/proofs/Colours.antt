@@ -1,5 +1,5 @@
 -- The colours of a world, and how events change them.
-use Rattle.std.proofs.Common.{ℕ, ◌+◌, ◌≤◌, ◌≡◌, inl, inr, List, length, slice_index, slice_set}
+use Rattle.std.proofs.Common.{ℕ, ◌+◌, ◌≤◌, ◌≡◌, ◌⊎◌, inl, inr, List, length, slice_index, slice_set}
 use Rattle.std.proofs.Common.{Option, Some, None, sym, subst, arith, slice_get}
 use Rattle.std.proofs.lemmas.Bool.{cases_lt}
 use Rattle.std.proofs.lemmas.Bool.Decides.{nat_tests}
@@ -149,3 +149,14 @@ step_rises world of (Actor.Returns number) sizes at = return_rises world number 
 pub colours_rise : (world : World) (of : Event) → HasSizes world → (at : ℕ)
     → colour_of world at ≤ colour_of (after world of) at
 colours_rise world of = step_rises world of (actor of)
+
+-- a number stands where another was put, or it is as before
+pub put_or_stays : (list : List ℕ) (at word k : ℕ)
+    → (k ≡ at) ⊎ (slice_index (slice_set list at word) k ≡ slice_index list k)
+put_or_stays list at word k = elim (cases_lt k at) [
+  | inl below ↦ inr (get_or-set_other list at k word 0 (λ e. absurd (omega (arith, e))))
+  | inr from ↦ elim (cases_lt at k) [
+    | inl above ↦ inr (get_or-set_other list at k word 0 (λ e. absurd (omega (arith, e))))
+    | inr there ↦ inl (omega arith)
+  ]
+]

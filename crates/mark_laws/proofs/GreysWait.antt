@@ -1,6 +1,6 @@
 -- Each grey published cell waits, and goes on waiting through every event until it is black.
-use Rattle.std.proofs.Common.{ℕ, ◌≡◌, ◌∙◌, inl, inr, IsTrue, List, [], ◌∷◌, slice_get, Option, Some, None, IsSomeAnd}
-use Rattle.std.proofs.Common.{Contains, sym, subst, arith}
+use Rattle.std.proofs.Common.{ℕ, ◌≡◌, ◌∙◌, inl, inr, IsTrue, List, [], ◌∷◌, slice_get, Option, Some, None}
+use Rattle.std.proofs.Common.{IsSomeAnd, Contains, sym, subst, arith}
 use Rattle.std.specs.Option.{option_map}
 use Rattle.std.proofs.lemmas.List.{get_or_append_left, length-append}
 use Rattle.seat_steps.specs.Lists.{joined}

@@ -1,7 +1,7 @@
 -- What waits is published and not white, and stays so through the steps of a helper.
-use Rattle.std.proofs.Common.{ℕ, ◌<◌, ◌≡◌, ◌≢◌, ◌==◌, ◌∙◌, inl, inr, true, false, IsTrue, List, [], length}
-use Rattle.std.proofs.Common.{slice_index, slice_get, Option, Some, None, IsSome, IfSome, IsSomeAnd, All, Contains}
-use Rattle.std.proofs.Common.{refl, sym, ap, subst, arith}
+use Rattle.std.proofs.Common.{ℕ, ◌<◌, ◌≡◌, ◌≢◌, ◌==◌, ◌∙◌, inl, inr, true, false, IsTrue, List, []}
+use Rattle.std.proofs.Common.{length, slice_index, slice_get, Option, Some, None, IsSome, IfSome, IsSomeAnd, All}
+use Rattle.std.proofs.Common.{Contains, refl, sym, ap, subst, arith}
 use Rattle.std.specs.Option.{option_map}
 use Rattle.std.proofs.lemmas.List.Elements.{All-contains, All-set}
 use Rattle.tagged_word.specs.Cells.{length_offset}
@@ -32,7 +32,7 @@ use Rattle.mark_laws.proofs.Joins.{of_get, some_and}
 use Rattle.mark_laws.proofs.Coverage.{shaded_coloured, with_word_main}
 use Rattle.mark_laws.proofs.Sureness.{target_joins}
 use Rattle.mark_laws.proofs.Listing.{given_all, white_joins, all_weaker, some_weaker, reached_stays, given_refers}
-use Rattle.mark_laws.proofs.Listing.{put_colour, view_lists_stay, loads_heap, loads_layout, load_board, load_colours}
+use Rattle.mark_laws.proofs.Listing.{put_colour, view_lists_stay, loads_heap, loads_layout, load_board, load_coloured}
 use Rattle.mark_laws.proofs.Listing.{settle_board, board_stays, with_word_old}
 
 -- a snap of which more was read is of the same cell
@@ -210,17 +210,13 @@ helper_coloured world number view (event.Settle n) cells lists has born may at c
     settle_coloured world (becomes (event.Settle n) (word_at world (helper_spot view (event.Settle n)))) view.snap lists
     has.snap at coloured
 helper_coloured world number view (event.LoadLayout n) cells lists has born may at coloured =
-    lists.coloured at (subst (λ (cs : List ℕ). slice_index cs at ≢ white)
-    (load_colours world (helper_spot view (event.LoadLayout n))
-    (word_at world (helper_spot view (event.LoadLayout n))) (loads_layout view.snap)) coloured)
+    lists.coloured at (load_coloured world (helper_spot view (event.LoadLayout n)) (loads_layout view.snap) at coloured)
 helper_coloured world number view (event.LoadLength n) cells lists has born may at coloured =
-    lists.coloured at (subst (λ (cs : List ℕ). slice_index cs at ≢ white)
-    (load_colours world (helper_spot view (event.LoadLength n))
-    (word_at world (helper_spot view (event.LoadLength n))) (loads_heap length_offset view.snap)) coloured)
+    lists.coloured at
+    (load_coloured world (helper_spot view (event.LoadLength n)) (loads_heap length_offset view.snap) at coloured)
 helper_coloured world number view (event.LoadSlot n offset) cells lists has born may at coloured =
-    lists.coloured at (subst (λ (cs : List ℕ). slice_index cs at ≢ white)
-    (load_colours world (helper_spot view (event.LoadSlot n offset))
-    (word_at world (helper_spot view (event.LoadSlot n offset))) (loads_heap offset view.snap)) coloured)
+    lists.coloured at
+    (load_coloured world (helper_spot view (event.LoadSlot n offset)) (loads_heap offset view.snap) at coloured)
 helper_coloured world number view _ cells lists has born may at coloured = lists.coloured at coloured
 
 -- what a helper shades is reached then

@@ -1,7 +1,7 @@
 -- Each grey published cell waits, and goes on waiting through the steps of a helper until it is black.
-use Rattle.std.proofs.Common.{ℕ, ◌<◌, ◌≡◌, ◌==◌, ◌∙◌, ◌⊎◌, inl, inr, List, length, set, slice_index, slice_set}
-use Rattle.std.proofs.Common.{slice_get, Option, Some, None, IfSome, IsSomeAnd, Any, Contains, refl, sym, ap, subst}
-use Rattle.std.proofs.Common.{arith}
+use Rattle.std.proofs.Common.{ℕ, ◌<◌, ◌≡◌, ◌==◌, ◌∙◌, ◌⊎◌, inl, inr, List, length, set, slice_index}
+use Rattle.std.proofs.Common.{slice_set, slice_get, Option, Some, None, IfSome, IsSomeAnd, Any, Contains, refl, sym, ap}
+use Rattle.std.proofs.Common.{subst, arith}
 use Rattle.std.specs.Option.{option_map}
 use Rattle.std.proofs.lemmas.Bool.{cases_lt}
 use Rattle.std.proofs.lemmas.Bool.Decides.{nat_tests}

@@ -1,10 +1,8 @@
 -- Lists of what waits: what stays, what joins and leaves, and what loads leave.
-use Rattle.std.proofs.Common.{ℕ, ◌+◌, ◌≡◌, ◌≢◌, ◌==◌, ◌∙◌, ◌⊎◌, inl, inr, Bool, true, false, List, [], ◌∷◌, get_or}
-use Rattle.std.proofs.Common.{slice_index, slice_set, slice_get, Option, Some, None, IfSome, All, Contains, refl, sym}
-use Rattle.std.proofs.Common.{subst, arith, suc, if◌then◌else◌}
+use Rattle.std.proofs.Common.{ℕ, ◌+◌, ◌≡◌, ◌≢◌, ◌==◌, ◌∙◌, ◌⊎◌, inl, inr, Bool, true, false}
+use Rattle.std.proofs.Common.{List, [], ◌∷◌, get_or, slice_index, slice_set, slice_get, Option, Some, None, IfSome, All}
+use Rattle.std.proofs.Common.{Contains, refl, sym, subst, arith, suc, if◌then◌else◌}
 use Rattle.std.specs.Option.{option_map, option_and_then}
-use Rattle.std.proofs.lemmas.Bool.{cases_lt}
-use Rattle.std.proofs.lemmas.List.{get_or-set_other}
 use Rattle.std.proofs.lemmas.List.Elements.{All-contains}
 use Rattle.tagged_word.specs.declared.word.Class.TheVariants.{Ref}
 use Rattle.tagged_word.specs.declared.header.Header.{Header}
@@ -24,10 +22,10 @@ use Rattle.mark_world.specs.declared.views.HelperView.{HelperView}
 use Rattle.mark_world.specs.declared.views.MainView.{MainView}
 use Rattle.mark_world.specs.declared.world.World.{World}
 use Rattle.mark_world.specs.Steps.{all_joined, layout_spot, white}
-use Rattle.mark_world.specs.Moments.{after_main, after_return, after_step, IsReached, with_word}
+use Rattle.mark_world.specs.Moments.{after_main, after_return, after_step, IsReached, with_word, word_at}
 use Rattle.mark_world.specs.Covering.{colour_of}
 use Rattle.mark_world.specs.Soundness.{HasLists, HasSizes, HasViewLists}
-use Rattle.mark_laws.proofs.Colours.{step_rises}
+use Rattle.mark_laws.proofs.Colours.{put_or_stays, step_rises}
 use Rattle.mark_laws.proofs.Joins.{all_from}
 use Rattle.mark_laws.proofs.Sureness.{helper_main, joined_all}
 
@@ -109,14 +107,9 @@ given_refers P found at before there =
 -- a colour that is put touches one cell alone
 pub put_colour : (colours : List ℕ) (a word at : ℕ) → slice_index (slice_set colours a word) at ≢ white
     → (slice_index colours at ≢ white) ⊎ (at ≡ a)
-put_colour colours a word at coloured = elim (cases_lt at a) [
-  | inl below ↦ inl (λ is_white. coloured
-      (get_or-set_other colours a at word 0 (λ e. absurd (omega (arith, e))) ∙ is_white))
-  | inr from ↦ elim (cases_lt a at) [
-    | inl above ↦ inl (λ is_white. coloured
-        (get_or-set_other colours a at word 0 (λ e. absurd (omega (arith, e))) ∙ is_white))
-    | inr there ↦ inr (omega arith)
-  ]
+put_colour colours a word at coloured = elim (put_or_stays colours a word at) [
+  | inl same ↦ inr same
+  | inr stays ↦ inl (λ is_white. coloured (stays ∙ is_white))
 ]
 
 -- the lists of a helper whose view is as before
@@ -173,6 +166,12 @@ load_colours world (Some (Spot.Heap at)) word is = refl
 load_colours world (Some (Spot.Layout shape)) word is = refl
 load_colours world (Some (Spot.Colour at)) word is = absurd is
 load_colours world (Some (Spot.Board place)) word is = absurd is
+
+-- a cell that is coloured after a load was so before
+pub load_coloured : (world : World) (spot : Option Spot) → IsLoad spot → (at : ℕ)
+    → colour_of (with_word world spot (word_at world spot)) at ≢ white → colour_of world at ≢ white
+load_coloured world spot load at coloured =
+    subst (λ (cs : List ℕ). slice_index cs at ≢ white) (load_colours world spot (word_at world spot) load) coloured
 
 -- the end of a snap leaves the board
 pub settle_board : (world : World) (word : ℕ) (snap : Option Snap)

@@ -1,6 +1,6 @@
 -- What waits is published and not white, and stays so through the steps of the mutator.
-use Rattle.std.proofs.Common.{ℕ, ◌≡◌, ◌≢◌, ◌==◌, inl, inr, true, length, slice_index, IfSome, All, Contains, refl}
-use Rattle.std.proofs.Common.{sym, subst, arith}
+use Rattle.std.proofs.Common.{ℕ, ◌≡◌, ◌≢◌, ◌==◌, inl, inr, true, length, slice_index, IfSome, All, Contains}
+use Rattle.std.proofs.Common.{refl, sym, subst, arith}
 use Rattle.std.proofs.lemmas.List.Elements.{All-contains, All-set}
 use Rattle.tagged_word.specs.Readings.{reference_in}
 use Rattle.page_space.specs.Extents.{board_words}

@@ -1,5 +1,6 @@
 -- Each grey published cell waits, and goes on waiting through the steps of the mutator until it is black.
-use Rattle.std.proofs.Common.{ℕ, ◌≤◌, ◌≡◌, ◌==◌, ◌∙◌, inl, inr, length, slice_index, Contains, sym, ap, subst, arith}
+use Rattle.std.proofs.Common.{ℕ, ◌≤◌, ◌≡◌, ◌==◌, ◌∙◌, inl, inr, length, slice_index, Contains, sym, ap}
+use Rattle.std.proofs.Common.{subst, arith}
 use Rattle.std.proofs.lemmas.Bool.{cases_lt}
 use Rattle.std.proofs.lemmas.List.Elements.{All-contains}
 use Rattle.tagged_word.specs.Readings.{reference_in}

@@ -1,7 +1,7 @@
 -- What a true snap that is read out names: the tagged slots of the header that was read, and all of them were read.
-use Rattle.std.proofs.Common.{ℕ, ◌+◌, ◌≤◌, ◌≡◌, ◌≢◌, ◌&&◌, ◌∙◌, inl, inr, Bool, true, false, not, IsTrue, List, Option}
-use Rattle.std.proofs.Common.{Some, None, IfSome, Contains, slice_get, min, nat_le, nat_lt, if◌then◌else◌, refl}
-use Rattle.std.proofs.Common.{sym, ap, subst, arith}
+use Rattle.std.proofs.Common.{ℕ, ◌+◌, ◌≤◌, ◌≡◌, ◌≢◌, ◌&&◌, ◌∙◌, inl, inr, Bool, true, false}
+use Rattle.std.proofs.Common.{not, IsTrue, List, Option, Some, None, IfSome, Contains, slice_get, min, nat_le, nat_lt}
+use Rattle.std.proofs.Common.{if◌then◌else◌, refl, sym, ap, subst, arith}
 use Rattle.std.specs.Option.{option_and_then}
 use Rattle.std.proofs.lemmas.Bool.Decides.{nat_tests}
 use Rattle.std.proofs.lemmas.List.Elements.{All-contains}

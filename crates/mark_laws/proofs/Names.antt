@@ -1,7 +1,7 @@
 -- What a true snap names: the tagged slots of its cell by the header that was read, which the cell still has.
-use Rattle.std.proofs.Common.{ℕ, ◌+◌, ◌<◌, ◌≡◌, ◌∙◌, ◌⊎◌, inl, inr, Bool, true, false, IsTrue, List, min}
-use Rattle.std.proofs.Common.{slice_index, slice_get, Option, Some, None, IfSome, Contains}
-use Rattle.std.proofs.Common.{nat_lt, if◌then◌else◌, refl, sym, ap, subst, arith}
+use Rattle.std.proofs.Common.{ℕ, ◌+◌, ◌<◌, ◌≡◌, ◌∙◌, ◌⊎◌, inl, inr, Bool, true, false, IsTrue, List}
+use Rattle.std.proofs.Common.{min, slice_index, slice_get, Option, Some, None, IfSome, Contains, nat_lt, if◌then◌else◌}
+use Rattle.std.proofs.Common.{refl, sym, ap, subst, arith}
 use Rattle.std.proofs.lemmas.Bool.Decides.{nat_tests}
 use Rattle.std.proofs.lemmas.List.Elements.{All-contains}
 use Rattle.tagged_word.specs.declared.header.Header.{Header}
@@ -185,7 +185,8 @@ read_layout world snap cell offsets is_true read was =
 -- the length that was read is that of the cell
 read_length : (world : World) (snap : Snap) (cell : Reading) → IsTrueSnap world snap
     → cell_of world snap.cell ≡ Some cell
-    → (was : WasHeader world snap cell) → (n : ℕ) → snap.length ≡ Some n → marks_by_length was.laid.layout.kind ≡ true
+    → (was : WasHeader world snap cell) → (n : ℕ) → snap.length ≡ Some n
+    → marks_by_length was.laid.layout.kind ≡ true
     → n ≡ cell.length
 read_length world snap cell is_true e was n long marks =
     let stands : slice_get world.words (snap.cell + length_offset) ≡ Some n =

@@ -99,7 +99,8 @@ held_cell start events to number snap within were whole is_grey stems =
     (colour_of (moment start events to) snap.cell) reached.coloured
     (rises_along start events from to snap.cell within were whole k early late)
     (rises_along start events k to snap.cell within were whole to late (omega arith)) is_grey in
-    let free : (k : ℕ) → from ≤ k → k ≤ to → IsTrue (is_free (moment start events k).main snap.cell) = λ k early late.
+    let free : (k : ℕ) → from ≤ k → k ≤ to
+    → IsTrue (is_free (moment start events k).main snap.cell) = λ k early late.
     grey_start (moment start events k) (whole k late).0 snap.cell (greys k early late) in
     let start_there : from ≤ to = omega (arith, stems.before) in
     let read = free_cell (moment start events from) (whole from start_there).0.cells snap.cell

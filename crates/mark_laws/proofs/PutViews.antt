@@ -1,6 +1,6 @@
 -- Views that are put in a list, or behind it.
-use Rattle.std.proofs.Common.{ℕ, zero, suc, ◌≡◌, ◌⊎◌, inl, inr, List, [], ◌∷◌, ◌++◌, slice_get, slice_set, Some}
-use Rattle.std.proofs.Common.{refl, ap}
+use Rattle.std.proofs.Common.{ℕ, zero, suc, ◌≡◌, ◌⊎◌, inl, inr, List, [], ◌∷◌, ◌++◌, slice_get, slice_set}
+use Rattle.std.proofs.Common.{Some, refl, ap}
 use Rattle.tagged_word.proofs.Cells.{some_same}
 use Rattle.mark_world.specs.declared.views.HelperView.{HelperView}
 

@@ -1,6 +1,6 @@
 -- What a safe change of its header leaves of a cell: its size, and each tagged slot.
-use Rattle.std.proofs.Common.{ℕ, ◌+◌, ◌<◌, ◌≤◌, ◌≡◌, ◌∙◌, false, List, length, IsTrue, slice_get, slice_index}
-use Rattle.std.proofs.Common.{slice_set, Option, Some, IsSomeAnd, refl, sym, ap, subst, arith, min}
+use Rattle.std.proofs.Common.{ℕ, ◌+◌, ◌<◌, ◌≤◌, ◌≡◌, ◌∙◌, false, List, length, IsTrue, slice_get}
+use Rattle.std.proofs.Common.{slice_index, slice_set, Option, Some, IsSomeAnd, refl, sym, ap, subst, arith, min}
 use Rattle.std.specs.Option.{option_and_then}
 use Rattle.std.proofs.lemmas.Bool.Decides.{nat_tests}
 use Rattle.std.proofs.lemmas.List.{get_or-set_same, length-set}
@@ -54,8 +54,8 @@ no_length k second long short e =
     some_same e (ap (λ b. length_by b second) short)
 
 -- a layout of the same kind and cap gives the same size
-pub same_size : (old new : LayoutWord) (long long' size : ℕ) → old.kind ≡ new.kind → old.cap ≡ new.cap → long ≡ long'
-    → cell_size old long ≡ Some size → cell_size new long' ≡ Some size
+pub same_size : (old new : LayoutWord) (long long' size : ℕ) → old.kind ≡ new.kind → old.cap ≡ new.cap
+    → long ≡ long' → cell_size old long ≡ Some size → cell_size new long' ≡ Some size
 same_size old new long long' size one_kind one_cap one_length e =
     sym (ap (λ k. size_within (words_least k) (words_of k old.cap long)) one_kind
     ∙ ap (λ cap. size_within (words_least new.kind) (words_of new.kind cap long)) one_cap

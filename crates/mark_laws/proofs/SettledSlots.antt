@@ -1,7 +1,7 @@
 -- The slots of a cell that a helper makes black are covered: they were before, or their targets are to be visited.
-use Rattle.std.proofs.Common.{ℕ, ◌+◌, ◌<◌, ◌≡◌, ◌∙◌, ◌⊎◌, inl, inr, Bool, List, [], length, set, Option, Some, IfSome}
-use Rattle.std.proofs.Common.{IsSomeAnd, Any, Contains, slice_get, slice_index, sym, ap, subst, arith, if◌then◌else◌}
-use Rattle.std.proofs.Common.{eq-eqb}
+use Rattle.std.proofs.Common.{ℕ, ◌+◌, ◌<◌, ◌≡◌, ◌∙◌, ◌⊎◌, inl, inr, Bool, List, [], length, set}
+use Rattle.std.proofs.Common.{Option, Some, IfSome, IsSomeAnd, Any, Contains, slice_get, slice_index, sym, ap, subst}
+use Rattle.std.proofs.Common.{arith, if◌then◌else◌, eq-eqb}
 use Rattle.std.specs.Option.{option_map}
 use Rattle.std.proofs.lemmas.List.{get_or-set_same, length-set}
 use Rattle.std.proofs.lemmas.Option.{slice_get_within}
@@ -107,7 +107,8 @@ pub settle_slots : (world : World) (number : ℕ) (view : HelperView) (of : Even
     → slice_get world.helpers number ≡ Some view → MayHelper view of
     → (after_helper world number of (Some view)).old ≡ world.old
     → ((a : ℕ) → IsCovered world a → IsCovered (after_helper world number of (Some view)) a)
-    → (start : ℕ) → Settles world view of start → (cell : Reading) → cell_of world start ≡ Some cell → (offset : ℕ)
+    → (start : ℕ) → Settles world view of start → (cell : Reading)
+    → cell_of world start ≡ Some cell → (offset : ℕ)
     → Contains (slots_of cell) offset
     → HasCovered (after_helper world number of (Some view)) (slice_index world.words (start + offset))
 settle_slots world number view (event.Settle n) snaps there may same keeps start settles cell e offset c =

@@ -1,10 +1,8 @@
 -- The tagged slots of cells, one by one, and words that are put in a list.
-use Rattle.std.proofs.Common.{ℕ, ◌+◌, ◌<◌, ◌≤◌, ◌≡◌, ◌&&◌, ◌⊎◌, inl, inr, Bool, true, false, IsTrue, List}
-use Rattle.std.proofs.Common.{slice_index, slice_set, Option, Some, None, IfSome, IsSomeAnd, All, Contains, ◌≢◌, length}
-use Rattle.std.proofs.Common.{min}
-use Rattle.std.proofs.Common.{refl, subst, arith}
-use Rattle.std.proofs.lemmas.Bool.{cases_lt}
-use Rattle.std.proofs.lemmas.List.{get_or-set_same, get_or-set_other}
+use Rattle.std.proofs.Common.{ℕ, ◌+◌, ◌<◌, ◌≤◌, ◌≡◌, ◌&&◌, inl, inr, Bool, true, false}
+use Rattle.std.proofs.Common.{IsTrue, List, slice_index, slice_set, Option, Some, None, IfSome, IsSomeAnd, All}
+use Rattle.std.proofs.Common.{Contains, ◌≢◌, length, min, refl, subst, arith}
+use Rattle.std.proofs.lemmas.List.{get_or-set_same}
 use Rattle.std.proofs.lemmas.List.Elements.{All-contains}
 use Rattle.tagged_word.specs.declared.reading.Reading.{Reading}
 use Rattle.tagged_word.proofs.Cells.{slot_within, tagged_is_scavenged}
@@ -58,17 +56,6 @@ slot_there world at cell offset e there =
     let inside = slot_inside world at cell offset e there in
     omega (arith, inside.1, reads.there)
 
--- a number stands where another was put, or it is as before
-pub put_or_stays : (list : List ℕ) (at word k : ℕ)
-    → (k ≡ at) ⊎ (slice_index (slice_set list at word) k ≡ slice_index list k)
-put_or_stays list at word k = elim (cases_lt k at) [
-  | inl below ↦ inr (get_or-set_other list at k word 0 (λ e. absurd (omega (arith, e))))
-  | inr from ↦ elim (cases_lt at k) [
-    | inl above ↦ inr (get_or-set_other list at k word 0 (λ e. absurd (omega (arith, e))))
-    | inr there ↦ inl (omega arith)
-  ]
-]
-
 -- the number that was put stands there
 pub put_there : (list : List ℕ) (at word k : ℕ) → k ≡ at → at < length list
     → slice_index (slice_set list at word) k ≡ word
@@ -88,8 +75,8 @@ outside_no_head start cell at outside =
     false_and (is_inside start (Some cell) at) (is_head cell (offset_in start at)) outside
 
 -- a published grey cell is a free start, since what the mutator made black is black
-pub grey_free : (world : World) → HasCells world → (at : ℕ) → Contains world.main.starts at → colour_of world at ≡ grey
-    → IsTrue (is_free world.main at)
+pub grey_free : (world : World) → HasCells world → (at : ℕ) → Contains world.main.starts at
+    → colour_of world at ≡ grey → IsTrue (is_free world.main at)
 grey_free world cells at start is_grey = elim (free_or_mine world at start) [
   | inl free ↦ free
   | inr mine ↦

@@ -1,10 +1,10 @@
 -- Snaps of grey cells stay true through the steps of the mutator.
-use Rattle.std.proofs.Common.{ℕ, ◌≡◌, ◌≢◌, ◌==◌, inl, inr, false, IsTrue, List, Option, Some, None}
-use Rattle.std.proofs.Common.{IfSome, All, Contains, get_or, sym, subst, eqb-true}
+use Rattle.std.proofs.Common.{ℕ, ◌≡◌, ◌≢◌, ◌==◌, inl, inr, false, IsTrue, List, Option, Some}
+use Rattle.std.proofs.Common.{All, Contains, get_or, sym, subst, eqb-true}
 use Rattle.std.proofs.lemmas.Bool.{eqb-false}
 use Rattle.tagged_word.specs.declared.reading.Reading.{Reading}
 use Rattle.seat_steps.specs.Boards.{joined_by}
-use Rattle.seat_steps.proofs.Joining.{decided, joined_in}
+use Rattle.seat_steps.proofs.Joining.{decided}
 use Rattle.mark_world.specs.declared.event.Event.{Event}
 use Rattle.mark_world.specs.declared.event.Event.TheVariants as event
 use Rattle.mark_world.specs.declared.snap.Snap.{Snap}
@@ -24,11 +24,7 @@ use Rattle.mark_laws.proofs.Slots.{WereGrey, free_cell, grey_before, grey_free, 
 use Rattle.mark_laws.proofs.Stores.{header_outside, outside_no_slot, owned_no_slot, stored}
 use Rattle.mark_laws.proofs.TrueSnaps.{Covers, GreyTrue, ViewTrue, kept_true}
 use Rattle.mark_laws.proofs.TrueStores.{changed_true, layout_true, stored_true}
-
--- a target that joins is there
-target_owed : (owed : List ℕ) (to : Option ℕ) → IfSome to (λ at. Contains (joined_by owed to) at)
-target_owed owed None = tt
-target_owed owed (Some at) = joined_in owed at
+use Rattle.mark_laws.proofs.StoredSlots.{owed_target}
 
 -- a word whose target is owed is covered
 owed_covered : (world : World) (at word : ℕ)
@@ -37,7 +33,7 @@ owed_covered world at word =
     let owed : List ℕ = joined_by world.main.owed (target world.old word) in
     some_from (IsCovered (stored world at word owed)) (target world.old word) (λ to e.
     inr (inl (some_at (Contains owed) (target world.old word) to e
-    (target_owed world.main.owed (target world.old word)))))
+    (owed_target world.main.owed (target world.old word)))))
 
 -- a snap stays true through a store into a slot, since its target is owed
 slot_true : (world : World) (at word : ℕ) (snap : Snap) (cell : Reading)

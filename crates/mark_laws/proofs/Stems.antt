@@ -1,6 +1,7 @@
 -- Each snap stems from the load of a header: what was read since was read at moments of its own.
-use Rattle.std.proofs.Common.{ℕ, ◌+◌, ◌<◌, ◌≡◌, ◌≢◌, List, [], ◌∷◌, slice_get, slice_index, Option, Some, None}
-use Rattle.std.proofs.Common.{All, Contains, if◌then◌else◌, IsTrue, Bool, refl, sym, ap, subst, ◌∙◌, arith}
+use Rattle.std.proofs.Common.{ℕ, ◌+◌, ◌<◌, ◌≡◌, ◌≢◌, List, [], ◌∷◌, slice_get, slice_index, Option}
+use Rattle.std.proofs.Common.{Some, None, All, Contains, if◌then◌else◌, IsTrue, Bool, refl, sym, ap, subst, ◌∙◌}
+use Rattle.std.proofs.Common.{arith}
 use Rattle.std.proofs.lemmas.List.{map-append}
 use Rattle.std.proofs.lemmas.List.Elements.{All-push, Contains-get_or}
 use Rattle.std.proofs.lemmas.List.Quantifiers.{all_pairs_push}

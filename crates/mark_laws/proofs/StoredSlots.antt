@@ -1,7 +1,7 @@
 -- The slots of a cell that were covered are so after a step of the mutator: a target that is stored is owed, a slot
 -- that turns tagged has one that the mutator is sure of, and the others stay.
-use Rattle.std.proofs.Common.{ℕ, ◌+◌, ◌<◌, ◌≡◌, ◌∙◌, inl, inr, IsTrue, List, length, Option, Some, None, IfSome}
-use Rattle.std.proofs.Common.{Contains, slice_index, slice_set, refl, sym, ap, subst}
+use Rattle.std.proofs.Common.{ℕ, ◌+◌, ◌<◌, ◌≡◌, ◌∙◌, inl, inr, IsTrue, List, length, Option, Some, None}
+use Rattle.std.proofs.Common.{IfSome, Contains, slice_index, slice_set, refl, sym, ap, subst}
 use Rattle.std.proofs.lemmas.List.{get_or-set_other, get_or-set_same}
 use Rattle.std.proofs.lemmas.List.Elements.{All-contains}
 use Rattle.tagged_word.specs.declared.reading.Reading.{Reading}
@@ -23,7 +23,7 @@ use Rattle.mark_laws.proofs.Listing.{some_weaker}
 use Rattle.mark_laws.proofs.Waiting.{one_or_other}
 
 -- a word with a target that joins what is owed is covered
-owed_target : (list : List ℕ) (new : Option ℕ) → IfSome new (λ to. Contains (joined_by list new) to)
+pub owed_target : (list : List ℕ) (new : Option ℕ) → IfSome new (λ to. Contains (joined_by list new) to)
 owed_target list None = tt
 owed_target list (Some to) = joined_in list to
 
@@ -91,7 +91,8 @@ own_header_slot world start word cell now sure free may e f keeps each offset c 
 -- a slot of a cell that is read as before, where the word of the slot is
 kept_slot : (world later : World) (start : ℕ) (cell now : Reading) → later.old ≡ world.old
     → cell_of world start ≡ Some cell → cell_of later start ≡ Some now → cell_of later start ≡ Some cell
-    → ((a : ℕ) → IsCovered world a → IsCovered later a) → EachSlot world start (λ o. HasCovered world) → (offset : ℕ)
+    → ((a : ℕ) → IsCovered world a → IsCovered later a)
+    → EachSlot world start (λ o. HasCovered world) → (offset : ℕ)
     → Contains (slots_of now) offset
     → (Contains (slots_of cell) offset
     → slice_index later.words (start + offset) ≡ slice_index world.words (start + offset))

@@ -1,7 +1,7 @@
 -- What stores of the mutator leave of a free start's cell and its tagged slots.
-use Rattle.std.proofs.Common.{ℕ, ◌+◌, ◌<◌, ◌≤◌, ◌≡◌, ◌≢◌, ◌&&◌, ◌||◌, ◌∙◌, ◌⊎◌, inl, inr, Bool, true, false, not}
-use Rattle.std.proofs.Common.{IsTrue, List, length, min, slice_index, slice_set, Option, Some, Contains}
-use Rattle.std.proofs.Common.{refl, sym, ap, subst, arith}
+use Rattle.std.proofs.Common.{ℕ, ◌+◌, ◌<◌, ◌≤◌, ◌≡◌, ◌≢◌, ◌&&◌, ◌||◌, ◌∙◌, ◌⊎◌}
+use Rattle.std.proofs.Common.{inl, inr, Bool, true, false, not, IsTrue, List, length, min, slice_index, slice_set}
+use Rattle.std.proofs.Common.{Option, Some, Contains, refl, sym, ap, subst, arith}
 use Rattle.std.proofs.lemmas.Bool.Decides.{nat_tests}
 use Rattle.std.proofs.lemmas.List.Elements.{All-contains}
 use Rattle.tagged_word.specs.declared.layout.Kind.TheVariants as kind
@@ -20,7 +20,8 @@ use Rattle.mark_world.specs.Conditions.{MayStoreHeader}
 use Rattle.mark_world.specs.Covering.{cell_of}
 use Rattle.mark_world.specs.Soundness.{HasCells}
 use Rattle.mark_laws.proofs.Laid.{cell_laid, laid_of, plain_any, safe_from}
-use Rattle.mark_laws.proofs.Slots.{put_or_stays, put_there, slot_inside}
+use Rattle.mark_laws.proofs.Slots.{put_there, slot_inside}
+use Rattle.mark_laws.proofs.Colours.{put_or_stays}
 
 -- the world after the mutator has stored a word, and what it owes then
 abbrev pub stored : World → ℕ → ℕ → List ℕ → World

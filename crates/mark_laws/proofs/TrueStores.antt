@@ -25,9 +25,10 @@ use Rattle.mark_laws.proofs.Laid.{safe_stays, unused_none}
 use Rattle.mark_laws.proofs.Listing.{some_weaker}
 use Rattle.mark_laws.proofs.Names.{WasHeader, marks_long, was_header}
 use Rattle.mark_laws.proofs.Reading.{not_head_apart, slice_get_other, store_keeps}
-use Rattle.mark_laws.proofs.Slots.{put_or_stays, put_there, slot_there, some_at, some_from}
+use Rattle.mark_laws.proofs.Slots.{put_there, slot_there, some_at, some_from}
 use Rattle.mark_laws.proofs.Stores.{header_slot, header_slot_word, header_there, stored}
 use Rattle.mark_laws.proofs.TrueSnaps.{Covers, IsTrueSlot, length_stays, slot_stays, true_slot, true_slots}
+use Rattle.mark_laws.proofs.Colours.{put_or_stays}
 
 -- what is covered in a word's target is so later
 word_covered : (world later : World) (word : ℕ) → later.old ≡ world.old → Covers world later → HasCovered world word

@@ -1,7 +1,7 @@
 -- Cells that wait in lists and on the board go on so through a give and a take.
-use Rattle.std.proofs.Common.{ℕ, ◌<◌, ◌≡◌, ◌≢◌, ◌==◌, ◌^◌, ◌∙◌, ◌⊎◌, inl, inr, Bool, true, false, List, length}
-use Rattle.std.proofs.Common.{slice_index, slice_set, Option, Some, None, Any, Contains, refl, sym, ap, subst, arith}
-use Rattle.std.proofs.Common.{if◌then◌else◌, eqb-true, eq-eqb}
+use Rattle.std.proofs.Common.{ℕ, ◌<◌, ◌≡◌, ◌≢◌, ◌==◌, ◌^◌, ◌∙◌, ◌⊎◌, inl, inr, Bool, true}
+use Rattle.std.proofs.Common.{false, List, length, slice_index, slice_set, Option, Some, None, Any, Contains, refl, sym}
+use Rattle.std.proofs.Common.{ap, subst, arith, if◌then◌else◌, eqb-true, eq-eqb}
 use Rattle.std.proofs.lemmas.List.{get_or_default, get_or-set_other, get_or-set_same, length-set}
 use Rattle.std.proofs.lemmas.List.Elements.{All-contains}
 use Rattle.tagged_word.specs.declared.word.Class.TheVariants.{Ref}

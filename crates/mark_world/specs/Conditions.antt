@@ -1,6 +1,6 @@
 -- Where a step is possible, by what its seat knows.
-use Rattle.std.specs.Prelude.{◌≡◌, ℕ, ◌+◌, ◌<◌, ◌≤◌, ◌⊎◌, true, false, IsTrue, List, [], All, Contains, length, slice_get}
-use Rattle.std.specs.Prelude.{Some, None, IsSome, IsSomeAnd, slice_index}
+use Rattle.std.specs.Prelude.{◌≡◌, ℕ, ◌+◌, ◌<◌, ◌≤◌, ◌⊎◌, true, false, IsTrue, List, [], All}
+use Rattle.std.specs.Prelude.{Contains, length, slice_get, Some, None, IsSome, IsSomeAnd, slice_index}
 use Rattle.tagged_word.specs.Readings.{header_in, layout_in}
 use Rattle.page_space.specs.Extents.{board_words}
 use Rattle.mark_world.specs.declared.event.Event.{Event}
@@ -12,15 +12,16 @@ use Rattle.mark_world.specs.Pages.{EachFree, IsOutside, OfTarget, cell_at, is_fr
 use Rattle.mark_world.specs.Safety.{IsSafe, IsSlotWord, laid_in, slots_by}
 use Rattle.mark_world.specs.Naming.{Named, IsReadOut, IsToRead, is_shape, named, read_offsets}
 
--- A word goes into a slot: the place is no header and no length of a free start's cell, a tagged slot may hold the word, and
--- its target, if any, is born.
+-- A word goes into a slot: the place is no header and no length of a free start's cell, a tagged slot may hold the
+-- word, and its target, if any, is born.
 pub record MayStoreSlot (old : ℕ) (words layouts : List ℕ) (main : MainView) (at word : ℕ) : Type 0 where
   pub place : at < length words
   pub no_head : EachFree main (λ start. is_head_of start (cell_at old words layouts start) at ≡ false)
   pub slot_word : IsSlotWord word
   pub born : OfTarget old word (λ to. Contains main.born to)
 
--- A word goes where no helper visits: the place is no page's, or lies in no free start's cell, or is a quiet word of one.
+-- A word goes where no helper visits: the place is no page's, or lies in no free start's cell, or is a quiet word of
+-- one.
 pub record MayStoreOwned (old : ℕ) (words layouts : List ℕ) (main : MainView) (at : ℕ) : Type 0 where
   pub place : at < length words
   pub alone : (old ≤ at) ⊎ EachFree main (λ start. leaves_alone start (cell_at old words layouts start) at ≡ true)
@@ -28,15 +29,16 @@ pub record MayStoreOwned (old : ℕ) (words layouts : List ℕ) (main : MainView
 -- each slot that is tagged after a change of a header and not before has no target, or one that the mutator is sure of
 abbrev pub AreSure : ℕ → List ℕ → MainView → ℕ → (before after : List ℕ) → Type 0
 AreSure old words main at before after =
-    All (λ offset. Contains before offset ⊎ OfTarget old (slice_index words (at + offset)) (λ to. Contains main.sure to)) after
+    All (λ offset. Contains before offset
+    ⊎ OfTarget old (slice_index words (at + offset)) (λ to. Contains main.sure to)) after
 
 -- the same of two headers of plain cells
 abbrev pub AreSureAfter : ℕ → List ℕ → List ℕ → MainView → ℕ → ℕ → Type 0
 AreSureAfter old words layouts main at word =
     AreSure old words main at (slots_by (laid_in layouts (slice_index words at)) 0) (slots_by (laid_in layouts word) 0)
 
--- A header changes: that of a free start, or a word that lies in no free start's cell. The change is a safe one. At a free
--- start each slot that is tagged only after it has no target, or one that the mutator is sure of.
+-- A header changes: that of a free start, or a word that lies in no free start's cell. The change is a safe one. At a
+-- free start each slot that is tagged only after it has no target, or one that the mutator is sure of.
 pub record MayStoreHeader (old : ℕ) (words layouts : List ℕ) (main : MainView) (at word : ℕ) : Type 0 where
   pub place : IsTrue (is_free main at) ⊎ IsOutside old words layouts main at
   pub safe : IsSafe layouts (slice_index words at) word

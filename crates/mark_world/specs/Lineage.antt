@@ -10,8 +10,8 @@ use Rattle.mark_world.specs.Covering.{EachSlot, colour_of}
 abbrev pub HasBorn : World → ℕ → Type 0
 HasBorn world word = OfTarget world.old word (λ to. Contains world.main.born to)
 
--- Each published cell that is not white is born, and so is each target of a tagged slot of a born free start, of a slot that
--- was read in a snap of a grey cell, and each cell that a helper is to visit.
+-- Each published cell that is not white is born, and so is each target of a tagged slot of a born free start, of a slot
+-- that was read in a snap of a grey cell, and each cell that a helper is to visit.
 pub record Born (world : World) : Type 0 where
   pub reached : (at : ℕ) → IsReached world at → Contains world.main.born at
   pub slots : EachFree world.main (λ start. Contains world.main.born start →

@@ -1,6 +1,6 @@
 -- The world after an event, and after each of a list of events; where an event is possible.
-use Rattle.std.specs.Prelude.{◌≡◌, ◌≢◌, ℕ, ◌<◌, IsTrue, List, [], ◌∷◌, ◌++◌, Contains, slice_get, slice_index}
-use Rattle.std.specs.Prelude.{slice_set, take, count_by, Option, Some, None, IsSomeAnd}
+use Rattle.std.specs.Prelude.{◌≡◌, ◌≢◌, ℕ, ◌<◌, IsTrue, List, [], ◌∷◌, ◌++◌, Contains, slice_get}
+use Rattle.std.specs.Prelude.{slice_index, slice_set, take, count_by, Option, Some, None, IsSomeAnd}
 use Rattle.page_space.specs.Sizes.{helpers_most}
 use Rattle.mark_world.specs.declared.event.Event.{Event}
 use Rattle.mark_world.specs.declared.event.Event.TheVariants as event
@@ -58,13 +58,14 @@ after_return world number None = world
 after_return world number (Some view) =
     record world { main = taken_back world.main view; helpers = slice_set world.helpers number returned }
 
--- the world after an event
+-- the world after an event of an actor
 abbrev pub after_step : World → Event → Actor → World
 after_step world of Actor.Mutator = after_main world of
 after_step world of (Actor.Helper number) = after_helper world number of (slice_get world.helpers number)
 after_step world of Actor.Lends = record world { helpers = world.helpers ++ lent ∷ [] }
 after_step world of (Actor.Returns number) = after_return world number (slice_get world.helpers number)
 
+-- the world after an event, whoever took part in it
 abbrev pub after : World → Event → World
 after world of = after_step world of (actor of)
 
@@ -88,13 +89,14 @@ pub record MayStep (world : World) (of : Event) (view : HelperView) : Type 0 whe
   pub may : MayHelper view of
   pub asks : AsksWorld world of
 
--- an event is possible in a world
+-- an event of an actor is possible in a world
 abbrev pub PossibleStep : World → Event → Actor → Type 0
 PossibleStep world of Actor.Mutator = MayMain world.old world.words world.layouts world.main of
 PossibleStep world of (Actor.Helper number) = IsSomeAnd (slice_get world.helpers number) (MayStep world of)
 PossibleStep world of Actor.Lends = seats_out world < helpers_most
 PossibleStep world of (Actor.Returns number) = IsSomeAnd (slice_get world.helpers number) (λ view. IsTrue view.out)
 
+-- an event is possible in a world, whoever takes part in it
 abbrev pub Possible : World → Event → Type 0
 Possible world of = PossibleStep world of (actor of)
 

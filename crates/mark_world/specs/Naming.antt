@@ -9,14 +9,15 @@ use Rattle.tagged_word.specs.Shapes.{shapes_most}
 use Rattle.mark_world.specs.declared.snap.Snap.{Snap}
 use Rattle.mark_world.specs.Pages.{page_end}
 
--- What a snap names: not known, since a word that tells it is still unread; no cell; or a cell with tagged slots at offsets.
+-- What a snap names: not known, since a word that tells it is still unread; no cell; or a cell with tagged slots at
+-- offsets.
 pub data Named : Type 0 where
   unread : Named
   no_cell : Named
   slots : List ℕ → Named
 
--- The size of a cell as far as marking asks for it. It does not ask for the lengths of tables and gaps, which have no tagged
--- slots: of them it knows no word.
+-- The size of a cell as far as marking asks for it. It does not ask for the lengths of tables and gaps, which have no
+-- tagged slots: of them it knows no word.
 abbrev pub known_size : LayoutWord → ℕ → Option ℕ
 known_size layout long =
     if has_length layout.kind && not (marks_by_length layout.kind) then Some 0 else cell_size layout long

@@ -1,5 +1,6 @@
 -- One layout in a snapshot: over a list of events, each snap that made its cell black was read under one layout.
-use Rattle.std.specs.Prelude.{◌≡◌, ℕ, ◌+◌, ◌<◌, ◌≤◌, List, All, Contains, slice_get, slice_index, Some, IsSomeAnd, ◌↔◌}
+use Rattle.std.specs.Prelude.{◌≡◌, ℕ, ◌+◌, ◌<◌, ◌≤◌, List, All, Contains, slice_get, slice_index, Some}
+use Rattle.std.specs.Prelude.{IsSomeAnd, ◌↔◌}
 use Rattle.tagged_word.specs.declared.reading.Reading.{Reading}
 use Rattle.seat_steps.specs.Lists.{HasNoRepeats}
 use Rattle.mark_world.specs.declared.event.Event.{Event}
@@ -18,7 +19,8 @@ pub record KeepsSlots (read now : Reading) : Type 0 where
   pub size : now.size ≡ read.size
   pub tagged : All (λ offset. Contains (slots_of now) offset) (slots_of read)
 
--- the word of a slot was loaded at a moment between two others: it stood there, and the slot was a tagged one of the cell
+-- the word of a slot was loaded at a moment between two others: it stood there, and the slot was a tagged one of the
+-- cell
 pub record WasLoaded (start : World) (events : List Event) (from to number cell : ℕ) (slot : SnapSlot) : Type 0 where
   pub at : ℕ
   pub later : from < at
@@ -27,9 +29,10 @@ pub record WasLoaded (start : World) (events : List Event) (from to number cell 
   pub word : slot.word ≡ slice_index (moment start events at).words (cell + slot.offset)
   pub tagged : IsSomeAnd (cell_of (moment start events at) cell) (λ now. Contains (slots_of now) slot.offset)
 
--- A snap that is settled at one moment began at an earlier one, when its header was loaded, and the cell read so then. From
--- then on the cell was grey, and kept its size and its tagged slots. The snap has these slots, each once, and each word was
--- loaded between from a slot that was tagged. A slot that is tagged at the end, and that the snap does not have, is covered.
+-- A snap that is settled at one moment began at an earlier one, when its header was loaded, and the cell read so then.
+-- From then on the cell was grey, and kept its size and its tagged slots. The snap has these slots, each once, and each
+-- word was loaded between from a slot that was tagged. A slot that is tagged at the end, and that the snap does not
+-- have, is covered.
 pub record HasOneLayout (start : World) (events : List Event) (from to number : ℕ) (snap : Snap) : Type 0 where
   pub before : from < to
   pub load : slice_get events from ≡ Some (event.LoadHeader number snap.cell)

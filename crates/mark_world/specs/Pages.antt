@@ -1,6 +1,6 @@
 -- The cells of pages, as the words there read, and what their words refer to.
-use Rattle.std.specs.Prelude.{◌≡◌, ℕ, ◌+◌, ◌-◌, ◌*◌, ◌/◌, min, Bool, true, false, not, ◌&&◌, ◌||◌, ◌==◌, nat_lt, nat_le}
-use Rattle.std.specs.Prelude.{List, [], ◌∷◌, map, slice_index, Option, Some, None, IfSome, IsTrue}
+use Rattle.std.specs.Prelude.{◌≡◌, ℕ, ◌+◌, ◌-◌, ◌*◌, ◌/◌, min, Bool, true, false, not, ◌&&◌, ◌||◌}
+use Rattle.std.specs.Prelude.{◌==◌, nat_lt, nat_le, List, [], ◌∷◌, map, slice_index, Option, Some, None, IfSome, IsTrue}
 use Rattle.std.specs.Option.{option_and_then}
 use Rattle.tagged_word.specs.declared.reading.Reading.{Reading}
 use Rattle.tagged_word.specs.Cells.{has_length, length_offset, tagged_offsets}
@@ -57,12 +57,13 @@ abbrev pub is_head_of : ℕ → Option Reading → ℕ → Bool
 is_head_of start None at = false
 is_head_of start (Some cell) at = is_inside start (Some cell) at && is_head cell (offset_in start at)
 
--- whether no helper that reads the cell minds a word of it: it is neither its header, nor a length that its size is read
--- from, nor a tagged slot
+-- whether no helper that reads the cell minds a word of it: it is neither its header, nor a length that its size is
+-- read from, nor a tagged slot
 abbrev pub is_quiet : Reading → ℕ → Bool
 is_quiet cell offset = not (is_head cell offset) && not (is_in (slots_of cell) offset)
 
--- whether a store into the word leaves the cell that begins at an address alone: the word lies outside, or is a quiet one
+-- whether a store into the word leaves the cell that begins at an address alone: the word lies outside, or is a quiet
+-- one
 abbrev pub leaves_alone : ℕ → Option Reading → ℕ → Bool
 leaves_alone start None at = true
 leaves_alone start (Some cell) at = not (is_inside start (Some cell) at) || is_quiet cell (offset_in start at)

@@ -1,6 +1,6 @@
 -- What holds between two commands of an open cycle, when a cycle begins, and at its end.
-use Rattle.std.specs.Prelude.{◌≡◌, ℕ, ◌+◌, ◌*◌, ◌<◌, ◌≤◌, ◌⊎◌, false, IsTrue, List, [], All, Contains}
-use Rattle.std.specs.Prelude.{length, slice_index, Option, Some, IfSome, nat_lt, if◌then◌else◌}
+use Rattle.std.specs.Prelude.{◌≡◌, ℕ, ◌+◌, ◌*◌, ◌<◌, ◌≤◌, ◌⊎◌, false, IsTrue, List, [], All}
+use Rattle.std.specs.Prelude.{Contains, length, slice_index, Option, Some, IfSome, nat_lt, if◌then◌else◌}
 use Rattle.tagged_word.specs.declared.layout.Kind.TheVariants as kind
 use Rattle.tagged_word.specs.declared.reading.Reading.{Reading}
 use Rattle.tagged_word.specs.Cells.{is_object_kind, store_head}
@@ -17,15 +17,16 @@ use Rattle.mark_world.specs.Lineage.{Born, HasBorn}
 abbrev pub HasSureTarget : World → ℕ → Type 0
 HasSureTarget world word = OfTarget world.old word (λ to. Contains world.main.sure to)
 
--- The mutator's part is done: it owes nothing, and is sure of each target of a tagged slot of a cell that it made black. Of
--- these cells `Sound` says nothing, since a helper that reads one can't make it black.
+-- The mutator's part is done: it owes nothing, and is sure of each target of a tagged slot of a cell that it made
+-- black. Of these cells `Sound` says nothing, since a helper that reads one can't make it black.
 pub record Settled (world : World) : Type 0 where
   pub owed : world.main.owed ≡ []
   pub sure : All (λ at. EachSlot world at (λ offset. HasSureTarget world)) world.main.mine
 
 -- the cell at an address, of a page or young
 abbrev pub any_cell : World → ℕ → Option Reading
-any_cell world at = if nat_lt at world.old then cell_of world at else read_cell world.words world.layouts at (length world.words)
+any_cell world at =
+    if nat_lt at world.old then cell_of world at else read_cell world.words world.layouts at (length world.words)
 
 -- a cell is kept: young, or born
 abbrev pub IsKept : World → List ℕ → ℕ → Type 0
@@ -49,10 +50,10 @@ HasBornValues world young at table =
 abbrev pub IsBornObject : List ℕ → ℕ → ℕ → Type 0
 IsBornObject reached made object = Contains reached object ⊎ (made ≤ object)
 
--- Known, by the first root word of each variable, the young cells, the numbers of the objects that were reached when the
--- cycle began, and the number of objects then. Each target of a root word is born. The mutator is sure of each target of a
--- tagged slot of a young cell. A kept table with a kept key has a born value. Each kept object cell has a born object's
--- number.
+-- Known, by the first root word of each variable, the young cells, the numbers of the objects that were reached when
+-- the cycle began, and the number of objects then. Each target of a root word is born. The mutator is sure of each
+-- target of a tagged slot of a young cell. A kept table with a kept key has a born value. Each kept object cell has a
+-- born object's number.
 pub record Known (world : World) (roots young reached : List ℕ) (made : ℕ) : Type 0 where
   pub from_roots : All (HasBorn world) roots
   pub from_young : All (λ at. IfSome (any_cell world at) (λ cell.

@@ -49,8 +49,8 @@ plain_slots laid = tagged_offsets laid.layout 0
 abbrev pub Includes : List ℕ → List ℕ → Type 0
 Includes other list = All (λ offset. Contains other offset) list
 
--- Both headers are those of plain cells, with one object's number and one cap, and each slot tagged under the first is tagged
--- under the second.
+-- Both headers are those of plain cells, with one object's number and one cap, and each slot tagged under the first is
+-- tagged under the second.
 pub record IsSafeChange (old new : Laid) : Type 0 where
   pub old_plain : old.layout.kind ≡ kind.Plain
   pub new_plain : new.layout.kind ≡ kind.Plain
@@ -58,7 +58,8 @@ pub record IsSafeChange (old new : Laid) : Type 0 where
   pub one_cap : old.layout.cap ≡ new.layout.cap
   pub tagged : Includes (plain_slots new) (plain_slots old)
 
--- The second word is a safe change of the first, as the header of a cell: both have layouts in place, and the change is safe.
+-- The second word is a safe change of the first, as the header of a cell: both have layouts in place, and the change is
+-- safe.
 abbrev pub IsSafe : List ℕ → ℕ → ℕ → Type 0
 IsSafe layouts before after =
     IsSomeAnd (laid_in layouts before) (λ old. IsSomeAnd (laid_in layouts after) (IsSafeChange old))

@@ -1,6 +1,7 @@
 -- The tri-colour invariant beside a mutator that changes the shapes of cells.
-use Rattle.std.specs.Prelude.{◌≡◌, ◌≢◌, ℕ, ◌+◌, ◌%◌, ◌^◌, ◌<◌, ◌≤◌, ◌⊎◌, false, IsTrue, List, [], All, Any, Contains}
-use Rattle.std.specs.Prelude.{length, slice_get, slice_index, Some, None, IsSome, IfSome, IsSomeAnd}
+use Rattle.std.specs.Prelude.{◌≡◌, ◌≢◌, ℕ, ◌+◌, ◌%◌, ◌^◌, ◌<◌, ◌≤◌, ◌⊎◌, false, IsTrue}
+use Rattle.std.specs.Prelude.{List, [], All, Any, Contains, length, slice_get, slice_index, Some, None, IsSome, IfSome}
+use Rattle.std.specs.Prelude.{IsSomeAnd}
 use Rattle.tagged_word.specs.Cells.{length_offset, marks_by_length}
 use Rattle.tagged_word.specs.Readings.{header_in, reference_in}
 use Rattle.tagged_word.specs.Shapes.{shapes_most}
@@ -20,8 +21,8 @@ use Rattle.mark_world.specs.Covering.{EachSlot, HasCovered, IsCovered, cell_of, 
 abbrev pub AreIn : List ℕ → List ℕ → Type 0
 AreIn other list = All (λ at. Contains other at) list
 
--- Sizes: the words begin with whole pages, of which an address has 32 bits. Each word of them has a colour, one of three.
--- The board is one, and there is a layout word for each shape.
+-- Sizes: the words begin with whole pages, of which an address has 32 bits. Each word of them has a colour, one of
+-- three. The board is one, and there is a layout word for each shape.
 pub record HasSizes (world : World) : Type 0 where
   pub pages : world.old % page_words ≡ 0
   pub addresses : world.old < 2 ^ 32
@@ -31,8 +32,8 @@ pub record HasSizes (world : World) : Type 0 where
   pub board : IsBoard world.board
   pub layouts : length world.layouts ≡ shapes_most
 
--- Cells: each free start reads a cell that ends in its page, and none of them begins in another's. Cells that are born, or
--- that the mutator made black, are published; the latter are born and black.
+-- Cells: each free start reads a cell that ends in its page, and none of them begins in another's. Cells that are born,
+-- or that the mutator made black, are published; the latter are born and black.
 pub record HasCells (world : World) : Type 0 where
   pub read : EachFree world.main (λ start. IsSome (cell_of world start))
   pub apart : EachFree world.main (λ start. EachFree world.main (λ other. start ≢ other →
@@ -50,15 +51,16 @@ pub record IsEmptyView (view : HelperView) : Type 0 where
   pub grey : view.grey ≡ []
   pub log : view.log ≡ []
 
--- Lists of one helper: grey cells that wait with it, and that of its snap, are reached. It has a snap or cells to visit, not
--- both. It has nothing while it is not out.
+-- Lists of one helper: grey cells that wait with it, and that of its snap, are reached. It has a snap or cells to
+-- visit, not both. It has nothing while it is not out.
 pub record HasViewLists (world : World) (view : HelperView) : Type 0 where
   pub grey : All (IsReached world) view.grey
   pub snap : IfSome view.snap (λ snap. IsReached world snap.cell)
   pub one_at_once : IsSome view.snap → view.visit ≡ []
   pub in_hand : view.out ≡ false → IsEmptyView view
 
--- Lists: each cell that waits, is on the board or is read is published and not white. Only published cells are not white.
+-- Lists: each cell that waits, is on the board or is read is published and not white. Only published cells are not
+-- white.
 pub record HasLists (world : World) : Type 0 where
   pub main : All (IsReached world) world.main.grey
   pub helpers : All (HasViewLists world) world.helpers
@@ -99,9 +101,9 @@ IsFreshSlot snap offset word =
 abbrev pub header_slots : World → Snap → ℕ → List ℕ
 header_slots world snap long = slots_by (laid_in world.layouts snap.header) long
 
--- A snap is true to its cell. The header that stands is the one read or a safe change of it; the layout word that was read
--- stands, and so does a length, if the layout asks for one. Each tagged slot that is not covered is one of the header read,
--- and is unread, or was read with the word that stands.
+-- A snap is true to its cell. The header that stands is the one read or a safe change of it; the layout word that was
+-- read stands, and so does a length, if the layout asks for one. Each tagged slot that is not covered is one of the
+-- header read, and is unread, or was read with the word that stands.
 pub record IsTrueSnap (world : World) (snap : Snap) : Type 0 where
   pub header : (slice_index world.words snap.cell ≡ snap.header)
       ⊎ IsSafe world.layouts snap.header (slice_index world.words snap.cell)

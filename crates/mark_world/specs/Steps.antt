@@ -1,5 +1,6 @@
 -- What an event does: the one word that it touches, that word afterwards, and what its seat knows then.
-use Rattle.std.specs.Prelude.{ℕ, ◌+◌, ◌==◌, true, false, List, [], ◌∷◌, ◌++◌, Option, Some, None, if◌then◌else◌}
+use Rattle.std.specs.Prelude.{ℕ, ◌+◌, ◌==◌, true, false, List, [], ◌∷◌, ◌++◌, Option, Some, None}
+use Rattle.std.specs.Prelude.{if◌then◌else◌}
 use Rattle.std.specs.Option.{option_map, option_and_then}
 use Rattle.tagged_word.specs.declared.reading.Reading.{Reading}
 use Rattle.tagged_word.specs.Cells.{length_offset}
@@ -115,8 +116,8 @@ noted log note = log ++ note ∷ []
 abbrev pub joined_if_white : List ℕ → ℕ → ℕ → List ℕ
 joined_if_white list found at = if found == white then joined list at else list
 
--- What the mutator knows once it has made a cell black whose tagged slots hold words: it is sure of their targets, and owes
--- them where no helper had made the cell black before.
+-- What the mutator knows once it has made a cell black whose tagged slots hold words: it is sure of their targets, and
+-- owes them where no helper had made the cell black before.
 abbrev pub blackened : ℕ → MainView → ℕ → ℕ → List ℕ → MainView
 blackened old main at found words = record main {
   mine = joined main.mine at;
@@ -235,8 +236,8 @@ abbrev pub all_joined : List ℕ → List ℕ → List ℕ
 all_joined list [] = list
 all_joined list (at ∷ rest) = all_joined (joined list at) rest
 
--- what the mutator knows once it has taken a seat back: what the helper was to visit is owed, and the grey cells that waited
--- with it, and that of its snap, wait with the mutator
+-- what the mutator knows once it has taken a seat back: what the helper was to visit is owed, and the grey cells that
+-- waited with it, and that of its snap, wait with the mutator
 abbrev pub taken_back : MainView → HelperView → MainView
 taken_back main view = record main {
   owed = all_joined main.owed view.visit;

@@ -24,13 +24,16 @@ use Rattle.list_store.specs.declared.stop.PutStop.{PutStop}
 use Rattle.list_store.specs.declared.stop.PutStop.TheVariants as put
 use Rattle.mutator.specs.Stops.{stop_of_push, stop_of_put}
 use Rattle.mutator.specs.Carries.{Carries}
-use Rattle.mutator.specs.Reading.{StandsFor, IsFoundList}
+use Rattle.mutator.specs.Reading.{StandsFor, StandForBoth, IsFoundList}
+use Rattle.mutator.proofs.GivenValues.{IsGiven}
+use Rattle.mutator.proofs.IndexedLists.{IsIndexedList}
 use Rattle.mutator.proofs.KeptStores.{keeps_push, keeps_as_many}
-use Rattle.mutator.proofs.ListMeanings.{IsKnownList, IsIndex, push_done, push_full, put_done, put_outside}
+use Rattle.mutator.proofs.ListMeanings.{IsKnownList, push_done, push_full, put_done, put_outside}
 use Rattle.mutator.proofs.ListNeeds.{push_need_is, put_need_is}
 use Rattle.mutator.proofs.SetNeeds.{root_refers}
+use Rattle.mutator.proofs.StillShown.{shows_still, stands_still}
 
--- what is known once the list of a `push` or `put` and the value were found
+-- what is known once the list of a `push` and the value were found
 pub record IsPutting (main : Mutator) (graph : Graph) (x : ℕ) (v : Operand) (at : ℕ) (one : Held) : Type 0 where
   pub list : ListObject
   pub value : Value
@@ -42,27 +45,30 @@ pub record IsPutting (main : Mutator) (graph : Graph) (x : ℕ) (v : Operand) (a
   pub below : x < main.seat.space.variables
   pub names : NamesBelow main.seat.space.variables v
 
--- so it is once they were read
-pub putting_known : {old now : Mutator} {graph : Graph} {at : ℕ} {one : Held} (x : ℕ) (v : Operand)
-    (target value : Value) → now ≡ old → MainShows now graph → get graph.bindings x ≡ Some target
-    → value_of graph v ≡ Some value → StandsFor now graph value one → IsFoundList now graph target at
-    → x < old.seat.space.variables → NamesBelow old.seat.space.variables v → IsPutting now graph x v at one
-putting_known {graph = graph} x v target value same shows bound value_is stands found below names = record {
-  list = found.list;
-  value = value;
-  shows = shows;
-  known = record {
-    bound = bound ∙ ap (λ one. Some one) found.is;
-    refers = ap (list_at graph.objects) (sym found.is) ∙ found.refers;
-  };
-  value_is = value_is;
-  stands = found.stands;
-  held = stands.is;
-  below = subst (λ (main : Mutator). x < main.seat.space.variables) (sym same) below;
-  names = subst (λ (main : Mutator). NamesBelow main.seat.space.variables v) (sym same) names;
-}
+-- so it is once the operands were read, of a heap that is the same
+pub putting_read : {old now : Mutator} {graph : Graph} {pair : Held × Held} {at : ℕ} (x : ℕ) (v : Operand)
+    → now ≡ old → MainShows old graph → StandForBoth old graph (get graph.bindings x) (value_of graph v) pair
+    → ((value : Value) → MainShows now graph → StandsFor now graph value pair.0 → IsFoundList now graph value at)
+    → x < old.seat.space.variables → NamesBelow old.seat.space.variables v → IsPutting now graph x v at pair.1
+putting_read {graph = graph} x v same shows both found below names =
+    let shown = shows_still same shows in
+    let named = found both.first shown (stands_still same both.stands_first) in
+    record {
+      list = named.list;
+      value = both.second;
+      shows = shown;
+      known = record {
+        bound = both.is_first ∙ ap (λ one. Some one) named.is;
+        refers = ap (list_at graph.objects) (sym named.is) ∙ named.refers;
+      };
+      value_is = both.is_second;
+      stands = named.stands;
+      held = (stands_still same both.stands_second).is;
+      below = subst (λ (main : Mutator). x < main.seat.space.variables) (sym same) below;
+      names = subst (λ (main : Mutator). NamesBelow main.seat.space.variables v) (sym same) names;
+    }
 
--- the call on the element may be made
+-- the call that pushes the value may be made
 pub putting_shown : {main : Mutator} {graph : Graph} {x at : ℕ} {v : Operand} {one : Held}
     → IsPutting main graph x v at one → IsShownSetting main at one
 putting_shown {graph = graph} putting = record {
@@ -118,26 +124,42 @@ push_stopped {graph = graph} {x} {v = v} new names (push.Full room) putting push
       pushes.3,
     )
 
+-- the call that puts the value may be made
+pub indexed_setting : {main : Mutator} {graph : Graph} {x at : ℕ} {i v : Operand} {n : ℤ} {one : Held}
+    → IsIndexedList main graph x i at n → IsGiven main graph v one → IsShownSetting main at one
+indexed_setting {graph = graph} indexed given = record {
+  graph = graph;
+  list = indexed.list;
+  value = given.value;
+  shows = indexed.shows;
+  is = indexed.stands;
+  is_held = given.held;
+}
+
 -- the words that `put` needs are those of the element
-putting_need : {main : Mutator} {graph : Graph} {x at : ℕ} {v : Operand} {one : Held} (i : Operand) (n : ℤ) (place : ℕ)
-    → (putting : IsPutting main graph x v at one) → NamesBelow main.seat.space.variables i → IsIndex graph i n
-    → IsPlaceIn putting.list n place
-    → put_need_at (heap_of main) at place (is_wide putting.value) ≡ need_of (heap_of main) (Put x i v)
-putting_need {x = x} {at} {v} i n place putting below index names =
-    sym (put_need_is x at i v n place putting.value putting.list putting.shows putting.below below putting.names
-    putting.known.bound index putting.value_is putting.stands names)
+putting_need : {main : Mutator} {graph : Graph} {x at : ℕ} {i v : Operand} {n : ℤ} {one : Held} (place : ℕ)
+    → (indexed : IsIndexedList main graph x i at n) → (given : IsGiven main graph v one)
+    → IsPlaceIn indexed.list n place
+    → put_need_at (heap_of main) at place (is_wide given.value) ≡ need_of (heap_of main) (Put x i v)
+putting_need {x = x} {at} {i} {v} {n} place indexed given is =
+    sym (put_need_is x at i v n place given.value indexed.list indexed.shows indexed.below indexed.names given.names
+    indexed.known.bound indexed.index given.is indexed.stands is)
 
 -- an element that was put
-pub put_carried : {main new : Mutator} {graph : Graph} {x at : ℕ} {v : Operand} {one : Held} (names : List (List ℕ))
-    (i : Operand) (n : ℤ) → (putting : IsPutting main graph x v at one) → NamesBelow main.seat.space.variables i
-    → IsIndex graph i n → PutsElement main new graph at putting.list n putting.value (Ok tt)
-    → Carries names main new graph (Put x i v) [] (Ok tt)
-put_carried {main} {new} {graph} {x} {at} {v} names i n putting below index puts =
-    let list = putting.list in
-    let (place, is_place, has_put) = puts in
-    let need = putting_need i n place putting below index is_place in (
-      relist graph list (slice_set list.elements place putting.value),
-      put_done names x i v (Ref list.number) list n place putting.value putting.known index putting.value_is is_place,
+pub put_carried : {old main new : Mutator} {graph : Graph} {x at : ℕ} {i v : Operand} {n told : ℤ} {one : Held}
+    (names : List (List ℕ)) → main ≡ old → (indexed : IsIndexedList main graph x i at n)
+    → (given : IsGiven main graph v one) → told ≡ n
+    → PutsElement main new graph at indexed.list told given.value (Ok tt)
+    → Carries names old new graph (Put x i v) [] (Ok tt)
+put_carried {main = main} {new} {graph} {x} {at} {i} {v} {n} names same indexed given integer puts =
+    let list = indexed.list in
+    let value = given.value in
+    let (place, is, has_put) =
+    subst (λ (k : ℤ). PutsElement main new graph at list k value (Ok tt)) integer puts in
+    let need = putting_need place indexed given is in
+    subst (λ main. Carries names main new graph (Put x i v) [] (Ok tt)) same (
+      relist graph list (slice_set list.elements place value),
+      put_done names x i v (Ref list.number) list n place value indexed.known indexed.index given.is is,
       has_put.shows,
       subst (HasRoom main.young) need has_put.room,
       subst (UsesMore main new) need has_put.uses,
@@ -145,23 +167,27 @@ put_carried {main} {new} {graph} {x} {at} {v} names i n putting below index puts
     )
 
 -- and one that was not
-pub put_stopped : {main : Mutator} {graph : Graph} {x at : ℕ} {v : Operand} {one : Held} (new : Mutator)
-    (names : List (List ℕ)) (i : Operand) (n : ℤ) (stop : PutStop) → (putting : IsPutting main graph x v at one)
-    → NamesBelow main.seat.space.variables i → IsIndex graph i n
-    → PutsElement main new graph at putting.list n putting.value (Err stop)
+pub put_stopped : {main : Mutator} {graph : Graph} {x at : ℕ} {i v : Operand} {n told : ℤ} {one : Held} (new : Mutator)
+    (names : List (List ℕ)) (stop : PutStop) → (indexed : IsIndexedList main graph x i at n)
+    → (given : IsGiven main graph v one) → told ≡ n
+    → PutsElement main new graph at indexed.list told given.value (Err stop)
     → Carries names main new graph (Put x i v) [] (Err (stop_of_put stop))
-put_stopped {x = x} {v = v} new names i n put.Range putting below index puts = (
-  put_outside names x i v (Ref putting.list.number) putting.list n putting.value putting.known index putting.value_is
-      puts.0,
-  puts.1,
-)
-put_stopped {graph = graph} {x} {v = v} new names i n (put.Full room) putting below index puts =
-    let list = putting.list in
-    let (place, is_place, need, lacks, same) = puts in (
-      relist graph list (slice_set list.elements place putting.value),
+put_stopped {main} {graph} {x} {at} {i} {v} {n} new names put.Range indexed given integer puts =
+    let list = indexed.list in
+    let (outside, same) =
+    subst (λ (k : ℤ). PutsElement main new graph at list k given.value (Err put.Range)) integer puts in (
+      put_outside names x i v (Ref list.number) list n given.value indexed.known indexed.index given.is outside,
+      same,
+    )
+put_stopped {main} {graph} {x} {at} {i} {v} {n} new names (put.Full room) indexed given integer puts =
+    let list = indexed.list in
+    let value = given.value in
+    let (place, is, need, lacks, same) =
+    subst (λ (k : ℤ). PutsElement main new graph at list k value (Err (put.Full room))) integer puts in (
+      relist graph list (slice_set list.elements place value),
       [],
-      put_done names x i v (Ref list.number) list n place putting.value putting.known index putting.value_is is_place,
-      need ∙ putting_need i n place putting below index is_place,
+      put_done names x i v (Ref list.number) list n place value indexed.known indexed.index given.is is,
+      need ∙ putting_need place indexed given is,
       lacks,
       same,
     )

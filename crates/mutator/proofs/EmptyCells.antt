@@ -50,7 +50,7 @@ plain_cell header cap =
     record { header = header; layout = empty_layout cap; size = 2 + cap; words = empty_plain header cap }
 
 -- it has so many words
-length-empty_plain : (header : Header) (cap : ℕ) → length (empty_plain header cap) ≡ 2 + cap
+pub length-empty_plain : (header : Header) (cap : ℕ) → length (empty_plain header cap) ≡ 2 + cap
 length-empty_plain header cap = omega (arith, length-replicate cap hole_word)
 
 -- an element of a list of the same ones is this one
@@ -94,7 +94,8 @@ empty_is_sound {heap} {at} {header} {cap} is =
 
 -- it shows a plain object without fields
 pub empty_shows : {heap : Heap} {at : ℕ} {header : Header} {cap : ℕ} → IsEmptyCell heap at header cap
-    → ShowsPlain heap (cell_of at (plain_cell header cap)) (words_of_cell heap (cell_of at (plain_cell header cap))) cap []
+    → ShowsPlain heap (cell_of at (plain_cell header cap))
+    (words_of_cell heap (cell_of at (plain_cell header cap))) cap []
 empty_shows {cap = cap} is = record {
   of_kind = refl;
   path = is.shaped.of_path;

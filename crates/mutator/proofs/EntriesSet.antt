@@ -14,7 +14,7 @@ use Rattle.handle_roots.specs.declared.held.Held.{Held}
 use Rattle.heap_model.specs.Slots.{reference_word}
 use Rattle.heap_model.specs.Needs.{need_of, wput_need_at}
 use Rattle.write_barrier.specs.Mains.{Mutator, heap_of, MainShows}
-use Rattle.object_cells.specs.HeldValues.{IsValueHeld, is_wide}
+use Rattle.object_cells.specs.HeldValues.{is_wide}
 use Rattle.object_cells.specs.Uses.{UsesMore}
 use Rattle.ephemeron_table.specs.WeakObjects.{IsWeakAt, IsKeyAt, IsShownKey, IsShownPutting}
 use Rattle.ephemeron_table.specs.EntryChanges.{HasPutEntry, PutsEntry, DeletesEntry}
@@ -22,10 +22,12 @@ use Rattle.ephemeron_table.specs.declared.stop.TableStop.{TableStop}
 use Rattle.ephemeron_table.specs.declared.stop.TableStop.TheVariants as table
 use Rattle.mutator.specs.Stops.{stop_of_table}
 use Rattle.mutator.specs.Carries.{Carries}
-use Rattle.mutator.specs.Reading.{StandsFor, IsFoundWeak, IsFoundKey}
+use Rattle.mutator.specs.Reading.{StandsFor, StandForBoth, IsFoundWeak, IsFoundKey}
+use Rattle.mutator.proofs.GivenValues.{IsGiven}
 use Rattle.mutator.proofs.KeptStores.{keeps_wput, keeps_as_many}
 use Rattle.mutator.proofs.Rebinding.{room_for_none}
 use Rattle.mutator.proofs.SetNeeds.{root_refers}
+use Rattle.mutator.proofs.StillShown.{shows_still, stands_still}
 use Rattle.mutator.proofs.WeakMeanings.{IsKnownWeak, wput_done, wput_full, wdel_done}
 use Rattle.mutator.proofs.WeakNeeds.{key_told, wput_need_is}
 
@@ -41,25 +43,30 @@ pub record IsEntering (main : Mutator) (graph : Graph) (m : ℕ) (k : Operand) (
   pub below : m < main.seat.space.variables
   pub names : NamesBelow main.seat.space.variables k
 
--- so it is once they were read
-pub entering_known : {old now : Mutator} {graph : Graph} {at key : ℕ} (m : ℕ) (k : Operand) (target named : Value)
-    → now ≡ old → MainShows now graph → get graph.bindings m ≡ Some target → value_of graph k ≡ Some named
-    → IsFoundWeak now graph target at → IsFoundKey now graph named key → m < old.seat.space.variables
-    → NamesBelow old.seat.space.variables k → IsEntering now graph m k at key
-entering_known {graph = graph} m k target named same shows bound named_is found key below names = record {
-  weak = found.weak;
-  number = key.number;
-  shows = shows;
-  known = record {
-    bound = bound ∙ ap (λ one. Some one) found.is;
-    refers = ap (weak_at graph.objects) (sym found.is) ∙ found.refers;
-  };
-  named = named_is ∙ ap (λ one. Some one) key.is;
-  stands = found.stands;
-  key_stands = key.stands;
-  below = subst (λ (main : Mutator). m < main.seat.space.variables) (sym same) below;
-  names = subst (λ (main : Mutator). NamesBelow main.seat.space.variables k) (sym same) names;
-}
+-- so it is once the operands were read, of a heap that is the same
+pub entering_read : {old now : Mutator} {graph : Graph} {pair : Held × Held} {at key : ℕ} (m : ℕ) (k : Operand)
+    → now ≡ old → MainShows old graph → StandForBoth old graph (get graph.bindings m) (value_of graph k) pair
+    → ((value : Value) → MainShows now graph → StandsFor now graph value pair.0 → IsFoundWeak now graph value at)
+    → ((value : Value) → StandsFor now graph value pair.1 → IsFoundKey now graph value key)
+    → m < old.seat.space.variables → NamesBelow old.seat.space.variables k → IsEntering now graph m k at key
+entering_read {graph = graph} m k same shows both found which below names =
+    let shown = shows_still same shows in
+    let named = found both.first shown (stands_still same both.stands_first) in
+    let key = which both.second (stands_still same both.stands_second) in
+    record {
+      weak = named.weak;
+      number = key.number;
+      shows = shown;
+      known = record {
+        bound = both.is_first ∙ ap (λ one. Some one) named.is;
+        refers = ap (weak_at graph.objects) (sym named.is) ∙ named.refers;
+      };
+      named = both.is_second ∙ ap (λ one. Some one) key.is;
+      stands = named.stands;
+      key_stands = key.stands;
+      below = subst (λ (main : Mutator). m < main.seat.space.variables) (sym same) below;
+      names = subst (λ (main : Mutator). NamesBelow main.seat.space.variables k) (sym same) names;
+    }
 
 -- the call on the entry may be made
 pub entering_shown : {main : Mutator} {graph : Graph} {m at key : ℕ} {k : Operand}
@@ -71,24 +78,6 @@ entering_shown {graph = graph} entering = record {
   shows = entering.shows;
   is = entering.stands;
   is_key = entering.key_stands;
-}
-
--- what is known once the value of an operand was found
-pub record IsGiven (main : Mutator) (graph : Graph) (v : Operand) (one : Held) : Type 0 where
-  pub value : Value
-  pub is : value_of graph v ≡ Some value
-  pub held : IsValueHeld main graph one value
-  pub names : NamesBelow main.seat.space.variables v
-
--- so it is once it was read
-pub given_known : {old now : Mutator} {graph : Graph} {one : Held} (v : Operand) (value : Value) → now ≡ old
-    → value_of graph v ≡ Some value → StandsFor now graph value one → NamesBelow old.seat.space.variables v
-    → IsGiven now graph v one
-given_known v value same is stands names = record {
-  value = value;
-  is = is;
-  held = stands.is;
-  names = subst (λ (main : Mutator). NamesBelow main.seat.space.variables v) (sym same) names;
 }
 
 -- the call that puts the value may be made
@@ -108,10 +97,11 @@ putting_entry_shown {graph = graph} entering given = record {
 -- the words that `wput` needs are those of the entry
 entering_need : {main : Mutator} {graph : Graph} {m at key : ℕ} {k v : Operand} {one : Held}
     → (entering : IsEntering main graph m k at key) → (given : IsGiven main graph v one)
-    → wput_need_at (heap_of main) at (reference_word key) (is_wide given.value) ≡ need_of (heap_of main) (WPut m k v)
+    → wput_need_at (heap_of main) at (reference_word key) (is_wide given.value)
+    ≡ need_of (heap_of main) (WPut m k v)
 entering_need {m = m} {at} {key} {k} {v} entering given =
-    sym (wput_need_is m at key k v entering.number given.value entering.weak entering.shows entering.below entering.names
-    given.names entering.known.bound entering.named given.is entering.stands entering.key_stands)
+    sym (wput_need_is m at key k v entering.number given.value entering.weak entering.shows entering.below
+    entering.names given.names entering.known.bound entering.named given.is entering.stands entering.key_stands)
 
 -- an entry that was put
 pub wput_carried : {main new : Mutator} {graph : Graph} {m at key : ℕ} {k v : Operand} {one : Held}
@@ -141,8 +131,8 @@ pub wput_stopped : {main : Mutator} {graph : Graph} {m at key : ℕ} {k v : Oper
     → PutsEntry main new graph at key entering.weak entering.number given.value (Err stop)
     → Carries names main new graph (WPut m k v) [] (Err (stop_of_table stop))
 wput_stopped {m = m} {k = k} {v} new names (table.TableFull entries) entering given puts = (
-  wput_full names m k v (Ref entering.weak.number) entering.weak entering.number given.value entering.known entering.named
-      given.is puts.0,
+  wput_full names m k v (Ref entering.weak.number) entering.weak entering.number given.value entering.known
+      entering.named given.is puts.0,
   puts.2,
 )
 wput_stopped {graph = graph} {m} {k = k} {v} new names (table.Full room) entering given puts =
@@ -150,7 +140,8 @@ wput_stopped {graph = graph} {m} {k = k} {v} new names (table.Full room) enterin
     let (few, need, lacks, same) = puts in (
       reweave graph weak (with_entry weak.entries entering.number given.value),
       [],
-      wput_done names m k v (Ref weak.number) weak entering.number given.value entering.known entering.named given.is few,
+      wput_done names m k v (Ref weak.number) weak entering.number given.value entering.known entering.named given.is
+          few,
       need ∙ entering_need entering given,
       lacks,
       same,

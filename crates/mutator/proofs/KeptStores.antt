@@ -108,7 +108,8 @@ keeps_others {old} {new} command at capacity by_root stores = record {
 }
 
 -- a field was set of the object to which the variable's root refers
-pub keeps_set : {old new : Heap} (x name at : ℕ) (v : Operand) → reference_in (word_at old (root_at old.space x)) ≡ Some at
+pub keeps_set : {old new : Heap} (x name at : ℕ) (v : Operand)
+    → reference_in (word_at old (root_at old.space x)) ≡ Some at
     → ChangesObject old new at (set_capacity_at old at name) → KeepsStores old new (Set x name v)
 keeps_set {old} x name at v refers stores =
     keeps_others (Set x name v) at (λ other. set_capacity_at old other name)

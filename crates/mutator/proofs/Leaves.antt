@@ -1,16 +1,14 @@
 -- What a call leaves, however it ends.
-use Rattle.std.proofs.Common.{◌≡◌, ℕ, ◌+◌, List, [], ◌∷◌, length, Result, Ok, Err, refl, sym, ◌∙◌, ap}
+use Rattle.std.proofs.Common.{◌≡◌, ℕ, ◌+◌, List, [], ◌∷◌, length, Result, Ok, Err, OnOk, sym, ◌∙◌, ap}
 use Rattle.std.proofs.Common.{subst, arith, length-append}
 use Rattle.heap_command.specs.declared.command.Command.{Command}
-use Rattle.heap_command.specs.declared.command.Command.TheVariants.{New, List as NewList, Weak as NewWeak}
 use Rattle.object_graph.specs.declared.object.Object.{Object}
-use Rattle.object_graph.specs.declared.object.Object.TheVariants.{Plain, List as ListOf, Weak}
 use Rattle.object_graph.specs.Graphs.{Graph, make}
 use Rattle.object_graph.specs.Meaning.{Outcome, done, fault, does}
 use Rattle.object_graph.specs.Limits.{ideal_limits}
 use Rattle.write_barrier.specs.Mains.{Mutator, MainShows}
 use Rattle.mutator.specs.declared.stop.Stop.{Stop}
-use Rattle.mutator.specs.declared.stop.Stop.TheVariants.{Fault, NoRoom}
+use Rattle.mutator.specs.declared.stop.Stop.TheVariants.{Fault, NoRoom, NoClear}
 use Rattle.mutator.specs.Carries.{Carries}
 
 -- a heap that shows a graph, with as many variables
@@ -25,63 +23,47 @@ unchanged old new graph same shows = record {
   variables = ap (λ (main : Mutator). main.seat.space.variables) same;
 }
 
--- each call leaves such a heap
-pub leaves : (names : List (List ℕ)) (old new : Mutator) (graph : Graph) (command : Command) (text : List ℕ)
-    (result : Result (Unit {0}) Stop) → Carries names old new graph command text result → MainShows old graph
-    → Leaves old new
-leaves names old new graph command text (Ok result) carries shows = record {
+-- a command that is carried out, or stops, leaves such a heap
+left : (old new : Mutator) (graph : Graph) (command : Command) (result : Result (Unit {0}) Stop)
+    → Carries [] old new graph command [] result → MainShows old graph → Leaves old new
+left old new graph command (Ok result) carries shows = record {
   shown = (carries.0, carries.2);
-  variables = ap (λ space. space.variables) carries.4.space;
+  variables = ap (λ space. space.variables) carries.4.beside.space;
 }
-leaves names old new graph command text (Err (Fault word)) carries shows = unchanged old new graph carries.1 shows
-leaves names old new graph command text (Err (NoRoom need)) carries shows = unchanged old new graph carries.5 shows
+left old new graph command (Err (Fault word)) carries shows = unchanged old new graph carries.1 shows
+left old new graph command (Err (NoRoom need)) carries shows = unchanged old new graph carries.5 shows
+left old new graph command (Err (NoClear entries)) carries shows = absurd carries
 
--- a heap that shows a graph with so many objects, and has as many variables as another
-pub record Makes (old new : Mutator) (count : ℕ) : Type 0 where
-  pub graph : Graph
-  pub shows : MainShows new graph
-  pub counted : count ≡ length graph.objects
-  pub variables : new.seat.space.variables ≡ old.seat.space.variables
+-- and so does each call that writes nothing
+pub leaves : {old : Mutator} (new : Mutator) (command : Command) (result : Result (Unit {0}) Stop)
+    → (graph : Graph) × MainShows old graph
+    → ((graph : Graph) (names : List (List ℕ)) → MainShows old graph
+    → Carries names old new graph command [] result)
+    → Leaves old new
+leaves {old} new command result (graph, shows) carried =
+    left old new graph command result (carried graph [] shows) shows
 
 -- the graph that a command comes to
 graph_in : Graph → Outcome → Graph
 graph_in other (done graph text) = graph
 graph_in other (fault word) = other
 
--- a command that makes an object leaves one with an object more
-makes_one : (old new : Mutator) (graph : Graph) (command : Command) (x count : ℕ) (what : Object) (result : Unit {0})
+-- what a command that makes an object leaves: a heap that shows a graph with so many objects, and as many variables
+pub record Makes (old new : Mutator) (count : ℕ) (result : Result (Unit {0}) Stop) : Type 0 where
+  pub shown : OnOk result ((graph : Graph) × MainShows new graph × (count ≡ length graph.objects))
+  pub variables : OnOk result (new.seat.space.variables ≡ old.seat.space.variables)
+
+-- it is an object more
+pub makes : (old new : Mutator) (graph : Graph) (command : Command) (x count : ℕ) (what : Object)
+    (result : Result (Unit {0}) Stop)
     → does ideal_limits [] graph command ≡ done (make graph x what) [] → count ≡ length graph.objects
-    → Carries [] old new graph command [] (Ok result) → Makes old new (count + 1)
+    → Carries [] old new graph command [] result → Makes old new (count + 1) result
 unfolding graph_in
-makes_one old new graph command x count what result is counted carries =
+makes old new graph command x count what (Ok tt) is counted carries =
     let same : make graph x what ≡ carries.0 = ap (graph_in graph) (sym is ∙ carries.1) in
+    let longer : length (make graph x what).objects ≡ length carries.0.objects = ap (λ g. length g.objects) same in
     record {
-      graph = carries.0;
-      shows = carries.2;
-      counted = omega (
-        arith,
-        counted,
-        length-append graph.objects (what ∷ []),
-        ap
-            (λ g. length g.objects) same,
-      );
-      variables = ap (λ space. space.variables) carries.4.space;
+      shown = (carries.0, carries.2, omega (arith, counted, length-append graph.objects (what ∷ []), longer));
+      variables = ap (λ space. space.variables) carries.4.beside.space;
     }
-
--- so does `new`
-pub makes : (old new : Mutator) (graph : Graph) (x cap count : ℕ) (result : Unit {0}) → count ≡ length graph.objects
-    → Carries [] old new graph (New x cap) [] (Ok result) → Makes old new (count + 1)
-makes old new graph x cap count result counted carries =
-    makes_one old new graph (New x cap) x count (Plain cap []) result refl counted carries
-
--- and `list`
-pub makes_list : (old new : Mutator) (graph : Graph) (x count : ℕ) (result : Unit {0}) → count ≡ length graph.objects
-    → Carries [] old new graph (NewList x) [] (Ok result) → Makes old new (count + 1)
-makes_list old new graph x count result counted carries =
-    makes_one old new graph (NewList x) x count (ListOf []) result refl counted carries
-
--- and `weak`
-pub makes_weak : (old new : Mutator) (graph : Graph) (x count : ℕ) (result : Unit {0}) → count ≡ length graph.objects
-    → Carries [] old new graph (NewWeak x) [] (Ok result) → Makes old new (count + 1)
-makes_weak old new graph x count result counted carries =
-    makes_one old new graph (NewWeak x) x count (Weak []) result refl counted carries
+makes old new graph command x count what (Err stop) is counted carries = record { shown = tt; variables = tt }

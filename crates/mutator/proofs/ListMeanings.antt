@@ -46,10 +46,11 @@ pub put_outside : {graph : Graph} (names : List (List ℕ)) (x : ℕ) (i v : Ope
 put_outside names x i v target list n value known index is outside =
     rw (known.bound, index.value_is, is, known.refers, index.integer, outside)
 
--- whether a list has as many elements as it may have
+-- the test of a list that has as many elements as it may have
 is_full : (count : ℕ) → list_most ≤ count → nat_le list_most count ≡ true
 is_full count full = grind (arith, nat_tests)
 
+-- and that of one that has fewer
 is_not_full : (count : ℕ) → count < list_most → nat_le list_most count ≡ false
 is_not_full count few = grind (arith, nat_tests)
 

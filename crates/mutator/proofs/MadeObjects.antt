@@ -1,6 +1,6 @@
 -- A heap in which an object was made and bound shows the graph in which it is.
 use Rattle.std.proofs.Common.{◌≡◌, ℕ, ◌+◌, ◌<◌, ◌≤◌, ◌^◌, List, [], length, Ok, slice_get, sym}
-use Rattle.std.proofs.Common.{◌∙◌, ap, subst}
+use Rattle.std.proofs.Common.{refl, ◌∙◌, ap, subst}
 use Rattle.std.proofs.Common.{arith, inl, inr}
 use Rattle.heap_command.specs.declared.command.Command.{Command}
 use Rattle.tagged_word.specs.declared.header.Header.{Header}
@@ -18,11 +18,12 @@ use Rattle.graph_laws.specs.GraphLaws.{FitsCommand}
 use Rattle.graph_laws.proofs.FieldLimits.{ideal_field_limit}
 use Rattle.graph_laws.proofs.GraphsStay.{graphs_stay}
 use Rattle.graph_laws.proofs.NothingNew.{only_made_is_new}
-use Rattle.page_space.specs.Extents.{Space, eden_start}
+use Rattle.page_space.specs.Extents.{Space, eden_start, marks_start}
 use Rattle.nursery.specs.Young.{HasRoom}
 use Rattle.handle_roots.specs.declared.held.Held.TheVariants as held
 use Rattle.heap_table.specs.declared.phase.Phase.TheVariants.{Quiet}
-use Rattle.heap_table.specs.Seats.{heap_words}
+use Rattle.heap_table.specs.Seats.{heap_words, StaysBeside}
+use Rattle.heap_table.specs.Staying.{stays_beside_again}
 use Rattle.shape_tree.specs.Shapes.{IsShapeOf}
 use Rattle.shape_tree.specs.ShapeLayouts.{layout_word}
 use Rattle.cell_layout.specs.declared.cell.Cell.{Cell}
@@ -41,6 +42,8 @@ use Rattle.heap_model.proofs.NewObjects.{new_objects_show}
 use Rattle.write_barrier.specs.Mains.{Mutator, heap_of, IsTied, MainShows, reserved, with_table, with_variable}
 use Rattle.write_barrier.specs.Values.{with_range}
 use Rattle.object_cells.specs.Uses.{UsesMore}
+use Rattle.object_cells.proofs.UnusedWords.{run_before_marks}
+use Rattle.object_cells.proofs.WordsBeside.{range_beside, variable_beside}
 use Rattle.mutator.specs.Capacities.{KeepsStores}
 use Rattle.mutator.specs.Carries.{Carries}
 use Rattle.mutator.proofs.NewCells.{NewCell, cell_of}
@@ -136,7 +139,8 @@ pub record IsMade (heap : Heap) (graph : Graph) (x : ℕ) (one : NewCell) (what 
   pub carries : one.header.object ≡ length graph.objects
 
 -- so it shows the graph in which the object is made
-made_shows : {old mid filled new : Mutator} {graph : Graph} {command : Command} {x at : ℕ} {one : NewCell} {what : Object}
+made_shows : {old mid filled new : Mutator} {graph : Graph} {command : Command} {x at : ℕ} {one : NewCell}
+    {what : Object}
     → MainShows old graph → IsMaking (heap_of old) graph command x one.size what
     → MakesObject old mid filled new x at one → IsMade (heap_of old) graph x one what → at < 2 ^ 32
     → x < old.seat.space.variables → Shows (heap_of new) (make graph x what)
@@ -177,7 +181,8 @@ pub making_carried : {old mid filled new : Mutator} {graph : Graph} {command : C
     → IsMaking (heap_of old) graph command x one.size what → MakesObject old mid filled new x at one
     → IsMade (heap_of old) graph x one what → at < 2 ^ 32 → x < old.seat.space.variables → HasRoom old.young one.size
     → Carries names old new graph command [] (Ok tt)
-making_carried {old} {new = new} {graph} {command} {x} {at} {one} {what} names shows making makes made small below room =
+making_carried {old} {new = new} {graph} {command} {x} {at} {one} {what} names shows making makes made small below
+    room =
     let after : Graph = make graph x what in
     let whole = made_is makes in
     let shown = made_shows shows making makes made small below in
@@ -189,8 +194,19 @@ making_carried {old} {new = new} {graph} {command} {x} {at} {one} {what} names s
       shows = shown;
       counts = made_counts shows making makes made below shown;
     } in
+    let filled_one : Mutator = filled_from old at one in
+    let within : at + length one.words ≤ marks_start old.seat.space =
+    omega (
+      arith,
+      run_before_marks old one.size at old.seat.space shows.tied room (run_is_next old shows.tied makes.run) refl,
+      made.fits.fresh.long,
+    ) in
+    let beside : StaysBeside old.seat (with_variable filled_one x (held.Ref at)).seat =
+    stays_beside_again old.seat filled_one.seat (with_variable filled_one x (held.Ref at)).seat
+    (range_beside (reserved old one.size) at one.words shows.shows.whole.sized.words within)
+    (variable_beside filled_one x (held.Ref at) below) in
     let uses : UsesMore old new one.size = record {
-      space = ap (λ (now : Mutator). now.seat.space) whole;
+      beside = subst (λ (now : Mutator). StaysBeside old.seat now.seat) (sym whole) beside;
       young = ap (λ (now : Mutator). now.young) whole;
     } in
     let put = with_cell_put shows.shows.whole made.fits made.sound in

@@ -17,7 +17,7 @@ use Rattle.nursery.specs.Young.{HasRoom}
 use Rattle.handle_roots.specs.declared.held.Held.{Held}
 use Rattle.handle_roots.specs.Roots.{FitsHeld, with_root}
 use Rattle.heap_table.specs.declared.phase.Phase.TheVariants.{Quiet}
-use Rattle.heap_table.specs.Seats.{heap_words}
+use Rattle.heap_table.specs.Seats.{heap_words, StaysBeside}
 use Rattle.cell_layout.specs.declared.cell.Cell.{Cell}
 use Rattle.heap_model.specs.Heaps.{Heap, HasCell}
 use Rattle.heap_model.specs.Counting.{CountsEntries}
@@ -29,6 +29,8 @@ use Rattle.heap_model.proofs.BoundGraphs.{bindings_show}
 use Rattle.heap_model.proofs.CountsStay.{counts_stay}
 use Rattle.write_barrier.specs.Mains.{Mutator, heap_of, IsTied, MainShows, with_variable}
 use Rattle.object_cells.specs.Uses.{UsesMore}
+use Rattle.object_cells.proofs.WordsBeside.{variable_beside}
+use Rattle.mutator.specs.Binding.{Binds}
 use Rattle.mutator.specs.Capacities.{KeepsStores}
 use Rattle.mutator.specs.Carries.{Carries}
 use Rattle.mutator.proofs.KeptStores.{KeepsCapacities, keeps_bound}
@@ -42,6 +44,14 @@ pub record HoldsAnew (old new : Mutator) (x : ℕ) (one : Held) : Type 0 where
 pub holds_after : {old now new : Mutator} (x : ℕ) (one : Held) → now ≡ old → HoldsAnew now new x one
     → HoldsAnew old new x one
 holds_after {new = new} x one same holds = subst (λ main. HoldsAnew main new x one) same holds
+
+-- so only the variable was bound anew
+pub binds_after : {old now new : Mutator} (x : ℕ) (one : Held) → now ≡ old → new ≡ with_variable now x one
+    → Binds old new x
+binds_after {new = new} x one same held = record {
+  held = one;
+  is = subst (λ (main : Mutator). new ≡ with_variable main x one) same held;
+}
 
 -- the heap is then the one with these root words
 pub heap_bound : {old new : Mutator} (x : ℕ) (one : Held) → HoldsAnew old new x one → heap_of new
@@ -67,9 +77,11 @@ room_for_none shows =
     omega (arith, shows.shows.whole.rows.few, ap (λ (space : Space). space.sizes.young) shows.tied)
 
 -- a heap in which a variable was bound anew uses no word more
-pub uses_none : {old new : Mutator} (x : ℕ) (one : Held) → HoldsAnew old new x one → UsesMore old new 0
-uses_none {old} x one holds = record {
-  space = ap (λ (main : Mutator). main.seat.space) holds.held;
+pub uses_none : {old new : Mutator} (x : ℕ) (one : Held) → HoldsAnew old new x one → x < old.seat.space.variables
+    → UsesMore old new 0
+uses_none {old} {new} x one holds below = record {
+  beside = subst (λ (main : Mutator). StaysBeside old.seat main.seat) (sym holds.held)
+      (variable_beside old x one below);
   young = ap (λ (main : Mutator). main.young) holds.held
       ∙ ap (λ (used : ℕ). record old.young { used = used }) (sym (add-zero old.young.used));
 }
@@ -111,7 +123,7 @@ binding_carried {old} {new} after names command x one shows carried none fits an
       carried,
       rebound_shows names command [] x one shows carried none fits anew below held_fits shown holds,
       subst (HasRoom old.young) (sym no_need) (room_for_none shows),
-      subst (UsesMore old new) (sym no_need) (uses_none x one holds),
+      subst (UsesMore old new) (sym no_need) (uses_none x one holds below),
       subst (λ heap. KeepsStores (heap_of old) heap command) (sym (heap_bound x one holds))
           (keeps_bound command x one below shows.shows.whole keeps),
     )

@@ -42,6 +42,7 @@ record IsAddress (heap : Heap) (one : Held) (number : ℕ) : Type 0 where
   is : one ≡ held.Ref at
   place : IsPlace heap number at
 
+-- so it is of what is held: nothing else shows an object
 address_by_kind : (heap : Heap) (one : Held) (number : ℕ) → ShowsByKind heap one (Some (Ref number))
     → IsAddress heap one number
 address_by_kind heap held.Unbound number is = absurd is

@@ -1,10 +1,11 @@
 -- A heap that is the same as before shows the same.
 use Rattle.std.proofs.Common.{◌≡◌, sym, subst}
-use Rattle.object_graph.specs.Graphs.{Graph}
+use Rattle.heap_command.specs.declared.command.Operand.{Operand}
+use Rattle.object_graph.specs.Graphs.{Graph, value_of}
 use Rattle.object_graph.specs.declared.value.Value.{Value}
 use Rattle.handle_roots.specs.declared.held.Held.{Held}
 use Rattle.write_barrier.specs.Mains.{Mutator, MainShows}
-use Rattle.mutator.specs.Reading.{StandsFor, IsShownValue}
+use Rattle.mutator.specs.Reading.{StandsFor, StandForBoth, IsShownValue}
 
 -- it shows a graph where it showed one
 pub some_still : {old new : Mutator} → new ≡ old → (graph : Graph) × MainShows old graph
@@ -27,3 +28,11 @@ pub value_still : {old new : Mutator} (graph : Graph) (value : Value) (held : He
 value_still graph value held same shows stands =
     subst (λ main. IsShownValue main held) (sym same)
     (record { graph = graph; value = value; shows = shows; stands = stands })
+
+-- so does the first of two operands that were read
+pub first_still : {old new : Mutator} {pair : Held × Held} (a b : Operand) → new ≡ old
+    → (graph : Graph) × MainShows old graph
+    → ((graph : Graph) → MainShows old graph → StandForBoth old graph (value_of graph a) (value_of graph b) pair)
+    → IsShownValue new pair.0
+first_still {pair = pair} a b same (graph, shows) found =
+    let both = found graph shows in value_still graph both.first pair.0 same shows both.stands_first

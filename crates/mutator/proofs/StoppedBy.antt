@@ -1,9 +1,21 @@
 -- What a command stops with, where a call stopped.
-use Rattle.std.proofs.Common.{◌≡◌, Result, Ok, Err, ap}
+use Rattle.std.proofs.Common.{◌≡◌, ℕ, List, [], Result, Ok, Err, ap, subst, sym}
 use Rattle.std.specs.Result.{IsErrAnd}
+use Rattle.heap_command.specs.declared.command.Command.{Command}
+use Rattle.object_graph.specs.Graphs.{Graph}
+use Rattle.write_barrier.specs.Mains.{Mutator}
 use Rattle.mutator.specs.declared.stop.Stop.{Stop}
+use Rattle.mutator.specs.Carries.{Carries}
 
 -- an answer that is an error, and this one, is that
-pub stopped_by : (answer : Result Unit Stop) (stop : Stop) → IsErrAnd answer (λ one. one ≡ stop) → answer ≡ Err stop
+stopped_by : (answer : Result Unit Stop) (stop : Stop) → IsErrAnd answer (λ one. one ≡ stop) → answer ≡ Err stop
 stopped_by (Ok done) stop is = absurd is
 stopped_by (Err one) stop is = ap (λ e. Err e) is
+
+-- a command whose call stopped with this, on a heap that is the same as before, stops with its answer
+pub stopped_with : {old now : Mutator} (new : Mutator) (graph : Graph) (names : List (List ℕ)) (command : Command)
+    (answer : Result Unit Stop) (stop : Stop) → now ≡ old → IsErrAnd answer (λ one. one ≡ stop)
+    → Carries names now new graph command [] (Err stop) → Carries names old new graph command [] answer
+stopped_with {now = now} new graph names command answer stop same is carries =
+    subst (λ main. Carries names main new graph command [] answer) same
+    (subst (λ one. Carries names now new graph command [] one) (sym (stopped_by answer stop is)) carries)

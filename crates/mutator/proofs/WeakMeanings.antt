@@ -1,5 +1,6 @@
 -- What `wput`, `wget` and `wdel` mean, where their variables, their weak map and their key are known.
-use Rattle.std.proofs.Common.{◌≡◌, ◌==◌, ◌&&◌, ◌+◌, ◌≤◌, ℕ, Bool, true, false, cond, List, [], ◌∷◌, length, Option, Some}
+use Rattle.std.proofs.Common.{◌≡◌, ◌==◌, ◌&&◌, ◌+◌, ◌≤◌, ℕ, Bool, true}
+use Rattle.std.proofs.Common.{false, cond, List, [], ◌∷◌, length, Option, Some}
 use Rattle.std.proofs.Common.{None, is_none, nat_le, inl, inr, refl, ◌∙◌, ap, arith, zero-add}
 use Rattle.std.specs.Prelude.{count_by, unwrap_or, if◌then◌else◌}
 use Rattle.std.specs.FinMap.{get}
@@ -17,7 +18,7 @@ use Rattle.object_graph.specs.Graphs.{Graph, WeakObject, bind, value_of, weak_at
 use Rattle.object_graph.specs.Meaning.{done, fault, unless, weak_most, no_entry_for, reweave, does}
 use Rattle.object_graph.specs.Reach.{reach}
 use Rattle.object_graph.specs.Limits.{ideal_limits}
-use Rattle.ephemeron_table.specs.EntryChanges.{LacksEntries}
+use Rattle.ephemeron_table.specs.EntryChanges.{IsFullFor}
 
 -- what the variable of a command on a weak map and the weak map are
 pub record IsKnownWeak (graph : Graph) (m : ℕ) (target : Value) (weak : WeakObject) : Type 0 where
@@ -68,18 +69,19 @@ no_entry_for-is marks entries key =
     ap (λ new. new && nat_le weak_most (count_by (λ entry. true) entries)) (no_key entries key)
     ∙ ap (λ n. is_none (entry_value entries key) && nat_le weak_most n) (count_by-all entries)
 
--- the test where the map lacks entries
+-- the test of a number of entries that the map may not pass
 full_test : (count : ℕ) → weak_most ≤ count → nat_le weak_most count ≡ true
 full_test count full = grind (arith, nat_tests)
 
-lacks_test : (marks : List Bool) (weak : WeakObject) (number : ℕ) → LacksEntries weak number
+-- so a map that is full for a key is one that takes no entry for it
+lacks_test : (marks : List Bool) (weak : WeakObject) (number : ℕ) → IsFullFor weak number
     → no_entry_for ideal_limits marks weak.entries number ≡ true
 lacks_test marks weak number lacks =
     no_entry_for-is marks weak.entries number
     ∙ ap (λ (found : Option Value). is_none found && nat_le weak_most (length weak.entries)) lacks.fresh
     ∙ full_test (length weak.entries) lacks.full
 
--- and where it does not
+-- where a key has an entry or the map has room for one more, it is not
 has_room : (found : Option Value) (count : ℕ) → (found ≡ None → weak_most ≤ count → ⊥)
     → (is_none found && nat_le weak_most count) ≡ false
 has_room (Some value) count apart = refl
@@ -88,7 +90,8 @@ has_room None count apart = elim (cases_lt count weak_most) [
   | inr past ↦ absurd (apart refl past)
 ]
 
-has_test : (marks : List Bool) (weak : WeakObject) (number : ℕ) → (LacksEntries weak number → ⊥)
+-- so a map that is not full for a key takes an entry for it
+has_test : (marks : List Bool) (weak : WeakObject) (number : ℕ) → (IsFullFor weak number → ⊥)
     → no_entry_for ideal_limits marks weak.entries number ≡ false
 has_test marks weak number few =
     no_entry_for-is marks weak.entries number
@@ -107,7 +110,7 @@ wput_known names m k v target weak number value known key is = rw (known.bound, 
 -- where the map does not lack entries, the key's has the value
 pub wput_done : {graph : Graph} (names : List (List ℕ)) (m : ℕ) (k v : Operand) (target : Value) (weak : WeakObject)
     (number : ℕ) (value : Value) → IsKnownWeak graph m target weak → value_of graph k ≡ Some (Ref number)
-    → value_of graph v ≡ Some value → (LacksEntries weak number → ⊥)
+    → value_of graph v ≡ Some value → (IsFullFor weak number → ⊥)
     → does ideal_limits names graph (WPut m k v)
     ≡ done (reweave graph weak (with_entry weak.entries number value)) []
 wput_done {graph} names m k v target weak number value known key is few =
@@ -118,7 +121,7 @@ wput_done {graph} names m k v target weak number value known key is few =
 -- and where it does, it is full
 pub wput_full : {graph : Graph} (names : List (List ℕ)) (m : ℕ) (k v : Operand) (target : Value) (weak : WeakObject)
     (number : ℕ) (value : Value) → IsKnownWeak graph m target weak → value_of graph k ≡ Some (Ref number)
-    → value_of graph v ≡ Some value → LacksEntries weak number
+    → value_of graph v ≡ Some value → IsFullFor weak number
     → does ideal_limits names graph (WPut m k v) ≡ fault WeakFull
 wput_full {graph} names m k v target weak number value known key is lacks =
     wput_known names m k v target weak number value known key is

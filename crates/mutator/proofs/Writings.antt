@@ -8,6 +8,7 @@ use Rattle.nursery.specs.Young.{HasRoom}
 use Rattle.heap_model.specs.Needs.{need_of}
 use Rattle.write_barrier.specs.Mains.{Mutator, heap_of, MainShows}
 use Rattle.object_cells.specs.Uses.{UsesMore}
+use Rattle.object_cells.proofs.WordsBeside.{same_beside}
 use Rattle.mutator.specs.Carries.{Carries}
 use Rattle.mutator.proofs.KeptStores.{KeepsCapacities, keeps_still}
 use Rattle.mutator.proofs.Rebinding.{room_for_none}
@@ -16,7 +17,7 @@ use Rattle.mutator.proofs.StillShown.{shows_still}
 -- a heap that is the same uses no word more
 pub uses_none_still : {old new : Mutator} → new ≡ old → UsesMore old new 0
 uses_none_still {old} same = record {
-  space = ap (λ (main : Mutator). main.seat.space) same;
+  beside = same_beside same;
   young = ap (λ (main : Mutator). main.young) same
       ∙ ap (λ (used : ℕ). record old.young { used = used }) (sym (add-zero old.young.used));
 }

@@ -1,4 +1,5 @@
--- How many slots the stores of objects have after a command: property stores, those of lists, and tables, by their pairs.
+-- How many slots the stores of objects have after a command: property stores, those of lists, and tables, by their
+-- pairs.
 use Rattle.std.specs.Prelude.{◌≡◌, ℕ, ◌==◌, Option, Some, None, if◌then◌else◌}
 use Rattle.tagged_word.specs.Readings.{reference_in}
 use Rattle.heap_command.specs.declared.command.Command.{Command}
@@ -40,8 +41,8 @@ abbrev pub capacity_entered : Heap → Option ℕ → ℕ → ℕ → ℕ
 capacity_entered heap None key at = capacity_at heap at
 capacity_entered heap (Some map) key at = if at == map then put_capacity_at heap at key else capacity_at heap at
 
--- The object at an address, after a command: `set`, `push`, `shift`, `trunc` and `wput` alone change a capacity, that of
--- their object.
+-- The object at an address, after a command: `set`, `push`, `shift`, `trunc` and `wput` alone change a capacity, that
+-- of their object.
 abbrev pub capacity_after : Heap → Command → ℕ → ℕ
 capacity_after heap (command.Set x name v) at =
     capacity_set heap (reference_in (word_at heap (root_at heap.space x))) name at
@@ -55,8 +56,8 @@ capacity_after heap (command.WPut m k v) at =
     capacity_entered heap (reference_in (word_at heap (root_at heap.space m))) (key_of heap k) at
 capacity_after heap _ at = capacity_at heap at
 
--- After the command each object that stood has a store or a table of this capacity, and stands where it stood; one that was
--- made has none.
+-- After the command each object that stood has a store or a table of this capacity, and stands where it stood; one that
+-- was made has none.
 pub record KeepsStores (old new : Heap) (command : Command) : Type 0 where
   pub stood : (number at : ℕ) → IsPlace old number at → capacity_at new at ≡ capacity_after old command at
   pub stays : (number at : ℕ) → IsPlace old number at → IsPlace new number at

@@ -10,7 +10,7 @@ use Rattle.write_barrier.specs.Mains.{Mutator, heap_of, MainShows}
 use Rattle.object_cells.specs.Uses.{UsesMore}
 use Rattle.mutator.specs.Capacities.{KeepsStores}
 use Rattle.mutator.specs.declared.stop.Stop.{Stop}
-use Rattle.mutator.specs.declared.stop.Stop.TheVariants.{Fault, NoRoom}
+use Rattle.mutator.specs.declared.stop.Stop.TheVariants.{Fault, NoRoom, NoClear}
 
 -- field names are numbered below this
 abbrev pub field_numbers : ℕ
@@ -18,8 +18,8 @@ field_numbers = 2 ^ 32
 
 -- The call carried the command out, and wrote the text: the heap then shows what the command means, and as many words
 -- more are used as the command needs, for which there was room; each object's store has the slots that the command
--- gives it. It stops exactly where the meaning is a fault, or where there is none and eden has not the words; both change
--- nothing.
+-- gives it. It stops exactly where the meaning is a fault, or where there is none and eden has not the words; both
+-- change nothing. `NoClear` never comes: no entry waits to be cleared.
 abbrev pub Carries : List (List ℕ) → Mutator → Mutator → Graph → Command → List ℕ → Result Unit Stop → Type 0
 Carries names old new graph command text (Ok _) =
     (after : Graph) × (does ideal_limits names graph command ≡ done after text) × MainShows new after
@@ -30,3 +30,4 @@ Carries names old new graph command text (Err (Fault word)) =
 Carries names old new graph command text (Err (NoRoom need)) =
     (after : Graph) × (written : List ℕ) × (does ideal_limits names graph command ≡ done after written)
     × (need ≡ need_of (heap_of old) command) × (HasRoom old.young need → ⊥) × (new ≡ old)
+Carries names old new graph command text (Err (NoClear entries)) = ⊥

@@ -5,3 +5,4 @@ pub mod Written
 pub mod Making
 pub mod Capacities
 pub mod Stops
+pub mod Binding

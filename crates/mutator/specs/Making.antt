@@ -8,7 +8,7 @@ use Rattle.heap_model.specs.Slots.{undefined_word, hole_word}
 abbrev pub empty_plain : Header → ℕ → List ℕ
 empty_plain header cap = header_bits header ∷ undefined_word ∷ replicate cap hole_word
 
--- the words of the own cell of a list without elements, or of a weak map without entries: it has no store, and its length
--- or count is 0
+-- the words of the own cell of a list without elements, or of a weak map without entries: it has no store, and its
+-- length or count is 0
 abbrev pub empty_counted : Header → List ℕ
 empty_counted header = header_bits header ∷ undefined_word ∷ 0 ∷ []

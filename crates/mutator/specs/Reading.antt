@@ -2,7 +2,8 @@
 -- refers to.
 use Rattle.std.specs.Prelude.{◌≡◌, ℕ, ℤ, ◌⊎◌, Option, Some, None, Result, Ok, Err}
 use Rattle.heap_command.specs.declared.command.FaultWord.{FaultWord}
-use Rattle.heap_command.specs.declared.command.FaultWord.TheVariants.{Unbound, NotObject, NotList, NotWeak, NotInt, BadKey}
+use Rattle.heap_command.specs.declared.command.FaultWord.TheVariants.{Unbound, NotObject, NotList}
+use Rattle.heap_command.specs.declared.command.FaultWord.TheVariants.{NotWeak, NotInt, BadKey}
 use Rattle.object_graph.specs.declared.value.Value.{Value}
 use Rattle.object_graph.specs.declared.value.Value.TheVariants.{Ref}
 use Rattle.object_graph.specs.Paths.{path_of}

@@ -1,9 +1,10 @@
 //! The commands `set`, `get` and `del`, on the fields of a plain object. What they do to its cells
 //! is done in `shape_change`; what is written of its shape is said in `shapes.rt`.
-ghost use Rattle.std.specs.Prelude.{ℕ, List, []};
+ghost use Rattle.std.specs.Prelude.{ℕ, List, [], OnOk};
 ghost use Rattle.heap_command.specs.Commands.{IsWithin};
 ghost use Rattle.object_graph.specs.Graphs.{Graph};
 ghost use Rattle.write_barrier.specs.Mains.{MainShows};
+ghost use Rattle.mutator.specs.Binding.{Binds};
 ghost use Rattle.mutator.specs.Carries.{Carries, field_numbers};
 
 use crate::reading::{bound, operands, plain};
@@ -40,6 +41,7 @@ pub fn get(main: &mut Main, y: u32, x: u32, f: u32) -> Result<(), Stop>
     requires within { IsWithin main.old.seat.space.variables field_numbers (Command.Get y x f) }
     ensures carried { (graph : Graph) (names : List (List ℕ)) → MainShows main.old graph →
         Carries names main.old main.new graph (Command.Get y x f) [] result }
+    ensures binds { OnOk result (Binds main.old main.new y) }
 {
     let target = bound(main, x)?;
     let found = plain(main, target)?;
@@ -52,7 +54,7 @@ pub fn get(main: &mut Main, y: u32, x: u32, f: u32) -> Result<(), Stop>
 /// where there is none.
 ///
 /// Stops with `unbound`, `notobject`, or `shapesfull` where there may not be as many field paths.
-#[inline(never)]
+#[inline(always)]
 pub fn del(main: &mut Main, x: u32, f: u32) -> Result<(), Stop>
     requires shown { (graph : Graph) × MainShows main.old graph }
     requires within { IsWithin main.old.seat.space.variables field_numbers (Command.Del x f) }

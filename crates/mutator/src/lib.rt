@@ -22,12 +22,12 @@ mod weaks;
 mod writing;
 
 pub use fields::{del, get, set};
-pub use lists::{at, list, push, put};
+pub use lists::{at, new_list, push, put};
 pub use making::new_plain;
 pub use output::{OUTPUT_BYTES, Output, ROOM};
 pub use shapes::{alike, shape};
 pub use stop::Stop;
 pub use trims::{shift, trunc};
 pub use variables::{add, drop_var, let_value};
-pub use weaks::{wdel, weak, wget, wput};
+pub use weaks::{new_weak, wdel, wget, wput};
 pub use writing::{print, same};

@@ -1,9 +1,10 @@
 //! The commands `list`, `push`, `put` and `at`, on the elements of a list. What they do to its cells
 //! is done in `list_store`.
-ghost use Rattle.std.specs.Prelude.{◌≡◌, ℕ, List, [], length};
+ghost use Rattle.std.specs.Prelude.{◌≡◌, ℕ, List, [], length, OnOk};
 ghost use Rattle.heap_command.specs.Commands.{IsWithin};
 ghost use Rattle.object_graph.specs.Graphs.{Graph};
 ghost use Rattle.write_barrier.specs.Mains.{MainShows};
+ghost use Rattle.mutator.specs.Binding.{Binds, BindsMade};
 ghost use Rattle.mutator.specs.Carries.{Carries, field_numbers};
 
 use crate::making::{COUNTED_WORDS, fill_counted};
@@ -18,13 +19,14 @@ use write_barrier::Main;
 /// becomes the new one's number.
 ///
 /// Stops with `NoRoom` where eden has not the cell's three words.
-#[inline(never)]
-pub fn list(main: &mut Main, x: u32, object: u32) -> Result<(), Stop>
+#[inline(always)]
+pub fn new_list(main: &mut Main, x: u32, object: u32) -> Result<(), Stop>
     requires shown { (graph : Graph) × MainShows main.old graph × (object ≡ length graph.objects) }
     requires within { IsWithin main.old.seat.space.variables field_numbers (Command.List x) }
     ensures carried { (graph : Graph) (names : List (List ℕ)) → MainShows main.old graph →
         object ≡ length graph.objects →
         Carries names main.old main.new graph (Command.List x) [] result }
+    ensures binds { OnOk result (BindsMade main.old main.new x) }
 {
     match main.reserve(COUNTED_WORDS) {
         Ok(run) => {
@@ -44,7 +46,7 @@ pub fn list(main: &mut Main, x: u32, object: u32) -> Result<(), Stop>
 ///
 /// Stops with `unbound`, `notlist`, `listfull` where the list has 1,000 elements, or for want of room
 /// for a new store or box.
-#[inline(never)]
+#[inline(always)]
 pub fn push(main: &mut Main, x: u32, v: Operand) -> Result<(), Stop>
     requires shown { (graph : Graph) × MainShows main.old graph }
     requires within { IsWithin main.old.seat.space.variables field_numbers (Command.Push x v) }
@@ -62,7 +64,7 @@ pub fn push(main: &mut Main, x: u32, v: Operand) -> Result<(), Stop>
 ///
 /// Stops with `unbound`, `notlist`, `notint`, `range` where the index is below 0 or not below the
 /// length, or for want of room for a box.
-#[inline(never)]
+#[inline(always)]
 pub fn put(main: &mut Main, x: u32, i: Operand, v: Operand) -> Result<(), Stop>
     requires shown { (graph : Graph) × MainShows main.old graph }
     requires within { IsWithin main.old.seat.space.variables field_numbers (Command.Put x i v) }
@@ -82,12 +84,13 @@ pub fn put(main: &mut Main, x: u32, i: Operand, v: Operand) -> Result<(), Stop>
 ///
 /// Stops with `unbound`, `notlist`, `notint`, or `range` where the index is below 0 or not below the
 /// length.
-#[inline(never)]
+#[inline(always)]
 pub fn at(main: &mut Main, y: u32, x: u32, i: Operand) -> Result<(), Stop>
     requires shown { (graph : Graph) × MainShows main.old graph }
     requires within { IsWithin main.old.seat.space.variables field_numbers (Command.At y x i) }
     ensures carried { (graph : Graph) (names : List (List ℕ)) → MainShows main.old graph →
         Carries names main.old main.new graph (Command.At y x i) [] result }
+    ensures binds { OnOk result (Binds main.old main.new y) }
 {
     let (target, index) = operands(main, Operand::Var(x), i)?;
     let from = list_found(main, target)?;

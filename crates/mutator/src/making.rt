@@ -1,5 +1,5 @@
 //! The command `new`: a new cell in eden. And the own cells of new lists and weak maps.
-ghost use Rattle.std.specs.Prelude.{◌≡◌, ℕ, ◌+◌, ◌≤◌, List, [], length};
+ghost use Rattle.std.specs.Prelude.{◌≡◌, ℕ, ◌+◌, ◌≤◌, List, [], length, OnOk};
 ghost use Rattle.tagged_word.specs.Headers.{IsHeader};
 ghost use Rattle.page_space.specs.Extents.{marks_start};
 ghost use Rattle.heap_command.specs.Commands.{IsWithin};
@@ -8,6 +8,7 @@ ghost use Rattle.heap_table.specs.declared.phase.Phase.TheVariants.{Quiet};
 ghost use Rattle.heap_table.specs.Seats.{heap_words};
 ghost use Rattle.write_barrier.specs.Mains.{MainShows, with_table};
 ghost use Rattle.write_barrier.specs.Values.{with_range};
+ghost use Rattle.mutator.specs.Binding.{BindsMade};
 ghost use Rattle.mutator.specs.Carries.{Carries, field_numbers};
 ghost use Rattle.mutator.specs.Making.{empty_counted, empty_plain};
 
@@ -34,13 +35,14 @@ const COUNT: u32 = 2;
 /// of objects made so far, and becomes the new one's number.
 ///
 /// Stops with `NoRoom` where eden has not the cell's words: two and one for each slot.
-#[inline(never)]
+#[inline(always)]
 pub fn new_plain(main: &mut Main, x: u32, object: u32, cap: u32) -> Result<(), Stop>
     requires shown { (graph : Graph) × MainShows main.old graph × (object ≡ length graph.objects) }
     requires within { IsWithin main.old.seat.space.variables field_numbers (Command.New x cap) }
     ensures carried { (graph : Graph) (names : List (List ℕ)) → MainShows main.old graph →
         object ≡ length graph.objects →
         Carries names main.old main.new graph (Command.New x cap) [] result }
+    ensures binds { OnOk result (BindsMade main.old main.new x) }
 {
     let shape = main.shapes().root(cap);
     match main.reserve(PLAIN_HEAD + cap) {

@@ -28,7 +28,7 @@ use write_barrier::Main;
 /// bytes.
 ///
 /// Stops with `unbound` or `notobject`.
-#[inline(never)]
+#[inline(always)]
 pub fn alike(main: &mut Main, x: u32, y: u32, out: &mut Output) -> Result<(), Stop>
     requires shown { (graph : Graph) × MainShows main.old graph }
     requires within { IsWithin main.old.seat.space.variables field_numbers (Command.Alike x y) }
@@ -51,7 +51,7 @@ pub fn alike(main: &mut Main, x: u32, y: u32, out: &mut Output) -> Result<(), St
 /// the script. The output has room for `ROOM` bytes.
 ///
 /// Stops with `unbound` or `notobject`.
-#[inline(never)]
+#[inline(always)]
 pub fn shape(main: &mut Main, script: &Script<'_>, x: u32, out: &mut Output) -> Result<(), Stop>
     requires shown { (graph : Graph) × MainShows main.old graph }
     requires within { IsWithin main.old.seat.space.variables field_numbers (Command.Shape x) }

@@ -1,4 +1,4 @@
-//! Why a command is not carried out: its fault, or a heap that has no room for it.
+//! Why a command is not carried out: its fault, a heap that has no room for it, or a full weak map.
 ghost use Rattle.std.specs.Prelude.{◌≡◌};
 
 use ephemeron_table::TableStop;
@@ -14,6 +14,9 @@ pub enum Stop {
     Fault(FaultWord),
     /// Eden has no room for the words that the command allocates, which are so many.
     NoRoom { need: u32 },
+    /// An entry was refused: its map is full, with so many, and the heap may still hold entries that a
+    /// full collection would clear.
+    NoClear { entries: u32 },
 }
 
 impl From<FaultWord> for Stop {
@@ -87,17 +90,6 @@ impl From<TableStop> for Stop {
             TableStop::TableFull { entries: _ } => Stop::Fault(FaultWord::WeakFull),
             TableStop::Full(room) => Stop::NoRoom { need: room.need },
         }
-    }
-}
-
-impl From<array_trim::Range> for Stop {
-    ghost use Rattle.heap_command.specs.declared.command.FaultWord.TheVariants as word;
-    ghost use Rattle.mutator.specs.declared.stop.Stop.TheVariants.{Fault};
-
-    ghost from_gives = { λ _ stop. stop ≡ Fault word.Range };
-
-    fn from(_range: array_trim::Range) -> Stop {
-        Stop::Fault(FaultWord::Range)
     }
 }
 

@@ -15,7 +15,7 @@ use write_barrier::Main;
 ///
 /// Stops with `unbound`, `notlist`, `notint`, or `range` where the number is below 0 or over the
 /// length.
-#[inline(never)]
+#[inline(always)]
 pub fn shift(main: &mut Main, x: u32, n: Operand) -> Result<(), Stop>
     requires shown { (graph : Graph) × MainShows main.old graph }
     requires within { IsWithin main.old.seat.space.variables field_numbers (Command.Shift x n) }
@@ -33,7 +33,7 @@ pub fn shift(main: &mut Main, x: u32, n: Operand) -> Result<(), Stop>
 ///
 /// Stops with `unbound`, `notlist`, `notint`, or `range` where the number is below 0 or over the
 /// length.
-#[inline(never)]
+#[inline(always)]
 pub fn trunc(main: &mut Main, x: u32, n: Operand) -> Result<(), Stop>
     requires shown { (graph : Graph) × MainShows main.old graph }
     requires within { IsWithin main.old.seat.space.variables field_numbers (Command.Trunc x n) }

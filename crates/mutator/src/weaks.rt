@@ -1,9 +1,10 @@
 //! The commands `weak`, `wput`, `wget` and `wdel`, on the entries of a weak map. What they do to its
 //! cells is done in `ephemeron_table`.
-ghost use Rattle.std.specs.Prelude.{◌≡◌, ℕ, List, [], length};
+ghost use Rattle.std.specs.Prelude.{◌≡◌, ℕ, List, [], length, OnOk};
 ghost use Rattle.heap_command.specs.Commands.{IsWithin};
 ghost use Rattle.object_graph.specs.Graphs.{Graph};
 ghost use Rattle.write_barrier.specs.Mains.{MainShows};
+ghost use Rattle.mutator.specs.Binding.{Binds, BindsMade};
 ghost use Rattle.mutator.specs.Carries.{Carries, field_numbers};
 
 use crate::making::{COUNTED_WORDS, fill_counted};
@@ -18,13 +19,14 @@ use write_barrier::Main;
 /// becomes the new one's number.
 ///
 /// Stops with `NoRoom` where eden has not the cell's three words.
-#[inline(never)]
-pub fn weak(main: &mut Main, x: u32, object: u32) -> Result<(), Stop>
+#[inline(always)]
+pub fn new_weak(main: &mut Main, x: u32, object: u32) -> Result<(), Stop>
     requires shown { (graph : Graph) × MainShows main.old graph × (object ≡ length graph.objects) }
     requires within { IsWithin main.old.seat.space.variables field_numbers (Command.Weak x) }
     ensures carried { (graph : Graph) (names : List (List ℕ)) → MainShows main.old graph →
         object ≡ length graph.objects →
         Carries names main.old main.new graph (Command.Weak x) [] result }
+    ensures binds { OnOk result (BindsMade main.old main.new x) }
 {
     match main.reserve(COUNTED_WORDS) {
         Ok(run) => {
@@ -44,7 +46,7 @@ pub fn weak(main: &mut Main, x: u32, object: u32) -> Result<(), Stop>
 ///
 /// Stops with `unbound`, `notweak`, `badkey` where the key is no object, `weakfull` where the key is
 /// new and the map has 256 entries, or for want of room for a new table or box.
-#[inline(never)]
+#[inline(always)]
 pub fn wput(main: &mut Main, m: u32, k: Operand, v: Operand) -> Result<(), Stop>
     requires shown { (graph : Graph) × MainShows main.old graph }
     requires within { IsWithin main.old.seat.space.variables field_numbers (Command.WPut m k v) }
@@ -64,12 +66,13 @@ pub fn wput(main: &mut Main, m: u32, k: Operand, v: Operand) -> Result<(), Stop>
 /// there is none.
 ///
 /// Stops with `unbound`, `notweak`, or `badkey` where the key is no object.
-#[inline(never)]
+#[inline(always)]
 pub fn wget(main: &mut Main, y: u32, m: u32, k: Operand) -> Result<(), Stop>
     requires shown { (graph : Graph) × MainShows main.old graph }
     requires within { IsWithin main.old.seat.space.variables field_numbers (Command.WGet y m k) }
     ensures carried { (graph : Graph) (names : List (List ℕ)) → MainShows main.old graph →
         Carries names main.old main.new graph (Command.WGet y m k) [] result }
+    ensures binds { OnOk result (Binds main.old main.new y) }
 {
     let (target, named) = operands(main, Operand::Var(m), k)?;
     let from = weak_found(main, target)?;
@@ -82,7 +85,7 @@ pub fn wget(main: &mut Main, y: u32, m: u32, k: Operand) -> Result<(), Stop>
 /// Takes the entry of the key `k` out of the weak map `m`. Nothing happens where there is none.
 ///
 /// Stops with `unbound`, `notweak`, or `badkey` where the key is no object.
-#[inline(never)]
+#[inline(always)]
 pub fn wdel(main: &mut Main, m: u32, k: Operand) -> Result<(), Stop>
     requires shown { (graph : Graph) × MainShows main.old graph }
     requires within { IsWithin main.old.seat.space.variables field_numbers (Command.WDel m k) }

@@ -24,7 +24,7 @@ use write_barrier::Main;
 /// `weak` with the object's number. The output has room for `ROOM` bytes.
 ///
 /// Stops with `unbound`.
-#[inline(never)]
+#[inline(always)]
 pub fn print(main: &mut Main, v: Operand, out: &mut Output) -> Result<(), Stop>
     requires shown { (graph : Graph) × MainShows main.old graph }
     requires within { IsWithin main.old.seat.space.variables field_numbers (Command.Print v) }
@@ -44,7 +44,7 @@ pub fn print(main: &mut Main, v: Operand, out: &mut Output) -> Result<(), Stop>
 /// same object, and else `false` and a line feed. The output has room for `ROOM` bytes.
 ///
 /// Stops with `unbound`.
-#[inline(never)]
+#[inline(always)]
 pub fn same(main: &mut Main, a: Operand, b: Operand, out: &mut Output) -> Result<(), Stop>
     requires shown { (graph : Graph) × MainShows main.old graph }
     requires within { IsWithin main.old.seat.space.variables field_numbers (Command.Same a b) }
@@ -62,6 +62,7 @@ pub fn same(main: &mut Main, a: Operand, b: Operand, out: &mut Output) -> Result
 }
 
 /// Writes `true` or `false`, and a line feed.
+#[inline(never)]
 pub(crate) fn put_truth(truth: bool, out: &mut Output)
     requires { length out.old + ROOM ≤ OUTPUT_BYTES }
     ensures { out.new ≡ out.old ++ line (truth_text truth) }
@@ -74,6 +75,7 @@ pub(crate) fn put_truth(truth: bool, out: &mut Output)
 }
 
 // Writes a value, and a line feed.
+#[inline(never)]
 fn put_value(main: &Main, value: Held, out: &mut Output)
     requires shown { IsShownValue main.now value }
     requires room { length out.old + ROOM ≤ OUTPUT_BYTES }

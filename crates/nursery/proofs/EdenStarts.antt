@@ -10,5 +10,6 @@ eden_starts space a there =
     let known = (stand_by_number space).eden in
     sym there.starts
     ∙ ap (λ extent. extent.start)
-    (regions_stand_once space there.extent known.extent there.stands known.stands (there.of_region ∙ sym known.of_region))
+    (regions_stand_once space there.extent known.extent there.stands known.stands
+    (there.of_region ∙ sym known.of_region))
     ∙ known.starts

@@ -46,7 +46,8 @@ word_is {heap} k word read at has stands there reads =
     ∙ word_stands k word has there)
 
 -- no address of a heap is past 32 bits
-pub fits_address : {space : Space} {at : ℕ} → at < marks_start space → AreWithin space.sizes space.variables → Fits w32 at
+pub fits_address : {space : Space} {at : ℕ} → at < marks_start space → AreWithin space.sizes space.variables
+    → Fits w32 at
 fits_address {space} below within =
     omega (arith, words_count_most space within, marks_start_is space, board_start_is space, words_count_is space)
 
@@ -112,17 +113,19 @@ word_past paths shape past =
 -- a box is no cell of a path's shape or of a shape that is not in use
 box_has_fixed : {heap : Heap} {cell : Cell} {words : List ℕ} → HasSizes heap → HasCell heap cell words
     → cell.layout.kind ≡ kind.Boxed → first_path_shape ≤ cell.header.shape → ⊥
-box_has_fixed {heap} {cell} sized has box from = elim (cases_lt cell.header.shape (first_path_shape + length heap.paths)) [
-  | inl below ↦
-      let path : IsPathShape heap.paths cell.header.shape = record { from = from; below = below } in
-      let plain : cell.layout.kind ≡ kind.Plain = ap (λ (layout : LayoutWord). layout.kind) (layout_is sized has path) in
-      let apart : kind.Boxed ≡ kind.Plain = sym box ∙ plain in
-      cc
-  | inr past ↦
-      let word = layout_stands sized has ∙ word_past heap.paths cell.header.shape past in
-      let six : layout_bits cell.layout % 16 ≡ 6 = kind_stands has ∙ ap kind_number box in
-      omega (arith, word, six)
-]
+box_has_fixed {heap} {cell} sized has box from =
+    elim (cases_lt cell.header.shape (first_path_shape + length heap.paths)) [
+      | inl below ↦
+          let path : IsPathShape heap.paths cell.header.shape = record { from = from; below = below } in
+          let plain : cell.layout.kind ≡ kind.Plain =
+          ap (λ (layout : LayoutWord). layout.kind) (layout_is sized has path) in
+          let apart : kind.Boxed ≡ kind.Plain = sym box ∙ plain in
+          cc
+      | inr past ↦
+          let word = layout_stands sized has ∙ word_past heap.paths cell.header.shape past in
+          let six : layout_bits cell.layout % 16 ≡ 6 = kind_stands has ∙ ap kind_number box in
+          omega (arith, word, six)
+    ]
 
 -- a box has the shape of boxes
 pub box_has_shape : {heap : Heap} {cell : Cell} {words : List ℕ} → HasSizes heap → HasCell heap cell words

@@ -1,7 +1,7 @@
 -- The words of the fields of plain objects: what shows a field is a word of its representation, and a field that is not
 -- raw stands in a tagged slot.
-use Rattle.std.proofs.Common.{◌≡◌, ℕ, ◌+◌, ◌-◌, ◌<◌, Bool, true, false, List, Contains, Some, slice_get, nat_lt}
-use Rattle.std.proofs.Common.{◌==◌, refl, sym, ◌∙◌, ap, subst, arith, inl, inr, get_or, length, length-take}
+use Rattle.std.proofs.Common.{◌≡◌, ℕ, ◌+◌, ◌-◌, ◌<◌, Bool, true, false, List, Contains, Some, slice_get}
+use Rattle.std.proofs.Common.{nat_lt, ◌==◌, refl, sym, ◌∙◌, ap, subst, arith, inl, inr, get_or, length, length-take}
 use Rattle.std.specs.Prelude.{ℤ, option_map}
 use Rattle.std.proofs.lemmas.Bool.Decides.{nat_tests}
 use Rattle.std.proofs.lemmas.Option.{slice_get-map, slice_get-get_or}

@@ -43,7 +43,8 @@ value_found (first ∷ fields) (suc k) field name distinct there is =
     slice_get-map (λ (one : Field). one.name) fields k ∙ ap (option_map (λ (one : Field). one.name)) there in
     let test : (first.name == name) ≡ false =
     ap (λ n. first.name == n) (sym is) ∙ apart_at names k first.name field.name distinct.0 other in
-    ap (λ t. cond t (Some first.value) (field_value fields name)) test ∙ value_found fields k field name distinct.1 there is
+    ap (λ t. cond t (Some first.value) (field_value fields name)) test
+    ∙ value_found fields k field name distinct.1 there is
 
 -- a path's field of this name stands at the place
 pub record IsNamedAt (fields : List PathField) (k name : ℕ) : Type 0 where

@@ -19,7 +19,7 @@ use Rattle.object_cells.specs.declared.content.Content.TheVariants as content
 use Rattle.object_cells.specs.Contents.{held_rep, content_of, integer_content, small_content}
 use Rattle.object_cells.specs.Contents.{HoldsSlotWord}
 
--- What a slot of a representation that was `was` and is now `one`, in the object itself or in its property store,
+-- What a slot of a representation that was `was` and is now `one`, in the object itself or in its store,
 -- comes to hold for a value: a small integer's word, a raw one, a box, `undefined`, or a reference.
 pub data HoldsValue (heap : Heap) (own : Bool) (was : Rep) : Rep → Value → Content → Type 0 where
   small_integer : (one : Rep) (v : ℤ) → IsTrue (small v) → (one ≡ rep.Wide → ⊥)

@@ -1,6 +1,6 @@
--- How many slots the property stores of objects have once words of one object's own cells were written.
-use Rattle.std.proofs.Common.{◌≡◌, ℕ, ◌+◌, ◌<◌, inl, inr, List, [], ◌∷◌, Contains, Option, Some, None, IsTrue}
-use Rattle.std.proofs.Common.{slice_get, unwrap_or, refl, sym, ◌∙◌, ap, subst, arith}
+-- How many slots the stores of objects have once words of one object's own cells were written.
+use Rattle.std.proofs.Common.{◌≡◌, ℕ, ◌+◌, ◌<◌, inl, inr, List, [], ◌∷◌, Contains, Option, Some, None}
+use Rattle.std.proofs.Common.{IsTrue, slice_get, unwrap_or, refl, sym, ◌∙◌, ap, subst, arith}
 use Rattle.std.proofs.lemmas.Bool.{false≢true}
 use Rattle.std.proofs.lemmas.List.Elements.{Contains-append_right, Contains-append_cases}
 use Rattle.tagged_word.specs.declared.layout.Kind.{Kind}
@@ -177,8 +177,8 @@ none_made {old} {new} {cell} {came} {others} {made} number at writing place =
     ]
 
 -- only words of this object have changed
-own_words_change : {old new : Heap} {cell came : Cell} {others made : List Cell} → WritesOwn old new cell came others made
-    → ChangesOwnWords old new cell.at
+own_words_change : {old new : Heap} {cell came : Cell} {others made : List Cell}
+    → WritesOwn old new cell came others made → ChangesOwnWords old new cell.at
 own_words_change {cell = cell} writing word below not_own not_new =
     let writes = writing.writes in
     writes.stay word below
@@ -266,7 +266,8 @@ one_keeps {old} {new} {cell} {shape} {others = others} {made} puts belong kinds 
     let of_cell : IsOfCell cell (cell.at + store_slot) = record { from = omega arith; below = omega (arith, within) } in
     capacities_stay old new cell shape others made
     (record { whole = puts.whole; writes = puts.writes; belong = belong; kinds = kinds })
-    (word_stays (cell.at + store_slot) puts.whole puts.one puts.has of_cell (λ same. omega (arith, same)) puts.not_store)
+    (word_stays (cell.at + store_slot) puts.whole puts.one puts.has of_cell (λ same. omega (arith, same))
+    puts.not_store)
 
 -- and has as many slots as a store that was made, where it refers to this
 pub capacities_grow : CapacitiesGrow

@@ -3,6 +3,7 @@ pub mod WordsTold
 pub mod SlotTargets
 pub mod UnusedWords
 pub mod NewBoxes
+pub mod WordsBeside
 pub mod WordsPut
 pub mod OneWord
 pub mod OwnCells
@@ -47,3 +48,4 @@ pub mod StoreWords
 pub mod StoresRead
 pub mod HeldNeeds
 pub mod SlotBoxes
+pub mod FilledSlots

@@ -122,7 +122,8 @@ module _ {old new : Heap} {cell box : Cell} {v : ℤ} {before after : List Value
     kinds = λ other among. absurd (none_in other among);
     stores = λ other among store.
         let same : box ≡ other = one_in box other among in
-        absurd (store_is_no_box other.layout.kind store (ap (λ (one : Cell). one.layout.kind) (sym same) ∙ puts.of_kind));
+        absurd (store_is_no_box other.layout.kind store
+        (ap (λ (one : Cell). one.layout.kind) (sym same) ∙ puts.of_kind));
     boxes = λ other among is.
         subst (λ (one : Cell). IsBoxCell one (words_of_cell new one)) (one_in box other among) box_sound;
   }

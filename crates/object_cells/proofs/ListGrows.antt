@@ -1,6 +1,7 @@
--- A store that was made became a list's, with the slots that the list had and a value in one: it is an element of the list.
-use Rattle.std.proofs.Common.{◌≡◌, ◌≢◌, ℕ, ◌+◌, ◌<◌, ◌≤◌, ◌⊎◌, inl, inr, List, [], ◌∷◌, length, drop, Contains}
-use Rattle.std.proofs.Common.{Some, slice_get, refl, sym, ◌∙◌, subst, arith, length-drop}
+-- A store that was made became a list's, with the slots that the list had and a value in one: it is an element of the
+-- list.
+use Rattle.std.proofs.Common.{◌≡◌, ◌≢◌, ℕ, ◌+◌, ◌<◌, ◌≤◌, ◌⊎◌, inl, inr, List, [], ◌∷◌}
+use Rattle.std.proofs.Common.{length, drop, Contains, Some, slice_get, refl, sym, ◌∙◌, subst, arith, length-drop}
 use Rattle.std.proofs.lemmas.Bool.{cases_lt}
 use Rattle.std.proofs.lemmas.List.Elements.{Contains-append_right}
 use Rattle.std.proofs.lemmas.Option.{same_Some, slice_get_within}
@@ -25,14 +26,15 @@ use Rattle.object_cells.proofs.OneWord.{WritesTwo}
 use Rattle.object_cells.proofs.OwnCells.{list_size}
 use Rattle.object_cells.proofs.SlotsNow.{word_at_offset}
 
--- The list refers to a store that was made, and its length was put. The store has the slots that the list had, and behind
--- them holes; but that of the place has a word that shows the element. Beside the store boxes were made.
+-- The list refers to a store that was made, and its length was put. The store has the slots that the list had, and
+-- behind them holes; but that of the place has a word that shows the element. Beside the store boxes were made.
 pub record GrowsList (old new : Heap) (cell store : Cell) (word : ℕ) (made : List Cell) (before after : List Value)
     (place : ℕ) (value : Value) : Type 0 where
   pub whole : Whole old
   pub has : HasCell old cell (words_of_cell old cell)
   pub list : cell.layout.kind ≡ kind.List
-  pub two : WritesTwo old new (cell.at + count_offset) (length after) (cell.at + store_slot) (reference_word store.at) made
+  pub two : WritesTwo old new (cell.at + count_offset) (length after) (cell.at + store_slot) (reference_word store.at)
+      made
   pub writes : WritesList old new cell [] made
   pub cells : CellsChange old new (cell ∷ []) (cell ∷ []) made
   pub shown : ShowsList old cell (words_of_cell old cell) before
@@ -125,7 +127,8 @@ module _ {old new : Heap} {cell store : Cell} {word : ℕ} {made : List Cell} {b
     differs = grows.differs;
     now = slots_now;
     are = are;
-    counted = word_at_offset count_offset list_stands (omega (arith, list_size grows.has grows.list)) ∙ grows.two.header;
+    counted = word_at_offset count_offset list_stands (omega (arith, list_size grows.has grows.list))
+        ∙ grows.two.header;
     few = grows.few;
     enough = omega (arith, grows.enough, long);
     keeps = other_keeps;

@@ -1,5 +1,6 @@
 -- The slots of a list once one word of its own cells and its length were put.
-use Rattle.std.proofs.Common.{◌≡◌, ◌≢◌, ℕ, ◌+◌, ◌<◌, inl, List, ◌∷◌, length, Some, slice_get, sym, ◌∙◌, ap, subst, arith}
+use Rattle.std.proofs.Common.{◌≡◌, ◌≢◌, ℕ, ◌+◌, ◌<◌, inl, List, ◌∷◌, length, Some, slice_get, sym}
+use Rattle.std.proofs.Common.{◌∙◌, ap, subst, arith}
 use Rattle.std.proofs.lemmas.Option.{same_Some}
 use Rattle.tagged_word.specs.declared.layout.Kind.TheVariants as kind
 use Rattle.tagged_word.specs.Cells.{store_slot}
@@ -57,7 +58,8 @@ module _ {old new : Heap} {cell : Cell} {count at word : ℕ} {others made : Lis
       → HasWord (words_of_cell new cell) store_slot store
   store_now store slot =
       let within : store_slot < cell.size = omega (arith, list_size puts.has puts.list) in
-      let of_cell : IsOfCell cell (cell.at + store_slot) = record { from = omega arith; below = omega (arith, within) } in
+      let of_cell : IsOfCell cell (cell.at + store_slot) =
+      record { from = omega arith; below = omega (arith, within) } in
       word_at_offset store_slot list_stands within
       ∙ own_word_stays (cell.at + store_slot) puts.whole puts.two puts.has of_cell (λ same. omega (arith, same))
       puts.not_store

@@ -1,7 +1,6 @@
 -- The box that is made for what a slot comes to hold, if it needs one.
-use Rattle.std.proofs.Common.{◌≡◌, ℕ, ◌+◌, ◌≤◌, ◌<◌, length, length-set, Bool, List, [], ◌∷◌, Contains, Some, slice_get}
-use Rattle.std.proofs.Common.{refl, sym, ◌∙◌}
-use Rattle.std.proofs.Common.{ap, subst, arith}
+use Rattle.std.proofs.Common.{◌≡◌, ℕ, ◌+◌, ◌≤◌, ◌<◌, length, length-set, Bool, List, [], ◌∷◌}
+use Rattle.std.proofs.Common.{Contains, Some, slice_get, refl, sym, ◌∙◌, ap, subst, arith}
 use Rattle.std.specs.Prelude.{ℤ, FitsSigned, slice_set}
 use Rattle.std.specs.Int.{w64}
 use Rattle.tagged_word.specs.declared.layout.Kind.TheVariants as kind
@@ -144,8 +143,8 @@ length-with_content words (content.Boxed v) box =
     ∙ length-set words box (header_bits box_header)
 
 -- and but for those of the box they are as before
-pub with_content_stays : (words : List ℕ) (holds : Content) (box a : ℕ) → (box ≤ a → a < box + content_need holds → ⊥)
-    → slice_get (with_content words holds box) a ≡ slice_get words a
+pub with_content_stays : (words : List ℕ) (holds : Content) (box a : ℕ)
+    → (box ≤ a → a < box + content_need holds → ⊥) → slice_get (with_content words holds box) a ≡ slice_get words a
 with_content_stays words (content.Tagged word) box a beside = refl
 with_content_stays words (content.Raw word) box a beside = refl
 with_content_stays words (content.Boxed v) box a beside =

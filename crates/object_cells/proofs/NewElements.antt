@@ -49,7 +49,8 @@ pushed_elements_are_new graph list value is there marked room is_value reached =
         values = All-push (IsValue (length graph.objects)) list.elements value were.values is_value;
         few = omega (arith, room, length-append list.elements (value ∷ []));
       };
-      reached = All-push (IsReachedValue graph) list.elements value (elements_reached graph list is there marked) reached;
+      reached = All-push (IsReachedValue graph) list.elements value (elements_reached graph list is there marked)
+          reached;
     }
 
 -- with one put in the place of another

@@ -36,7 +36,8 @@ object_is : (graph : Graph) (plain : PlainObject) → IsGraph graph
     → slice_get graph.objects plain.number ≡ Some (Plain plain.cap plain.fields)
     → IsObject (length graph.objects) (Plain plain.cap plain.fields)
 object_is graph plain is there =
-    All-slice_get (IsObject (length graph.objects)) graph.objects plain.number (Plain plain.cap plain.fields) is.made there
+    All-slice_get (IsObject (length graph.objects)) graph.objects plain.number (Plain plain.cap plain.fields) is.made
+    there
 
 -- the values of an object that can be reached can be
 fields_reached : (graph : Graph) (plain : PlainObject) → IsGraph graph
@@ -47,7 +48,8 @@ fields_reached graph plain is there marked =
     let P : Field → Type 0 = λ field. IsReachedValue graph field.value in
     let each : (field : Field) → Contains plain.fields field → P field = λ field among.
     value_reached graph field.value
-    (All-contains (λ (f : Field). IsValue count f.value) plain.fields field (object_is graph plain is there).1.values among)
+    (All-contains (λ (f : Field). IsValue count f.value) plain.fields field (object_is graph plain is there).1.values
+    among)
     (λ number refers below. reach_closed graph plain.number (Plain plain.cap plain.fields) number there marked below
     (field, among, refers)) in
     All-weaker (Contains plain.fields) P each plain.fields (All-contains_itself plain.fields)
@@ -90,5 +92,6 @@ rest_of_fields_are_new graph plain name is there marked =
     record {
       few = without_field_few plain.fields name (fields_are_few graph plain.number plain.cap plain.fields is there);
       are = without_field_held (length graph.objects) plain.fields name object.1;
-      reached = without_field_values (IsReachedValue graph) plain.fields name (fields_reached graph plain is there marked);
+      reached = without_field_values (IsReachedValue graph) plain.fields name
+          (fields_reached graph plain is there marked);
     }

@@ -1,6 +1,6 @@
 -- The slots of an object by their numbers, and the addresses at which these stand.
-use Rattle.std.proofs.Common.{◌≡◌, ℕ, ◌+◌, ◌-◌, ◌≤◌, ◌<◌, List, length, drop, Contains, slice_get, arith, IsTrue}
-use Rattle.std.proofs.Common.{refl, sym, ◌∙◌, ap, subst, inl, inr, length-drop}
+use Rattle.std.proofs.Common.{◌≡◌, ℕ, ◌+◌, ◌-◌, ◌≤◌, ◌<◌, List, length, drop, Contains, slice_get}
+use Rattle.std.proofs.Common.{arith, IsTrue, refl, sym, ◌∙◌, ap, subst, inl, inr, length-drop}
 use Rattle.std.proofs.lemmas.Bool.{cases_lt, false≢true}
 use Rattle.std.proofs.lemmas.Option.{none-some, same_Some}
 use Rattle.tagged_word.specs.declared.layout.Kind.TheVariants as kind
@@ -22,8 +22,8 @@ use Rattle.object_cells.specs.SlotChanges.{IsTaggedSlot}
 use Rattle.object_cells.proofs.SlotPlaces.{behind_cap}
 use Rattle.object_cells.proofs.SlotTargets.{object_words}
 
--- The slot of this number of a plain object or a list stands at the address: in the object below its cap, and else in its
--- store.
+-- The slot of this number of a plain object or a list stands at the address: in the object below its cap, and else in
+-- its store.
 pub data IsNumbered (heap : Heap) (cell : Cell) (words : List ℕ) (number at : ℕ) : Type 0 where
   own : number < cell.layout.cap → at ≡ cell.at + (plain_head + number) → IsOfCell cell at
       → IsNumbered heap cell words number at

@@ -1,7 +1,6 @@
 -- Where the cell of one object becomes another of it, and words of its own cells have changed, cells stand in rows.
-use Rattle.std.proofs.Common.{◌≡◌, ℕ, ◌+◌, ◌<◌, ◌≤◌, ◌⊎◌, inl, inr, List, [], ◌∷◌, ◌++◌, length, IsTrue}
-use Rattle.std.proofs.Common.{Contains, All, map, slice_get}
-use Rattle.std.proofs.Common.{sym, ◌∙◌, ap, subst, arith}
+use Rattle.std.proofs.Common.{◌≡◌, ℕ, ◌+◌, ◌<◌, ◌≤◌, ◌⊎◌, inl, inr, List, [], ◌∷◌, ◌++◌}
+use Rattle.std.proofs.Common.{length, IsTrue, Contains, All, map, slice_get, sym, ◌∙◌, ap, subst, arith}
 use Rattle.std.specs.List.{flat_map}
 use Rattle.std.proofs.lemmas.Bool.{false≢true}
 use Rattle.std.proofs.lemmas.List.Concat.{flat_map_single}
@@ -38,8 +37,8 @@ pub record IsWrittenOwned (old new : Heap) (other : Cell) : Type 0 where
   pub length : IsTrue (has_length other.layout.kind)
       → slice_get new.words (other.at + length_offset) ≡ slice_get old.words (other.at + length_offset)
 
--- A cell of the same object stands in the words of an object's cell. Otherwise only words of this cell and of these others
--- have changed, words that are newly used, in which cells were made, and layout words of shapes that are new.
+-- A cell of the same object stands in the words of an object's cell. Otherwise only words of this cell and of these
+-- others have changed, words that are newly used, in which cells were made, and layout words of shapes that are new.
 pub record WritesObject (old new : Heap) (cell came : Cell) (others made : List Cell) : Type 0 where
   pub same_space : new.space ≡ old.space
   pub same_survivors : new.survivors ≡ old.survivors
@@ -89,7 +88,8 @@ pub headed_stays : {old new : Heap} {cell : Cell} {words : List ℕ} → HasSize
 headed_stays {old} {new} {cell} sized sized_new same paths has header short =
     let alike = layout_alike [] sized sized_new same (paths ∙ sym (append-nil old.paths)) has header
     (λ long. absurd (short long)) in
-    let stays = cells_stay old.space old.words new.words cell (has_is_cell has) (same_count sized sized_new same) alike in
+    let stays = cells_stay old.space old.words new.words cell (has_is_cell has) (same_count sized sized_new same)
+    alike in
     subst (λ (space : Space). IsCell space new.words cell) (sym same) stays
 
 -- a box has no length

@@ -1,6 +1,7 @@
 -- The elements of a list of which one was put, or one pushed, slot by slot.
-use Rattle.std.proofs.Common.{◌≡◌, ◌≢◌, ℕ, ◌<◌, ◌≤◌, ◌⊎◌, inl, inr, List, [], ◌∷◌, ◌++◌, length, Contains, Some, slice_get}
-use Rattle.std.proofs.Common.{set, length-set, length-append, sym, ◌∙◌, ap, subst, arith}
+use Rattle.std.proofs.Common.{◌≡◌, ◌≢◌, ℕ, ◌<◌, ◌≤◌, ◌⊎◌, inl, inr, List, [], ◌∷◌, ◌++◌}
+use Rattle.std.proofs.Common.{length, Contains, Some, slice_get, set, length-set, length-append, sym, ◌∙◌, ap, subst}
+use Rattle.std.proofs.Common.{arith}
 use Rattle.std.proofs.lemmas.Bool.{cases_eq, cases_lt}
 use Rattle.std.proofs.lemmas.Option.{same_Some, slice_get_within, slice_get_past}
 use Rattle.tagged_word.specs.declared.layout.Kind.TheVariants as kind
@@ -54,9 +55,9 @@ pushed_differs before value = record {
   more = omega (arith, length-append before (value ∷ []));
 }
 
--- One element of a list of a whole heap became this, or came behind the others: each slot but its own holds what it held,
--- or is a hole behind the elements; where the word of its own comes from, and that it shows the element; and the cells
--- beside the list's.
+-- One element of a list of a whole heap became this, or came behind the others: each slot but its own holds what it
+-- held, or is a hole behind the elements; where the word of its own comes from, and that it shows the element; and the
+-- cells beside the list's.
 pub record PutsElement (old new : Heap) (cell : Cell) (others made : List Cell) (before after : List Value) (place : ℕ)
     (value : Value) : Type 0 where
   pub whole : Whole old
@@ -81,7 +82,8 @@ pub record PutsElement (old new : Heap) (cell : Cell) (others made : List Cell) 
   pub boxes : (other : Cell) → Contains (others ++ made) other → other.layout.kind ≡ kind.Boxed
       → IsBoxCell other (words_of_cell new other)
 
-module _ {old new : Heap} {cell : Cell} {others made : List Cell} {before after : List Value} {place : ℕ} {value : Value}
+module _ {old new : Heap} {cell : Cell} {others made : List Cell} {before after : List Value} {place : ℕ}
+    {value : Value}
     (puts : PutsElement old new cell others made before after place value) where
   -- a slot behind the elements was a hole
   hole_behind : (k word : ℕ) → length before ≤ k → HasWord puts.shown.slots k word → word ≡ hole_word
@@ -113,7 +115,8 @@ module _ {old new : Heap} {cell : Cell} {others made : List Cell} {before after 
   slot_shows k word one is there = elim (cases_eq k place) [
     | inl same ↦
         let here = subst (λ n. HasWord puts.now n word) same there in
-        let value_is : value ≡ one = same_Some value one (sym puts.differs.here ∙ ap (slice_get after) (sym same) ∙ is) in
+        let value_is : value ≡ one =
+        same_Some value one (sym puts.differs.here ∙ ap (slice_get after) (sym same) ∙ is) in
         ShowsElement.fresh (subst (ShowsValue new word) value_is (puts.shows word here))
     | inr apart ↦
         let was : slice_get before k ≡ Some one = sym (puts.differs.others k apart) ∙ is in

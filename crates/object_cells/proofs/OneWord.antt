@@ -29,8 +29,8 @@ pub record IsReady (old new : Mutator) (need : ℕ) : Type 0 where
   pub stay : (a : ℕ) → a < layouts_start old.seat.space → (IsNewlyUsed (heap_of old) (heap_of new) a → ⊥)
       → slice_get (heap_words new.seat) a ≡ slice_get (heap_words old.seat) a
 
--- Two words are these. Otherwise only words that are newly used, in which cells were made, and layout words have changed,
--- and paths were added.
+-- Two words are these. Otherwise only words that are newly used, in which cells were made, and layout words have
+-- changed, and paths were added.
 pub record WritesTwo (old new : Heap) (first head at word : ℕ) (made : List Cell) : Type 0 where
   pub same_space : new.space ≡ old.space
   pub same_survivors : new.survivors ≡ old.survivors
@@ -75,7 +75,7 @@ room_left {old} {new = new} {need = need} tied ready puts =
     let used : new.young.used ≡ old.young.used + need = ap (λ (y : Young). y.used) young in
     let survivors : new.young.survivors ≡ old.young.survivors = ap (λ (y : Young). y.survivors) young in
     let space : new.seat.space.sizes.young ≡ old.young.space.sizes.young =
-    ap (λ (s : Space). s.sizes.young) (puts.space ∙ ready.space ∙ sym tied) in
+    ap (λ (s : Space). s.sizes.young) (puts.beside.space ∙ ready.space ∙ sym tied) in
     omega (arith, ready.room, used, survivors, space)
 
 -- newly used words are those that were so before the two were put
@@ -99,7 +99,7 @@ writes_two {old} {mid} {new} first head at word need made tied ready first_below
     subst (λ (s : Space). a < layouts_start s) (sym ready.space) is in
     let ends : next_at old + need ≡ eden_start old.seat.space + new.young.used = omega (arith, used) in
     record {
-      same_space = puts.space ∙ ready.space;
+      same_space = puts.beside.space ∙ ready.space;
       same_survivors = ap (λ (y : Young). y.survivors) young;
       grown = omega (arith, used);
       room = room_left tied ready puts;

@@ -161,7 +161,8 @@ writes_cells cell shape at word others made whole has plain is_shape cap own wri
 
 -- and where one word of a list's own cells was put, not its header, and its length, words of these cells were written
 pub writes_of_list : {old new : Heap} (cell : Cell) (count at word : ℕ) (others made : List Cell) → Whole old
-    → HasCell old cell (words_of_cell old cell) → cell.layout.kind ≡ kind.List → new.paths ≡ old.paths → cell.at ≢ at
+    → HasCell old cell (words_of_cell old cell) → cell.layout.kind ≡ kind.List → new.paths ≡ old.paths
+    → cell.at ≢ at
     → IsOwnWord old cell others at → WritesTwo old new (cell.at + count_offset) count at word made
     → WritesList old new cell others made
 writes_of_list cell count at word others made whole has list paths not_header own writes =

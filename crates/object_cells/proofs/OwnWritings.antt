@@ -1,5 +1,5 @@
--- One object of a whole heap is written: of the cells that came or were made only its own is an object's, and the others
--- are its own too.
+-- One object of a whole heap is written: of the cells that came or were made only its own is an object's, and the
+-- others are its own too.
 use Rattle.std.proofs.Common.{◌≡◌, ℕ, List, ◌∷◌, ◌++◌, drop, Contains, get_or, IsTrue}
 use Rattle.std.proofs.Common.{inl, inr, refl, sym, ◌∙◌, ap, subst}
 use Rattle.std.proofs.lemmas.Bool.{false≢true}
@@ -19,8 +19,8 @@ use Rattle.object_cells.specs.CellWrites.{IsWrittenBeside}
 use Rattle.object_cells.proofs.ObjectWrites.{WritesObject}
 use Rattle.object_cells.proofs.WrittenPlaces.{IsBesideKind}
 
--- Words of one object's own cells were written in a whole heap, of which cells stand in rows again, and stores, tables and
--- boxes were made.
+-- Words of one object's own cells were written in a whole heap, of which cells stand in rows again, and stores, tables
+-- and boxes were made.
 pub record OwnWriting (old new : Heap) (cell came : Cell) (others made : List Cell) : Type 0 where
   pub whole : Whole old
   pub writes : WritesObject old new cell came others made

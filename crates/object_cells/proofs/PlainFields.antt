@@ -64,7 +64,8 @@ cap_there {heap} cap whole there is cell words has stands =
     ∙ ap (λ shape. (shape_path heap.paths shape).cap) there.of_shape ∙ sym is
 
 -- the word of a field's slot is one of its representation
-pub field_word_there : {heap : Heap} {at shape slot : ℕ} (whole : Whole heap) (there : HasField heap at shape slot) (own : Bool)
+pub field_word_there : {heap : Heap} {at shape slot : ℕ} (whole : Whole heap) (there : HasField heap at shape slot)
+    (own : Bool)
     (field : PathField) (word : ℕ) → own ≡ nat_lt slot (shape_path heap.paths shape).cap
     → slice_get (shape_path heap.paths shape).fields slot ≡ Some field
     → HasWord (field_slot_there whole there).slots slot word → IsFieldWord heap own field.rep word

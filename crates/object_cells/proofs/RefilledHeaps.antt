@@ -33,7 +33,8 @@ slots_refill old new plain cell shape others made fields whole carries cap shows
       cells = law.1;
       own = refilled_own (fields_refilled refilling) (λ one there. fields_sound refilling one there);
       only = λ other there object.
-          ap (λ (c : Cell). c.header.object) (sym (went_object (writes_object whole writes) other there object)) ∙ carries;
+          ap (λ (c : Cell). c.header.object) (sym (went_object (writes_object whole writes) other there object))
+          ∙ carries;
       no_object = λ other there. beside_is_no_object other.layout.kind (slots.kinds other there);
       cell = one;
       among = first_in one others;

@@ -1,5 +1,5 @@
--- Where words of a list's own cells were written and its slots show other elements, the heap shows the graph in which the
--- list has these.
+-- Where words of a list's own cells were written and its slots show other elements, the heap shows the graph in which
+-- the list has these.
 use Rattle.std.proofs.Common.{List, ◌∷◌, sym, ◌∙◌, ap}
 use Rattle.std.proofs.lemmas.List.Elements.{All-contains}
 use Rattle.tagged_word.proofs.Members.{first_in}
@@ -27,7 +27,8 @@ links_reached graph elements are number link =
 
 -- so the heap shows the graph in which the list has these elements
 pub written_elements_show : WrittenElementsShow
-written_elements_show old new graph list cell others made elements shows there carries shown are tied quiet writes slots =
+written_elements_show old new graph list cell others made elements shows there carries shown are tied quiet writes
+    slots =
     let before : Heap = heap_of old in
     let now : Heap = heap_of new in
     let whole = shows.shows.whole in
@@ -40,7 +41,8 @@ written_elements_show old new graph list cell others made elements shows there c
       cells = law.1;
       own = elements_own relisting;
       only = λ other among object.
-          ap (λ (c : Cell). c.header.object) (sym (went_object (writes_list whole writes) other among object)) ∙ carries;
+          ap (λ (c : Cell). c.header.object) (sym (went_object (writes_list whole writes) other among object))
+          ∙ carries;
       no_object = λ other among. beside_is_no_object other.layout.kind (slots.kinds other among);
       cell = cell;
       among = first_in cell others;

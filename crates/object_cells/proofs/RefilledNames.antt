@@ -1,5 +1,5 @@
--- What the slots of an object name that was written: each named the same before, or names what was made; and no two name
--- one. So the change of cells is the object's own.
+-- What the slots of an object name that was written: each named the same before, or names what was made; and no two
+-- name one. So the change of cells is the object's own.
 use Rattle.std.proofs.Common.{◌≡◌, ℕ, ◌+◌, List, ◌∷◌, ◌++◌, Contains, inl, inr, refl, sym}
 use Rattle.std.proofs.Common.{◌∙◌, ap, subst, ◌⊎◌}
 use Rattle.std.proofs.lemmas.Option.{same_Some}
@@ -23,7 +23,8 @@ use Rattle.object_cells.proofs.NumberedSlots.{number_is_not_store}
 use Rattle.object_cells.proofs.WrittenPlaces.{objects_stay, object_places_stay}
 use Rattle.object_cells.proofs.OwnWritings.{OwnWriting, came_object, went_own, came_stood, boxes_came}
 
--- An object was written, the slots of which are that of its store and numbered ones, and each word comes from where it may.
+-- An object was written, the slots of which are that of its store and numbered ones, and each word comes from where it
+-- may.
 pub record Refilled (old new : Heap) (cell came : Cell) (others made : List Cell) : Type 0 where
   pub writing : OwnWriting old new cell came others made
   -- the slots before and after
@@ -72,7 +73,8 @@ SourceOf {old} {new} {cell} {came} {made = made} refilled slot at =
     Source old new cell came made refilled.origin refilled.one slot at
 
 -- what a slot of the object held that names something named the same before
-named_before : {old new : Heap} {cell came named : Cell} {others made : List Cell} {words : List ℕ} {place : ℕ} (word : ℕ)
+named_before : {old new : Heap} {cell came named : Cell} {others made : List Cell} {words : List ℕ} {place : ℕ}
+    (word : ℕ)
     → Refilled old new cell came others made → HasSlotAt old cell (words_of_cell old cell) place word
     → RefersTo new word named words → IsOwnedKind named.layout.kind → NamesFrom old cell place named.at
 named_before word refilled at refers owned =
@@ -81,7 +83,8 @@ named_before word refilled at refers owned =
     slot_named_before whole (object_places_stay whole writes) writes.stood writes.object at refers owned
 
 -- where the word of the object's store comes from
-store_source : {old new : Heap} {cell came named : Cell} {others made : List Cell} {words : List ℕ} {slot : ℕ} (word : ℕ)
+store_source : {old new : Heap} {cell came named : Cell} {others made : List Cell} {words : List ℕ} {slot : ℕ}
+    (word : ℕ)
     (refilled : Refilled old new cell came others made) → slot ≡ came.at + store_slot → StoreComes old cell made word
     → RefersTo new word named words → IsOwnedKind named.layout.kind → SourceOf refilled slot named.at
 store_source {cell = cell} word refilled is (inl stood) refers owned =
@@ -93,7 +96,8 @@ store_source {named = named} word refilled is (inr there) refers owned =
 
 -- where the word of a numbered slot comes from
 number_source : {old new : Heap} {cell came named : Cell} {others made : List Cell} {words : List ℕ} {slot : ℕ}
-    (k word : ℕ) (refilled : Refilled old new cell came others made) → IsNumbered new came (words_of_cell new came) k slot
+    (k word : ℕ) (refilled : Refilled old new cell came others made)
+    → IsNumbered new came (words_of_cell new came) k slot
     → ComesFrom new cell refilled.slots made (refilled.origin k) refilled.one k word
     → RefersTo new word named words → IsOwnedKind named.layout.kind → SourceOf refilled slot named.at
 number_source k word refilled numbered (ComesFrom.moved stood tagged) refers owned =

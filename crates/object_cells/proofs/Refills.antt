@@ -35,7 +35,8 @@ refills_are_graphs : (graph : Graph) (plain : PlainObject) (fields : List Field)
     → IsGraph (refill graph plain fields paths)
 refills_are_graphs graph plain fields paths is there new added =
     let object : IsObject (length graph.objects) (Plain plain.cap plain.fields) =
-    All-slice_get (IsObject (length graph.objects)) graph.objects plain.number (Plain plain.cap plain.fields) is.made there in
+    All-slice_get (IsObject (length graph.objects)) graph.objects plain.number (Plain plain.cap plain.fields) is.made
+    there in
     let leads = reshapes ideal_limits graph plain fields is object.0 new.few new.are in
     let P : Option (List Path) → Type 0 = λ found.
     Leads IsGraph (given ShapesFull found (λ more. done (refill graph plain fields more) [])) in

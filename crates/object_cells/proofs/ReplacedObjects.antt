@@ -55,7 +55,8 @@ reaches_no_more graph number object paths other links marked =
     let inside = is_marked (reach graph) in
     let after : Graph = replaced graph number object paths in
     let long : length after.objects ≡ length graph.objects = length-set graph.objects number object in
-    let bound : HasBound after inside = λ x one within at. reach_has_bound graph x one (omega (arith, long, within)) at in
+    let bound : HasBound after inside =
+    λ x one within at. reach_has_bound graph x one (omega (arith, long, within)) at in
     let closed : IsClosed after inside = λ holder what one there held within linked.
     elim (put_cases graph.objects number object holder what there) [
       | inl old ↦ reach_closed graph holder what one old.0 held (omega (arith, long, within)) linked

@@ -34,7 +34,8 @@ pub own_slot : {heap : Heap} {cell : Cell} {words slots : List ℕ} (slot : ℕ)
 own_slot {heap} {cell} {words} {slots} slot has plain are below =
     let own : List ℕ = drop plain_head words in
     let word : ℕ = get_or words (2 + slot) 0 in
-    let there : HasWord words (2 + slot) word = slice_get-get_or words (2 + slot) 0 (omega (arith, plain_words has plain)) in
+    let there : HasWord words (2 + slot) word =
+    slice_get-get_or words (2 + slot) 0 (omega (arith, plain_words has plain)) in
     let within : slot < length own = omega (arith, plain_words has plain, length-drop plain_head words) in
     word_stands (2 + slot) word has there
     ∙ sym (ap (λ all. slice_get all slot) are.are ∙ slice_get-append_left own are.beside slot within

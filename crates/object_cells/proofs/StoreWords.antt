@@ -1,6 +1,6 @@
 -- The words where a store was made in place of another one of an object.
-use Rattle.std.proofs.Common.{◌≡◌, ◌≢◌, ℕ, ◌+◌, ◌≤◌, ◌<◌, ◌⊎◌, inl, inr, List, [], ◌∷◌, length, Some, slice_get}
-use Rattle.std.proofs.Common.{slice_range, replicate, refl, ◌∙◌, ap, arith, length-set}
+use Rattle.std.proofs.Common.{◌≡◌, ◌≢◌, ℕ, ◌+◌, ◌≤◌, ◌<◌, ◌⊎◌, inl, inr, List, [], ◌∷◌}
+use Rattle.std.proofs.Common.{length, Some, slice_get, slice_range, replicate, refl, ◌∙◌, ap, arith, length-set}
 use Rattle.std.proofs.lemmas.Bool.{cases_lt}
 use Rattle.std.proofs.lemmas.List.{length-replicate, get_or-replicate}
 use Rattle.std.proofs.lemmas.Option.{slice_get-get_or}
@@ -57,11 +57,13 @@ module _ (words : List ℕ) (object : ℕ) (store : Store) (capacity at : ℕ)
   pub copied_long : length (begun_store words store capacity at) ≡ length words
   copied_long =
       length-copied (filled words capacity at) (store.at + store_head) (at + store_head) store.capacity
-      (omega (arith, makes.more, makes.other, filled_long)) (omega (arith, makes.more, makes.within, filled_long)) ∙ filled_long
+      (omega (arith, makes.more, makes.other, filled_long)) (omega (arith, makes.more, makes.within, filled_long))
+      ∙ filled_long
 
   -- and with its reference put
   pub length-with_store : length (with_store words object store capacity at) ≡ length words
-  length-with_store = length-set (begun_store words store capacity at) (object + store_slot) (reference_word at) ∙ copied_long
+  length-with_store = length-set (begun_store words store capacity at) (object + store_slot) (reference_word at)
+      ∙ copied_long
 
   -- a word beside the store stays
   filled_stays : (a : ℕ) → (at ≤ a → a < at + (store_head + capacity) → ⊥)
@@ -111,7 +113,8 @@ module _ (words : List ℕ) (object : ℕ) (store : Store) (capacity at : ℕ)
       let long : length piece ≡ store.capacity =
       length-piece (filled words capacity at) (store.at + store_head) store.capacity
       (omega (arith, makes.more, makes.other, filled_long)) in
-      let within : at + store_head ≤ length (filled words capacity at) = omega (arith, makes.more, makes.within, filled_long) in
+      let within : at + store_head ≤ length (filled words capacity at) =
+      omega (arith, makes.more, makes.within, filled_long) in
       ap (λ all. slice_get all a) is ∙ elim beside [
         | inl before ↦ with_range_before (filled words capacity at) piece (at + store_head) a within before
         | inr behind ↦
@@ -120,7 +123,8 @@ module _ (words : List ℕ) (object : ℕ) (store : Store) (capacity at : ℕ)
 
   -- the slots of the other stand in the new one
   pub copied_word : (k : ℕ) → k < store.capacity
-      → slice_get (begun_store words store capacity at) (at + (store_head + k)) ≡ slice_get words (store.at + (store_head + k))
+      → slice_get (begun_store words store capacity at) (at + (store_head + k))
+      ≡ slice_get words (store.at + (store_head + k))
   unfolding piece
   copied_word k below =
       let is = copied_is (filled words capacity at) (store.at + store_head) (at + store_head) store.capacity
@@ -132,7 +136,8 @@ module _ (words : List ℕ) (object : ℕ) (store : Store) (capacity at : ℕ)
       let from : store.at + store_head + k ≡ store.at + (store_head + k) = omega arith in
       ap (λ all. slice_get all (at + (store_head + k))) is
       ∙ ap (slice_get (with_range (filled words capacity at) (at + store_head) piece)) place
-      ∙ with_range_inside (filled words capacity at) piece (at + store_head) k (omega (arith, makes.more, makes.within, filled_long))
+      ∙ with_range_inside (filled words capacity at) piece (at + store_head) k
+      (omega (arith, makes.more, makes.within, filled_long))
       (omega (arith, below, long))
       ∙ slice_get-slice_range (filled words capacity at) (store.at + store_head) store.capacity k below
       ∙ ap (slice_get (filled words capacity at)) from
@@ -162,7 +167,8 @@ module _ (words : List ℕ) (object : ℕ) (store : Store) (capacity at : ℕ)
       slice_get-set_other (begun_store words store capacity at) (object + store_slot) a (reference_word at) apart
 
   -- the slot for the store refers to it
-  pub with_store_named : slice_get (with_store words object store capacity at) (object + store_slot) ≡ Some (reference_word at)
+  pub with_store_named : slice_get (with_store words object store capacity at) (object + store_slot)
+      ≡ Some (reference_word at)
   with_store_named =
       slice_get-set_same (begun_store words store capacity at) (object + store_slot) (reference_word at)
       (omega (arith, makes.slot, copied_long))
@@ -187,4 +193,5 @@ module _ (words : List ℕ) (object : ℕ) (store : Store) (capacity at : ℕ)
       → slice_get (with_store words object store capacity at) (at + (store_head + k))
       ≡ slice_get words (store.at + (store_head + k))
   with_store_copied k below =
-      last_stays (at + (store_head + k)) (store_apart (store_head + k) (omega (arith, below, makes.more))) ∙ copied_word k below
+      last_stays (at + (store_head + k)) (store_apart (store_head + k) (omega (arith, below, makes.more)))
+      ∙ copied_word k below

@@ -77,7 +77,8 @@ read_store object word at there stands refers =
 
 -- two cells at one address have one word in the slot for a store
 pub same_store : {heap : Heap} {cell other : Cell} {words others : List ℕ} (a b : ℕ) → HasCell heap cell words
-    → HasCell heap other others → cell.at ≡ other.at → HasWord words store_slot a → HasWord others store_slot b → a ≡ b
+    → HasCell heap other others → cell.at ≡ other.at → HasWord words store_slot a → HasWord others store_slot b
+    → a ≡ b
 same_store {heap} {cell} {other} {words} {others} a b has has_other same one two =
     let cells : cell ≡ other = one_at has has_other same in
     let words_are : words ≡ others = one_words (subst (λ (c : Cell). HasCell heap c words) cells has) has_other in

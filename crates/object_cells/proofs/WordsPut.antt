@@ -1,15 +1,17 @@
 -- The words of a heap where some were put.
-use Rattle.std.proofs.Common.{◌≡◌, ◌≢◌, ℕ, ◌+◌, ◌<◌, ◌⊎◌, inl, inr, length, Some, slice_get, length-set}
-use Rattle.std.proofs.Common.{refl, sym, ◌∙◌, ap, subst, arith}
+use Rattle.std.proofs.Common.{◌≡◌, ◌≢◌, ℕ, ◌+◌, ◌<◌, ◌⊎◌, inl, inr, length, Some, slice_get}
+use Rattle.std.proofs.Common.{length-set, refl, sym, ◌∙◌, ap, subst, arith}
 use Rattle.std.specs.Prelude.{slice_set}
 use Rattle.std.proofs.Math.Seq.{take-set-lt}
 use Rattle.page_space.specs.Extents.{Space, layouts_start, marks_start}
 use Rattle.shape_tree.specs.Shapes.{AreShapes}
 use Rattle.shape_tree.specs.ShapeLayouts.{layout_word}
 use Rattle.object_graph.proofs.Lists.{slice_get-set_same, slice_get-set_other}
-use Rattle.heap_table.specs.Seats.{heap_words}
+use Rattle.heap_table.specs.Seats.{heap_words, StaysBeside}
+use Rattle.heap_table.proofs.HeapWords.{stays_beside-put}
 use Rattle.heap_model.specs.Wholeness.{HasSizes}
 use Rattle.write_barrier.specs.Mains.{Mutator, heap_of, with_word}
+use Rattle.object_cells.proofs.WordsBeside.{put_beside}
 
 -- a word that is put before the marks is one of the heap's
 pub heap_with_word : (main : Mutator) (a word : ℕ) → a < marks_start main.seat.space
@@ -18,8 +20,7 @@ heap_with_word main a word below = take-set-lt (marks_start main.seat.space) mai
 
 -- Of the old mutator only words at two addresses have changed: that of an object's header, and one other.
 pub record PutsTwo (old new : Mutator) (object head at word : ℕ) : Type 0 where
-  pub space : new.seat.space ≡ old.seat.space
-  pub phase : new.seat.phase ≡ old.seat.phase
+  pub beside : StaysBeside old.seat new.seat
   pub paths : new.paths ≡ old.paths
   pub young : new.young ≡ old.young
   pub count : length (heap_words new.seat) ≡ length (heap_words old.seat)
@@ -40,8 +41,7 @@ puts_one : (old : Mutator) (object head at word : ℕ) → at < marks_start old.
 puts_one old object head at word below counted apart there =
     let heap = heap_with_word old at word below in
     record {
-      space = refl;
-      phase = refl;
+      beside = stays_beside-put old.seat at word below;
       paths = refl;
       young = refl;
       count = ap length heap ∙ length-set (heap_words old.seat) at word;
@@ -65,8 +65,8 @@ puts_both old object head at word below within counted apart =
     ∙ ap (λ all. slice_set all object head) first in
     let long : length words ≡ length (heap_words old.seat) = length-set (heap_words old.seat) at word in
     record {
-      space = refl;
-      phase = refl;
+      beside = put_beside {mid = with_word old at word} object head (stays_beside-put old.seat at word below) refl
+          within;
       paths = refl;
       young = refl;
       count = ap length heap ∙ length-set words object head ∙ long;
@@ -98,10 +98,10 @@ pub sizes_put : (old new : Mutator) (object head at word : ℕ) → HasSizes (he
 sizes_put old new object head at word sized object_below at_below puts =
     let space : Space = old.seat.space in
     record {
-      words = puts.count ∙ sized.words ∙ ap marks_start (sym puts.space);
+      words = puts.count ∙ sized.words ∙ ap marks_start (sym puts.beside.space);
       shapes = subst AreShapes (sym puts.paths) sized.shapes;
       layouts = λ shape below.
-          ap (λ (s : Space). slice_get (heap_words new.seat) (layouts_start s + shape)) puts.space
+          ap (λ (s : Space). slice_get (heap_words new.seat) (layouts_start s + shape)) puts.beside.space
           ∙ puts.stay (layouts_start space + shape) (λ same. omega (arith, same)) (λ same. omega (arith, same))
           ∙ sized.layouts shape below ∙ ap (λ paths. Some (layout_word paths shape)) (sym puts.paths);
     }

@@ -63,7 +63,12 @@ class_of_slot sized within IsSlotWord.undefined = record { class = Odd undefined
 class_of_slot sized within IsSlotWord.hole = record { class = Odd hole_code; is = omega arith; bits = refl }
 class_of_slot sized within (IsSlotWord.object word refers) =
     let place = refers.1.place in
-    record { class = Ref refers.1.at; is = omega (arith, cell_fits sized within place.has, place.stands); bits = refers.1.refers }
+    record {
+      class = Ref refers.1.at;
+      is = omega (arith, cell_fits sized within place.has, place.stands);
+      bits =
+          refers.1.refers;
+    }
 class_of_slot sized within (IsSlotWord.boxed word v refers) =
     record { class = Ref refers.cell.at; is = cell_fits sized within refers.target.has; bits = refers.target.refers }
 
@@ -94,7 +99,8 @@ int_shown {heap} result v is = subst (λ h. ShowsHeld heap h (Some (value.Int v)
 -- the word of a tagged field tells its value
 value_told : {heap : Heap} (word : ℕ) (result : Held) (what : Value) → TellsWord heap word result
     → ShowsValue heap word what → ShowsHeld heap result (Some what)
-value_told word result what tells (ShowsValue.small_integer v is same) = int_shown result v (tells.small_integer v is same)
+value_told word result what tells (ShowsValue.small_integer v is same) =
+    int_shown result v (tells.small_integer v is same)
 value_told word result what tells (ShowsValue.boxed v wide refers) = int_shown result v (tells.boxed v refers)
 value_told {heap} word result what tells (ShowsValue.undefined same) =
     subst (λ h. ShowsHeld heap h (Some value.Undefined)) (sym (tells.undefined same)) ShowsHeld.undefined

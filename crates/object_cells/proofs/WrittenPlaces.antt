@@ -74,6 +74,7 @@ pub written_places_stay : {old new : Heap} {cell : Cell} {shape : ℕ} {others m
     → WritesCells old new cell shape others made → PlacesStay old new
 written_places_stay whole writes = object_places_stay whole (writes_object whole writes)
 
+-- and each box that is not written goes on holding its integer
 pub written_box_stays : {old new : Heap} {cell : Cell} {shape : ℕ} {others made : List Cell} (word : ℕ) → Whole old
     → WritesCells old new cell shape others made → IsNoBoxOf others word → BoxStays old new word
 written_box_stays word whole writes no_box = object_box_stays word whole (writes_object whole writes) no_box

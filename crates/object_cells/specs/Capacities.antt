@@ -1,7 +1,7 @@
 -- How many slots the stores of objects have, property stores and those of lists, and how many pairs the tables of weak
 -- maps; and what becomes of them.
-use Rattle.std.specs.Prelude.{◌≡◌, ◌≢◌, ℕ, ◌+◌, ◌-◌, ◌^◌, ◌<◌, ◌⊎◌, List, length, Contains, slice_get}
-use Rattle.std.specs.Prelude.{Option, Some, None, nat_lt, if◌then◌else◌}
+use Rattle.std.specs.Prelude.{◌≡◌, ◌≢◌, ℕ, ◌+◌, ◌-◌, ◌^◌, ◌<◌, ◌⊎◌, List, length, Contains}
+use Rattle.std.specs.Prelude.{slice_get, Option, Some, None, nat_lt, if◌then◌else◌}
 use Rattle.tagged_word.specs.declared.layout.Kind.TheVariants as kind
 use Rattle.tagged_word.specs.Cells.{store_slot}
 use Rattle.object_graph.specs.declared.path.Path.{Path}
@@ -14,8 +14,8 @@ use Rattle.object_cells.specs.CellWrites.{WritesCells}
 use Rattle.object_cells.specs.ElementChanges.{WritesList}
 use Rattle.object_cells.specs.OwnWords.{ChangesOwnWords}
 
--- A store of so many slots, of which so many are used, as it is once one slot more is used: the store itself, or the one
--- that takes its place where it is full.
+-- A store of so many slots, of which so many are used, as it is once one slot more is used: the store itself, or the
+-- one that takes its place where it is full.
 abbrev pub stored_capacity : ℕ → ℕ → ℕ
 stored_capacity capacity used = if nat_lt used capacity then capacity else grown capacity
 
@@ -30,16 +30,17 @@ abbrev pub set_capacity_by : Heap → ℕ → Path → Option ℕ → ℕ
 set_capacity_by heap at path None = new_field_capacity heap at path
 set_capacity_by heap at path (Some field) = capacity_at heap at
 
--- how many slots the property store of the object at an address has once a field was set
+-- how many slots the property store of the plain object at an address has once a field was set
 abbrev pub set_capacity_at : Heap → ℕ → ℕ → ℕ
 set_capacity_at heap at name = set_capacity_by heap at (path_at heap at) (index_of (path_at heap at).fields name)
 
--- Words of one object alone have changed, that at the address. It has a store of so many slots, or a table of so many pairs,
--- and each other object one of as many as before. Each object stands where it stood, and none is made.
+-- Words of one object alone have changed, that at the address. It has a store of so many slots, or a table of so many
+-- pairs, and each other object one of as many as before. Each object stands where it stood, and none is made.
 pub record ChangesObject (old new : Heap) (at capacity : ℕ) : Type 0 where
   pub words : ChangesOwnWords old new at
   pub own : capacity_at new at ≡ capacity
-  pub others : (number other : ℕ) → IsPlace old number other → other ≢ at → capacity_at new other ≡ capacity_at old other
+  pub others : (number other : ℕ) → IsPlace old number other → other ≢ at
+      → capacity_at new other ≡ capacity_at old other
   pub stays : (number other : ℕ) → IsPlace old number other → IsPlace new number other
   pub none_made : (number other : ℕ) → IsPlace new number other → IsPlace old number other
 
@@ -50,7 +51,8 @@ pub record WritesBeside (old new : Heap) (cell : Cell) (shape : ℕ) (others mad
   pub belong : (other : Cell) → Contains others other → (slot : ℕ) × NamesFrom old cell slot other.at
   pub kinds : (other : Cell) → Contains made other → (other.layout.kind ≡ kind.Store) ⊎ (other.layout.kind ≡ kind.Boxed)
 
--- Where the word by which the object refers to its property store stays, each object keeps the capacity of its own.
+-- Where the word by which the plain object refers to its property store stays, each object keeps the capacity of its
+-- store.
 abbrev pub CapacitiesStay : Type 0
 CapacitiesStay =
     (old new : Heap) (cell : Cell) (shape : ℕ) (others made : List Cell) → WritesBeside old new cell shape others made
@@ -72,7 +74,7 @@ pub record WritesListBeside (old new : Heap) (cell : Cell) (others made : List C
   pub belong : (other : Cell) → Contains others other → (slot : ℕ) × NamesFrom old cell slot other.at
   pub kinds : (other : Cell) → Contains made other → (other.layout.kind ≡ kind.Store) ⊎ (other.layout.kind ≡ kind.Boxed)
 
--- Where the word by which the list refers to its store stays, each object keeps the capacity of its own.
+-- Where the word by which the list refers to its store stays, each object keeps the capacity of its store.
 abbrev pub ListCapacitiesStay : Type 0
 ListCapacitiesStay =
     (old new : Heap) (cell : Cell) (others made : List Cell) → WritesListBeside old new cell others made

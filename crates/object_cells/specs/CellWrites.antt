@@ -1,6 +1,7 @@
--- What is written when the fields of one plain object change: words of its own cells, words behind the used part of eden,
--- and layout words.
-use Rattle.std.specs.Prelude.{◌≡◌, ℕ, ◌+◌, ◌<◌, ◌≤◌, ◌⊎◌, List, ◌∷◌, ◌++◌, Contains, Some, slice_get}
+-- What is written when the fields of one plain object change: words of its own cells, words behind the used part of
+-- eden, and layout words.
+use Rattle.std.specs.Prelude.{◌≡◌, ℕ, ◌+◌, ◌<◌, ◌≤◌, ◌⊎◌, List, ◌∷◌, ◌++◌, Contains, Some}
+use Rattle.std.specs.Prelude.{slice_get}
 use Rattle.tagged_word.specs.declared.layout.Kind.TheVariants as kind
 use Rattle.tagged_word.specs.Headers.{header_bits}
 use Rattle.tagged_word.specs.Cells.{length_offset}
@@ -35,8 +36,8 @@ pub record IsWrittenBeside (old new : Heap) (other : Cell) : Type 0 where
       → slice_get new.words (other.at + length_offset) ≡ slice_get old.words (other.at + length_offset)
 
 -- The cell of a plain object has the header of this shape, whose path has the same cap. Otherwise only words of this
--- cell and of these others have changed, words that are newly used, in which cells were made, and layout words of shapes
--- that are new.
+-- cell and of these others have changed, words that are newly used, in which cells were made, and layout words of
+-- shapes that are new.
 pub record WritesCells (old new : Heap) (cell : Cell) (shape : ℕ) (others made : List Cell) : Type 0 where
   pub same_space : new.space ≡ old.space
   pub same_survivors : new.survivors ≡ old.survivors

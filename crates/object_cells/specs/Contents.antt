@@ -1,5 +1,6 @@
 -- What the slot of a field comes to hold for a value, and which words that writes.
 use Rattle.std.specs.Prelude.{◌≡◌, ℕ, ◌+◌, ◌≤◌, Bool, true, false, Option, Some, None, ℤ, if◌then◌else◌}
+use Rattle.std.specs.Prelude.{Result, Ok, Err}
 use Rattle.tagged_word.specs.Words.{small}
 use Rattle.tagged_word.specs.Headers.{header_bits}
 use Rattle.tagged_word.specs.Readings.{reference_in}
@@ -9,6 +10,7 @@ use Rattle.page_space.specs.Extents.{Space, eden_start, marks_start}
 use Rattle.nursery.specs.Young.{HasRoom}
 use Rattle.handle_roots.specs.declared.held.Held.{Held}
 use Rattle.handle_roots.specs.declared.held.Held.TheVariants as held
+use Rattle.heap_table.specs.Seats.{StaysBeside}
 use Rattle.heap_model.specs.Heaps.{Heap}
 use Rattle.heap_model.specs.Slots.{small_word, undefined_word, reference_word, raw_word, IsSlotWord}
 use Rattle.heap_model.specs.Needs.{box_words, is_box_word, word_at}
@@ -30,13 +32,13 @@ abbrev pub small_content : ℤ → Bool → Content
 small_content v true = content.Tagged (record { 0 = small_word v })
 small_content v false = content.Boxed v
 
--- an integer in a slot of this representation: a wide one is raw in the object, and in a box in the property store
+-- an integer in a slot of this representation: a wide one is raw in the object, and in a box in its store
 abbrev pub integer_content : Bool → Rep → ℤ → Content
 integer_content true rep.Wide v = content.Raw (raw_word v)
 integer_content false rep.Wide v = content.Boxed v
 integer_content own _ v = small_content v (small v)
 
--- what a slot of this representation, in the object itself or in its property store, holds for a value
+-- what a slot of this representation, in the object itself or in its store, holds for a value
 abbrev pub content_of : Bool → Rep → Held → Content
 content_of own rep (held.Int v) = integer_content own rep v
 content_of own rep (held.Ref at) = content.Tagged (record { 0 = reference_word at })
@@ -97,3 +99,16 @@ filled main at (filling.Tagged word) = with_word main at word.0
 filled main at (filling.Raw word) = with_word main at word
 filled main at (filling.NewBox box v) = with_word (with_box main box v) at (reference_word box)
 filled main at (filling.OldBox box v) = with_word main (box + 1) (raw_word v)
+
+-- The slot at the address came to hold this: the words that it needs are used, and it was filled. The marks and the
+-- board are as they were.
+pub record FillsSlot (old new : Mutator) (at : ℕ) (content : Content) : Type 0 where
+  pub between : Mutator
+  pub allocates : Allocates old between (filling_at old at content)
+  pub fills : new ≡ filled between at (filling_at old at content)
+  pub beside : StaysBeside old.seat new.seat
+
+-- it did; or there is no room, and nothing has changed
+abbrev pub FillsOrRefuses : Mutator → Mutator → ℕ → Content → Result Unit NoRoom → Type 0
+FillsOrRefuses old new at content (Ok _) = FillsSlot old new at content
+FillsOrRefuses old new at content (Err full) = LacksRoom old (filling_at old at content) full × (new ≡ old)

@@ -1,7 +1,7 @@
--- A change of the elements of one list, slot by slot: the list's cell, its store and its boxes stay where they are, or a
--- store and boxes are made.
-use Rattle.std.specs.Prelude.{◌≡◌, ℕ, ◌+◌, ◌<◌, ◌≤◌, ◌⊎◌, List, ◌∷◌, ◌++◌, length, Contains, Some, slice_get, All}
-use Rattle.std.specs.Prelude.{[], slice_set, IsTrue}
+-- A change of the elements of one list, slot by slot: the list's cell, its store and its boxes stay where they are, or
+-- a store and boxes are made.
+use Rattle.std.specs.Prelude.{◌≡◌, ℕ, ◌+◌, ◌<◌, ◌≤◌, ◌⊎◌, List, ◌∷◌, ◌++◌, length, Contains}
+use Rattle.std.specs.Prelude.{Some, slice_get, All, [], slice_set, IsTrue}
 use Rattle.tagged_word.specs.declared.layout.Kind.TheVariants as kind
 use Rattle.tagged_word.specs.Cells.{store_slot}
 use Rattle.object_graph.specs.declared.value.Value.{Value}
@@ -25,8 +25,8 @@ use Rattle.object_cells.specs.HeldValues.{IsReachedValue}
 use Rattle.object_cells.specs.CellWrites.{IsInCell, IsWrittenBeside}
 use Rattle.object_cells.specs.SlotChanges.{NamesNone, IsNoBoxOf, StoreComes}
 
--- Of the words before the layout words only those of the list's cell but its header have changed, slots of these stores,
--- integers of these boxes, and words that are newly used, in which cells were made.
+-- Of the words before the layout words only those of the list's cell but its header have changed, slots of these
+-- stores, integers of these boxes, and words that are newly used, in which cells were made.
 pub record WritesList (old new : Heap) (cell : Cell) (others made : List Cell) : Type 0 where
   pub same_space : new.space ≡ old.space
   pub same_survivors : new.survivors ≡ old.survivors
@@ -43,7 +43,8 @@ pub record WritesList (old new : Heap) (cell : Cell) (others made : List Cell) :
       → ((other : Cell) → Contains others other → IsInCell at other → ⊥) → (IsNewlyUsed old new at → ⊥)
       → slice_get new.words at ≡ slice_get old.words at
 
--- Then cells stand in rows again: the list's and these others as they were, those that were made, and all else as before.
+-- Then cells stand in rows again: the list's and these others as they were, those that were made, and all else as
+-- before.
 abbrev pub WrittenListKeepsCells : Type 0
 WrittenListKeepsCells =
     (old new : Heap) (cell : Cell) (others made : List Cell) → Whole old → WritesList old new cell others made
@@ -55,16 +56,18 @@ pub record HasElements (heap : Heap) (words slots : List ℕ) : Type 0 where
   pub slot : HasWord words store_slot store
   pub stands : IsBeside heap kind.Store store slots
 
--- Where the word of a slot comes from: the slot of the same number held it before; or it names no store, table or box; or
--- it refers to a box that was made, which only the slot of number `one` does.
+-- Where the word of a slot comes from: the slot of the same number held it before; or it names no store, table or box;
+-- or it refers to a box that was made, which only the slot of number `one` does.
 pub data ElementComes (new : Heap) (slots : List ℕ) (made : List Cell) (one slot word : ℕ) : Type 0 where
   stayed : HasWord slots slot word → ElementComes new slots made one slot word
   none : NamesNone new word → ElementComes new slots made one slot word
-  of_made : (box : Cell) → Contains made box → box.layout.kind ≡ kind.Boxed → word ≡ reference_word box.at → slot ≡ one
+  of_made : (box : Cell) → Contains made box → box.layout.kind ≡ kind.Boxed → word ≡ reference_word box.at
+      → slot ≡ one
       → ElementComes new slots made one slot word
 
 -- What a slot shows: the element that it showed before, or its element anew.
-pub data ShowsElement (new : Heap) (slots : List ℕ) (others : List Cell) (before : List Value) (slot word : ℕ) (value : Value)
+pub data ShowsElement (new : Heap) (slots : List ℕ) (others : List Cell) (before : List Value) (slot word : ℕ)
+    (value : Value)
     : Type 0 where
   kept : slice_get before slot ≡ Some value → HasWord slots slot word → IsNoBoxOf others word
       → ShowsElement new slots others before slot word value
@@ -107,7 +110,8 @@ pub record AreNewElements (graph : Graph) (elements : List Value) : Type 0 where
 -- So a heap that showed a graph shows it with these elements in the list.
 abbrev pub WrittenElementsShow : Type 0
 WrittenElementsShow =
-    (old new : Mutator) (graph : Graph) (list : ListObject) (cell : Cell) (others made : List Cell) (elements : List Value)
+    (old new : Mutator) (graph : Graph) (list : ListObject) (cell : Cell) (others made : List Cell)
+    (elements : List Value)
     → MainShows old graph → slice_get graph.objects list.number ≡ Some (ListOf list.elements)
     → cell.header.object ≡ list.number
     → ShowsList (heap_of old) cell (words_of_cell (heap_of old) cell) list.elements
@@ -116,8 +120,8 @@ WrittenElementsShow =
     → RefillsElements (heap_of old) (heap_of new) cell others made list.elements elements
     → MainShows new (relist graph list elements)
 
--- With one element more behind those that it has, for which there is room, a list that can be reached has elements that it
--- may have.
+-- With one element more behind those that it has, for which there is room, a list that can be reached has elements that
+-- it may have.
 abbrev pub PushedElementsAreNew : Type 0
 PushedElementsAreNew =
     (graph : Graph) (list : ListObject) (value : Value) → IsGraph graph

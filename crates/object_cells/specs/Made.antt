@@ -10,7 +10,7 @@ use Rattle.cell_layout.specs.declared.cell.Cell.{Cell}
 use Rattle.handle_roots.specs.declared.held.Held.{Held}
 use Rattle.handle_roots.specs.declared.held.Held.TheVariants as held
 use Rattle.word_store.specs.Copies.{copied}
-use Rattle.heap_table.specs.Seats.{heap_words}
+use Rattle.heap_table.specs.Seats.{heap_words, StaysBeside}
 use Rattle.heap_model.specs.Heaps.{Heap, HasCell}
 use Rattle.heap_model.specs.Slots.{reference_word, raw_word, IsBeside}
 use Rattle.heap_model.specs.Kinds.{HasWord}
@@ -23,10 +23,10 @@ use Rattle.object_cells.specs.declared.content.Content.TheVariants as content
 use Rattle.object_cells.specs.declared.stores.Store.{Store}
 use Rattle.object_cells.specs.Contents.{held_rep, content_of}
 
--- of all that the mutator has, marks and board aside, only the words of the heap are others
+-- Of all that the mutator has, only the words of the heap are others, and they are these; so the marks and the board
+-- are as they were.
 pub record PutsWords (old new : Mutator) (words : List ℕ) : Type 0 where
-  pub space : new.seat.space ≡ old.seat.space
-  pub phase : new.seat.phase ≡ old.seat.phase
+  pub beside : StaysBeside old.seat new.seat
   pub paths : new.paths ≡ old.paths
   pub young : new.young ≡ old.young
   pub heap : heap_words new.seat ≡ words

@@ -7,8 +7,8 @@ use Rattle.heap_model.specs.Wholeness.{NamesFrom}
 use Rattle.heap_model.specs.Changes.{IsNewlyUsed}
 use Rattle.object_cells.specs.CellWrites.{IsInCell}
 
--- The word belongs to the object at the address: it is in its cell, or in a store, a weak table or a box that one of its
--- slots names.
+-- The word belongs to the object at the address: it is in its cell, or in a store, a weak table or a box that one of
+-- its slots names.
 pub record IsOwnWord (heap : Heap) (at word : ℕ) : Type 0 where
   pub owner : Cell
   pub has : HasCell heap owner (words_of_cell heap owner)

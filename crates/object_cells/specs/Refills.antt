@@ -27,7 +27,8 @@ pub record AreNewFields (graph : Graph) (fields : List Field) : Type 0 where
   pub reached : All (λ field. IsReachedValue graph field.value) fields
 
 -- Of objects only this one's cell went; one came that shows these fields of it; and no object was made.
-pub record RefillsCells (old new : Heap) (plain : PlainObject) (fields : List Field) (gone came made : List Cell) : Type 0 where
+pub record RefillsCells (old new : Heap) (plain : PlainObject) (fields : List Field)
+    (gone came made : List Cell) : Type 0 where
   pub cells : CellsChange old new gone came made
   pub own : IsOwnChange old new gone came made
   pub only : (cell : Cell) → Contains gone cell → IsTrue (is_object_kind cell.layout.kind)
@@ -45,7 +46,8 @@ pub record IsAtRest (main : Mutator) : Type 0 where
   pub sized : HasSizes (heap_of main)
   pub rows : HasRows (heap_of main)
 
--- A heap that showed a graph shows it with these fields in the object, where their path was added and its cells show them.
+-- A heap that showed a graph shows it with these fields in the object, where their path was added and its cells show
+-- them.
 abbrev pub RefillsShow : Type 0
 RefillsShow =
     (old new : Mutator) (graph : Graph) (plain : PlainObject) (fields : List Field) (gone came made : List Cell)

@@ -1,6 +1,6 @@
 -- A change of the fields of one plain object, slot by slot.
-use Rattle.std.specs.Prelude.{◌≡◌, ◌≢◌, ℕ, ◌+◌, ◌<◌, ◌≤◌, ◌⊎◌, List, ◌∷◌, ◌++◌, length, Contains, Some}
-use Rattle.std.specs.Prelude.{slice_get, nat_lt}
+use Rattle.std.specs.Prelude.{◌≡◌, ◌≢◌, ℕ, ◌+◌, ◌<◌, ◌≤◌, ◌⊎◌, List, ◌∷◌, ◌++◌}
+use Rattle.std.specs.Prelude.{length, Contains, Some, slice_get, nat_lt}
 use Rattle.tagged_word.specs.declared.layout.Kind.TheVariants as kind
 use Rattle.tagged_word.specs.Cells.{plain_head, store_slot, scavenge_offsets}
 use Rattle.object_graph.specs.declared.object.Object.TheVariants.{Plain}
@@ -21,8 +21,8 @@ use Rattle.object_cells.specs.CellWrites.{reshaped, WritesCells}
 use Rattle.object_cells.specs.PlainObjects.{ShowsRefilled}
 use Rattle.object_cells.specs.Refills.{AreNewFields, RefillsCells}
 
--- The slot of this number of a plain object's cell is tagged: it is in the property store, or a used in-object slot that
--- is not raw.
+-- The slot of this number of a plain object's cell is tagged: it is in the property store, or a used in-object slot
+-- that is not raw.
 abbrev pub IsTaggedSlot : Cell → ℕ → Type 0
 IsTaggedSlot cell slot =
     slot < cell.layout.cap → Contains (scavenge_offsets cell.layout cell.length) (plain_head + slot)
@@ -31,12 +31,14 @@ IsTaggedSlot cell slot =
 abbrev pub NamesNone : Heap → ℕ → Type 0
 NamesNone heap word = (cell : Cell) (words : List ℕ) → RefersTo heap word cell words → IsOwnedKind cell.layout.kind → ⊥
 
--- Where the word of a tagged slot comes from: a tagged slot of the object held it before, the one of number `origin`; or
--- it names no store, table or box; or it refers to a box that was made, which only the slot of number `one` does.
-pub data ComesFrom (new : Heap) (cell : Cell) (slots : List ℕ) (made : List Cell) (origin one slot word : ℕ) : Type 0 where
+-- Where the word of a tagged slot comes from: a tagged slot of the object held it before, the one of number `origin`;
+-- or it names no store, table or box; or it refers to a box that was made, which only the slot of number `one` does.
+pub data ComesFrom (new : Heap) (cell : Cell) (slots : List ℕ) (made : List Cell)
+    (origin one slot word : ℕ) : Type 0 where
   moved : HasWord slots origin word → IsTaggedSlot cell origin → ComesFrom new cell slots made origin one slot word
   none : NamesNone new word → ComesFrom new cell slots made origin one slot word
-  of_made : (box : Cell) → Contains made box → box.layout.kind ≡ kind.Boxed → word ≡ reference_word box.at → slot ≡ one
+  of_made : (box : Cell) → Contains made box → box.layout.kind ≡ kind.Boxed → word ≡ reference_word box.at
+      → slot ≡ one
       → ComesFrom new cell slots made origin one slot word
 
 -- none of these cells is a box to which the word refers
@@ -44,8 +46,8 @@ abbrev pub IsNoBoxOf : List Cell → ℕ → Type 0
 IsNoBoxOf others word =
     (other : Cell) → Contains others other → other.layout.kind ≡ kind.Boxed → word ≢ reference_word other.at
 
--- What a slot shows: the field that the slot of number `origin` showed before, of the same representation and value, and
--- in an in-object slot exactly where that was in one; or its field anew.
+-- What a slot shows: the field that the slot of number `origin` showed before, of the same representation and value,
+-- and in an in-object slot exactly where that was in one; or its field anew.
 pub data ShowsSlot (new : Heap) (cell : Cell) (slots : List ℕ) (others : List Cell) (before : List Field)
     (origin slot word : ℕ) (field : Field) : Type 0 where
   kept : (was : Field) → slice_get before origin ≡ Some was → was.rep ≡ field.rep → was.value ≡ field.value

@@ -69,6 +69,7 @@ fn box_in(main: &Main, word: Word) -> Option<u32>
 //
 // # Errors
 // There is no room for a box; nothing has changed.
+#[inline(never)]
 fn box_filling(main: &mut Main, word: Word, v: i64) -> Result<Filling, NoRoom>
     requires quiet { main.old.seat.phase ≡ Quiet }
     requires tied { IsTied main.old }
@@ -96,6 +97,7 @@ fn box_filling(main: &mut Main, word: Word, v: i64) -> Result<Filling, NoRoom>
 ///
 /// # Errors
 /// There is no room for a box; nothing has changed.
+#[inline(always)]
 pub fn filling_of(main: &mut Main, at: u32, content: Content) -> Result<Filling, NoRoom>
     requires whole { IsWhole main.old }
     requires tied { IsTied main.old }
@@ -119,6 +121,7 @@ pub fn filling_of(main: &mut Main, at: u32, content: Content) -> Result<Filling,
 }
 
 /// Fills the slot at an offset of a cell.
+#[inline(always)]
 pub fn fill(main: &mut Main, cell: u32, offset: u32, filling: Filling)
     requires quiet { main.old.seat.phase ≡ Quiet }
     requires within { cell + offset < marks_start main.old.seat.space }

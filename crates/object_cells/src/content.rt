@@ -32,6 +32,7 @@ pub enum Filling {
 }
 
 /// The narrowest representation that holds a value.
+#[inline(always)]
 pub fn rep_of(value: Held) -> Rep
     ensures { result ≡ contents.held_rep value }
 {
@@ -43,6 +44,7 @@ pub fn rep_of(value: Held) -> Rep
 }
 
 // What a slot that is not raw holds for an integer.
+#[inline(always)]
 fn small_content(v: i64) -> Content
     ensures { result ≡ contents.small_content v (small v) }
 {
@@ -53,6 +55,7 @@ fn small_content(v: i64) -> Content
 }
 
 // What the slot of a field of this representation holds for an integer.
+#[inline(always)]
 fn integer_content(own: bool, rep: Rep, v: i64) -> Content
     ensures { result ≡ contents.integer_content own rep v }
 {
@@ -64,7 +67,8 @@ fn integer_content(own: bool, rep: Rep, v: i64) -> Content
 }
 
 /// What the slot of a field holds for a value that its representation can hold: an own slot of the
-/// object, or one of its property store.
+/// object, or one of its store.
+#[inline(always)]
 pub fn content_of(own: bool, rep: Rep, value: Held) -> Content
     ensures { result ≡ contents.content_of own rep value }
 {

@@ -9,10 +9,11 @@ use Rattle.std.proofs.lemmas.List.Elements.{All-append, All-filter, All-weaker, 
 use Rattle.std.proofs.lemmas.List.Elements.{Contains-append_left, Contains-append_right, Contains-append_cases}
 use Rattle.std.proofs.lemmas.List.Folds.{list_any-from_Any}
 use Rattle.std.proofs.lemmas.Map.Views.{Contains-from_any}
+use Rattle.tagged_word.proofs.Members.{filter_from}
 use Rattle.object_graph.specs.declared.path.Path.{Path}
 use Rattle.object_graph.specs.Paths.{empty_paths, same_path, prefixes, missing, may_have, with_path}
 use Rattle.object_graph.specs.Invariants.{IsPath, ArePaths}
-use Rattle.object_graph.proofs.DistinctLists.{IsDistinct-append, IsDistinct-filter, Contains-filter, Contains-from_filter}
+use Rattle.object_graph.proofs.DistinctLists.{IsDistinct-append, IsDistinct-filter, Contains-filter}
 use Rattle.object_graph.proofs.EqualPaths.{Decides-same_path}
 use Rattle.object_graph.proofs.Prefixes.{has_itself, has_prefixes_of, prefixes-distinct, prefixes_are_paths}
 
@@ -57,7 +58,8 @@ missing_differ : (old : List Path) (path : Path) → All (λ a. All (λ b. same_
 missing_differ old path =
     let all_missed = filter_passes (is_missing old) (prefixes path) in
     All-weaker (Contains old) (λ a. All (λ b. same_path a b ≡ false) (missing old path)) (λ a there.
-    All-weaker (λ b. is_missing old b ≡ true) (λ b. same_path a b ≡ false) (λ b. differs old a b there) (missing old path)
+    All-weaker (λ b. is_missing old b ≡ true) (λ b. same_path a b ≡ false)
+    (λ b. differs old a b there) (missing old path)
     all_missed) old (All-contains_itself old)
 
 -- the prefixes of each path are there afterwards
@@ -70,7 +72,7 @@ stays_closed old path are p there =
           All-weaker (Contains old) (Contains new) (Contains-append_left old (missing old path)) (prefixes p)
           (are.closed p before)
       | inr added ↦
-          let prefix = Contains-from_filter (is_missing old) (prefixes path) p added in
+          let prefix = filter_from (is_missing old) (prefixes path) p added in
           All-weaker (Contains (prefixes path)) (Contains new) (has_prefix old path) (prefixes p)
           (has_prefixes_of path p prefix)
     ]
@@ -82,7 +84,8 @@ pub record Adds (old new : List Path) (path : Path) : Type 0 where
   pub keeps : (p : Path) → Contains old p → Contains new p
 
 -- a path and its prefixes are added
-pub adds_missing : (old : List Path) (path : Path) → ArePaths old → IsPath path → Adds old (old ++ missing old path) path
+pub adds_missing : (old : List Path) (path : Path) → ArePaths old → IsPath path
+    → Adds old (old ++ missing old path) path
 adds_missing old path are is =
     let more = missing old path in
     let more_distinct = IsDistinct-filter same_path (is_missing old) (prefixes path) (prefixes-distinct path) in

@@ -9,8 +9,9 @@ use Rattle.std.specs.declared.cmp.Ordering.{Ordering}
 use Rattle.std.specs.declared.cmp.Ordering.TheVariants.{Less, Equal, Greater}
 use Rattle.std.specs.Cmp.{nat_cmp_total, eq_by_cmp_equiv}
 use Rattle.std.specs.Map.{keys_of, values_of, lookup}
-use Rattle.std.specs.FinMap.{FinMap, get, entries, values, from_entries, from_sorted, entries_sorted, entries-from_sorted}
-use Rattle.std.specs.FinMap.{get-entries, get-from_sorted, get-from_entries, same_map, nat_cmp-IsAntisymmetric, is_sorted}
+use Rattle.std.specs.FinMap.{FinMap, get, entries, values, from_entries, from_sorted, entries_sorted}
+use Rattle.std.specs.FinMap.{entries-from_sorted, get-entries, get-from_sorted, get-from_entries, same_map}
+use Rattle.std.specs.FinMap.{nat_cmp-IsAntisymmetric, is_sorted}
 use Rattle.std.specs.FinMap.Entries.{find, below_all}
 use Rattle.std.proofs.lemmas.Map.Keys.{IsDistinct-from_sorted}
 use Rattle.std.proofs.lemmas.Map.Views.{lookup-from_Contains}

@@ -5,9 +5,9 @@ use Rattle.std.specs.Prelude.{All, Contains, filter, ◌==◌}
 use Rattle.std.specs.List.{IsDistinct}
 use Rattle.std.proofs.lemmas.Bool.{cond_both}
 use Rattle.std.proofs.lemmas.List.{length-take, get_or-take}
-use Rattle.std.proofs.lemmas.List.Elements.{All-nil, All-cons, All-head, All-tail, All-append, All-filter, All-weaker}
-use Rattle.std.proofs.lemmas.List.Elements.{All-contains, All-contains_itself, Contains-append_right, All-from_recursion}
-use Rattle.std.proofs.lemmas.List.Elements.{recursion_from_All}
+use Rattle.std.proofs.lemmas.List.Elements.{All-nil, All-cons, All-head, All-tail, All-append, All-weaker}
+use Rattle.std.proofs.lemmas.List.Elements.{All-contains, Contains-append_right}
+use Rattle.std.proofs.lemmas.List.Elements.{All-from_recursion, recursion_from_All}
 use Rattle.std.proofs.lemmas.List.Kept.{AllPairs-filter}
 use Rattle.std.proofs.lemmas.Map.Keys.{IsDistinct-head, IsDistinct-tail, IsDistinct-cons, apart_from_distinct}
 use Rattle.std.proofs.lemmas.Map.Keys.{IsDistinct-from_apart}
@@ -69,10 +69,3 @@ pub Contains-filter : {X : Type 0} (test : X → Bool) (xs : List X) (x : X) →
     → Contains (filter test xs) x
 Contains-filter test xs x there =
     All-contains (λ y. test y ≡ true → Contains (filter test xs) y) xs x (all_kept test xs) there
-
--- a filter has no element that the list has not
-pub Contains-from_filter : {X : Type 0} (test : X → Bool) (xs : List X) (x : X) → Contains (filter test xs) x
-    → Contains xs x
-Contains-from_filter test xs x there =
-    let all = All-filter test (Contains xs) xs (All-contains_itself xs) in
-    All-contains (Contains xs) (filter test xs) x all there

@@ -9,3 +9,4 @@ pub mod EqualPaths
 pub mod Prefixes
 pub mod AddedPaths
 pub mod FirstPaths
+pub mod WeakMost

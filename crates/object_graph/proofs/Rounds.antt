@@ -86,7 +86,8 @@ more_here false true os ns (inl same) kept =
     inr (omega (arith, ap marked_count same, marked_count-cons false os, marked_count-cons true ns))
 more_here false true os ns (inr more) kept = inr (omega (arith, marked_count-cons false os, marked_count-cons true ns))
 more_here false false os ns (inl same) kept = inl (ap (λ rest. false ∷ rest) same)
-more_here false false os ns (inr more) kept = inr (omega (arith, marked_count-cons false os, marked_count-cons false ns))
+more_here false false os ns (inr more) kept =
+    inr (omega (arith, marked_count-cons false os, marked_count-cons false ns))
 
 -- marks that keep those before them are the same, or more objects are marked
 more_or_same : (old new : List Bool) → length old ≡ length new

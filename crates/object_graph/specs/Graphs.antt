@@ -31,7 +31,10 @@ bind graph x value = record graph { bindings = insert graph.bindings x value }
 -- the graph with one object more, to which a variable is bound
 abbrev pub make : Graph → ℕ → Object → Graph
 make graph x object =
-    record graph { objects = graph.objects ++ object ∷ []; bindings = insert graph.bindings x (Ref (length graph.objects)) }
+    record graph {
+      objects = graph.objects ++ object ∷ [];
+      bindings = insert graph.bindings x (Ref (length graph.objects));
+    }
 
 -- the graph with another object of this number
 abbrev pub replace : Graph → ℕ → Object → Graph

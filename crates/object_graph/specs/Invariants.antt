@@ -50,8 +50,8 @@ pub record AreElements (count : ℕ) (elements : List Value) : Type 0 where
   pub values : All (IsValue count) elements
   pub few : length elements ≤ list_most
 
--- The object holds values over so many objects. Of a plain object the cap is at most 8 and no field name stands twice; a
--- list has at most 1,000 elements; in a weak map no key stands twice.
+-- The object holds values over so many objects. Of a plain object the cap is at most 8 and no field name stands twice;
+-- a list has at most 1,000 elements; in a weak map no key stands twice.
 abbrev pub IsObject : ℕ → Object → Type 0
 IsObject count (kind.Plain cap fields) = (cap ≤ cap_most) × AreFields count fields
 IsObject count (kind.List elements) = AreElements count elements

@@ -7,8 +7,9 @@ use Rattle.std.specs.FinMap.{get, remove}
 use Rattle.heap_command.specs.declared.command.Command.{Command}
 use Rattle.heap_command.specs.declared.command.Command.TheVariants as command
 use Rattle.heap_command.specs.declared.command.FaultWord.{FaultWord}
-use Rattle.heap_command.specs.declared.command.FaultWord.TheVariants.{Unbound, NotObject, NotList, NotWeak, NotInt, BadKey, Range}
-use Rattle.heap_command.specs.declared.command.FaultWord.TheVariants.{Overflow, FieldsFull, ListFull, WeakFull, ShapesFull}
+use Rattle.heap_command.specs.declared.command.FaultWord.TheVariants.{Unbound, NotObject, NotList, NotWeak, NotInt}
+use Rattle.heap_command.specs.declared.command.FaultWord.TheVariants.{BadKey, Range, Overflow, FieldsFull, ListFull}
+use Rattle.heap_command.specs.declared.command.FaultWord.TheVariants.{WeakFull, ShapesFull}
 use Rattle.object_graph.specs.declared.value.Value.{Value}
 use Rattle.object_graph.specs.declared.value.Value.TheVariants.{Int, Undefined, Ref}
 use Rattle.object_graph.specs.declared.object.Object.TheVariants.{Plain, List as ListOf, Weak}
@@ -17,8 +18,8 @@ use Rattle.object_graph.specs.declared.object.Entry.{Entry}
 use Rattle.object_graph.specs.declared.path.Path.{Path}
 use Rattle.object_graph.specs.Objects.{field_value, with_field, without_field, entry_value, with_entry, without_entry}
 use Rattle.object_graph.specs.Paths.{path_of, same_path, with_path}
-use Rattle.object_graph.specs.Graphs.{Graph, PlainObject, ListObject, WeakObject, bind, make, replace, value_of, integer_in}
-use Rattle.object_graph.specs.Graphs.{object_in, plain_at, list_at, weak_at}
+use Rattle.object_graph.specs.Graphs.{Graph, PlainObject, ListObject, WeakObject, bind, make, replace, value_of}
+use Rattle.object_graph.specs.Graphs.{integer_in, object_in, plain_at, list_at, weak_at}
 use Rattle.object_graph.specs.Texts.{line, value_text, truth_text, shape_text, census_text}
 use Rattle.object_graph.specs.Reach.{is_marked, reach, reached_objects, reached_entries}
 

@@ -23,7 +23,8 @@ refers_to number (Ref other) = other == number
 abbrev pub links : List Bool → Object → ℕ → Bool
 links marks (kind.Plain cap fields) number = list_any (λ field. refers_to number field.value) fields
 links marks (kind.List elements) number = list_any (refers_to number) elements
-links marks (kind.Weak entries) number = list_any (λ entry. is_marked marks entry.key && refers_to number entry.value) entries
+links marks (kind.Weak entries) number =
+    list_any (λ entry. is_marked marks entry.key && refers_to number entry.value) entries
 
 -- a marked object links to this one
 abbrev pub is_linked : List Object → List Bool → ℕ → Bool
@@ -37,7 +38,8 @@ bound_marks graph =
 -- one round: what was marked, and what a marked object links to
 abbrev pub round : Graph → List Bool → List Bool
 round graph marks =
-    map (λ number. is_marked marks number || is_linked graph.objects marks number) (range_with_len 0 (length graph.objects))
+    map (λ number. is_marked marks number || is_linked graph.objects marks number)
+    (range_with_len 0 (length graph.objects))
 
 -- what is marked after so many rounds
 abbrev pub rounds : Graph → ℕ → List Bool

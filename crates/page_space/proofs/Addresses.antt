@@ -29,7 +29,12 @@ within space region a is =
     subst P is.of_region (record {
       is_region = place.is_region;
       from = omega (arith, is.holds.from, ap (λ (e : Extent). e.start) place.place);
-      below = omega (arith, is.holds.below, ap (λ (e : Extent). e.start) place.place, ap (λ (e : Extent). e.words) place.place);
+      below = omega (
+        arith,
+        is.holds.below,
+        ap (λ (e : Extent). e.start) place.place,
+        ap (λ (e : Extent). e.words) place.place,
+      );
     })
 
 -- a region of the heap begins at its place, and nowhere else

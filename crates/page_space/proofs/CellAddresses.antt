@@ -31,7 +31,8 @@ in_segment space a number is = record {
 }
 
 -- a page ends before eden
-pub page_ends : (space : Space) (page : ℕ) → page < space.sizes.pages → page_words * page + page_words ≤ eden_start space
+pub page_ends : (space : Space) (page : ℕ) → page < space.sizes.pages
+    → page_words * page + page_words ≤ eden_start space
 page_ends space page below = omega arith
 
 -- a segment ends before the roots
@@ -156,8 +157,8 @@ cells_are space a limits = (
 )
 
 -- the cells of a region end where the region does
-pub cells_end : (space : Space) (region : Region) (a end : ℕ) → IsTrue (is_cell_region region) → IsWithin space region a →
-    start_of space region + length_of space region ≡ end → CellsEndAt space a end
+pub cells_end : (space : Space) (region : Region) (a end : ℕ) → IsTrue (is_cell_region region) →
+    IsWithin space region a → start_of space region + length_of space region ≡ end → CellsEndAt space a end
 cells_end space region a end is_cell is ends = record {
   extent = extent_of space region;
   stands = stands space region is.is_region;

@@ -4,9 +4,10 @@ use Rattle.tagged_word.specs.Shapes.{shapes_most}
 use Rattle.page_space.specs.declared.regions.Regions.TheInside.{Inside}
 use Rattle.page_space.specs.Regions.{space_of, AreComputed}
 use Rattle.page_space.specs.Sizes.{AreWithin}
-use Rattle.page_space.specs.Extents.{Space, root_words, board_words, mark_words, eden_start, segments_start, roots_start}
-use Rattle.page_space.specs.Extents.{layouts_start, marks_start, board_start, words_count, words_most}
-use Rattle.page_space.proofs.Starts.{half_words, roots_start_is, layouts_start_is, marks_start_is, board_start_is, words_count_is}
+use Rattle.page_space.specs.Extents.{Space, root_words, board_words, mark_words, eden_start, segments_start}
+use Rattle.page_space.specs.Extents.{roots_start, layouts_start, marks_start, board_start, words_count, words_most}
+use Rattle.page_space.proofs.Starts.{half_words, roots_start_is, layouts_start_is, marks_start_is, board_start_is}
+use Rattle.page_space.proofs.Starts.{words_count_is}
 use Rattle.page_space.proofs.Limits.{words_count_most}
 
 -- what is known of the numbers of a space

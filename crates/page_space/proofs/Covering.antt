@@ -2,8 +2,10 @@
 use Rattle.std.proofs.Common.{◌≡◌, ℕ, ◌+◌, ◌<◌, ◌≤◌, List, [], ◌∷◌, Contains, refl, sym, ◌∙◌}
 use Rattle.std.proofs.Common.{ap, ⊎_elim, arith}
 use Rattle.std.proofs.lemmas.Bool.{cases_lt}
-use Rattle.page_space.specs.Extents.{Space, Stretch, Extent, Holds, words_in, extents_from, extents, stretches, words_count}
-use Rattle.page_space.proofs.Lists.{contains_first, contains_later, contains_cases, contains_none}
+use Rattle.page_space.specs.Extents.{Space, Stretch, Extent, Holds, words_in, extents_from, extents, stretches}
+use Rattle.page_space.specs.Extents.{words_count}
+use Rattle.tagged_word.proofs.Members.{first_in, rest_in, in_cases}
+use Rattle.page_space.proofs.Lists.{contains_none}
 use Rattle.page_space.proofs.Stretches.{words_in-cons}
 
 -- an extent of stretches from an address on is neither before that address nor behind the last of their words
@@ -24,7 +26,7 @@ between start (x ∷ xs) extent there =
     (λ later. let rest : IsBetween (start + x.words) (start + x.words + words_in xs) extent =
     between (start + x.words) xs extent later in
     record { from = omega (arith, rest.from); below = omega (arith, rest.below, words_in-cons x xs) })
-    (contains_cases _ extent _ there)
+    (in_cases _ _ extent there)
 
 -- two extents that hold one address are the same
 disjoint_from : (start : ℕ) (xs : List Stretch) (one other : Extent) (a : ℕ) → Contains (extents_from start xs) one →
@@ -35,14 +37,28 @@ disjoint_from start (x ∷ xs) one other a there too holds_one holds_other =
     (λ first. ⊎_elim
     (λ first_too. sym first ∙ first_too)
     (λ later. let rest = between (start + x.words) xs other later in
-    absurd (omega (arith, ap (λ e. e.start) first, ap (λ e. e.words) first, rest.from, holds_one.below, holds_other.from)))
-    (contains_cases _ other _ too))
+    absurd (omega (
+      arith,
+      ap (λ e. e.start) first,
+      ap (λ e. e.words) first,
+      rest.from,
+      holds_one.below,
+      holds_other.from,
+    )))
+    (in_cases _ _ other too))
     (λ later. ⊎_elim
     (λ first. let rest = between (start + x.words) xs one later in
-    absurd (omega (arith, ap (λ e. e.start) first, ap (λ e. e.words) first, rest.from, holds_other.below, holds_one.from)))
+    absurd (omega (
+      arith,
+      ap (λ e. e.start) first,
+      ap (λ e. e.words) first,
+      rest.from,
+      holds_other.below,
+      holds_one.from,
+    )))
     (λ later_too. disjoint_from (start + x.words) xs one other a later later_too holds_one holds_other)
-    (contains_cases _ other _ too))
-    (contains_cases _ one _ there)
+    (in_cases _ _ other too))
+    (in_cases _ _ one there)
 
 -- so it is of the extents of a heap
 pub disjoint : (space : Space) (one other : Extent) (a : ℕ) → Contains (extents space) one →
@@ -66,12 +82,12 @@ held_from start (x ∷ xs) a from below =
     ⊎_elim
     (λ here. record {
       extent = first;
-      stands = contains_first first (extents_from (start + x.words) xs);
+      stands = first_in first (extents_from (start + x.words) xs);
       holds = record { from = from; below = here };
     })
     (λ behind. let rest : IsHeld (extents_from (start + x.words) xs) a =
     held_from (start + x.words) xs a behind (omega (arith, words_in-cons x xs)) in
-    record { extent = rest.extent; stands = contains_later first rest.extent _ rest.stands; holds = rest.holds })
+    record { extent = rest.extent; stands = rest_in first _ rest.extent rest.stands; holds = rest.holds })
     (cases_lt a (start + x.words))
 
 -- and of those of a heap

@@ -3,8 +3,9 @@ use Rattle.std.proofs.Common.{◌≡◌, ℕ, ◌<◌, refl, sym, ◌∙◌, ap,
 use Rattle.page_space.specs.declared.region.Region.{Region}
 use Rattle.page_space.specs.declared.region.Region.TheVariants.{Page, Eden, Segment, Root, Layout, Mark, Board, Outside}
 use Rattle.page_space.specs.Extents.{Space, Extent, IsRegion, StartsAt, extents}
-use Rattle.page_space.specs.RegionLaws.{ExtentsCover, RegionsStand, RegionsStandOnce, ExtentsAreOfRegions, AddressesAreInOne}
-use Rattle.page_space.specs.RegionLaws.{StartsAreInside, RegionsStandByNumber, KindsStandByNumber, IsSpace}
+use Rattle.page_space.specs.RegionLaws.{ExtentsCover, RegionsStand, RegionsStandOnce, ExtentsAreOfRegions}
+use Rattle.page_space.specs.RegionLaws.{AddressesAreInOne, StartsAreInside, RegionsStandByNumber, KindsStandByNumber}
+use Rattle.page_space.specs.RegionLaws.{IsSpace}
 use Rattle.page_space.proofs.Starts.{roots_start_is, layouts_start_is, marks_start_is, board_start_is, words_count_is}
 use Rattle.page_space.proofs.Standing.{start_of, length_of, extent_of}
 use Rattle.page_space.proofs.Covering.{IsHeld, held, disjoint}
@@ -34,7 +35,8 @@ extents_are_of_regions space extent there = (placed space extent there).is_regio
 pub addresses_are_in_one : AddressesAreInOne
 addresses_are_in_one space a one other is is_too =
     sym is.of_region
-    ∙ ap (λ (e : Extent). e.region) (disjoint space is.extent is_too.extent a is.stands is_too.stands is.holds is_too.holds)
+    ∙ ap (λ (e : Extent). e.region)
+    (disjoint space is.extent is_too.extent a is.stands is_too.stands is.holds is_too.holds)
     ∙ is_too.of_region
 
 -- no region of the heap is empty

@@ -3,7 +3,8 @@ use Rattle.std.proofs.Common.{◌+◌, ◌*◌, ◌≤◌, arith}
 use Rattle.std.proofs.Math.Nat.{mul-le-mul}
 use Rattle.page_space.specs.Sizes.{young_most, helpers_most, AreWithin}
 use Rattle.page_space.specs.Extents.{Space, words_count, words_most, half_segments}
-use Rattle.page_space.proofs.Starts.{half_words, roots_start_is, layouts_start_is, marks_start_is, board_start_is, words_count_is}
+use Rattle.page_space.proofs.Starts.{half_words, roots_start_is, layouts_start_is, marks_start_is, board_start_is}
+use Rattle.page_space.proofs.Starts.{words_count_is}
 
 -- within the limits a half has at most 524,288 words
 pub half_words_most : (space : Space) → AreWithin space.sizes space.variables →

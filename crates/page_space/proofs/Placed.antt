@@ -4,13 +4,14 @@ use Rattle.tagged_word.specs.Shapes.{shapes_most}
 use Rattle.page_space.specs.declared.region.Region.{Region}
 use Rattle.page_space.specs.declared.region.Region.TheVariants.{Page, Eden, Segment, Root, Layout, Mark, Board}
 use Rattle.page_space.specs.Sizes.{page_words}
-use Rattle.page_space.specs.Extents.{Space, Extent, root_words, board_words, mark_words, words_in, roots_start, layouts_start}
-use Rattle.page_space.specs.Extents.{marks_start, board_start, cell_stretches, root_stretches, layout_stretches, mark_stretches}
-use Rattle.page_space.specs.Extents.{board_stretches, half_of, extents, IsRegion}
-use Rattle.page_space.proofs.Lists.{contains_only}
+use Rattle.page_space.specs.Extents.{Space, Extent, root_words, board_words, mark_words, words_in, roots_start}
+use Rattle.page_space.specs.Extents.{layouts_start, marks_start, board_start, cell_stretches, root_stretches}
+use Rattle.page_space.specs.Extents.{layout_stretches, mark_stretches, board_stretches, half_of, extents, IsRegion}
+use Rattle.tagged_word.proofs.Members.{one_in}
 use Rattle.page_space.proofs.Stretches.{words_in-append, stands_cases, numbered, IsNumbered}
-use Rattle.page_space.proofs.Standing.{start_of, length_of, extent_of, StandsAmong, pages, eden, to_eden, to_half, to_roots}
-use Rattle.page_space.proofs.Standing.{to_layouts, to_marks, words_in-pages, words_in-to_eden, words_in-to_half}
+use Rattle.page_space.proofs.Standing.{start_of, length_of, extent_of, StandsAmong, pages, eden, to_eden, to_half}
+use Rattle.page_space.proofs.Standing.{to_roots, to_layouts, to_marks, words_in-pages, words_in-to_eden}
+use Rattle.page_space.proofs.Standing.{words_in-to_half}
 
 -- the extent is where its region stands, and the region is one of the heap's
 pub record IsPlaced (space : Space) (extent : Extent) : Type 0 where
@@ -38,24 +39,27 @@ in_pages space extent there =
 in_eden : (space : Space) (extent : Extent) → StandsAmong (0 + words_in (pages space)) (eden space) extent →
     IsPlaced space extent
 in_eden space extent there =
-    let found = contains_only _ extent there in
-    placed_as space extent Eden tt (ap (λ e. e.region) found) (omega (arith, ap (λ e. e.start) found, words_in-pages space))
+    let found = one_in _ extent there in
+    placed_as space extent Eden tt (ap (λ e. e.region) found)
+    (omega (arith, ap (λ e. e.start) found, words_in-pages space))
     (ap (λ e. e.words) found)
 
 -- what stands behind eden is a segment of the first half
-in_first_half : (space : Space) (extent : Extent) → StandsAmong (0 + words_in (to_eden space)) (half_of space 0) extent →
-    IsPlaced space extent
+in_first_half : (space : Space) (extent : Extent) →
+    StandsAmong (0 + words_in (to_eden space)) (half_of space 0) extent → IsPlaced space extent
 in_first_half space extent there =
-    let found : IsNumbered (λ n. Segment 0 n) space.sizes.young (space.sizes.helpers + 1) (0 + words_in (to_eden space)) extent =
+    let found : IsNumbered (λ n. Segment 0 n) space.sizes.young (space.sizes.helpers + 1)
+    (0 + words_in (to_eden space)) extent =
     numbered _ _ _ _ extent there in
     placed_as space extent (Segment 0 found.number) (omega arith, omega (arith, found.below)) found.of_region
     (omega (arith, found.begins, words_in-to_eden space)) found.as_long
 
 -- what stands behind that is a segment of the second half
-in_second_half : (space : Space) (extent : Extent) → StandsAmong (0 + words_in (to_half space)) (half_of space 1) extent →
-    IsPlaced space extent
+in_second_half : (space : Space) (extent : Extent) →
+    StandsAmong (0 + words_in (to_half space)) (half_of space 1) extent → IsPlaced space extent
 in_second_half space extent there =
-    let found : IsNumbered (λ n. Segment 1 n) space.sizes.young (space.sizes.helpers + 1) (0 + words_in (to_half space)) extent =
+    let found : IsNumbered (λ n. Segment 1 n) space.sizes.young (space.sizes.helpers + 1)
+    (0 + words_in (to_half space)) extent =
     numbered _ _ _ _ extent there in
     placed_as space extent (Segment 1 found.number) (omega arith, omega (arith, found.below)) found.of_region
     (omega (arith, found.begins, words_in-to_half space)) found.as_long
@@ -80,8 +84,8 @@ in_layouts space extent there =
     (omega (arith, found.begins, words_in-append (cell_stretches space) (root_stretches space))) found.as_long
 
 -- what stands behind the layout words is a mark word
-in_marks : (space : Space) (extent : Extent) → StandsAmong (0 + words_in (to_layouts space)) (mark_stretches space) extent →
-    IsPlaced space extent
+in_marks : (space : Space) (extent : Extent) →
+    StandsAmong (0 + words_in (to_layouts space)) (mark_stretches space) extent → IsPlaced space extent
 unfolding roots_start layouts_start marks_start
 in_marks space extent there =
     let found : IsNumbered (λ n. Mark n) 1 (mark_words space.sizes.pages) (0 + words_in (to_layouts space)) extent =
@@ -136,7 +140,8 @@ in_to_roots space extent there =
 -- so up to the layout words
 in_to_layouts : (space : Space) (extent : Extent) → StandsAmong 0 (to_layouts space) extent → IsPlaced space extent
 in_to_layouts space extent there =
-    ⊎_elim (in_to_roots space extent) (in_layouts space extent) (stands_cases 0 (to_roots space) layout_stretches extent there)
+    ⊎_elim (in_to_roots space extent) (in_layouts space extent)
+    (stands_cases 0 (to_roots space) layout_stretches extent there)
 
 -- so up to the mark words
 in_to_marks : (space : Space) (extent : Extent) → StandsAmong 0 (to_marks space) extent → IsPlaced space extent
@@ -148,4 +153,5 @@ in_to_marks space extent there =
 pub placed : (space : Space) (extent : Extent) → Contains (extents space) extent → IsPlaced space extent
 unfolding extents
 placed space extent there =
-    ⊎_elim (in_to_marks space extent) (in_board space extent) (stands_cases 0 (to_marks space) board_stretches extent there)
+    ⊎_elim (in_to_marks space extent) (in_board space extent)
+    (stands_cases 0 (to_marks space) board_stretches extent there)

@@ -5,11 +5,11 @@ use Rattle.tagged_word.specs.Shapes.{shapes_most}
 use Rattle.page_space.specs.declared.region.Region.{Region}
 use Rattle.page_space.specs.declared.region.Region.TheVariants.{Page, Eden, Segment, Root, Layout, Mark, Board, Outside}
 use Rattle.page_space.specs.Sizes.{page_words}
-use Rattle.page_space.specs.Extents.{Space, Stretch, Extent, root_words, board_words, mark_words, eden_start, segments_start}
-use Rattle.page_space.specs.Extents.{words_in, roots_start, layouts_start, marks_start, board_start, each_of, cell_stretches}
-use Rattle.page_space.specs.Extents.{root_stretches, layout_stretches, mark_stretches, board_stretches, half_of, extents}
-use Rattle.page_space.specs.Extents.{extents_from, IsRegion}
-use Rattle.page_space.proofs.Lists.{contains_first}
+use Rattle.page_space.specs.Extents.{Space, Stretch, Extent, root_words, board_words, mark_words, eden_start}
+use Rattle.page_space.specs.Extents.{segments_start, words_in, roots_start, layouts_start, marks_start, board_start}
+use Rattle.page_space.specs.Extents.{each_of, cell_stretches, root_stretches, layout_stretches, mark_stretches}
+use Rattle.page_space.specs.Extents.{board_stretches, half_of, extents, extents_from, IsRegion}
+use Rattle.tagged_word.proofs.Members.{first_in}
 use Rattle.page_space.proofs.Stretches.{words_in-append, words_in-each_of, stands_first, stands_then, stands_each}
 use Rattle.page_space.proofs.Starts.{half_words, words_in-half_of}
 
@@ -89,18 +89,22 @@ words_in-to_half space =
     omega (arith, words_in-append (to_eden space) (half_of space 0), words_in-to_eden space, words_in-half_of space 0)
 
 -- what stands among all up to the mark words stands among all
-among_marks : (space : Space) (extent : Extent) → StandsAmong 0 (to_marks space) extent → Contains (extents space) extent
+among_marks : (space : Space) (extent : Extent) → StandsAmong 0 (to_marks space) extent
+    → Contains (extents space) extent
 unfolding extents
 among_marks space extent there = stands_first 0 (to_marks space) board_stretches extent there
 
 -- so of all up to the layout words
-among_layouts : (space : Space) (extent : Extent) → StandsAmong 0 (to_layouts space) extent → Contains (extents space) extent
+among_layouts : (space : Space) (extent : Extent) → StandsAmong 0 (to_layouts space) extent
+    → Contains (extents space) extent
 among_layouts space extent there =
     among_marks space extent (stands_first 0 (to_layouts space) (mark_stretches space) extent there)
 
 -- so of all up to the roots
-among_roots : (space : Space) (extent : Extent) → StandsAmong 0 (to_roots space) extent → Contains (extents space) extent
-among_roots space extent there = among_layouts space extent (stands_first 0 (to_roots space) layout_stretches extent there)
+among_roots : (space : Space) (extent : Extent) → StandsAmong 0 (to_roots space) extent
+    → Contains (extents space) extent
+among_roots space extent there =
+    among_layouts space extent (stands_first 0 (to_roots space) layout_stretches extent there)
 
 -- so of the cells
 among_cells : (space : Space) (extent : Extent) → StandsAmong 0 (cell_stretches space) extent →
@@ -127,7 +131,8 @@ pub eden_stands : (space : Space) → Stands space Eden
 eden_stands space =
     let P : ℕ → Type 0 = λ n. Contains (extents_from n (eden space)) (extent_of space Eden) in
     let begins : eden_start space ≡ 0 + words_in (pages space) = omega (arith, words_in-pages space) in
-    among_eden space _ (stands_then 0 (pages space) (eden space) _ (subst P begins (contains_first (extent_of space Eden) [])))
+    among_eden space _ (stands_then 0 (pages space) (eden space) _
+    (subst P begins (first_in (extent_of space Eden) [])))
 
 -- a segment of the first half stands behind eden and those before it
 pub first_half_stands : (space : Space) (worker : ℕ) → worker ≤ space.sizes.helpers →

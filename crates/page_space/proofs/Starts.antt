@@ -3,9 +3,10 @@ use Rattle.std.proofs.Common.{◌≡◌, ℕ, ◌+◌, ◌*◌, ◌++◌, ◌∷
 use Rattle.tagged_word.specs.Shapes.{shapes_most}
 use Rattle.page_space.specs.declared.region.Region.TheVariants.{Page, Eden, Segment, Root, Layout, Mark, Board}
 use Rattle.page_space.specs.Sizes.{page_words}
-use Rattle.page_space.specs.Extents.{Space, Stretch, root_words, board_words, mark_words, half_segments, segments_start, words_in}
-use Rattle.page_space.specs.Extents.{words_count, roots_start, layouts_start, marks_start, board_start, each_of, cell_stretches}
-use Rattle.page_space.specs.Extents.{root_stretches, layout_stretches, mark_stretches, board_stretches, half_of}
+use Rattle.page_space.specs.Extents.{Space, Stretch, root_words, board_words, mark_words, half_segments, segments_start}
+use Rattle.page_space.specs.Extents.{words_in, words_count, roots_start, layouts_start, marks_start, board_start}
+use Rattle.page_space.specs.Extents.{each_of, cell_stretches, root_stretches, layout_stretches, mark_stretches}
+use Rattle.page_space.specs.Extents.{board_stretches, half_of}
 use Rattle.page_space.proofs.Stretches.{words_in-append, words_in-each_of}
 
 -- the words of the segments of one half
@@ -50,7 +51,8 @@ marks_start_is space =
 pub board_start_is : (space : Space) → board_start space ≡ marks_start space + mark_words space.sizes.pages
 unfolding board_start
 board_start_is space =
-    ap (λ n. marks_start space + n) (words_in-each_of (λ mark. Mark mark) 1 (mark_words space.sizes.pages) ∙ omega arith)
+    ap (λ n. marks_start space + n)
+    (words_in-each_of (λ mark. Mark mark) 1 (mark_words space.sizes.pages) ∙ omega arith)
 
 -- the words end with the board
 pub words_count_is : (space : Space) → words_count space ≡ board_start space + board_words

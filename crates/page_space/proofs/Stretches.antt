@@ -6,7 +6,8 @@ use Rattle.std.proofs.lemmas.List.Sums.{sum_by-append, sum_by-cons}
 use Rattle.std.proofs.lemmas.List.Elements.{Contains-append_left, Contains-append_right, Contains-append_cases}
 use Rattle.page_space.specs.declared.region.Region.{Region}
 use Rattle.page_space.specs.Extents.{Stretch, Extent, each_of, words_in, extents_from}
-use Rattle.page_space.proofs.Lists.{contains_first, contains_later, contains_cases, contains_none}
+use Rattle.tagged_word.proofs.Members.{first_in, rest_in, in_cases}
+use Rattle.page_space.proofs.Lists.{contains_none}
 
 -- the words of stretches, and then of others
 pub words_in-append : (xs ys : List Stretch) → words_in (xs ++ ys) ≡ words_in xs + words_in ys
@@ -60,7 +61,8 @@ stands_then start xs ys extent there =
     subst P (sym (extents_from-append start xs ys)) (Contains-append_right (extents_from start xs) _ extent there)
 
 -- what stands among all stands among the first stretches or among the others
-pub stands_cases : (start : ℕ) (xs ys : List Stretch) (extent : Extent) → Contains (extents_from start (xs ++ ys)) extent →
+pub stands_cases : (start : ℕ) (xs ys : List Stretch) (extent : Extent) →
+    Contains (extents_from start (xs ++ ys)) extent →
     Contains (extents_from start xs) extent ⊎ Contains (extents_from (start + words_in xs) ys) extent
 stands_cases start xs ys extent there =
     let P : List Extent → Type 0 = λ all. Contains all extent in
@@ -78,15 +80,17 @@ stands_from region words from (suc count) start zero number at below same begins
     (record { region = region m; start = n; words = words }) in
     let same_number : from ≡ number = omega arith in
     let same_start : start ≡ at = omega arith in
-    subst (λ (m : ℕ). P m at) same_number (subst (λ (n : ℕ). P from n) same_start (contains_first _ _))
+    subst (λ (m : ℕ). P m at) same_number (subst (λ (n : ℕ). P from n) same_start (first_in _ _))
 stands_from region words from (suc count) start (suc place) number at below same begins =
-    contains_later _ _ _
-    (stands_from region words (from + 1) count (start + words) place number at (omega arith) (omega arith) (grind arith))
+    rest_in _ _ _
+    (stands_from region words (from + 1) count (start + words) place number at (omega arith)
+    (omega arith) (grind arith))
 
 -- so of all that are numbered from 0 on
 pub stands_each : (region : ℕ → Region) (words count start number at : ℕ) → number < count →
     start + words * number ≡ at →
-    Contains (extents_from start (each_of region words count)) (record { region = region number; start = at; words = words })
+    Contains (extents_from start (each_of region words count))
+    (record { region = region number; start = at; words = words })
 unfolding each_of
 stands_each region words count start number at below begins =
     stands_from region words 0 count start number number at below (omega arith) begins
@@ -121,7 +125,7 @@ numbered_from region words from (suc count) start extent there =
       begins = omega (arith, next.begins);
       as_long = next.as_long;
     })
-    (contains_cases _ extent _ there)
+    (in_cases _ _ extent there)
 
 -- only the numbered stretches stand among them
 pub numbered : (region : ℕ → Region) (words count start : ℕ) (extent : Extent) →

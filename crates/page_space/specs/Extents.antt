@@ -34,8 +34,8 @@ mark_words pages = page_words * pages
 abbrev pub mark_number : ℕ → ℕ
 mark_number a = a
 
--- The regions that stand for the numbers from 0 on, each of so many words. There are thousands of layout words, so a proof
--- unfolds this, and what is made of it, only where it says so.
+-- The regions that stand for the numbers from 0 on, each of so many words. There are thousands of layout words, so a
+-- proof unfolds this, and what is made of it, only where it says so.
 unfoldable pub each_of : (ℕ → Region) → ℕ → ℕ → List Stretch
 each_of region words count = map (λ n. record { region = region n; words = words }) (range_with_len 0 count)
 
@@ -54,15 +54,19 @@ cell_stretches space =
     ++ (record { region = Eden; words = space.sizes.young } ∷ [])
     ++ half_of space 0 ++ half_of space 1
 
+-- the roots, one for each variable
 abbrev pub root_stretches : Space → List Stretch
 root_stretches space = each_of (λ variable. Root variable) root_words space.variables
 
+-- the layout words, one for each shape
 abbrev pub layout_stretches : List Stretch
 layout_stretches = each_of (λ shape. Layout shape) 1 shapes_most
 
+-- the mark words, one for each word of a page
 abbrev pub mark_stretches : Space → List Stretch
 mark_stretches space = each_of (λ mark. Mark mark) 1 (mark_words space.sizes.pages)
 
+-- the words of the board, each a region of its own
 abbrev pub board_stretches : List Stretch
 board_stretches = each_of (λ place. Board place) 1 board_words
 
@@ -71,6 +75,7 @@ abbrev pub stretches : Space → List Stretch
 stretches space =
     cell_stretches space ++ root_stretches space ++ layout_stretches ++ mark_stretches space ++ board_stretches
 
+-- how many words stretches have together
 abbrev pub words_in : List Stretch → ℕ
 words_in all = sum_by (λ stretch. stretch.words) all
 
@@ -78,10 +83,11 @@ words_in all = sum_by (λ stretch. stretch.words) all
 unfoldable pub words_count : Space → ℕ
 words_count space = words_in (stretches space)
 
--- the first address of eden, and of the segments
+-- the first address of eden
 abbrev pub eden_start : Space → ℕ
 eden_start space = page_words * space.sizes.pages
 
+-- the first address of the segments, those of the first half before those of the second
 abbrev pub segments_start : Space → ℕ
 segments_start space = eden_start space + space.sizes.young
 

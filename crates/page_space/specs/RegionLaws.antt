@@ -4,9 +4,9 @@ use Rattle.tagged_word.specs.Shapes.{shapes_most}
 use Rattle.page_space.specs.declared.region.Region.{Region}
 use Rattle.page_space.specs.declared.region.Region.TheVariants.{Page, Eden, Segment, Root, Layout, Mark, Board}
 use Rattle.page_space.specs.Sizes.{page_words, AreWithin}
-use Rattle.page_space.specs.Extents.{Space, Extent, Holds, IsIn, StartsAt, IsRegion, root_words, board_words, mark_words}
-use Rattle.page_space.specs.Extents.{words_count, words_most, eden_start, segments_start, half_segments, roots_start}
-use Rattle.page_space.specs.Extents.{layouts_start, marks_start, board_start, extents}
+use Rattle.page_space.specs.Extents.{Space, Extent, Holds, IsIn, StartsAt, IsRegion, root_words, board_words}
+use Rattle.page_space.specs.Extents.{mark_words, words_count, words_most, eden_start, segments_start, half_segments}
+use Rattle.page_space.specs.Extents.{roots_start, layouts_start, marks_start, board_start, extents}
 
 -- the space has no size that is not within its limits
 abbrev pub IsSpace : Space → Type 0
@@ -31,7 +31,8 @@ ExtentsCover = (space : Space) (a : ℕ) → a < words_count space → (region :
 -- no extent goes on behind the last word
 abbrev pub ExtentsEnd : Type 0
 ExtentsEnd =
-    (space : Space) (extent : Extent) → Contains (extents space) extent → extent.start + extent.words ≤ words_count space
+    (space : Space) (extent : Extent) → Contains (extents space) extent
+    → extent.start + extent.words ≤ words_count space
 
 -- each region of the heap stands somewhere
 abbrev pub RegionsStand : Type 0
@@ -55,7 +56,8 @@ pub record StandsByNumber (space : Space) : Type 0 where
   pub pages : (page : ℕ) → page < space.sizes.pages → StartsAt space (Page page) (page_words * page)
   pub eden : StartsAt space Eden (eden_start space)
   pub segments : (half worker : ℕ) → half < 2 → worker ≤ space.sizes.helpers →
-      StartsAt space (Segment half worker) (segments_start space + space.sizes.young * (half * half_segments space + worker))
+      StartsAt space (Segment half worker)
+      (segments_start space + space.sizes.young * (half * half_segments space + worker))
   pub roots : (variable : ℕ) → variable < space.variables →
       StartsAt space (Root variable) (roots_start space + root_words * variable)
   pub layouts : (shape : ℕ) → shape < shapes_most → StartsAt space (Layout shape) (layouts_start space + shape)
@@ -70,9 +72,11 @@ pub record KindsByNumber (space : Space) : Type 0 where
   pub board : board_start space ≡ marks_start space + mark_words space.sizes.pages
   pub count : words_count space ≡ board_start space + board_words
 
+-- every heap has its regions where their numbers say
 abbrev pub RegionsStandByNumber : Type 0
 RegionsStandByNumber = (space : Space) → StandsByNumber space
 
+-- and its kinds of regions
 abbrev pub KindsStandByNumber : Type 0
 KindsStandByNumber = (space : Space) → KindsByNumber space
 

@@ -3,8 +3,8 @@ use Rattle.std.specs.Prelude.{◌≡◌}
 use Rattle.std.proofs.Common.{sym}
 use Rattle.page_space.specs.declared.regions.Regions.TheInside.{Inside}
 use Rattle.page_space.specs.Sizes.{AreWithin}
-use Rattle.page_space.specs.Extents.{Space, eden_start, segments_start, roots_start, layouts_start, marks_start, board_start}
-use Rattle.page_space.specs.Extents.{words_count}
+use Rattle.page_space.specs.Extents.{Space, eden_start, segments_start, roots_start, layouts_start, marks_start}
+use Rattle.page_space.specs.Extents.{board_start, words_count}
 
 -- the sizes and the number of variables alone
 abbrev pub space_of : Inside → Space

@@ -7,18 +7,23 @@ use Rattle.page_space.specs.declared.sizes.Sizes.{Sizes}
 abbrev pub page_words : ℕ
 page_words = cell_words_most
 
+-- the most pages
 abbrev pub pages_most : ℕ
 pages_most = 512
 
+-- the least words of eden, and so of each segment
 abbrev pub young_least : ℕ
 young_least = 64
 
+-- and the most of them
 abbrev pub young_most : ℕ
 young_most = 65536
 
+-- the most helpers beside the main side
 abbrev pub helpers_most : ℕ
 helpers_most = 7
 
+-- the most variables, each of which has a root
 abbrev pub variables_most : ℕ
 variables_most = 1024
 

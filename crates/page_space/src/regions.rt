@@ -1,6 +1,6 @@
 //! Where the regions of a heap stand, and in which of them an address is.
-ghost use Rattle.std.specs.Prelude.{◌≡◌, ◌≢◌, ◌+◌, ◌*◌, ◌<◌, ◌≤◌, ◌↔◌, IsTrue, IfSome, IsNone};
-ghost use Rattle.std.specs.Prelude.{MatchOption};
+ghost use Rattle.std.specs.Prelude.{◌≡◌, ◌≢◌, ◌+◌, ◌*◌, ◌<◌, ◌≤◌, ◌↔◌, IsTrue, IfSome};
+ghost use Rattle.std.specs.Prelude.{IsNone, MatchOption};
 ghost use Rattle.tagged_word.specs.Shapes.{shapes_most};
 ghost use Rattle.page_space.specs.declared.region.Region.TheVariants.{Layout, Mark, Outside, Root};
 ghost use Rattle.page_space.specs.declared.region.Region.TheVariants.{Segment};
@@ -99,6 +99,7 @@ impl Regions {
     }
 
     /// How many words there are.
+    #[inline(always)]
     pub fn count(&self) -> u32
         ensures counted { result ≡ words_count self.now }
         ensures within { AreWithin self.now.sizes self.now.variables }
@@ -161,6 +162,7 @@ impl Regions {
     }
 
     /// The address of the first word of a variable's root.
+    #[inline(always)]
     pub fn root_at(&self, variable: u32) -> u32
         requires { variable < self.now.variables }
         ensures at { result ≡ roots_start self.now + root_words * variable }

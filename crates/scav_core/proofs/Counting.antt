@@ -15,6 +15,7 @@ use Rattle.tagged_word.proofs.Readings.{reference_to}
 use Rattle.seat_steps.specs.Lists.{joined, left}
 use Rattle.seat_steps.proofs.Joining.{joined_at_end}
 use Rattle.seat_steps.proofs.Leaving.{left_out}
+use Rattle.seat_steps.proofs.Tested.{not_equal}
 use Rattle.scav_copy.specs.declared.places.Home.{Home}
 use Rattle.scav_copy.specs.Copies.{with_home}
 use Rattle.scav_copy.proofs.Ascending.{by_place}
@@ -25,10 +26,6 @@ use Rattle.scav_core.specs.Underway.{times, todo_times, is_address, board_times,
 -- 1 where a test passes, else 0
 abbrev pub one : Bool → ℕ
 one b = cond b 1 0
-
--- two numbers that are not equal are found so
-pub not_equal : (a b : ℕ) → a ≢ b → (a == b) ≡ false
-not_equal a b other = elim (cases_Bool (a == b)) [ inl t ↦ absurd (other (eqb-true _ _ t)) | inr f ↦ f ]
 
 -- the count of a first element and the rest
 pub count_first : {X : Type 0} (p : X → Bool) (x : X) (xs : List X) → count_by p (x ∷ xs) ≡ one (p x) + count_by p xs

@@ -13,6 +13,7 @@ use Rattle.tagged_word.proofs.Cells.{some_same}
 use Rattle.tagged_word.proofs.Readings.{reference_to}
 use Rattle.seat_steps.specs.Lists.{is_in}
 use Rattle.seat_steps.proofs.Joining.{found_in}
+use Rattle.seat_steps.proofs.Tested.{nat_lt-yes}
 use Rattle.scav_copy.specs.declared.places.Home.{Home}
 use Rattle.scav_copy.specs.Places.{size_of, offsets_of, StoodAt}
 use Rattle.scav_copy.proofs.Spots.{cell_ends, cell_within, home_fits, live_is_there}
@@ -34,10 +35,6 @@ use Rattle.scav_core.proofs.Keeping.{view_in}
 use Rattle.scav_core.proofs.Loading.{none_wanted}
 use Rattle.scav_core.proofs.Wanted.{wanted, part_within}
 
--- a number below another is found so
-below : (a b : ℕ) → a < b → nat_lt a b ≡ true
-below a b less = grind (arith, nat_tests)
-
 -- the job of a worker that is out is one
 job_of : {world : World} {worker : ℕ} {view : WorkerView} {job : Job} → Underway world → IsOutAt world worker view job
     → IsJob (fixed_of world) world.homes job
@@ -57,7 +54,7 @@ by_job {world} {worker} {view} {job} event test out is t =
 -- a place in the words before is one in the words
 in_words : {world : World} (at : ℕ) → Underway world → at < length world.before → nat_lt at (length world.words) ≡ true
 in_words {world} at underway less =
-    below at (length world.words) (subst (λ (long : ℕ). at < long) (sym underway.copying.long) less)
+    nat_lt-yes at (length world.words) (subst (λ (long : ℕ). at < long) (sym underway.copying.long) less)
 
 -- the header of a job that has none may be read
 pub headers_may : HeadersMayBeLoaded

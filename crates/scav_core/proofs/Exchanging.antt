@@ -10,6 +10,7 @@ use Rattle.tagged_word.specs.declared.word.Class.TheVariants.{Ref}
 use Rattle.tagged_word.specs.Words.{bits_of}
 use Rattle.seat_steps.specs.declared.note.Note.{Note}
 use Rattle.seat_steps.specs.Lists.{joined}
+use Rattle.seat_steps.proofs.Tested.{not_equal}
 use Rattle.scav_copy.specs.declared.places.Home.{Home}
 use Rattle.scav_copy.specs.Places.{size_of, IsInCopy, IsOfCell}
 use Rattle.scav_copy.specs.Copies.{HasHeader, HasNoHome, with_home}
@@ -26,7 +27,7 @@ use Rattle.scav_core.specs.Steps.{homes_after}
 use Rattle.scav_core.specs.Possible.{is_copy, header_is, may_forward}
 use Rattle.scav_core.specs.Underway.{times, todo_times, board_times, home_times, IsShared, HasReadCell, IsJob}
 use Rattle.scav_core.specs.Underway.{Underway}
-use Rattle.scav_core.proofs.Counting.{one, todo_set, todo_one, times_joined, homes_joined, none_counted, not_equal}
+use Rattle.scav_core.proofs.Counting.{one, todo_set, todo_one, times_joined, homes_joined, none_counted}
 use Rattle.scav_core.proofs.Keeping.{Stays, IsChange, Keeps, still_read, still_job}
 use Rattle.scav_core.proofs.Loading.{made, same_slot, read_on, reading}
 use Rattle.scav_core.proofs.Moving.{quiet_elsewhere, Copied, copied_by, copy_at, not_reference, whole_of}

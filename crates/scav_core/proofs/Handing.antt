@@ -13,6 +13,7 @@ use Rattle.seat_steps.specs.declared.note.Note.TheVariants as note
 use Rattle.seat_steps.specs.Lists.{left}
 use Rattle.seat_steps.specs.Boards.{IsBoard, given_word, taken_word, joined_by, taker_joined}
 use Rattle.seat_steps.proofs.Handing.{board_given, board_taken}
+use Rattle.seat_steps.proofs.Tested.{not_equal}
 use Rattle.scav_copy.specs.declared.places.Home.{Home}
 use Rattle.scav_copy.proofs.Ending.{one_each}
 use Rattle.scav_copy.proofs.Redirecting.{equal_or_not}
@@ -27,7 +28,7 @@ use Rattle.scav_core.specs.Underway.{Underway}
 use Rattle.scav_core.proofs.Counting.{one, todo_set, todo_one, board_set, board_one, refers_once, refers_to}
 use Rattle.scav_core.proofs.Counting.{times_joined}
 use Rattle.scav_core.proofs.Counting.{times_left}
-use Rattle.scav_core.proofs.Counting.{times_stay, is_counted, counted, home_once, not_equal}
+use Rattle.scav_core.proofs.Counting.{times_stay, is_counted, counted, home_once}
 use Rattle.scav_core.proofs.Keeping.{IsChange, Keeps, nothing_changes, loaded_before}
 use Rattle.scav_core.proofs.Loading.{made}
 

@@ -1,12 +1,12 @@
 -- How a step is put together.
-use Rattle.std.proofs.Common.{ℕ, suc, ◌<◌, ◌+◌, ◌≡◌, Bool, true, false, not, cond, nat_lt, List, []}
+use Rattle.std.proofs.Common.{ℕ, suc, ◌+◌, ◌≡◌, Bool, true, false, not, cond, nat_lt, List, []}
 use Rattle.std.proofs.Common.{◌∷◌, ◌++◌, take, drop}
 use Rattle.std.proofs.Common.{slice_get, slice_set, Option, Some, None, length, ◌≤◌, inl, inr, if◌then◌else◌}
 use Rattle.std.proofs.Common.{arith, refl, sym, ap, subst, ◌∙◌}
 use Rattle.std.specs.List.{position, position_or_len}
 use Rattle.std.proofs.lemmas.Bool.{cases_lt}
 use Rattle.std.proofs.lemmas.List.Sums.{prefix_len-le-length}
-use Rattle.std.proofs.lemmas.Bool.Decides.{nat_tests}
+use Rattle.seat_steps.proofs.Tested.{nat_lt-yes}
 use Rattle.scav_copy.specs.declared.places.Home.{Home}
 use Rattle.scav_copy.specs.Copies.{with_home}
 use Rattle.scav_core.specs.declared.event.Event.{Event}
@@ -73,10 +73,6 @@ stepped_made world worker event view touch found word made words board homes wor
     ∙ ap (λ (x : List ℕ). changed world w h x workers) board_is
     ∙ ap (λ (x : List WorkerView). changed world w h b x) workers_are
     ∙ ap (stepped_by world worker event) (sym is)
-
--- a number that is below another is found so
-nat_lt-yes : (a b : ℕ) → a < b → nat_lt a b ≡ true
-nat_lt-yes a b less = grind (arith, nat_tests)
 
 -- an option that holds a value is not empty
 none_some : {X : Type 0} {o : Option X} {x : X} → o ≡ Some x → o ≡ None → ⊥

@@ -1,7 +1,7 @@
 -- What the tests of the code tell.
 use Rattle.std.proofs.Common.{ℕ, ◌<◌, ◌≤◌, ◌+◌, ◌-◌, ◌≡◌, ◌==◌, ◌↔◌, ◌&&◌, Bool, true}
 use Rattle.std.proofs.Common.{false, IsTrue, List}
-use Rattle.std.proofs.Common.{length, get_or, nat_le, Some, Option, arith, refl, sym, ap, ◌∙◌, inl, inr, eq-eqb}
+use Rattle.std.proofs.Common.{length, get_or, nat_le, Some, Option, arith, sym, ap, ◌∙◌, inl, inr, eq-eqb}
 use Rattle.std.proofs.Common.{eqb-true}
 use Rattle.std.specs.List.{Contains, list_all, range_with_len}
 use Rattle.std.proofs.lemmas.Bool.Decides.{nat_tests}
@@ -12,15 +12,11 @@ use Rattle.std.proofs.lemmas.List.Sums.{list_all-from_AllPass}
 use Rattle.tagged_word.specs.declared.reading.Reading.{Reading}
 use Rattle.tagged_word.specs.Cells.{scavenge_offsets}
 use Rattle.seat_steps.specs.Lists.{is_in}
-use Rattle.seat_steps.proofs.Joining.{decided, found_in, not_found}
+use Rattle.seat_steps.proofs.Joining.{decided}
+use Rattle.seat_steps.proofs.Tested.{same_test}
 use Rattle.scav_copy.specs.declared.places.Home.{Home}
 use Rattle.scav_copy.specs.Places.{Fixed, cell_before, offsets_in, offsets_of}
 use Rattle.scav_core.specs.Possible.{is_copied_slot}
-
--- a test that tells what a list contains is that of the list
-same_test : (list : List ℕ) (a : ℕ) (r : Bool) → IsTrue r ↔ Contains list a → r ≡ is_in list a
-same_test list a true tells = sym (found_in list a (tells.0 refl))
-same_test list a false tells = sym (not_found list a (λ there. let t : false ≡ true = tells.1 there in cc))
 
 -- an address that is a slot of a copy is found to be one
 pub slot_tested : (fixed : Fixed) (home : Home) (slot : ℕ) (cell : Reading) (r : Bool) → home.to ≤ slot

@@ -6,8 +6,6 @@ use Rattle.std.specs.Option.{option_and_then}
 use Rattle.std.proofs.lemmas.Bool.Decides.{nat_tests}
 use Rattle.std.proofs.lemmas.Option.{slice_get_within, get_or_from_slice_get, slice_get-get_or}
 use Rattle.tagged_word.specs.declared.header.Header.{Header}
-use Rattle.tagged_word.specs.declared.layout.Kind.{Kind}
-use Rattle.tagged_word.specs.declared.layout.Kind.TheVariants as kind
 use Rattle.tagged_word.specs.declared.layout.LayoutWord.{LayoutWord}
 use Rattle.tagged_word.specs.declared.reading.Reading.{Reading}
 use Rattle.tagged_word.specs.Headers.{header_bits}
@@ -15,7 +13,7 @@ use Rattle.tagged_word.specs.Layouts.{layout_bits}
 use Rattle.tagged_word.specs.Shapes.{shapes_most}
 use Rattle.tagged_word.specs.Cells.{ReadsAs, has_length, length_by, cell_size, words_of, words_least}
 use Rattle.tagged_word.specs.Readings.{header_in, layout_in, shape_layout, read_cell}
-use Rattle.tagged_word.proofs.Cells.{size_is}
+use Rattle.tagged_word.proofs.Cells.{size_is, two_words_of}
 use Rattle.tagged_word.proofs.Readings.{header_to, layout_to}
 use Rattle.tagged_word.proofs.CellReadings.{cell_from}
 use Rattle.scav_copy.specs.Places.{Fixed, last_address, cell_before, words_in, size_of}
@@ -29,18 +27,6 @@ shape_has layouts shape layout known of is =
     let t : nat_lt shape shapes_most ≡ true = grind (arith, nat_tests) in
     ap (λ (b : Bool). if b then option_and_then layout_in (slice_get layouts shape) else None) t
     ∙ ap (option_and_then layout_in) of ∙ is
-
--- a cell of a kind with a length has at least two words
-two_words : (k : Kind) (cap long size : ℕ) → has_length k ≡ true → words_of k cap long ≡ size → words_least k ≤ size
-    → 2 ≤ size
-two_words kind.Store cap long size has is least = omega arith
-two_words kind.Table cap long size has is least = omega arith
-two_words kind.Gap cap long size has is least = omega arith
-two_words kind.Plain cap long size has is least = cc
-two_words kind.List cap long size has is least = cc
-two_words kind.Weak cap long size has is least = cc
-two_words kind.Boxed cap long size has is least = cc
-two_words kind.Filler cap long size has is least = cc
 
 -- The words wanted of a cell are all of it, or its first two where the second is its length and not read yet.
 pub data IsWanted (wanted : Option ℕ) (size : ℕ) (body : List ℕ) : Type 0 where
@@ -57,7 +43,7 @@ wanted_at layout long size second body false e is sized same =
 wanted_at layout long size second [] true e is sized same =
     let s = size_is (words_least layout.kind) (words_of layout.kind layout.cap long) size sized in
     let most : words_least layout.kind ≤ size = omega (arith, s.0, s.1) in
-    IsWanted.short refl refl (two_words layout.kind layout.cap long size e s.0 most)
+    IsWanted.short refl refl (two_words_of layout.kind layout.cap long size e s.0 most)
 wanted_at layout long size second (x ∷ xs) true e is sized same =
     IsWanted.all (ap (λ (o : Option ℕ). wanted_by layout o) (same 0 (omega arith) is ∙ is) ∙ sized)
 

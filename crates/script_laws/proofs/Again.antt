@@ -108,7 +108,11 @@ record IsAllowed (number : ℕ) (open' : List ℕ) (k : Keyword) : Type 0 where
 nest-IsAllowed : (number : ℕ) (open' : List ℕ) (k : Keyword) → MayStand (length open') k → IsAllowed number open' k
 nest-IsAllowed number open' keyword.Repeat may =
     let shallow : nat_lt (length open') open_most ≡ true = grind (arith, nat_tests) in
-    record { inner = number ∷ open'; is = ap (λ v. cond v (Ok (number ∷ open')) (Err why.Nesting)) shallow; deep = refl }
+    record {
+      inner = number ∷ open';
+      is = ap (λ v. cond v (Ok (number ∷ open')) (Err why.Nesting)) shallow;
+      deep = refl;
+    }
 nest-IsAllowed number [] keyword.End may = absurd (omega (arith, may))
 nest-IsAllowed number (innermost ∷ outer) keyword.End may = record { inner = outer; is = refl; deep = omega arith }
 nest-IsAllowed number open' other may = record { inner = open'; is = refl; deep = refl }
@@ -126,7 +130,8 @@ spoken_from-again unbuilt (spoken ∷ more) number open' h again =
     let deeper_in = subst (λ depth. AreSpoken unbuilt depth more) (sym allowed.deep) h.2 in
     ap (λ read. spoken_then number open' read later) again.0.read
     ∙ ap (λ inner. nested (at_line number phrase) inner later) allowed.is
-    ∙ ap (followed (at_line number phrase)) (spoken_from-again unbuilt more (suc number) allowed.inner deeper_in again.1)
+    ∙ ap (followed (at_line number phrase))
+    (spoken_from-again unbuilt more (suc number) allowed.inner deeper_in again.1)
 
 -- where `repeat`s end doesn't depend on the numbers of the lines
 end_after-renumbered : (all : List Spoken) (inside at number : ℕ)
@@ -156,7 +161,8 @@ whats-renumbered variables fields (spoken ∷ more) number at open' =
     λ (some : List Spoken). map (λ (line : Line). line.what)
     (lines_from variables fields (suc at) (open_after at open' k) some) in
     ap
-    (λ end_at. what_in variables fields end_at (innermost_of open') spoken.phrase ∷ whats (renumbered (suc number) more))
+    (λ end_at. what_in variables fields end_at (innermost_of open') spoken.phrase
+    ∷ whats (renumbered (suc number) more))
     (end_after-renumbered more 0 (suc at) (suc number))
     ∙ ap (λ rest. what_in variables fields (end_after 0 (suc at) more) (innermost_of open') spoken.phrase ∷ rest)
     (whats-renumbered variables fields more (suc number) (suc at) (open_after at open' k))
@@ -185,7 +191,8 @@ pub record DoesSame (again script : ScriptText) : Type 0 where
   pub fields : again.fields ≡ script.fields
 
 -- a script of the same phrases does the same
-pub script_of-renumbered : (all : List Spoken) (number : ℕ) → DoesSame (script_of (renumbered number all)) (script_of all)
+pub script_of-renumbered : (all : List Spoken) (number : ℕ)
+    → DoesSame (script_of (renumbered number all)) (script_of all)
 script_of-renumbered all number =
     let variables = names-renumbered variables_of all number in
     let fields = names-renumbered fields_of all number in
@@ -194,7 +201,8 @@ script_of-renumbered all number =
     record {
       lines =
           ap (λ names. map (λ (line : Line). line.what)
-          (lines_from (first_uses names) (first_uses (fs (renumbered number all))) 0 [] (renumbered number all))) variables
+          (lines_from (first_uses names) (first_uses (fs (renumbered number all))) 0 []
+          (renumbered number all))) variables
           ∙ ap (λ names. map (λ (line : Line). line.what)
           (lines_from (first_uses (vs all)) (first_uses names) 0 [] (renumbered number all))) fields
           ∙ whats-renumbered (first_uses (vs all)) (first_uses (fs all)) all number 0 [];

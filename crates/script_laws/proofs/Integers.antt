@@ -5,7 +5,8 @@ use Rattle.std.proofs.Common.{get_or, Option, Some, None, option_and_then, ℤ, 
 use Rattle.std.proofs.Common.{refl, sym, ap, ◌∙◌, subst, rules, arith}
 use Rattle.std.specs.Fmt.{decimal, signed_decimal}
 use Rattle.std.proofs.lemmas.Bool.Decides.{nat_tests}
-use Rattle.std.proofs.lemmas.Fmt.{decimal_digit, first_decimal, digits_decimal, digits_value-decimal, decimal-digits_value}
+use Rattle.std.proofs.lemmas.Fmt.{decimal_digit, first_decimal, digits_decimal, digits_value-decimal}
+use Rattle.std.proofs.lemmas.Fmt.{decimal-digits_value}
 use Rattle.std.proofs.lemmas.Str.Parse.{IsNumeralModel, numerals_by_fold}
 use Rattle.script_text.specs.Tokens.{is_digit, digits_after, positive_of, at_most, integer_of}
 use Rattle.script_laws.specs.Words.{Has64Bits, IntegersAreRead, IntegersAreWritten}
@@ -42,20 +43,23 @@ digits_after-read_on : (ds : List ℕ) (n : ℕ) → all_digits ds ≡ true → 
 digits_after-read_on [] n h = refl
 digits_after-read_on (b ∷ bs) n h =
     let parts = both (is_digit b) (all_digits bs) h in
-    ap (λ d. cond d (digits_after (10 * n + (b - 48)) bs) None) parts.0 ∙ digits_after-read_on bs (10 * n + (b - 48)) parts.1
+    ap (λ d. cond d (digits_after (10 * n + (b - 48)) bs) None) parts.0
+    ∙ digits_after-read_on bs (10 * n + (b - 48)) parts.1
 
 -- nothing is no number
 none_some : {v : ℕ} → None ≡ Some v → ⊥
 none_some e = cc
 
 -- what makes a number is digits, and these write it
-digits_after-all : (ds : List ℕ) (n v : ℕ) → digits_after n ds ≡ Some v → (all_digits ds ≡ true) × (read_on n ds ≡ v)
+digits_after-all : (ds : List ℕ) (n v : ℕ) → digits_after n ds ≡ Some v
+    → (all_digits ds ≡ true) × (read_on n ds ≡ v)
 digits_after-all [] n v e = (refl, cc)
 digits_after-all (b ∷ bs) n v e =
     elim (true_or_false (is_digit b)) [
       | inl d ↦
           let later =
-          digits_after-all bs (10 * n + (b - 48)) v (sym (ap (λ t. cond t (digits_after (10 * n + (b - 48)) bs) None) d) ∙ e) in
+          digits_after-all bs (10 * n + (b - 48)) v
+          (sym (ap (λ t. cond t (digits_after (10 * n + (b - 48)) bs) None) d) ∙ e) in
           (joined (is_digit b) (all_digits bs) d later.0, later.1)
       | inr d ↦ absurd (none_some (sym (ap (λ t. cond t (digits_after (10 * n + (b - 48)) bs) None) d) ∙ e))
     ]
@@ -75,7 +79,8 @@ record IsPositive (ds : List ℕ) (n : ℕ) : Type 0 where
   written : n < 2 ^ 64 → decimal n ≡ ds
 
 -- digits of which the first is not `0` make a number above 0, which they write
-positive-digits : (b : ℕ) (bs : List ℕ) (n : ℕ) → b ≢ 48 → digits_after 0 (b ∷ bs) ≡ Some n → IsPositive (b ∷ bs) n
+positive-digits : (b : ℕ) (bs : List ℕ) (n : ℕ) → b ≢ 48
+    → digits_after 0 (b ∷ bs) ≡ Some n → IsPositive (b ∷ bs) n
 positive-digits b bs n first e =
     let read = digits_after-all (b ∷ bs) 0 n e in
     let digit = is_digit-le b (both (is_digit b) (all_digits bs) read.0).0 in
@@ -93,7 +98,8 @@ positive_of-IsPositive [] n e = cc
 positive_of-IsPositive (b ∷ bs) n e =
     elim (true_or_false (eqb b 48)) [
       | inl z ↦ absurd (none_some (sym (ap (λ t. cond t None (digits_after 0 (b ∷ bs))) z) ∙ e))
-      | inr z ↦ positive-digits b bs n (grind (arith, nat_tests)) (sym (ap (λ t. cond t None (digits_after 0 (b ∷ bs))) z) ∙ e)
+      | inr z ↦ positive-digits b bs n (grind (arith, nat_tests))
+          (sym (ap (λ t. cond t None (digits_after 0 (b ∷ bs))) z) ∙ e)
     ]
 
 -- digits of which the first is above `0` are read
@@ -106,7 +112,8 @@ positive_of-some (b ∷ bs) v lt e =
 -- the digits that are written of a number above 0 are read as it
 positive_of-decimal : (n : ℕ) → 0 < n → n < 2 ^ 64 → positive_of (decimal n) ≡ Some n
 positive_of-decimal n above few =
-    positive_of-some (decimal n) n (first_decimal n above few) (digits_after-read_on (decimal n) 0 (digits_decimal own n few)
+    positive_of-some (decimal n) n (first_decimal n above few)
+    (digits_after-read_on (decimal n) 0 (digits_decimal own n few)
     ∙ ap Some (digits_value-decimal own n few))
 
 -- a number up to the most is read
@@ -120,10 +127,12 @@ integer_of-digits [] n lt e few = absurd (omega arith)
 integer_of-digits (b ∷ bs) n lt e few =
     let plain : eqb b 45 ≡ false = grind (arith, nat_tests) in
     let other : bytes_eq (b ∷ bs) (codes "0") ≡ false =
-    elim (bytes_tell (b ∷ bs) (codes "0")) [ inl t ↦ absurd (omega (arith, ap (λ s. get_or s 0 0) t.1)) | inr t ↦ t.0 ] in
+    elim (bytes_tell (b ∷ bs) (codes "0"))
+    [ inl t ↦ absurd (omega (arith, ap (λ s. get_or s 0 0) t.1)) | inr t ↦ t.0 ] in
     let negative = option_and_then (λ n. Some (neg_ℤ (pos n))) (option_and_then (at_most (2 ^ 63)) (positive_of bs)) in
     let digits = λ (o : Option ℕ). option_and_then (λ n. Some (pos n)) (option_and_then (at_most (2 ^ 63 - 1)) o) in
-    ap (λ t. cond t negative (cond (bytes_eq (b ∷ bs) (codes "0")) (Some (pos 0)) (digits (positive_of (b ∷ bs))))) plain
+    ap (λ t. cond t negative
+    (cond (bytes_eq (b ∷ bs) (codes "0")) (Some (pos 0)) (digits (positive_of (b ∷ bs))))) plain
     ∙ ap (λ t. cond t (Some (pos 0)) (digits (positive_of (b ∷ bs)))) other
     ∙ ap digits e ∙ ap (option_and_then (λ n. Some (pos n))) (at_most-within (2 ^ 63 - 1) n few)
 
@@ -178,7 +187,8 @@ IsWritten token v = (token ≡ signed_decimal v) × Has64Bits v
 minus : (bs : List ℕ) (v : ℤ) → IsUpTo (positive_of bs) (2 ^ 63) (λ n. neg_ℤ (pos n)) v → IsWritten (45 ∷ bs) v
 minus bs v h =
     let positive = positive_of-IsPositive bs h.number h.read in
-    subst (IsWritten (45 ∷ bs)) h.same (minus-written bs h.number positive h.within, minus-few bs h.number positive h.within)
+    subst (IsWritten (45 ∷ bs)) h.same
+    (minus-written bs h.number positive h.within, minus-few bs h.number positive h.within)
 
 -- so are digits alone
 plain : (bs : List ℕ) (v : ℤ) → IsUpTo (positive_of bs) (2 ^ 63 - 1) pos v → IsWritten bs v
@@ -215,6 +225,7 @@ integers_are_written (b ∷ bs) v e =
                 ∙ rest)) (zero-written (b ∷ bs) z.1)
             | inr z ↦
                 plain (b ∷ bs) v
-                (up_to (positive_of (b ∷ bs)) (2 ^ 63 - 1) pos v (sym (ap (λ t. cond t (Some (pos 0)) digits) z.0) ∙ rest))
+                (up_to (positive_of (b ∷ bs)) (2 ^ 63 - 1) pos v
+                (sym (ap (λ t. cond t (Some (pos 0)) digits) z.0) ∙ rest))
           ]
     ]

@@ -45,7 +45,8 @@ AllPairs-with_name names new h =
     ]
 
 -- so do more names
-AllPairs-fold : (uses names : List (List ℕ)) → AllPairs (λ x y. x ≢ y) names → AllPairs (λ x y. x ≢ y) (fold with_name names uses)
+AllPairs-fold : (uses names : List (List ℕ)) → AllPairs (λ x y. x ≢ y) names
+    → AllPairs (λ x y. x ≢ y) (fold with_name names uses)
 AllPairs-fold [] names h = h
 AllPairs-fold (named ∷ uses) names h = AllPairs-fold uses (with_name names named) (AllPairs-with_name names named h)
 

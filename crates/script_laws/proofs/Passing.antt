@@ -53,12 +53,14 @@ nested-passes unbuilt number open' first lines phrase (Ok inner) p n step =
 
 -- so does a line
 then-passes :
-    (unbuilt : List Keyword) (number : ℕ) (open' first : List ℕ) (lines : List (List ℕ)) (read : Result (Option Phrase) Why)
+    (unbuilt : List Keyword) (number : ℕ) (open' first : List ℕ) (lines : List (List ℕ))
+    (read : Result (Option Phrase) Why)
     → phrase_of_line unbuilt first ≡ read
     → ((deep : List ℕ) → Passes unbuilt (suc number) deep lines (spoken_from unbuilt (suc number) deep lines))
     → Passes unbuilt number open' (first ∷ lines)
     (spoken_then number open' read (λ deep. spoken_from unbuilt (suc number) deep lines))
-then-passes unbuilt number open' first lines (Err reason) p step = inr (record { line = number; reason = reason; is = refl })
+then-passes unbuilt number open' first lines (Err reason) p step =
+    inr (record { line = number; reason = reason; is = refl })
 then-passes unbuilt number open' first lines (Ok None) p step =
     elim (step open') [
       | inl h ↦ inl (record { all = h.all; is = h.is; passed = empty number open' [] first lines p h.passed })
@@ -77,7 +79,8 @@ passes unbuilt number open' (first ∷ lines) =
     (λ deep. passes unbuilt (suc number) deep lines)
 
 -- a bad line is not too many names
-bad_line-names : (line number : ℕ) (reason : Why) → script_or_stop (Err (BadLine line reason)) ≡ Err (TooManyNames number) → ⊥
+bad_line-names : (line number : ℕ) (reason : Why)
+    → script_or_stop (Err (BadLine line reason)) ≡ Err (TooManyNames number) → ⊥
 bad_line-names line number reason e = cc
 
 -- too many names are found only where no line is refused

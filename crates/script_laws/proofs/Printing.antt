@@ -27,7 +27,8 @@ use Rattle.script_laws.proofs.Again.{feed-phrase_lines, spoken_from-again, past_
 -- a name comes back by its number
 name_back : (names : List (List ℕ)) (token : List ℕ) → AreIn names (token ∷ [])
     → unwrap_or (slice_get names (number_of names token)) [] ≡ token
-name_back names token h = ap (λ found. unwrap_or found []) (slice_get-number_of names token (h.each token (0, omega arith, refl)))
+name_back names token h =
+    ap (λ found. unwrap_or found []) (slice_get-number_of names token (h.each token (0, omega arith, refl)))
 
 -- the token of an argument is that of its operand
 token_of-argument_of : (variables fields : List (List ℕ)) (written : Written) → AreIn variables (variable_in written)
@@ -65,12 +66,14 @@ what_text-phrase_text variables fields ends repeats phrase fits vs fs =
     ap (λ kw. spaced (keyword_text kw ∷ map (token_of variables fields) (arguments_in what)))
     (keyword_of-what_of ends repeats k (argument_at arguments 0) (argument_at arguments 1) (argument_at arguments 2))
     ∙ ap (λ os. spaced (keyword_text k ∷ map (token_of variables fields) os))
-    (arguments_in-what ends repeats k arguments (AllStand-arguments variables fields (places_of k) phrase.operands fits))
+    (arguments_in-what ends repeats k arguments
+    (AllStand-arguments variables fields (places_of k) phrase.operands fits))
     ∙ ap (λ tokens. spaced (keyword_text k ∷ tokens)) (tokens-arguments variables fields phrase.operands vs fs)
 
 -- the lines of phrases are printed as the phrases
 what_texts-phrase_lines :
-    (unbuilt : List Keyword) (depth : ℕ) (variables fields : List (List ℕ)) (at : ℕ) (open' : List ℕ) (all : List Spoken)
+    (unbuilt : List Keyword) (depth : ℕ) (variables fields : List (List ℕ)) (at : ℕ)
+    (open' : List ℕ) (all : List Spoken)
     → AreSpoken unbuilt depth all → AreIn variables (flat_map (λ s. variables_of s.phrase) all)
     → AreIn fields (flat_map (λ s. fields_of s.phrase) all)
     → map (λ line. what_text variables fields line.what) (lines_from variables fields at open' all) ≡ phrase_lines all

@@ -51,7 +51,8 @@ integer_or_bound-open None token e = test-open (is_name token) (bound token) why
 integer_or_bound-open (Some v) token e = cc
 
 -- nor is any value
-value-open : (b : Bool) (token : List ℕ) → cond b (Ok undefined) (integer_or_bound (integer_of token) token) ≡ Err why.Open → ⊥
+value-open : (b : Bool) (token : List ℕ)
+    → cond b (Ok undefined) (integer_or_bound (integer_of token) token) ≡ Err why.Open → ⊥
 value-open true token e = cc
 value-open false token e = integer_or_bound-open (integer_of token) token e
 
@@ -92,7 +93,8 @@ phrase_with-open k (Err reason) h e =
 -- nor is one whose tokens are counted
 even-open : (b : Bool) (k : Keyword) (tokens : List (List ℕ))
     → cond b (phrase_with k (written_all (places_of k) tokens)) (Err why.Count) ≡ Err why.Open → ⊥
-even-open true k tokens e = phrase_with-open k (written_all (places_of k) tokens) (λ h. written_all-open (places_of k) tokens h) e
+even-open true k tokens e =
+    phrase_with-open k (written_all (places_of k) tokens) (λ h. written_all-open (places_of k) tokens h) e
 even-open false k tokens e = cc
 
 -- nor is one whose command is judged
@@ -131,6 +133,8 @@ nest-open number (innermost ∷ outer) keyword.End e = cc
 nest-open number open' other e = cc
 
 -- no line is refused because a `repeat` is open
-pub refused-open : (unbuilt : List Keyword) (number : ℕ) (open' line : List ℕ) → IsRefused unbuilt number open' line why.Open → ⊥
-refused-open unbuilt number open' line (unread e) = long-open (nat_lt line_bytes_most (length line)) unbuilt (tokens_of line) e
+pub refused-open : (unbuilt : List Keyword) (number : ℕ) (open' line : List ℕ)
+    → IsRefused unbuilt number open' line why.Open → ⊥
+refused-open unbuilt number open' line (unread e) =
+    long-open (nat_lt line_bytes_most (length line)) unbuilt (tokens_of line) e
 refused-open unbuilt number open' line (misplaced phrase p e) = nest-open number open' phrase.keyword e

@@ -146,7 +146,8 @@ script-stop (Err stop) line reason e =
 reading-stops : (unbuilt : List Keyword) (source : List ℕ) (line : ℕ) (reason : Why)
     → reading_with unbuilt source ≡ Err (BadLine line reason) → Stops unbuilt 1 [] (lines_of source) line reason
 reading-stops unbuilt source line reason e =
-    stops unbuilt 1 [] (lines_of source) line reason (script-stop (spoken_from unbuilt 1 [] (lines_of source)) line reason e)
+    stops unbuilt 1 [] (lines_of source) line reason
+    (script-stop (spoken_from unbuilt 1 [] (lines_of source)) line reason e)
 
 -- the line of a refusal is the first that is refused
 pub refuses_first : RefusesFirst

@@ -31,15 +31,18 @@ Avoids-append p [] ys h k = k
 Avoids-append p (x ∷ xs) ys h k = (h.0, Avoids-append p xs ys h.1 k)
 
 -- each word after a space has only a space more
-Avoids-spaced_after : (p : ℕ → Bool) (words : List (List ℕ)) → p 32 ≡ false → AllAvoid p words → Avoids p (spaced_after words)
+Avoids-spaced_after : (p : ℕ → Bool) (words : List (List ℕ)) → p 32 ≡ false → AllAvoid p words
+    → Avoids p (spaced_after words)
 Avoids-spaced_after p [] space h = tt
 Avoids-spaced_after p (word ∷ words) space h =
     (space, Avoids-append p word (spaced_after words) h.0 (Avoids-spaced_after p words space h.1))
 
 -- what no word has is not in the line, where a space isn't such a byte
-pub Avoids-spaced : (p : ℕ → Bool) (words : List (List ℕ)) → p 32 ≡ false → AllAvoid p words → Avoids p (spaced words)
+pub Avoids-spaced : (p : ℕ → Bool) (words : List (List ℕ)) → p 32 ≡ false → AllAvoid p words
+    → Avoids p (spaced words)
 Avoids-spaced p [] space h = tt
-Avoids-spaced p (word ∷ words) space h = Avoids-append p word (spaced_after words) h.0 (Avoids-spaced_after p words space h.1)
+Avoids-spaced p (word ∷ words) space h =
+    Avoids-append p word (spaced_after words) h.0 (Avoids-spaced_after p words space h.1)
 
 -- a word and what follows it are cut like what follows it
 pieces_of-word : (word rest first : List ℕ) (more : List (List ℕ)) → Avoids is_blank word
@@ -82,7 +85,8 @@ text_of-Avoids (b ∷ bs) h =
 pub tokens_of-spaced : (words : List (List ℕ)) → AllAvoid is_blank words → AllAvoid is_hash words → AllSome words
     → tokens_of (spaced words) ≡ words
 tokens_of-spaced words blank hash some =
-    ap (λ text. filter is_some_bytes (pieces_of text)) (text_of-Avoids (spaced words) (Avoids-spaced is_hash words refl hash))
+    ap (λ text. filter is_some_bytes (pieces_of text))
+    (text_of-Avoids (spaced words) (Avoids-spaced is_hash words refl hash))
     ∙ filter-pieces_of-spaced words blank some
 
 -- a text has only bytes of its line
@@ -90,10 +94,12 @@ Avoids-text_of : (p : ℕ → Bool) (line : List ℕ) → Avoids p line → Avoi
 Avoids-text_of p [] h = tt
 Avoids-text_of p (b ∷ bs) h =
     let later = Avoids-text_of p bs h.1 in
-    rw (text_of-cons b bs) (elim (is_hash b) as (λ v. Avoids p (cond v [] (b ∷ text_of bs))) [ true ↦ tt | false ↦ (h.0, later) ])
+    rw (text_of-cons b bs)
+    (elim (is_hash b) as (λ v. Avoids p (cond v [] (b ∷ text_of bs))) [ true ↦ tt | false ↦ (h.0, later) ])
 
 -- a byte that ends the text where it passes the test, and else begins it
-test-Avoids : (p : ℕ → Bool) (b : ℕ) (v : Bool) (rest : List ℕ) → p b ≡ v → Avoids p rest → Avoids p (cond v [] (b ∷ rest))
+test-Avoids : (p : ℕ → Bool) (b : ℕ) (v : Bool) (rest : List ℕ) → p b ≡ v → Avoids p rest
+    → Avoids p (cond v [] (b ∷ rest))
 test-Avoids p b true rest e h = tt
 test-Avoids p b false rest e h = (e, h)
 
@@ -132,7 +138,8 @@ AllAvoid-filter : (p : ℕ → Bool) (words : List (List ℕ)) → AllAvoid p wo
 AllAvoid-filter p [] h = tt
 AllAvoid-filter p (word ∷ words) h =
     let later = AllAvoid-filter p words h.1 in
-    elim (is_some_bytes word) as (λ v. AllAvoid p (cond v (word ∷ filter is_some_bytes words) (filter is_some_bytes words)))
+    elim (is_some_bytes word) as
+    (λ v. AllAvoid p (cond v (word ∷ filter is_some_bytes words) (filter is_some_bytes words)))
     [ true ↦ (h.0, later) | false ↦ later ]
 
 -- a piece that stays is not empty
@@ -144,7 +151,8 @@ some-test word false words e h = h
 -- no piece that stays is empty
 AllSome-filter : (words : List (List ℕ)) → AllSome (filter is_some_bytes words)
 AllSome-filter [] = tt
-AllSome-filter (word ∷ words) = some-test word (is_some_bytes word) (filter is_some_bytes words) refl (AllSome-filter words)
+AllSome-filter (word ∷ words) =
+    some-test word (is_some_bytes word) (filter is_some_bytes words) refl (AllSome-filter words)
 
 -- a token has only bytes of its line
 pub AllAvoid-tokens_of : (p : ℕ → Bool) (line : List ℕ) → Avoids p line → AllAvoid p (tokens_of line)
@@ -156,4 +164,5 @@ pub tokens_of-again : (line : List ℕ) → tokens_of (spaced (tokens_of line)) 
 tokens_of-again line =
     let pieces = pieces_of (text_of line) in
     tokens_of-spaced (tokens_of line) (AllAvoid-filter is_blank pieces (blank-pieces_of (text_of line)))
-    (AllAvoid-filter is_hash pieces (AllAvoid-pieces_of is_hash (text_of line) (hash-text_of line))) (AllSome-filter pieces)
+    (AllAvoid-filter is_hash pieces
+    (AllAvoid-pieces_of is_hash (text_of line) (hash-text_of line))) (AllSome-filter pieces)

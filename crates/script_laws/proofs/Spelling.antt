@@ -27,7 +27,8 @@ abbrev pub phrase_words : Phrase → List (List ℕ)
 phrase_words phrase = keyword_text phrase.keyword ∷ map written_token phrase.operands
 
 -- the word of the command that was found
-keyword_among-text : (ks : List Keyword) (token : List ℕ) (k : Keyword) → keyword_among ks token ≡ Some k → keyword_text k ≡ token
+keyword_among-text : (ks : List Keyword) (token : List ℕ) (k : Keyword) → keyword_among ks token ≡ Some k
+    → keyword_text k ≡ token
 keyword_among-text [] token k e = cc
 keyword_among-text (first ∷ ks) token k e =
     elim (bytes_tell token (keyword_text first)) [
@@ -179,7 +180,8 @@ short-test unbuilt line phrase true h e = cc
 short-test unbuilt line phrase false h e = record { short = h; read = e }
 
 -- what is no longer than a short line is short
-still_short : (some more : ℕ) → some ≤ more → nat_lt line_bytes_most more ≡ false → nat_lt line_bytes_most some ≡ false
+still_short : (some more : ℕ) → some ≤ more → nat_lt line_bytes_most more ≡ false
+    → nat_lt line_bytes_most some ≡ false
 still_short some more le h = grind (arith, nat_tests)
 
 -- the line of a phrase is short

@@ -45,8 +45,10 @@ pub AllStand-arguments : (variables fields : List (List ℕ)) (places : List Pla
 AllStand-arguments variables fields [] [] fits = tt
 AllStand-arguments variables fields [] (written ∷ operands) fits = absurd fits
 AllStand-arguments variables fields (place ∷ places) [] fits = fits
-AllStand-arguments variables fields (place ∷ places) (written ∷ operands) fits =
-    (Stands-argument_of variables fields place written fits.0, AllStand-arguments variables fields places operands fits.1)
+AllStand-arguments variables fields (place ∷ places) (written ∷ operands) fits = (
+  Stands-argument_of variables fields place written fits.0,
+  AllStand-arguments variables fields places operands fits.1,
+)
 
 -- the arguments of what a command does
 pub arguments_in-what : (ends repeats : ℕ) (k : Keyword) (o : List Argument) → AllStand (places_of k) o

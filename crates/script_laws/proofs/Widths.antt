@@ -12,7 +12,8 @@ after_first [] = 0
 after_first (piece ∷ pieces) = length piece + length (spaced_after (filter is_some_bytes pieces))
 
 -- a byte before the first piece takes one byte
-after_first-onto_first : (b n : ℕ) (pieces : List (List ℕ)) → after_first pieces ≤ n → after_first (onto_first b pieces) ≤ suc n
+after_first-onto_first : (b n : ℕ) (pieces : List (List ℕ)) → after_first pieces ≤ n
+    → after_first (onto_first b pieces) ≤ suc n
 after_first-onto_first b n [] h = omega arith
 after_first-onto_first b n (piece ∷ pieces) h = omega (arith, h)
 
@@ -21,7 +22,8 @@ spaced_after-first : (n : ℕ) (pieces : List (List ℕ)) → after_first pieces
     → length (spaced_after (filter is_some_bytes pieces)) ≤ suc n
 spaced_after-first n [] h = omega arith
 spaced_after-first n ([] ∷ pieces) h = omega (arith, h)
-spaced_after-first n ((b ∷ bs) ∷ pieces) h = omega (arith, h, length-append (b ∷ bs) (spaced_after (filter is_some_bytes pieces)))
+spaced_after-first n ((b ∷ bs) ∷ pieces) h =
+    omega (arith, h, length-append (b ∷ bs) (spaced_after (filter is_some_bytes pieces)))
 
 -- the pieces of a text, one space apart, take no more bytes than the text
 after_first-pieces_of : (text : List ℕ) → after_first (pieces_of text) ≤ length text

@@ -10,7 +10,8 @@ use Rattle.script_text.specs.declared.table.Keyword.{Keyword}
 use Rattle.script_text.specs.declared.script.What.{What}
 use Rattle.script_text.specs.declared.script.What.TheVariants.{Run, Repeat}
 use Rattle.script_text.specs.Table.{keyword_text}
-use Rattle.script_text.specs.Phrases.{Phrase, Written, variable, field, literal, integer, undefined, bound, phrase_of_line}
+use Rattle.script_text.specs.Phrases.{Phrase, Written, variable, field, literal, integer, undefined, bound}
+use Rattle.script_text.specs.Phrases.{phrase_of_line}
 use Rattle.script_text.specs.Scripts.{ScriptText}
 use Rattle.script_text.specs.Sound.{keyword_of}
 use Rattle.script_text.specs.Grammar.{reading_with}

@@ -12,7 +12,8 @@ use Rattle.script_text.specs.Grammar.{nest, reading_with}
 -- last ones are open.
 pub data Pass (unbuilt : List Keyword) : ℕ → List ℕ → List (List ℕ) → List ℕ → Type 0 where
   none : (number : ℕ) (open' : List ℕ) → Pass unbuilt number open' [] open'
-  empty : (number : ℕ) (open' after : List ℕ) (line : List ℕ) (lines : List (List ℕ)) → phrase_of_line unbuilt line ≡ Ok None
+  empty : (number : ℕ) (open' after : List ℕ) (line : List ℕ) (lines : List (List ℕ))
+      → phrase_of_line unbuilt line ≡ Ok None
       → Pass unbuilt (suc number) open' lines after → Pass unbuilt number open' (line ∷ lines) after
   spoken : (number : ℕ) (open' inner after : List ℕ) (line : List ℕ) (lines : List (List ℕ)) (phrase : Phrase)
       → phrase_of_line unbuilt line ≡ Ok (Some phrase)

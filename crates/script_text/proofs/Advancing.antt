@@ -37,7 +37,8 @@ pub record AreLines (spoken : List SpokenSlices) (i : ℕ) (variables fields : L
       (fields_in (map spoken_shown spoken))
   pub few_variables : length variables ≤ variables_most
   pub few_fields : length fields ≤ fields_most
-  pub within : past_limit variables fields (map spoken_shown (drop i spoken)) ≡ past_limit [] [] (map spoken_shown spoken)
+  pub within : past_limit variables fields (map spoken_shown (drop i spoken))
+      ≡ past_limit [] [] (map spoken_shown spoken)
   pub all : lines ++ lines_from (first_uses (variables_in (map spoken_shown spoken)))
       (first_uses (fields_in (map spoken_shown spoken))) i open' (map spoken_shown (drop i spoken))
       ≡ (script_of (map spoken_shown spoken)).lines
@@ -98,7 +99,8 @@ what_in-stays spoken i x variables fields variables' fields' open' lines ends re
     let vs = names-next variables_of spoken i x variables variables' next.here next.variables_are ∙ h.variables_are in
     let fs = names-next fields_of spoken i x fields fields' next.here next.fields_are ∙ h.fields_are in
     let known_variables =
-    subst (λ names. AreIn names (variables_of phrase)) (sym next.variables_are) (AreIn-fold variables (variables_of phrase)) in
+    subst (λ names. AreIn names (variables_of phrase)) (sym next.variables_are)
+    (AreIn-fold variables (variables_of phrase)) in
     let known_fields =
     subst (λ names. AreIn names (fields_of phrase)) (sym next.fields_are) (AreIn-fold fields (fields_of phrase)) in
     ap (what_at_places ends repeats phrase.keyword)
@@ -123,10 +125,12 @@ AreLines-more spoken i x variables fields variables' fields' open' inner lines p
     let fs = first_uses (fields_in (map spoken_shown spoken)) in
     let both = neither (nat_lt variables_most (length variables')) (nat_lt fields_most (length fields')) few in
     let read =
-    lines_from-read vs fs spoken i x open' inner all_ends ends repeats lt next.here ends_are ends_is repeats_is inner_is in
+    lines_from-read vs fs spoken i x open' inner all_ends ends repeats lt next.here ends_are
+    ends_is repeats_is inner_is in
     let same = what_is ∙ what_in-stays spoken i x variables fields variables' fields' open' lines ends repeats h next in
     record {
-      variables_are = names-next variables_of spoken i x variables variables' next.here next.variables_are ∙ h.variables_are;
+      variables_are =
+          names-next variables_of spoken i x variables variables' next.here next.variables_are ∙ h.variables_are;
       fields_are = names-next fields_of spoken i x fields fields' next.here next.fields_are ∙ h.fields_are;
       few_variables = at_most variables_most (length variables') both.0;
       few_fields = at_most fields_most (length fields') both.1;

@@ -24,8 +24,11 @@ onto_first-HasFirst b (piece ∷ pieces) = record { first = b ∷ piece; rest = 
 slice_split-HasFirst : (p : ℕ → Bool) (bs : List ℕ) → HasFirst (slice_split p bs)
 slice_split-HasFirst p [] = record { first = []; rest = []; is = refl }
 slice_split-HasFirst p (b ∷ bs) =
-    elim (p b) as (λ v. HasFirst (cond v ([] ∷ slice_split p bs) (std.onto_first b (slice_split p bs))))
-    [ true ↦ record { first = []; rest = slice_split p bs; is = refl } | false ↦ onto_first-HasFirst b (slice_split p bs) ]
+    elim (p b) as (λ v. HasFirst (cond v ([] ∷ slice_split p bs) (std.onto_first b (slice_split p bs)))) [
+      | true ↦ record { first = []; rest = slice_split p bs; is = refl }
+      | false ↦ onto_first-HasFirst b
+          (slice_split p bs)
+    ]
 
 -- a byte before the first piece is a byte before the first line
 without_empty_end-onto_first : (b : ℕ) (piece : List ℕ) (pieces : List (List ℕ))

@@ -47,7 +47,8 @@ depth_of-placed _ depth _ (IsPlaced.block at number times end_at last body rest 
 pub depth-past : (lines : List Line) (at : ℕ) (body more : List Line) → drop at lines ≡ body ++ more
     → depth_of 0 (take (at + length body) lines) ≡ depth_of (depth_of 0 (take at lines)) body
 depth-past lines at body more e =
-    ap (depth_of 0) (take-add at (length body) lines) ∙ depth_of-append 0 (take at lines) (take (length body) (drop at lines))
+    ap (depth_of 0) (take-add at (length body) lines)
+    ∙ depth_of-append 0 (take at lines) (take (length body) (drop at lines))
     ∙ ap (depth_of (depth_of 0 (take at lines))) (ap (take (length body)) e ∙ take-append_seam body more)
 
 -- how many blocks are open behind the line at a place

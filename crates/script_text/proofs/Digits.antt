@@ -13,14 +13,16 @@ pub digits_after-over : (most n : ℕ) (bs : List ℕ) → most < n
     → option_and_then (at_most most) (digits_after n bs) ≡ None
 digits_after-over most n [] h = at_most-over most n h
 digits_after-over most n (b ∷ bs) h =
-    elim (is_digit b) as (λ v. option_and_then (at_most most) (cond v (digits_after (10 * n + (b - 48)) bs) None) ≡ None)
+    elim (is_digit b) as
+    (λ v. option_and_then (at_most most) (cond v (digits_after (10 * n + (b - 48)) bs) None) ≡ None)
     [ true ↦ digits_after-over most (10 * n + (b - 48)) bs (omega arith) | false ↦ refl ]
 
 -- one more digit makes more than the most
 pub digits_after-full : (most n b : ℕ) (bs : List ℕ) → most < 10 * n + (b - 48)
     → option_and_then (at_most most) (digits_after n (b ∷ bs)) ≡ None
 digits_after-full most n b bs h =
-    elim (is_digit b) as (λ v. option_and_then (at_most most) (cond v (digits_after (10 * n + (b - 48)) bs) None) ≡ None)
+    elim (is_digit b) as
+    (λ v. option_and_then (at_most most) (cond v (digits_after (10 * n + (b - 48)) bs) None) ≡ None)
     [ true ↦ digits_after-over most (10 * n + (b - 48)) bs h | false ↦ refl ]
 
 -- after digits that make a number, one more digit makes more than the most

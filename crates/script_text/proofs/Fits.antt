@@ -1,6 +1,7 @@
 -- The phrase of a line that was read: its command is built, with operands that fit it.
 use Rattle.std.proofs.Common.{◌≡◌, ℕ, ◌≤◌, Bool, true, false, cond, eqb, nat_le, nat_lt, List, [], ◌∷◌}
-use Rattle.std.proofs.Common.{length, ℤ, pos, negsuc, Option, Some, None, Result, Ok, Err, refl, subst, arith, bytes_eq, codes}
+use Rattle.std.proofs.Common.{length, ℤ, pos, negsuc, Option, Some, None, Result, Ok, Err, refl, subst, arith, bytes_eq}
+use Rattle.std.proofs.Common.{codes}
 use Rattle.std.specs.List.{list_any}
 use Rattle.std.proofs.lemmas.Bool.Decides.{nat_tests}
 use Rattle.script_text.specs.declared.script.Why.{Why}
@@ -75,14 +76,17 @@ undefined_fits false v token written e = value_fits v token written e
 -- what a token says at a place may stand there
 written_at-Fits : (place : Place) (token : List ℕ) (written : Written) → written_at place token ≡ Ok written
     → Fits place written
-written_at-Fits Variable token written e = subst (Fits Variable) (given (is_name token) (variable token) why.Name written e).1 tt
+written_at-Fits Variable token written e =
+    subst (Fits Variable) (given (is_name token) (variable token) why.Name written e).1 tt
 written_at-Fits Field token written e =
     let made = given (is_name token) (field token) why.Name written e in subst (Fits Field) made.1 made.0
-written_at-Fits Value token written e = undefined_fits (bytes_eq token (codes "undefined")) (integer_of token) token written e
+written_at-Fits Value token written e =
+    undefined_fits (bytes_eq token (codes "undefined")) (integer_of token) token written e
 written_at-Fits (Literal most) token written e = literal_fits most (integer_of token) written e
 
 -- both parts of operands that are joined
-record AreJoined (first : Result Written Why) (more : Result (List Written) Why) (operands : List Written) : Type 0 where
+record AreJoined (first : Result Written Why) (more : Result (List Written) Why)
+    (operands : List Written) : Type 0 where
   written : Written
   rest : List Written
   first_is : first ≡ Ok written
@@ -139,7 +143,8 @@ built_given : (out : Bool) (k : Keyword) (tokens : List (List ℕ)) (phrase : Ph
     → cond out (Err why.NotBuilt) (with_operands k tokens) ≡ Ok (Some phrase) → IsSpoken unbuilt phrase
 built_given true k tokens phrase unbuilt built e = cc
 built_given false k tokens phrase unbuilt built e =
-    even_given (eqb (length tokens) (length (places_of k))) k tokens phrase unbuilt built (λ h. grind (arith, nat_tests)) e
+    even_given (eqb (length tokens) (length (places_of k))) k tokens phrase unbuilt built
+    (λ h. grind (arith, nat_tests)) e
 
 -- and where its command is looked up
 if_built-IsSpoken : (k : Option Keyword) (tokens : List (List ℕ)) (phrase : Phrase) (unbuilt : List Keyword)
@@ -152,7 +157,8 @@ if_built-IsSpoken (Some k) tokens phrase unbuilt e =
 phrase_of-IsSpoken : (tokens : List (List ℕ)) (phrase : Phrase) (unbuilt : List Keyword)
     → phrase_of unbuilt tokens ≡ Ok (Some phrase) → IsSpoken unbuilt phrase
 phrase_of-IsSpoken [] phrase unbuilt e = cc
-phrase_of-IsSpoken (first ∷ tokens) phrase unbuilt e = if_built-IsSpoken (keyword_among keywords first) tokens phrase unbuilt e
+phrase_of-IsSpoken (first ∷ tokens) phrase unbuilt e =
+    if_built-IsSpoken (keyword_among keywords first) tokens phrase unbuilt e
 
 -- and from a line that is not too long
 short-IsSpoken : (long : Bool) (tokens : List (List ℕ)) (phrase : Phrase) (unbuilt : List Keyword)

@@ -1,4 +1,5 @@
--- What is left from a place on: the lines of the innermost open block, or those outside blocks, and what they begin with.
+-- What is left from a place on: the lines of the innermost open block, or those outside blocks, and what they begin
+-- with.
 use Rattle.std.proofs.Common.{◌≡◌, ℕ, suc, ◌+◌, List, [], ◌∷◌, ◌++◌, length, take, drop, None, refl, sym}
 use Rattle.std.proofs.Common.{ap, ◌∙◌, subst}
 use Rattle.std.proofs.lemmas.List.{append-nil}

@@ -37,7 +37,8 @@ past_command lines at ts left number command h e =
     let line = run_line number command in
     let from = drop-get lines at line e in
     let split =
-    first_of here.rest here.more line (drop (suc at) lines) here.stops (no_end-run number command) (sym here.cut ∙ from) in
+    first_of here.rest here.more line (drop (suc at) lines) here.stops (no_end-run number command)
+    (sym here.cut ∙ from) in
     let some = split.0 in
     let placed = placed-run at here.rest number command some here.placed split.1 in
     let count : suc at + length some ≡ at + length here.rest = omega (arith, ap length split.1) in
@@ -121,7 +122,8 @@ out lines at ts left number repeat_at h e =
 pub inside_block : (lines : List Line) (at : ℕ) (left : List Executed) (number repeat_at : ℕ)
     → IsLeft lines at [] left → slice_get lines at ≡ Some (end_line number repeat_at) → ⊥
 inside_block lines _ _ number repeat_at (IsLeft.outside at rest cut deep placed) e =
-    placed-end at rest number repeat_at (drop (suc at) lines) placed (sym cut ∙ drop-get lines at (end_line number repeat_at) e)
+    placed-end at rest number repeat_at (drop (suc at) lines) placed
+    (sym cut ∙ drop-get lines at (end_line number repeat_at) e)
 
 -- for each open block there is a number of turns
 pub depth : (lines : List Line) (at : ℕ) (ts : List ℕ) (left : List Executed) → IsLeft lines at ts left

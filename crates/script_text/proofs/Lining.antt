@@ -40,7 +40,8 @@ lines_from-cons variables fields xs i x open' inner ends repeats split ends_is r
     ∙ ap (λ n. line_of (end_after 0 n more) (innermost_of open') ∷ lines_from variables fields n
     (open_after i open' x.phrase.keyword) more) next
     ∙ ap
-    (λ e. line_of e (innermost_of open') ∷ lines_from variables fields (i + 1) (open_after i open' x.phrase.keyword) more)
+    (λ e. line_of e (innermost_of open')
+    ∷ lines_from variables fields (i + 1) (open_after i open' x.phrase.keyword) more)
     (sym ends_is)
     ∙ ap (λ r. line_of ends r ∷ lines_from variables fields (i + 1) (open_after i open' x.phrase.keyword) more)
     (sym repeats_is)

@@ -7,8 +7,8 @@ use Rattle.script_text.specs.Limits.{open_most}
 use Rattle.script_text.specs.Sound.{what_at, depth_of, IsMatched}
 use Rattle.script_text.specs.Whole.{run_line, repeat_line, end_line, IsPlaced}
 use Rattle.script_text.proofs.Depths.{depth_of-placed}
-use Rattle.script_text.proofs.Positions.{what_at-behind, what_at-within, IsNamed, IsNamed-behind, Stands, at_first, in_body}
-use Rattle.script_text.proofs.Positions.{at_end, behind, stands, IsNamed-body, IsNamed-rest}
+use Rattle.script_text.proofs.Positions.{what_at-behind, what_at-within, IsNamed, IsNamed-behind, Stands, at_first}
+use Rattle.script_text.proofs.Positions.{in_body, at_end, behind, stands, IsNamed-body, IsNamed-rest}
 
 -- a line is below another
 abbrev Below : ℕ → ℕ → Type 0
@@ -190,9 +190,11 @@ inside _ _ (IsPlaced.none at) k times end_at inner inner_times inner_end e f lt 
 inside _ _ (IsPlaced.run at number command lines h) zero times end_at inner inner_times inner_end e f lt below = cc
 inside _ _ (IsPlaced.run at number command lines h) (suc k) times end_at zero inner_times inner_end e f lt below =
     absurd (omega arith)
-inside _ _ (IsPlaced.run at number command lines h) (suc k) times end_at (suc inner) inner_times inner_end e f lt below =
+inside _ _ (IsPlaced.run at number command lines h) (suc k) times end_at (suc inner) inner_times
+    inner_end e f lt below =
     inside (suc at) lines h k times end_at inner inner_times inner_end e f (omega arith) (omega arith)
-inside _ _ (IsPlaced.block at number turns end last body rest place h l) k times end_at inner inner_times inner_end e f lt below =
+inside _ _ (IsPlaced.block at number turns end last body rest place h l) k times end_at inner inner_times
+    inner_end e f lt below =
     let first = repeat_line number turns end in
     let close = end_line last at in
     inside-block at number turns end last body rest place h (inside (suc at) body h)

@@ -47,6 +47,7 @@ nested unbuilt variables fields at open' [] depth few h (suc n) = few
 nested unbuilt variables fields at open' (spoken ∷ more) depth few h (suc n) =
     let k = spoken.phrase.keyword in
     let there =
-    nested unbuilt variables fields (suc at) (open_after at open' k) more (deeper depth k) (few-deeper depth k few h.1) h.2 n in
+    nested unbuilt variables fields (suc at) (open_after at open' k) more (deeper depth k)
+    (few-deeper depth k few h.1) h.2 n in
     subst (λ d. d ≤ open_most)
     (sym (depth-line variables fields at open' spoken.number k spoken.phrase.operands more depth n)) there

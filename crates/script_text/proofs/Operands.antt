@@ -22,7 +22,8 @@ after-joined done written (Ok more) = ap Ok (sym (append_assoc done (written ∷
 
 -- one more operand was written
 pub after-more :
-    (done : List Written) (place : Place) (token : List ℕ) (written : Written) (places : List Place) (tokens : List (List ℕ))
+    (done : List Written) (place : Place) (token : List ℕ) (written : Written) (places : List Place)
+    (tokens : List (List ℕ))
     → written_at place token ≡ Ok written
     → after done (written_all (place ∷ places) (token ∷ tokens))
     ≡ after (done ++ written ∷ []) (written_all places tokens)
@@ -35,7 +36,8 @@ pub after-refused :
     (done : List Written) (place : Place) (token : List ℕ) (why : Why) (places : List Place) (tokens : List (List ℕ))
     → written_at place token ≡ Err why
     → after done (written_all (place ∷ places) (token ∷ tokens)) ≡ Err why
-after-refused done place token why places tokens e = ap (λ first. after done (joined first (written_all places tokens))) e
+after-refused done place token why places tokens e =
+    ap (λ first. after done (joined first (written_all places tokens))) e
 
 -- the bytes of tokens
 abbrev bytes_of : List (Bor (List ℕ)) → List (List ℕ)
@@ -54,7 +56,8 @@ read-cons :
     → i < length places → i < length tokens
     → after done (written_all (drop i places) (bytes_of (drop i tokens)))
     ≡ after done
-    (written_all (get_or places i place ∷ drop (i + 1) places) ((get_or tokens i token).now ∷ bytes_of (drop (i + 1) tokens)))
+    (written_all (get_or places i place ∷ drop (i + 1) places)
+    ((get_or tokens i token).now ∷ bytes_of (drop (i + 1) tokens)))
 read-cons done places tokens i place token lt below =
     let next : suc i ≡ i + 1 = omega arith in
     ap (λ ps. after done (written_all ps (bytes_of (drop i tokens)))) (drop-cons places i place lt)
@@ -91,9 +94,11 @@ Reads-refused operands places tokens i place token why lt below e h =
 
 -- all operands were written
 pub Reads-all : (operands : List Slice) (places : List Place) (tokens : List (Bor (List ℕ))) (i : ℕ) → i ≡ length places
-    → Reads operands places tokens i → written_all places (bytes_of tokens) ≡ Ok (map shown (take (length places) operands))
+    → Reads operands places tokens i
+    → written_all places (bytes_of tokens) ≡ Ok (map shown (take (length places) operands))
 Reads-all operands places tokens i e h =
     let rest = bytes_of (drop i tokens) in
     sym h
-    ∙ ap (λ ps. after (map shown (take i operands)) (written_all ps rest)) (ap (λ n. drop n places) e ∙ drop-length places)
+    ∙ ap (λ ps. after (map shown (take i operands)) (written_all ps rest))
+    (ap (λ n. drop n places) e ∙ drop-length places)
     ∙ ap Ok (append-nil (map shown (take i operands))) ∙ ap (λ n. Ok (map shown (take n operands))) e

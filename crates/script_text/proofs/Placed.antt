@@ -16,9 +16,11 @@ use Rattle.script_text.proofs.Nested.{later}
 -- lines at their places are whole
 pub IsWhole-placed : (at : ℕ) (lines : List Line) → IsPlaced at lines → IsWhole lines
 IsWhole-placed _ _ (IsPlaced.none at) = IsWhole.none
-IsWhole-placed _ _ (IsPlaced.run at number command lines h) = IsWhole.run number command lines (IsWhole-placed (suc at) lines h)
+IsWhole-placed _ _ (IsPlaced.run at number command lines h) =
+    IsWhole.run number command lines (IsWhole-placed (suc at) lines h)
 IsWhole-placed _ _ (IsPlaced.block at number times end_at last body rest place h k) =
-    IsWhole.block number times end_at last at body rest (IsWhole-placed (suc at) body h) (IsWhole-placed (suc end_at) rest k)
+    IsWhole.block number times end_at last at body rest (IsWhole-placed (suc at) body h)
+    (IsWhole-placed (suc end_at) rest k)
 
 -- Lines at their places from this place on, and then the `end` of the innermost open `repeat`, at the place where that
 -- `repeat` ends; then lines of this kind.
@@ -34,7 +36,8 @@ record ClosesThen (innermost end at : ℕ) (Rest : ℕ → List Line → Type 0)
 -- lines from this place on that end the open `repeat`s, the innermost first, each at its place
 abbrev Closes : List ℕ → (ℕ → ℕ) → ℕ → List Line → Type 0
 Closes [] ends at lines = IsPlaced at lines
-Closes (innermost ∷ outer) ends at lines = ClosesThen innermost (ends 0) at (Closes outer (λ inside. ends (suc inside))) lines
+Closes (innermost ∷ outer) ends at lines =
+    ClosesThen innermost (ends 0) at (Closes outer (λ inside. ends (suc inside))) lines
 
 -- only the places where open `repeat`s end matter
 Closes-same : (open' : List ℕ) (ends others : ℕ → ℕ) (at : ℕ) (lines : List Line)
@@ -83,7 +86,8 @@ Closes-block (innermost ∷ outer) ends at number times end_at last body rest pl
     let first = repeat_line number times end_at in
     let end = end_line last at in
     let whole : List Line = first ∷ (body ++ (end ∷ h.body)) in
-    let here : suc end_at + length h.body ≡ at + length whole = omega (arith, place, length-append body (end ∷ h.body)) in
+    let here : suc end_at + length h.body ≡ at + length whole =
+    omega (arith, place, length-append body (end ∷ h.body)) in
     record {
       body = whole;
       last = h.last;
@@ -135,12 +139,14 @@ Closes-step variables fields at open' number keyword.Repeat operands more may h 
 Closes-step variables fields at [] number keyword.End operands more may h = absurd (omega (arith, may))
 Closes-step variables fields at (innermost ∷ outer) number keyword.End operands more may h =
     let lines = lines_from variables fields (suc at) outer more in
-    Closes-end innermost outer (λ inside. end_after inside at (speaks number keyword.End operands ∷ more)) at number lines refl
+    Closes-end innermost outer
+    (λ inside. end_after inside at (speaks number keyword.End operands ∷ more)) at number lines refl
     (Closes-same outer (λ inside. end_after inside (suc at) more)
     (λ inside. end_after (suc inside) at (speaks number keyword.End operands ∷ more)) (suc at) lines
     (λ inside. sym (end_after-end inside at number operands more)) h)
 Closes-step variables fields at open' number other operands more may h =
-    Closes-run open' (λ inside. end_after inside (suc at) more) at number _ (lines_from variables fields (suc at) open' more) h
+    Closes-run open' (λ inside. end_after inside (suc at) more) at number _
+    (lines_from variables fields (suc at) open' more) h
 
 -- the lines of phrases that were read inside open `repeat`s end them at their places
 lines_from-Closes :
@@ -152,7 +158,8 @@ lines_from-Closes unbuilt variables fields at (innermost ∷ outer) [] h = absur
 lines_from-Closes unbuilt variables fields at open' (spoken ∷ more) h =
     let k = spoken.phrase.keyword in
     Closes-step variables fields at open' spoken.number k spoken.phrase.operands more h.1
-    (lines_from-Closes unbuilt variables fields (suc at) (open_after at open' k) more (later unbuilt at open' k more h.2))
+    (lines_from-Closes unbuilt variables fields (suc at) (open_after at open' k) more
+    (later unbuilt at open' k more h.2))
 
 -- the lines of a script that was read stand at their places
 pub lines_from-IsPlaced : (unbuilt : List Keyword) (variables fields : List (List ℕ)) (xs : List Spoken)

@@ -38,7 +38,8 @@ place_of-push (first ∷ names) new name h =
         | inr other ↦
             let absent : place_of names new ≡ None =
             option_map-none (place_of names new) (sym (place_of-later first names new other.0) ∙ h) in
-            place_of-later first (names ++ new ∷ []) name e.0 ∙ ap (option_map suc) (place_of-push names new name absent)
+            place_of-later first (names ++ new ∷ []) name e.0
+            ∙ ap (option_map suc) (place_of-push names new name absent)
             ∙ one_more (bytes_eq new name) (length names) (place_of names name)
             ∙ ap (cond (bytes_eq new name) (Some (length (first ∷ names)))) (sym (place_of-later first names name e.0))
       ]
@@ -55,7 +56,8 @@ place_of-pushed items pushed new at was name absent ends last h =
     let count : at ≡ length names = last ∙ sym (length-map items (λ item. item.now)) in
     let joined : map (λ item. item.now) pushed ≡ names ++ new.now ∷ [] =
     ap (map (λ item. item.now)) ends ∙ map-append (λ item. item.now) items (new ∷ []) in
-    ap (cond (bytes_eq new.now name) (Some at)) h ∙ ap (λ n. cond (bytes_eq new.now name) (Some n) (place_of names name)) count
+    ap (cond (bytes_eq new.now name) (Some at)) h
+    ∙ ap (λ n. cond (bytes_eq new.now name) (Some n) (place_of names name)) count
     ∙ sym (place_of-push names new.now name absent) ∙ ap (λ all. place_of all name) (sym joined)
 
 -- a name that goes to the end has the next number

@@ -32,8 +32,11 @@ length-lines_of : (source : List ℕ) → length (lines_of source) ≤ length so
 length-lines_of [] = omega arith
 length-lines_of (b ∷ bs) =
     let more = length-lines_of bs in
-    elim (eqb b 10) as (λ v. length (cond v ([] ∷ lines_of bs) (onto_first b (lines_of bs))) ≤ suc (length bs))
-    [ true ↦ omega (arith, length-lines_of bs) | false ↦ length-onto_first b (length bs) (lines_of bs) (length-lines_of bs) ]
+    elim (eqb b 10) as (λ v. length (cond v ([] ∷ lines_of bs) (onto_first b (lines_of bs))) ≤ suc (length bs)) [
+      | true ↦ omega (arith, length-lines_of bs)
+      | false ↦ length-onto_first b (length bs) (lines_of bs)
+          (length-lines_of bs)
+    ]
 
 -- there are at most as many lines as bytes
 pub lines-few : (source : List ℕ) (lines : List (Bor (List ℕ))) → map (λ line. line.now) lines ≡ lines_of source

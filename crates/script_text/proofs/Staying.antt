@@ -24,10 +24,11 @@ place_of-with_name : (names : List (List ℕ)) (new name : List ℕ) → Contain
 place_of-with_name names new name h =
     elim (known_or_new names new) [
       | inl e ↦ ap (λ all. place_of all name) e.same
-      | inr e ↦ ap (λ all. place_of all name) e.ends ∙ place_of-push names new name e.none ∙ (elim (bytes_tell new name) [
-        | inl same ↦ absurd (e.absent (subst (Contains names) (sym same.1) h))
-        | inr other ↦ ap (λ b. cond b (Some (length names)) (place_of names name)) other.0
-      ])
+      | inr e ↦ ap (λ all. place_of all name) e.ends ∙ place_of-push names new name e.none
+          ∙ (elim (bytes_tell new name) [
+            | inl same ↦ absurd (e.absent (subst (Contains names) (sym same.1) h))
+            | inr other ↦ ap (λ b. cond b (Some (length names)) (place_of names name)) other.0
+          ])
     ]
 
 -- more names leave its number
@@ -109,14 +110,16 @@ fold-three names_in names (a ∷ b ∷ c ∷ []) h =
 fold-three names_in names (a ∷ b ∷ c ∷ d ∷ more) h = absurd (omega arith)
 
 -- an operand was entered: its name has got a number, and this is its argument
-pub record Enters (operands : List Written) (at : ℕ) (vs fs vs' fs' : List (List ℕ)) (argument : Argument) : Type 0 where
+pub record Enters (operands : List Written) (at : ℕ) (vs fs vs' fs' : List (List ℕ))
+    (argument : Argument) : Type 0 where
   pub variables_are : vs' ≡ fold with_name vs (names_at variable_in (slice_get operands at))
   pub fields_are : fs' ≡ fold with_name fs (names_at field_in (slice_get operands at))
   pub argument_is : argument ≡ argument_at (map (argument_of vs' fs') operands) at
 
 -- its argument stays when more names get numbers
 Enters-stays :
-    (operands : List Written) (at : ℕ) (vs fs vs' fs' : List (List ℕ)) (argument : Argument) (more others : List (List ℕ))
+    (operands : List Written) (at : ℕ) (vs fs vs' fs' : List (List ℕ)) (argument : Argument)
+    (more others : List (List ℕ))
     → Enters operands at vs fs vs' fs' argument
     → argument ≡ argument_at (map (argument_of (fold with_name vs' more) (fold with_name fs' others)) operands) at
 Enters-stays operands at vs fs vs' fs' argument more others h = h.argument_is ∙ stays (slice_get operands at) refl
@@ -134,7 +137,8 @@ Enters-stays operands at vs fs vs' fs' argument more others h = h.argument_is �
         ∙ argument_of-fold vs' fs' more others written
         (subst (λ names. AreIn names (variable_in written)) (sym vs_are) (AreIn-fold vs (variable_in written)))
         (subst (λ names. AreIn names (field_in written)) (sym fs_are) (AreIn-fold fs (field_in written)))
-        ∙ sym (argument_at-some (argument_of (fold with_name vs' more) (fold with_name fs' others)) operands at written here)
+        ∙ sym (argument_at-some (argument_of (fold with_name vs' more) (fold with_name fs' others))
+        operands at written here)
 
 -- all operands of a phrase were entered
 pub record AllEnter (operands : List Written) (vs fs vs' fs' : List (List ℕ)) (a b c : Argument) : Type 0 where
@@ -173,7 +177,8 @@ three_enter operands vs fs vs1 fs1 vs2 fs2 vs3 fs3 a b c few one two three =
           ∙ ap (λ names. argument_at (map (argument_of vs3 names) operands) 0) (sym fs_on);
       second =
           Enters-stays operands 1 vs1 fs1 vs2 fs2 b (v 2) (f 2) two
-          ∙ ap (λ names. argument_at (map (argument_of names (fold with_name fs2 (f 2))) operands) 1) (sym three.variables_are)
+          ∙ ap (λ names. argument_at (map (argument_of names (fold with_name fs2 (f 2))) operands) 1)
+          (sym three.variables_are)
           ∙ ap (λ names. argument_at (map (argument_of vs3 names) operands) 1) (sym three.fields_are);
       third = three.argument_is;
     }

@@ -11,7 +11,8 @@ use Rattle.script_text.specs.Left.{IsLeft}
 use Rattle.script_text.proofs.Depths.{drop-get, drop-past, depth_of-placed, depth-past, depth-next}
 use Rattle.script_text.proofs.Placed.{IsWhole-placed}
 use Rattle.script_text.proofs.Unrolling.{unrolls_blocks}
-use Rattle.script_text.proofs.Holding.{Holds, holds, first_of, same_what, Opens, placed-repeat, placed-end, no_end-repeat}
+use Rattle.script_text.proofs.Holding.{Holds, holds, first_of, same_what, Opens, placed-repeat, placed-end}
+use Rattle.script_text.proofs.Holding.{no_end-repeat}
 
 -- one turn of a block, and then what follows it
 pub turn_first : (body turns_left later : List Executed) (end : Executed)
@@ -19,7 +20,8 @@ pub turn_first : (body turns_left later : List Executed) (end : Executed)
 turn_first body turns_left later end = simp append_assoc
 
 -- The block of the `repeat` here: the lines that are left begin with it.
-pub record Begins (lines : List Line) (at : ℕ) (ts : List ℕ) (left : List Executed) (number times end_at : ℕ) : Type 0 where
+pub record Begins (lines : List Line) (at : ℕ) (ts : List ℕ) (left : List Executed)
+    (number times end_at : ℕ) : Type 0 where
   pub body : List Line
   pub last : ℕ
   pub after : List Line
@@ -39,7 +41,8 @@ behind_block lines at ts left number times end_at here some e opens =
     let first = repeat_line number times end_at in
     let whole : List Line = first ∷ (opens.body ++ (end_line opens.last at ∷ [])) in
     let placed : IsPlaced at whole =
-    IsPlaced.block at number times end_at opens.last opens.body [] opens.place opens.placed (IsPlaced.none (suc end_at)) in
+    IsPlaced.block at number times end_at opens.last opens.body [] opens.place opens.placed
+    (IsPlaced.none (suc end_at)) in
     let grouped : (first ∷ (opens.body ++ (end_line opens.last at ∷ opens.after))) ++ here.more ≡ whole ++
     (opens.after ++ here.more) =
     simp append_assoc in
@@ -48,8 +51,13 @@ behind_block lines at ts left number times end_at here some e opens =
     let count : at + length whole ≡ suc end_at =
     omega (arith, opens.place, length-append opens.body (end_line opens.last at ∷ [])) in
     let same : suc end_at + length opens.after ≡ at + length here.rest =
-    omega
-    (arith, opens.place, ap length e, ap length opens.cut, length-append opens.body (end_line opens.last at ∷ opens.after)) in
+    omega (
+      arith,
+      opens.place,
+      ap length e,
+      ap length opens.cut,
+      length-append opens.body (end_line opens.last at ∷ opens.after),
+    ) in
     let cut : drop (suc end_at) lines ≡ opens.after ++ here.more =
     sym (ap (λ n. drop n lines) count) ∙ drop-past lines at whole (opens.after ++ here.more) from in
     let deep : depth_of 0 (take (suc end_at) lines) ≡ length ts =
@@ -88,7 +96,8 @@ block_holds lines at ts left number times end_at here some e first others opens 
       deep = depth-next lines at (repeat_line number times end_at) e ∙ ap suc here.deep;
       is =
           here.is ∙ ap (λ all. all ++ here.tail) (unrolled_block at number times end_at here.rest some first opens)
-          ∙ ap (λ all. executed number None ∷ all) (append_assoc (turns times block) (executed_lines opens.after) here.tail);
+          ∙ ap (λ all. executed number None ∷ all)
+          (append_assoc (turns times block) (executed_lines opens.after) here.tail);
       behind = behind_block lines at ts left number times end_at here some first opens;
     }
 
@@ -116,7 +125,8 @@ pub record Ends
   pub deep : depth_of 0 (take at lines) ≡ suc (length ts)
   pub around : drop (suc repeat_at) lines ≡ body ++ (end_line number repeat_at ∷ after)
   pub placed : IsPlaced (suc repeat_at) body
-  pub is : left ≡ executed number None ∷ (turns turns_left (executed_lines body ++ (executed number None ∷ [])) ++ later)
+  pub is : left ≡ executed number None
+      ∷ (turns turns_left (executed_lines body ++ (executed number None ∷ [])) ++ later)
   pub behind : IsLeft lines (suc at) ts later
 
 -- the lines that are left at an `end` begin with it, inside its block
@@ -145,7 +155,8 @@ block_ends lines _ _ _ _ number block_at
       behind = subst (λ n. IsLeft lines (suc n) outer later) here behind;
     }))
 block_ends lines _ _ _ _ number block_at
-    (IsLeft.inside at repeat_at turns_left last outer (first ∷ rest) body after later cut deep placed around inner behind) e =
+    (IsLeft.inside at repeat_at turns_left last outer (first ∷ rest) body after later cut deep placed
+    around inner behind) e =
     let from : first ∷ (rest ++ (end_line last repeat_at ∷ after)) ≡ end_line number block_at ∷ drop (suc at) lines =
     sym cut ∙ drop-get lines at (end_line number block_at) e in
     let same : first ≡ end_line number block_at = cc in

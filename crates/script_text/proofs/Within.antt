@@ -15,8 +15,8 @@ use Rattle.script_text.specs.Limits.{cap_most, turns_most}
 use Rattle.script_text.specs.Table.{places_of, same_keyword}
 use Rattle.script_text.specs.Phrases.{Written, variable, field, literal, integer, undefined, bound}
 use Rattle.script_text.specs.Names.{number_of, variable_in, field_in, variables_of, fields_of, first_uses}
-use Rattle.script_text.specs.Scripts.{Spoken, argument_of, argument_at, as_variable, as_field, as_literal, as_value, what_of}
-use Rattle.script_text.specs.Scripts.{end_after}
+use Rattle.script_text.specs.Scripts.{Spoken, argument_of, argument_at, as_variable, as_field, as_literal, as_value}
+use Rattle.script_text.specs.Scripts.{what_of, end_after}
 use Rattle.script_text.specs.Grammar.{lines_from, open_after, innermost_of, script_of}
 use Rattle.script_text.specs.Sound.{NamesWithin, IsNumbered, keyword_of, IsBuilt}
 use Rattle.script_text.proofs.Fits.{Fits, AllFit}
@@ -29,11 +29,13 @@ pub record AreIn (names wanted : List (List ℕ)) : Type 0 where
 
 -- so are those of a part
 pub AreIn-left : (names some more : List (List ℕ)) → AreIn names (some ++ more) → AreIn names some
-AreIn-left names some more h = record { each = λ text in_some. h.each text (Contains-append_left some more text in_some) }
+AreIn-left names some more h =
+    record { each = λ text in_some. h.each text (Contains-append_left some more text in_some) }
 
 -- and those of the other part
 pub AreIn-right : (names some more : List (List ℕ)) → AreIn names (some ++ more) → AreIn names more
-AreIn-right names some more h = record { each = λ text in_more. h.each text (Contains-append_right some more text in_more) }
+AreIn-right names some more h =
+    record { each = λ text in_more. h.each text (Contains-append_right some more text in_more) }
 
 -- the argument is what its place wants, with a number below the count
 abbrev pub Suits : List (List ℕ) → List (List ℕ) → Place → Argument → Type 0
@@ -84,7 +86,8 @@ Suits-argument_at variables fields (first ∷ places) (written ∷ operands) fit
 -- the arguments are what the places want
 abbrev AllSuit : List (List ℕ) → List (List ℕ) → List Place → List Argument → Type 0
 AllSuit variables fields places arguments =
-    (at : ℕ) (place : Place) → slice_get places at ≡ Some place → Suits variables fields place (argument_at arguments at)
+    (at : ℕ) (place : Place) → slice_get places at ≡ Some place
+    → Suits variables fields place (argument_at arguments at)
 
 -- what a command does with these arguments
 abbrev pub what_at_places : ℕ → ℕ → Keyword → List Argument → What
@@ -132,7 +135,8 @@ what_of-NamesWithin variables fields ends repeats keyword.Same arguments suits =
 what_of-NamesWithin variables fields ends repeats keyword.Alike arguments suits =
     (suits 0 place.Variable refl, suits 1 place.Variable refl)
 what_of-NamesWithin variables fields ends repeats keyword.Shape arguments suits = suits 0 place.Variable refl
-what_of-NamesWithin variables fields ends repeats keyword.Repeat arguments suits = suits 0 (place.Literal turns_most) refl
+what_of-NamesWithin variables fields ends repeats keyword.Repeat arguments suits =
+    suits 0 (place.Literal turns_most) refl
 what_of-NamesWithin variables fields ends repeats k arguments suits = tt
 
 -- the lines of phrases that were read name only what has a number
@@ -158,7 +162,8 @@ lines_from-NamesWithin unbuilt depth variables fields at open' (spoken ∷ more)
     (AreIn-right variables (variables_of phrase) vs_more vs) (AreIn-right fields (fields_of phrase) fs_more fs))
 
 -- a script that was read is numbered
-pub script_of-IsNumbered : (unbuilt : List Keyword) (xs : List Spoken) → AreSpoken unbuilt 0 xs → IsNumbered (script_of xs)
+pub script_of-IsNumbered : (unbuilt : List Keyword) (xs : List Spoken) → AreSpoken unbuilt 0 xs
+    → IsNumbered (script_of xs)
 script_of-IsNumbered unbuilt xs h =
     let vs = flat_map (λ (s : Spoken). variables_of s.phrase) xs in
     let fs = flat_map (λ (s : Spoken). fields_of s.phrase) xs in
@@ -166,7 +171,8 @@ script_of-IsNumbered unbuilt xs h =
     (record { each = Contains-first_uses vs }) (record { each = Contains-first_uses fs })
 
 -- what a command does is of this command
-pub keyword_of-what_of : (ends repeats : ℕ) (k : Keyword) (a b c : Argument) → keyword_of (what_of ends repeats k a b c) ≡ k
+pub keyword_of-what_of : (ends repeats : ℕ) (k : Keyword) (a b c : Argument)
+    → keyword_of (what_of ends repeats k a b c) ≡ k
 keyword_of-what_of ends repeats keyword.New a b c = refl
 keyword_of-what_of ends repeats other a b c = refl
 
@@ -181,6 +187,7 @@ lines_from-IsBuilt unbuilt depth variables fields at open' (spoken ∷ more) h =
     let same =
     keyword_of-what_of (end_after 0 (suc at) more) (innermost_of open') k (argument_at arguments 0)
     (argument_at arguments 1) (argument_at arguments 2) in
-    All-cons (λ (line : Line). IsBuilt unbuilt line.what) _ (lines_from variables fields (suc at) (open_after at open' k) more)
+    All-cons (λ (line : Line). IsBuilt unbuilt line.what) _
+    (lines_from variables fields (suc at) (open_after at open' k) more)
     (subst (λ word. list_any (same_keyword word) unbuilt ≡ false) (sym same) h.0.built)
     (lines_from-IsBuilt unbuilt (deeper depth k) variables fields (suc at) (open_after at open' k) more h.2)

@@ -42,7 +42,8 @@ followed spoken (Err stop) = Err stop
 followed spoken (Ok more) = Ok (spoken ∷ more)
 
 -- a phrase that may stand where it does, and those that follow it
-abbrev pub nested : Spoken → Result (List ℕ) Why → (List ℕ → Result (List Spoken) BadScript) → Result (List Spoken) BadScript
+abbrev pub nested : Spoken → Result (List ℕ) Why → (List ℕ → Result (List Spoken) BadScript)
+    → Result (List Spoken) BadScript
 nested spoken (Err why) more = Err (BadLine spoken.number why)
 nested spoken (Ok open') more = followed spoken (more open')
 

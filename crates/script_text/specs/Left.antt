@@ -7,8 +7,9 @@ use Rattle.script_text.specs.Unrolled.{executed, turns, executed_lines}
 use Rattle.script_text.specs.Whole.{end_line, IsPlaced}
 
 -- What is left to execute of these lines, from the line at a place on, where so many turns are left of each open block
--- after the present one, the innermost first. Outside blocks it is the lines from there on, as they are executed. Inside
--- a block it is the rest of its lines and its `end`, then its turns that are left, then what is left behind its `end`.
+-- after the present one, the innermost first. Outside blocks it is the lines from there on, as they are executed.
+-- Inside a block it is the rest of its lines and its `end`, then its turns that are left, then what is left behind its
+-- `end`.
 pub data IsLeft (lines : List Line) : ℕ → List ℕ → List Executed → Type 0 where
   outside : (at : ℕ) (rest : List Line) → drop at lines ≡ rest → depth_of 0 (take at lines) ≡ 0 → IsPlaced at rest
       → IsLeft lines at [] (executed_lines rest)
@@ -23,7 +24,8 @@ pub data IsLeft (lines : List Line) : ℕ → List ℕ → List Executed → Typ
 
 -- This is left to execute: a step, and then the rest, which is what is left from the line at a place on, where so many
 -- turns are left of each open block.
-pub record Goes (lines : List Line) (at : ℕ) (turns_left : List ℕ) (all : List Executed) (first : Executed) : Type 0 where
+pub record Goes (lines : List Line) (at : ℕ) (turns_left : List ℕ) (all : List Executed)
+    (first : Executed) : Type 0 where
   pub rest : List Executed
   pub is : all ≡ first ∷ rest
   pub left : IsLeft lines at turns_left rest

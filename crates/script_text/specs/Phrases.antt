@@ -81,4 +81,5 @@ phrase_of unbuilt (first ∷ tokens) = if_built unbuilt tokens (keyword_among ke
 
 -- the phrase of a line, or why the line is refused whatever stands before it
 abbrev pub phrase_of_line : List Keyword → List ℕ → Result (Option Phrase) Why
-phrase_of_line unbuilt line = if nat_lt line_bytes_most (length line) then Err why.Long else phrase_of unbuilt (tokens_of line)
+phrase_of_line unbuilt line =
+    if nat_lt line_bytes_most (length line) then Err why.Long else phrase_of unbuilt (tokens_of line)

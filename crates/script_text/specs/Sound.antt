@@ -1,6 +1,6 @@
 -- What holds of each script that was read.
-use Rattle.std.specs.Prelude.{◌≡◌, ℕ, suc, ◌-◌, ◌<◌, ◌≤◌, List as Row, [], ◌∷◌, All, length, take, slice_get, false}
-use Rattle.std.specs.Prelude.{option_map, Option, Some}
+use Rattle.std.specs.Prelude.{◌≡◌, ℕ, suc, ◌-◌, ◌<◌, ◌≤◌, List as Row, [], ◌∷◌, All, length, take}
+use Rattle.std.specs.Prelude.{slice_get, false, option_map, Option, Some}
 use Rattle.std.specs.List.{list_any}
 use Rattle.heap_command.specs.declared.command.Command.TheVariants as command
 use Rattle.heap_command.specs.Commands.{IsWithin}
@@ -18,7 +18,8 @@ use Rattle.script_text.specs.Whole.{IsPlaced}
 abbrev pub script_text : Row Line → Row (Row ℕ) → Row (Row ℕ) → ScriptText
 script_text lines variables fields = record { lines = lines; variables = variables; fields = fields }
 
--- the line names variables and fields below these counts, a cap is at most 8, and a `repeat` makes no more than the most turns
+-- the line names variables and fields below these counts, a cap is at most 8, and a `repeat` makes no more than the
+-- most turns
 abbrev pub NamesWithin : ℕ → ℕ → What → Type 0
 NamesWithin variables fields (Run command) = IsWithin variables fields command
 NamesWithin variables fields (Repeat times end_at) = times ≤ turns_most
@@ -43,7 +44,8 @@ abbrev pub depth_of : ℕ → Row Line → ℕ
 depth_of depth [] = depth
 depth_of depth (line ∷ lines) = depth_of (depth_after depth line.what) lines
 
--- Each `repeat` names the place of its `end`, below it, and each `end` that of its `repeat`, above it. At most four are open.
+-- Each `repeat` names the place of its `end`, below it, and each `end` that of its `repeat`, above it. At most four are
+-- open.
 pub record IsMatched (lines : Row Line) : Type 0 where
   pub repeats : (at times end_at : ℕ) → what_at lines at ≡ Some (Repeat times end_at)
       → (at < end_at) × (what_at lines end_at ≡ Some (End at))
@@ -59,8 +61,8 @@ pub record IsMatched (lines : Row Line) : Type 0 where
 abbrev pub AreShort : Row (Row ℕ) → Type 0
 AreShort names = All (λ name. length name ≤ name_bytes_most) names
 
--- The lines name only what the script has, each `repeat` has its `end`, there are not too many names, and those of fields
--- are short.
+-- The lines name only what the script has, each `repeat` has its `end`, there are not too many names, and those of
+-- fields are short.
 pub record IsSound (script : ScriptText) : Type 0 where
   pub numbered : IsNumbered script
   pub matched : IsMatched script.lines

@@ -4,7 +4,8 @@ use Rattle.script_text.specs.Limits.{cap_most, turns_most}
 use Rattle.script_text.specs.declared.table.Keyword.{Keyword}
 use Rattle.script_text.specs.declared.table.Keyword.TheVariants.{New, List, Weak, Let, Drop, Add, Set, Get, Del, Push}
 use Rattle.script_text.specs.declared.table.Keyword.TheVariants.{Put, At, Shift, Trunc, WPut, WGet, WDel, Print, Same}
-use Rattle.script_text.specs.declared.table.Keyword.TheVariants.{Alike, Shape, Repeat, End, Scavenge, Mark, Finish, Gc, Census}
+use Rattle.script_text.specs.declared.table.Keyword.TheVariants.{Alike, Shape, Repeat, End, Scavenge, Mark, Finish, Gc}
+use Rattle.script_text.specs.declared.table.Keyword.TheVariants.{Census}
 use Rattle.script_text.specs.declared.table.Place.{Place}
 use Rattle.script_text.specs.declared.table.Place.TheVariants.{Variable, Field, Value, Literal}
 
@@ -42,7 +43,8 @@ keyword_text Census = codes "census"
 -- all commands
 abbrev pub keywords : Row Keyword
 keywords =
-    New ∷ List ∷ Weak ∷ Let ∷ Drop ∷ Add ∷ Set ∷ Get ∷ Del ∷ Push ∷ Put ∷ At ∷ Shift ∷ Trunc ∷ WPut ∷ WGet ∷ WDel ∷ Print
+    New ∷ List ∷ Weak ∷ Let ∷ Drop ∷ Add ∷ Set ∷ Get ∷ Del ∷ Push ∷ Put ∷ At ∷ Shift ∷ Trunc
+    ∷ WPut ∷ WGet ∷ WDel ∷ Print
     ∷ Same ∷ Alike ∷ Shape ∷ Repeat ∷ End ∷ Scavenge ∷ Mark ∷ Finish ∷ Gc ∷ Census ∷ []
 
 -- what the operands of a command are, in order

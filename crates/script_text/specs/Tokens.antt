@@ -1,6 +1,7 @@
 -- What a token may be: a name or an integer.
-use Rattle.std.specs.Prelude.{ℕ, ◌+◌, ◌*◌, ◌-◌, ◌^◌, Bool, false, not, ◌&&◌, ◌||◌, List, [], ◌∷◌, length, Option}
-use Rattle.std.specs.Prelude.{Some, None, ℤ, pos, neg_ℤ, ◌==◌, nat_le, if◌then◌else◌, option_and_then, codes, bytes_eq}
+use Rattle.std.specs.Prelude.{ℕ, ◌+◌, ◌*◌, ◌-◌, ◌^◌, Bool, false, not, ◌&&◌, ◌||◌, List, [], ◌∷◌}
+use Rattle.std.specs.Prelude.{length, Option, Some, None, ℤ, pos, neg_ℤ, ◌==◌, nat_le, if◌then◌else◌}
+use Rattle.std.specs.Prelude.{option_and_then, codes, bytes_eq}
 use Rattle.std.specs.List.{list_all}
 use Rattle.script_text.specs.Limits.{name_bytes_most}
 

@@ -26,14 +26,15 @@ abbrev pub unrolled_block : Block → List Executed → ℕ → List Executed
 unrolled_block block body number =
     block.before ++ executed block.number None ∷ turns block.times (body ++ executed number None ∷ [])
 
--- Lines in the order of execution: those before them in the innermost open block are `so_far`. A `repeat` is itself, then
--- its turns; one of no turn is one line. This is of lines whose blocks are matched.
+-- Lines in the order of execution: those before them in the innermost open block are `so_far`. A `repeat` is itself,
+-- then its turns; one of no turn is one line. This is of lines whose blocks are matched.
 abbrev pub unrolled_from : List Block → List Executed → List Line → List Executed
 unrolled_from blocks so_far [] = so_far
 unrolled_from blocks so_far (line ∷ lines) =
     unrolled_by blocks so_far line.number line.what (λ blocks' so_far'. unrolled_from blocks' so_far' lines)
   where
-    unrolled_by : List Block → List Executed → ℕ → What → (List Block → List Executed → List Executed) → List Executed
+    unrolled_by : List Block → List Executed → ℕ → What
+        → (List Block → List Executed → List Executed) → List Executed
     unrolled_by blocks so_far number (Run command) next = next blocks (so_far ++ executed number (Some command) ∷ [])
     unrolled_by blocks so_far number (Repeat times end_at) next =
         next (record { before = so_far; number = number; times = times } ∷ blocks) []

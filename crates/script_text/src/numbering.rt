@@ -1,6 +1,7 @@
 //! The phrases of a script as lines: names get numbers in the order in which they first appear, and
 //! each `repeat` and its `end` the place of the other.
-ghost use Rattle.std.specs.Prelude.{◌≡◌, ◌<◌, ◌≤◌, ◌+◌, ◌^◌, [], None, IfOk, IfErr, OnOk, fold, length, map, slice_get};
+ghost use Rattle.std.specs.Prelude.{◌≡◌, ◌<◌, ◌≤◌, ◌+◌, ◌^◌, [], None, IfOk, IfErr, OnOk, fold, length};
+ghost use Rattle.std.specs.Prelude.{map, slice_get};
 ghost use Rattle.script_text.specs.Limits.{variables_most, fields_most};
 ghost use Rattle.script_text.specs.Names.{with_name, names_at, variable_in, field_in, variables_of, fields_of};
 ghost use Rattle.script_text.specs.Scripts.{argument_of, argument_at, what_in};

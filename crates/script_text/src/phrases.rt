@@ -1,5 +1,6 @@
 //! A line as a phrase: a keyword with operands, whose names are still as they are written.
-ghost use Rattle.std.specs.Prelude.{◌≡◌, ◌≢◌, ◌≤◌, None, IfOk, IfErr, IfSome, Ok, Err, length, map, option_map, slice_get, take};
+ghost use Rattle.std.specs.Prelude.{◌≡◌, ◌≢◌, ◌≤◌, None, IfOk, IfErr, IfSome, Ok, Err, length, map, option_map};
+ghost use Rattle.std.specs.Prelude.{slice_get, take};
 ghost use Rattle.script_text.specs.Phrases.{phrase_of_line, with_operands, written_all, written_at, integer_or_bound};
 ghost use Rattle.script_text.specs.Phrases.{literal_up_to};
 ghost use Rattle.script_text.specs.Table.{places_of};

@@ -1,6 +1,6 @@
 -- What giving to the board and taking from it come to.
-use Rattle.std.proofs.Common.{ℕ, ◌<◌, ◌^◌, ◌≡◌, ◌≢◌, ◌==◌, inl, inr, true, false, List, length, get_or, replicate}
-use Rattle.std.proofs.Common.{Some, IsSome, if◌then◌else◌, refl, sym, ap, subst, ◌∙◌, eqb-true}
+use Rattle.std.proofs.Common.{ℕ, ◌<◌, ◌^◌, ◌≡◌, ◌≢◌, ◌==◌, inl, inr, true, false, List, length, get_or}
+use Rattle.std.proofs.Common.{replicate, Some, IsSome, if◌then◌else◌, refl, sym, ap, subst, ◌∙◌, eqb-true}
 use Rattle.std.proofs.Math.ListN.{set, length-set}
 use Rattle.std.proofs.lemmas.List.Elements.{All-set, All-get_or, All-replicate}
 use Rattle.tagged_word.specs.declared.word.Class.TheVariants.{Ref}

@@ -1,6 +1,6 @@
 -- What joining a list comes to.
-use Rattle.std.proofs.Common.{ℕ, ◌≡◌, ◌≢◌, ◌==◌, ◌⊎◌, inl, inr, Bool, true, false, ◌||◌, List, [], ◌∷◌, ◌++◌}
-use Rattle.std.proofs.Common.{if◌then◌else◌, arith, refl, sym, ap, subst, eq-eqb, eqb-true}
+use Rattle.std.proofs.Common.{ℕ, ◌≡◌, ◌≢◌, ◌==◌, ◌⊎◌, inl, inr, Bool, true, false, ◌||◌, List, []}
+use Rattle.std.proofs.Common.{◌∷◌, ◌++◌, if◌then◌else◌, arith, refl, sym, ap, subst, eq-eqb, eqb-true}
 use Rattle.std.specs.List.{Contains}
 use Rattle.std.proofs.lemmas.List.Folds.{list_any_at}
 use Rattle.std.proofs.lemmas.List.Elements.{Contains-append_left, Contains-push, Contains-push_cases, Contains-get_or}

@@ -1,7 +1,7 @@
 -- The board: words over which seats hand cells to one another. Each is 0 or the reference to a cell. What a step does
 -- to a word and to its seat's list is a function of the word that it finds there.
-use Rattle.std.specs.Prelude.{◌≡◌, ◌≢◌, ℕ, ◌<◌, ◌^◌, ◌==◌, List, length, slice_set, slice_index, replicate, Option}
-use Rattle.std.specs.Prelude.{Some, None, All, ◌⊎◌, IsSome, if◌then◌else◌}
+use Rattle.std.specs.Prelude.{◌≡◌, ◌≢◌, ℕ, ◌<◌, ◌^◌, ◌==◌, List, length, slice_set, slice_index}
+use Rattle.std.specs.Prelude.{replicate, Option, Some, None, All, ◌⊎◌, IsSome, if◌then◌else◌}
 use Rattle.tagged_word.specs.declared.word.Class.TheVariants.{Ref}
 use Rattle.tagged_word.specs.Words.{bits_of}
 use Rattle.tagged_word.specs.Readings.{reference_in}

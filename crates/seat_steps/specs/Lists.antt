@@ -1,6 +1,6 @@
 -- Lists of addresses, which cells join and leave.
-use Rattle.std.specs.Prelude.{◌≡◌, ◌≢◌, ℕ, ◌==◌, Bool, not, List, [], ◌∷◌, ◌++◌, filter, Contains, AllPairs, ◌↔◌}
-use Rattle.std.specs.Prelude.{if◌then◌else◌}
+use Rattle.std.specs.Prelude.{◌≡◌, ◌≢◌, ℕ, ◌==◌, Bool, not, List, [], ◌∷◌, ◌++◌, filter, Contains}
+use Rattle.std.specs.Prelude.{AllPairs, ◌↔◌, if◌then◌else◌}
 use Rattle.std.specs.List.{list_any}
 
 -- whether the address stands in the list

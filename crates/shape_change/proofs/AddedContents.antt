@@ -1,5 +1,5 @@
 -- What the slot of a new field comes to hold shows the value, and names nothing but a box that was made.
-use Rattle.std.proofs.Common.{◌≡◌, ℕ, Bool, true, List, Contains, Some, IsTrue, refl, sym, ap, subst}
+use Rattle.std.proofs.Common.{◌≡◌, ℕ, Bool, true, List, Contains, Some, refl, sym, ap, subst}
 use Rattle.std.specs.Prelude.{ℤ}
 use Rattle.tagged_word.specs.Words.{small}
 use Rattle.tagged_word.specs.declared.layout.Kind.TheVariants as kind
@@ -12,7 +12,7 @@ use Rattle.object_graph.specs.Invariants.{IsValue}
 use Rattle.cell_layout.specs.declared.cell.Cell.{Cell}
 use Rattle.handle_roots.specs.declared.held.Held.{Held}
 use Rattle.heap_model.specs.Heaps.{Heap}
-use Rattle.heap_model.specs.Slots.{small_word, raw_word, reference_word, IsPlace, RefersToBox, RefersToPlace}
+use Rattle.heap_model.specs.Slots.{raw_word, reference_word, IsPlace, RefersToBox, RefersToPlace}
 use Rattle.heap_model.specs.Showing.{ShowsValue, ShowsWide, ShowsField, ShowsHeld}
 use Rattle.heap_model.proofs.WordsStay.{PlacesStay}
 use Rattle.object_cells.specs.declared.content.Content.{Content}
@@ -22,13 +22,7 @@ use Rattle.object_cells.specs.Made.{content_word}
 use Rattle.object_cells.specs.SlotChanges.{ComesFrom}
 use Rattle.object_cells.proofs.HeldContents.{HoldsValue, held_rep_is, value_held}
 use Rattle.object_cells.proofs.WrittenPlaces.{small_names_none, undefined_names_none, object_names_none}
-
--- a small integer shows itself where the slot is not wide
-small_shows : {heap : Heap} {own : Bool} (one : Rep) (v : ℤ) → IsTrue (small v) → (one ≡ rep.Wide → ⊥)
-    → ShowsField heap own (small_word v) one (value.Int v)
-small_shows rep.Small v is apart = ShowsField.small_integer v is refl
-small_shows rep.Wide v is apart = absurd (apart refl)
-small_shows rep.Tagged v is apart = ShowsField.tagged (value.Int v) (ShowsValue.small_integer v is refl)
+use Rattle.shape_change.proofs.ContentsShown.{small_shows}
 
 -- the reference to an object's place, where places stay
 new_place : {old new : Heap} (at number : ℕ) → PlacesStay old new → IsPlace old number at

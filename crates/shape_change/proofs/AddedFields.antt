@@ -1,6 +1,6 @@
 -- The fields of an object with one of a new name behind them, and their path.
-use Rattle.std.proofs.Common.{◌≡◌, ℕ, zero, suc, ◌<◌, ◌==◌, Bool, true, false, ◌⊎◌, inl, inr, List, [], ◌∷◌, ◌++◌}
-use Rattle.std.proofs.Common.{length, Option, Some, None, slice_get, cond, refl, sym, ◌∙◌, ap, arith}
+use Rattle.std.proofs.Common.{◌≡◌, ℕ, zero, suc, ◌<◌, ◌==◌, Bool, true, false, ◌⊎◌, inl, inr, List, []}
+use Rattle.std.proofs.Common.{◌∷◌, ◌++◌, length, Option, Some, None, slice_get, cond, refl, sym, ◌∙◌, ap, arith}
 use Rattle.std.proofs.lemmas.List.{map-append}
 use Rattle.std.proofs.lemmas.Option.{none-some, same_Some}
 use Rattle.object_graph.specs.declared.object.Field.{Field}
@@ -16,7 +16,7 @@ abbrev pub new_field : ℕ → Value → Field
 new_field name value = record { name = name; rep = rep_of value; value = value }
 
 -- where nothing is chosen, the test failed, and there is no other
-none_chosen : (test : Bool) (value : Value) (rest : Option Value) → cond test (Some value) rest ≡ None
+pub none_chosen : (test : Bool) (value : Value) (rest : Option Value) → cond test (Some value) rest ≡ None
     → (test ≡ false) × (rest ≡ None)
 none_chosen true value rest none = absurd (none-some value (sym none))
 none_chosen false value rest none = (refl, none)

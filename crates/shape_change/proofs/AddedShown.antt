@@ -134,10 +134,11 @@ added_shows {old} {mid} {new} {graph} {plain} {header = header} {name} {value} {
     ∙ ap (with_path (Some paths_most) old.paths) of_path ∙ path.leads.added
     ∙ ap (λ paths. Some paths) (sym puts.paths) in
     let tied : IsTied new =
-    ap (λ (y : Young). y.space) (puts.young ∙ path.young) ∙ known.shows.tied ∙ sym (puts.space ∙ path.space) in
+    ap (λ (y : Young). y.space) (puts.young ∙ path.young) ∙ known.shows.tied
+    ∙ sym (puts.beside.space ∙ path.beside.space) in
     subst (ShowsRefilled new graph plain) (sym with)
     (written_fields_show old new graph plain known.cell next others made fields known.shows known.is.object
     known.carries
     known.caps known.shown (subst (AreNewFields graph) with are) added tied
-    (puts.phase ∙ path.phase ∙ known.shows.quiet)
+    (puts.beside.phase ∙ path.beside.phase ∙ known.shows.quiet)
     writes (added_refills adds))

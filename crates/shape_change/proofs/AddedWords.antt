@@ -17,7 +17,8 @@ use Rattle.shape_tree.specs.Shapes.{AreShapes}
 use Rattle.shape_tree.specs.ShapeLayouts.{layout_word}
 use Rattle.cell_layout.specs.declared.cell.Cell.{Cell}
 use Rattle.cell_layout.specs.Cells.{IsRow}
-use Rattle.heap_table.specs.Seats.{heap_words}
+use Rattle.heap_table.specs.Seats.{heap_words, StaysBeside}
+use Rattle.heap_table.specs.Staying.{stays_beside_again}
 use Rattle.heap_model.specs.Wholeness.{HasSizes}
 use Rattle.write_barrier.specs.Mains.{Mutator, heap_of, IsTied, reserved}
 use Rattle.object_cells.specs.Contents.{next_at}
@@ -64,13 +65,13 @@ over_sized {old} {mid} {new} over =
     let sized = over.adds.sized in
     let puts = over.puts in
     record {
-      words = ap length puts.heap ∙ over.long ∙ sized.words ∙ ap marks_start (sym puts.space);
+      words = ap length puts.heap ∙ over.long ∙ sized.words ∙ ap marks_start (sym puts.beside.space);
       shapes = subst AreShapes (sym puts.paths) sized.shapes;
       layouts = λ shape below.
           let at : ℕ = layouts_start mid.seat.space + shape in
           let behind : layouts_start old.seat.space ≤ at =
-          omega (arith, ap (λ (s : Space). layouts_start s) over.adds.space) in
-          ap (λ (s : Space). slice_get (heap_words new.seat) (layouts_start s + shape)) puts.space
+          omega (arith, ap (λ (s : Space). layouts_start s) over.adds.beside.space) in
+          ap (λ (s : Space). slice_get (heap_words new.seat) (layouts_start s + shape)) puts.beside.space
           ∙ ap (λ all. slice_get all at) puts.heap ∙ layouts_stay at over behind ∙ sized.layouts shape below
           ∙ ap (λ paths. Some (layout_word paths shape)) (sym puts.paths);
     }
@@ -81,10 +82,16 @@ pub over_young : {old mid new : Mutator} {path : Path} {cell : Cell} {shape at w
     → new.young ≡ record old.young { used = old.young.used + need }
 over_young over = over.puts.young ∙ over.adds.young
 
+-- all words from the marks on stay
+pub over_beside : {old mid new : Mutator} {path : Path} {cell : Cell} {shape at word need : ℕ} {words : List ℕ}
+    → PutsOver old mid new path cell shape at word need words → StaysBeside old.seat new.seat
+over_beside {old} {mid} {new} over =
+    stays_beside_again old.seat mid.seat new.seat over.adds.beside over.puts.beside
+
 -- the regions are those from before
 pub over_space : {old mid new : Mutator} {path : Path} {cell : Cell} {shape at word need : ℕ} {words : List ℕ}
     → PutsOver old mid new path cell shape at word need words → new.seat.space ≡ old.seat.space
-over_space over = over.puts.space ∙ over.adds.space
+over_space over = (over_beside over).space
 
 -- so one word was put
 pub over_writes_one : {old mid new : Mutator} {path : Path} {cell : Cell} {shape at word need : ℕ} {words : List ℕ}
@@ -127,7 +134,8 @@ pub over_last : {old mid new : Mutator} {path : Path} {cell : Cell} {header : He
     (words : List ℕ) → IsTied old → HasRoom old.young need → AddsPath (reserved old need) mid path shape
     → PutsWords mid new (with_shape (slice_set words place word) object header shape)
     → length words ≡ length (heap_words mid.seat)
-    → ((a : ℕ) → (next_at old ≤ a → a < next_at old + need → ⊥) → slice_get words a ≡ slice_get (heap_words mid.seat) a)
+    → ((a : ℕ) → (next_at old ≤ a → a < next_at old + need → ⊥)
+    → slice_get words a ≡ slice_get (heap_words mid.seat) a)
     → cell.at ≡ object → cell.header ≡ header → cell.at ≢ place → cell.at < layouts_start old.seat.space
     → place < layouts_start old.seat.space
     → PutsOver old mid new path cell shape place word need (with_shape (slice_set words place word) object header shape)
@@ -138,7 +146,7 @@ over_last {old} {mid} {cell = cell} {header} shape place word need object words 
     let bits = header_bits (record header { shape = shape }) in
     let put_long : length put ≡ length words = length-set words place word in
     let count : length (heap_words mid.seat) ≡ layouts_start old.seat.space + shapes_most =
-    adds.sized.words ∙ ap (λ (s : Space). marks_start s) adds.space ∙ marks_start_is old.seat.space in
+    adds.sized.words ∙ ap (λ (s : Space). marks_start s) adds.beside.space ∙ marks_start_is old.seat.space in
     record {
       tied = tied;
       room = room;

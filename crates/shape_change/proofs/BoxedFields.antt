@@ -1,6 +1,6 @@
 -- The slot of a field that is set comes to refer to a box that is made, or the box to which it refers is written.
-use Rattle.std.proofs.Common.{◌≡◌, ◌≢◌, ℕ, ◌+◌, ◌<◌, ◌≤◌, List, [], ◌∷◌, length, Some, slice_get, nat_lt}
-use Rattle.std.proofs.Common.{refl, sym, ◌∙◌, ap, subst, arith, inl, inr}
+use Rattle.std.proofs.Common.{◌≡◌, ◌≢◌, ℕ, ◌+◌, ◌<◌, ◌≤◌, List, [], ◌∷◌, length, Some}
+use Rattle.std.proofs.Common.{slice_get, nat_lt, refl, sym, ◌∙◌, ap, subst, arith, inl, inr}
 use Rattle.std.specs.Prelude.{ℤ}
 use Rattle.std.proofs.lemmas.List.Elements.{Contains-append_right}
 use Rattle.tagged_word.specs.declared.layout.Kind.TheVariants as kind
@@ -136,7 +136,7 @@ new_box_shown {old} {mid} {new} {graph} {slot = slot} {plain} {what} at next v s
     let head_now = head_stays (with_word (with_box mid box v) at word) (next_head s next) v s ready head in
     let puts = slot_puts at word box_words next s apart boxed head_now in
     let stands = box_stands at word (next_head s next) v s numbered ready puts in
-    let same : new.seat.space ≡ space = puts.space ∙ boxed.space in
+    let same : new.seat.space ≡ space = puts.beside.space ∙ boxed.space in
     let below = λ (a : ℕ) (is : a < layouts_start space).
     subst (λ (p : Space). a < layouts_start p) (sym boxed.space) is in
     let sized = sizes_put (with_box mid box v) new s.cell.at (next_head s next) at word boxed.sized

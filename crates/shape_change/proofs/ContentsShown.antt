@@ -33,7 +33,7 @@ use Rattle.object_cells.proofs.WrittenPlaces.{small_names_none, undefined_names_
 use Rattle.object_cells.proofs.HeldContents.{HoldsValue}
 
 -- a small integer's word shows it in a slot that is not wide
-small_shows : {heap : Heap} {own : Bool} (one : Rep) (v : ℤ) → IsTrue (small v) → (one ≡ rep.Wide → ⊥)
+pub small_shows : {heap : Heap} {own : Bool} (one : Rep) (v : ℤ) → IsTrue (small v) → (one ≡ rep.Wide → ⊥)
     → ShowsField heap own (small_word v) one (value.Int v)
 small_shows rep.Small v is apart = ShowsField.small_integer v is refl
 small_shows rep.Wide v is apart = absurd (apart refl)

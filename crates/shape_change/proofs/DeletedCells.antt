@@ -81,11 +81,11 @@ deleted_writes {old} {new} {cell} {slot} deleting =
     let taken = deleting.taken in
     let used = ap (λ (young : Young). young.used) taken.young in
     let survivors = ap (λ (young : Young). young.survivors) taken.young in
-    let young = ap (λ (space : Space). space.sizes.young) taken.space in
+    let young = ap (λ (space : Space). space.sizes.young) taken.beside.space in
     let path : Path = without (shape_path old.paths cell.header.shape) slot in
     let behind : ℕ = eden_start old.seat.space + old.young.used in
     record {
-      same_space = taken.space;
+      same_space = taken.beside.space;
       same_survivors = survivors;
       grown = omega (arith, used);
       room = omega (arith, used, survivors, young, deleting.whole.rows.few);

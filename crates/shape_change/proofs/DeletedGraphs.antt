@@ -19,6 +19,8 @@ use Rattle.shape_tree.proofs.GrownPaths.{missing-there}
 use Rattle.shape_tree.proofs.LedPaths.{with_path-added}
 use Rattle.cell_layout.specs.declared.cell.Cell.{Cell}
 use Rattle.nursery.specs.Young.{Young}
+use Rattle.heap_table.specs.Seats.{StaysBeside}
+use Rattle.heap_table.specs.Staying.{stays_beside_itself}
 use Rattle.heap_model.specs.Heaps.{words_of_cell}
 use Rattle.heap_model.specs.Needs.{capacity_at}
 use Rattle.heap_model.specs.Showing.{ShowsPlain}
@@ -45,10 +47,10 @@ use Rattle.shape_change.proofs.DeletedHeaps.{deleted_refills, store_belongs}
 use Rattle.shape_change.proofs.ShownFields.{shown_cell, FieldFound}
 
 -- no word more is used
-uses_none : (old new : Mutator) → new.seat.space ≡ old.seat.space → new.young ≡ old.young → UsesMore old new 0
-uses_none old new space young =
+uses_none : (old new : Mutator) → StaysBeside old.seat new.seat → new.young ≡ old.young → UsesMore old new 0
+uses_none old new beside young =
     let used : Young → ℕ → Young = λ one n. record one { used = n } in
-    record { space = space; young = young ∙ ap (used old.young) (sym (add-zero old.young.used)) }
+    record { beside = beside; young = young ∙ ap (used old.young) (sym (add-zero old.young.used)) }
 
 -- the path of the object without the field is the one that was looked for
 path_less : (main : Mutator) (graph : Graph) (object : ℕ) (plain : PlainObject) (header : Header) (slot name : ℕ)
@@ -112,10 +114,12 @@ field_less old new graph object plain header slot name shows is header_at found 
     (path_of plain.cap (without_field plain.fields name))) (sym shows.shows.paths)
     ∙ ap (with_path (Some paths_most) old.paths)
     (sym (path_less old graph object plain header slot name shows is header_at found)) ∙ taken.leads.added in
-    let tied = ap (λ (young : Young). young.space) taken.young ∙ shows.tied ∙ sym taken.space in
-    written_fields_show old new graph plain cell deleting.taken.next (others_of deleting) [] (without_field plain.fields name)
+    let tied = ap (λ (young : Young). young.space) taken.young ∙ shows.tied ∙ sym taken.beside.space in
+    written_fields_show old new graph plain cell deleting.taken.next (others_of deleting) []
+    (without_field plain.fields name)
     shows is.object shown.carries shown.cap shown.shows
-    (rest_of_fields_are_new graph plain name shows.is_graph is.object is.reached) added tied (taken.phase ∙ shows.quiet)
+    (rest_of_fields_are_new graph plain name shows.is_graph is.object is.reached) added tied
+    (taken.beside.phase ∙ shows.quiet)
     (deleted_writes deleting) (deleted_refills name deleting less)
 
 -- a field that was found is taken out, or there are too many paths
@@ -127,7 +131,7 @@ field_deleted old new graph object plain header slot name (Ok done) shows is hea
     let value = value_found plain.fields slot found.field name (names_distinct shows is) found.there found.named in
     record {
       none = λ none. absurd (none-some found.field.value (sym none ∙ value));
-      uses = uses_none old new taken.space taken.young;
+      uses = uses_none old new taken.beside taken.young;
       changes = stores_stay old new graph object plain header slot name shows is header_at found taken;
       shows = field_less old new graph object plain header slot name shows is header_at found taken;
     }
@@ -170,7 +174,7 @@ none_deleted main graph object plain header name shows is header_at none =
     let value = no_value plain.cap plain.fields name (ap (λ (p : Path). has_name p name) (sym path) ∙ none) in
     record {
       none = λ _. refl;
-      uses = uses_none main main refl refl;
+      uses = uses_none main main (stays_beside_itself main.seat) refl;
       changes = record {
         words = λ word below not_own not_new. refl;
         own = refl;

@@ -28,7 +28,8 @@ use Rattle.shape_change.proofs.DeletedSlots.{Deleting, cap_is, room_is, address_
 use Rattle.shape_change.proofs.DeletedCells.{others_of}
 
 -- what was drawn in shows the field that its word showed in the store
-pub drawn_shown : {old new : Heap} (word drawn : ℕ) (one : Rep) (value : Value) → PlacesStay old new → BoxStays old new word
+pub drawn_shown : {old new : Heap} (word drawn : ℕ) (one : Rep) (value : Value)
+    → PlacesStay old new → BoxStays old new word
     → IsDrawnIn old one word drawn → ShowsField old false word one value → ShowsField new true drawn one value
 drawn_shown word drawn one value places box is (ShowsField.small_integer v small same) =
     ShowsField.small_integer v small (is ∙ same)

@@ -19,7 +19,7 @@ use Rattle.shape_change.specs.FieldChanges.{HasSetField}
 use Rattle.shape_change.specs.Additions.{AddsField}
 use Rattle.object_cells.specs.Made.{is_wide_held}
 use Rattle.object_cells.proofs.HeldNeeds.{wide_is}
-use Rattle.shape_change.proofs.AddedWords.{over_young, over_space}
+use Rattle.shape_change.proofs.AddedWords.{over_young, over_beside}
 use Rattle.shape_change.proofs.AddedShown.{Adding, lacks_none}
 use Rattle.shape_change.proofs.NewNeeds.{need_own, need_to_store, need_to_new_store}
 use Rattle.shape_change.proofs.NewNeeds.{capacity_own, capacity_to_store, capacity_to_new_store}
@@ -61,7 +61,7 @@ module _ {old new : Mutator} {graph : Graph} {plain : PlainObject} {object : ℕ
   field_is_set within (AddsField.own own adds) =
       let over = own_over known own adds in
       set_by 0 _ (need_own old object header name value known.can own) over.room
-      (record { space = over_space over; young = over_young over })
+      (record { beside = over_beside over; young = over_young over })
       (capacity_own old object header name value known.can own ∙ at_cell known) (own_keeps known own adds)
       (own_shown known own adds)
   field_is_set within (AddsField.to_store store behind is room adds) =
@@ -69,7 +69,7 @@ module _ {old new : Mutator} {graph : Graph} {plain : PlainObject} {object : ℕ
       record { known = known; behind = behind; is = is; room = room; adds = adds } in
       let over = store_over adding in
       set_by _ _ (need_to_store old object header name value store known.can behind is room) over.room
-      (record { space = over_space over; young = over_young over })
+      (record { beside = over_beside over; young = over_young over })
       (capacity_to_store old object header name value store known.can behind is room ∙ at_cell known)
       (store_keeps adding) (store_shown adding)
   field_is_set within (AddsField.to_new_store store behind is full adds) =
@@ -77,6 +77,6 @@ module _ {old new : Mutator} {graph : Graph} {plain : PlainObject} {object : ℕ
       record { known = known; behind = behind; is = is; full = full; adds = adds } in
       let over = grown_over growing in
       set_by _ _ (need_to_new_store old object header name value store known.can behind is full) over.room
-      (record { space = over_space over; young = over_young over })
+      (record { beside = over_beside over; young = over_young over })
       (capacity_to_new_store old object header name value store known.can behind is full)
       (grown_becomes growing within) (grown_shown growing)

@@ -1,20 +1,20 @@
 -- The fields of an object, one of which is taken out: which stand where, and which path they have.
-use Rattle.std.proofs.Common.{◌≡◌, ℕ, zero, suc, ◌<◌, ◌≤◌, true, false, Bool, List, [], ◌∷◌, ◌++◌, length, map}
-use Rattle.std.proofs.Common.{take, drop, Some, None, slice_get, nat_lt, cond, ◌==◌}
-use Rattle.std.proofs.Common.{refl, sym, ◌∙◌, ap, arith, inl, inr, length-append, length-take, length-drop}
-use Rattle.std.specs.Prelude.{if◌then◌else◌, Option, option_map}
+use Rattle.std.proofs.Common.{◌≡◌, ℕ, zero, suc, ◌<◌, ◌≤◌, true, false, List, [], ◌∷◌, ◌++◌}
+use Rattle.std.proofs.Common.{length, map, take, drop, Some, None, slice_get, nat_lt, cond, ◌==◌, refl, sym, ◌∙◌, ap}
+use Rattle.std.proofs.Common.{arith, inl, inr, length-append, length-take, length-drop}
+use Rattle.std.specs.Prelude.{if◌then◌else◌, option_map}
 use Rattle.std.specs.List.{IsDistinct}
 use Rattle.std.proofs.lemmas.Bool.{cases_lt, eq-eqb}
 use Rattle.std.proofs.lemmas.Bool.Decides.{nat_tests}
 use Rattle.std.proofs.lemmas.List.{map-append, take-map, drop-map}
 use Rattle.std.proofs.lemmas.Option.{none-some, same_Some, slice_get-map, slice_get_within}
-use Rattle.object_graph.specs.declared.value.Value.{Value}
 use Rattle.object_graph.specs.declared.object.Field.{Field}
 use Rattle.object_graph.specs.declared.path.PathField.{PathField}
 use Rattle.object_graph.specs.Objects.{field_value, without_field}
 use Rattle.object_graph.specs.Paths.{path_of}
 use Rattle.shape_tree.specs.Shapes.{without}
 use Rattle.object_cells.proofs.FieldsFound.{apart_at}
+use Rattle.shape_change.proofs.AddedFields.{none_chosen}
 
 -- from which place an element comes, where the one at a place is taken out
 abbrev pub origin_of : ℕ → ℕ → ℕ
@@ -128,16 +128,10 @@ are_less cap fields k field name distinct there is =
           ∙ sym (map-append part (take k fields) (drop (suc k) fields)) ∙ ap (map part) (sym less));
     }
 
--- what is found by a test is nothing where the test fails, and the other is nothing
-none_by : (test : Bool) (value : Value) (found : Option Value) → cond test (Some value) found ≡ None
-    → (test ≡ false) × (found ≡ None)
-none_by true value found none = absurd (none-some value (sym none))
-none_by false value found none = (refl, none)
-
 -- where no field has the name, none is taken out
 pub none_less : (fields : List Field) (name : ℕ) → field_value fields name ≡ None → without_field fields name ≡ fields
 none_less [] name none = refl
 none_less (field ∷ fields) name none =
-    let parts = none_by (field.name == name) field.value (field_value fields name) none in
+    let parts = none_chosen (field.name == name) field.value (field_value fields name) none in
     ap (λ t. cond t fields (field ∷ without_field fields name)) parts.0
     ∙ ap (λ fs. field ∷ fs) (none_less fields name parts.1)

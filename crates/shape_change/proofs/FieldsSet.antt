@@ -42,7 +42,8 @@ first_named first field name there is =
 
 -- a field's place in its path is found by its name
 pub index_found : (cap : ℕ) (fields : List Field) (k : ℕ) (field : Field) (name : ℕ)
-    → IsDistinct ◌==◌ (map (λ (one : Field). one.name) fields) → slice_get fields k ≡ Some field → field.name ≡ name
+    → IsDistinct ◌==◌ (map (λ (one : Field). one.name) fields)
+    → slice_get fields k ≡ Some field → field.name ≡ name
     → index_of (path_of cap fields).fields name ≡ Some k
 index_found cap [] k field name distinct there is = absurd (none-some field there)
 index_found cap (first ∷ fields) zero field name distinct there is =
@@ -55,7 +56,8 @@ index_found cap (first ∷ fields) (suc k) field name distinct there is =
 
 -- the field of a name that is there is given the value where it stands
 pub with_field_found : (fields : List Field) (k : ℕ) (field : Field) (name : ℕ) (value : Value)
-    → IsDistinct ◌==◌ (map (λ (one : Field). one.name) fields) → slice_get fields k ≡ Some field → field.name ≡ name
+    → IsDistinct ◌==◌ (map (λ (one : Field). one.name) fields)
+    → slice_get fields k ≡ Some field → field.name ≡ name
     → with_field fields name value ≡ set fields k (revalued field value)
 with_field_found [] k field name value distinct there is = absurd (none-some field there)
 with_field_found (first ∷ fields) zero field name value distinct there is =

@@ -6,16 +6,10 @@ use Rattle.write_barrier.specs.Opening.{ChangesWithin}
 use Rattle.object_cells.specs.declared.content.Filling.{Filling}
 use Rattle.object_cells.specs.declared.content.Filling.TheVariants as filling
 use Rattle.object_cells.specs.Contents.{filled, Allocates}
+use Rattle.object_cells.proofs.WordsBeside.{allocates_seat}
 use Rattle.shape_change.specs.Fillings.{with_paths}
 
--- where words are used, the seat stays
-pub allocates_seat : (old new : Mutator) (filling : Filling) → Allocates old new filling → new.seat ≡ old.seat
-allocates_seat old new (filling.Tagged word) same = ap (λ (main : Mutator). main.seat) same
-allocates_seat old new (filling.Raw word) same = ap (λ (main : Mutator). main.seat) same
-allocates_seat old new (filling.NewBox at v) more = ap (λ (main : Mutator). main.seat) more.1
-allocates_seat old new (filling.OldBox at v) same = ap (λ (main : Mutator). main.seat) same
-
--- and the paths stay
+-- where words are used, the paths stay
 pub allocates_paths : (old new : Mutator) (filling : Filling) → Allocates old new filling → new.paths ≡ old.paths
 allocates_paths old new (filling.Tagged word) same = ap (λ (main : Mutator). main.paths) same
 allocates_paths old new (filling.Raw word) same = ap (λ (main : Mutator). main.paths) same

@@ -151,7 +151,8 @@ tagged_shown {old} {new = new} at next word s numbered ready shape head holds =
 -- no wide field that stands in the object is in a tagged slot
 raw_not_tagged : {old new : Heap} {cell : Cell} {shape at word slot : ℕ} {others made : List Cell} {before : List Field}
     {field : Field} (sets : SetsOne old new cell shape at word slot others made before field)
-    → nat_lt slot cell.layout.cap ≡ true → field.rep ≡ rep.Wide → IsTaggedSlot (reshaped new.paths cell shape) slot → ⊥
+    → nat_lt slot cell.layout.cap ≡ true → field.rep ≡ rep.Wide
+    → IsTaggedSlot (reshaped new.paths cell shape) slot → ⊥
 raw_not_tagged {new = new} {cell} {shape} {slot = slot} {before = before} {field} sets own wide tagged =
     let path : Path = shape_path new.paths shape in
     let within : slot < path.cap = grind (arith, nat_tests, own, sets.puts.writes.cap) in

@@ -1,5 +1,5 @@
 -- The place of a slot is the address of its number, and the word there is that of its field.
-use Rattle.std.proofs.Common.{◌≡◌, ℕ, ◌+◌, ◌-◌, ◌<◌, ◌≤◌, true, false, List, length, Some, nat_lt, cond, unwrap_or}
+use Rattle.std.proofs.Common.{◌≡◌, ℕ, ◌+◌, ◌-◌, ◌<◌, ◌≤◌, true, false, List, length, Some, nat_lt, cond}
 use Rattle.std.proofs.Common.{refl, sym, ◌∙◌, ap, arith, length-drop}
 use Rattle.std.proofs.lemmas.Bool.Decides.{nat_tests}
 use Rattle.tagged_word.specs.declared.layout.Kind.TheVariants as kind
@@ -14,19 +14,13 @@ use Rattle.heap_model.specs.Needs.{word_at, field_word, beside_by}
 use Rattle.heap_model.proofs.CellsApart.{IsOfCell}
 use Rattle.heap_model.proofs.CellWords.{words_are_size}
 use Rattle.heap_model.proofs.WordClasses.{same_reference}
+use Rattle.heap_model.proofs.WordsRead.{word_of_cell}
 use Rattle.shape_change.specs.declared.place.Place.{Place}
 use Rattle.shape_change.specs.declared.place.Place.TheVariants.{InObject, Beside}
 use Rattle.shape_change.specs.Places.{place_at, IsPlaceOf}
-use Rattle.object_cells.proofs.CellsRead.{word_stands}
 use Rattle.object_cells.proofs.SlotPlaces.{behind_cap_below}
 use Rattle.object_cells.proofs.NumberedSlots.{IsNumbered}
 use Rattle.object_cells.proofs.SlotsNow.{plain_cell_size}
-
--- the word of a cell at an offset is read there
-pub word_read : {heap : Heap} {cell : Cell} {words : List ℕ} (k word : ℕ) → HasCell heap cell words
-    → HasWord words k word
-    → word_at heap (cell.at + k) ≡ word
-word_read k word has there = ap (λ found. unwrap_or found 0) (word_stands k word has there)
 
 -- a place in the store is the address of its slot
 place_beside : {heap : Heap} {cell : Cell} {words : List ℕ} (word : ℕ) (slots : List ℕ) (slot store offset : ℕ)
@@ -55,7 +49,7 @@ place_numbered {cell = cell} slot (InObject offset) has plain are below is =
     record { from = omega arith; below = omega (arith, is.0, is.1, plain_cell_size has plain) } in
     IsNumbered.own is.0 (ap (λ n. cell.at + n) is.1) of_cell
 place_numbered {cell = cell} slot (Beside store offset) has plain are below is =
-    let read = word_read store_slot are.store has are.slot in
+    let read = word_of_cell store_slot are.store has are.slot in
     place_beside are.store are.beside slot store offset are.slot are.stands is.0
     (behind_cap_below slot cell.layout.cap has plain are refl is.0 below) (ap reference_in (sym read) ∙ is.1) is.2
 

@@ -1,6 +1,6 @@
 -- The store and the box that were made for a field that is new, as they stand in the new heap.
-use Rattle.std.proofs.Common.{◌≡◌, ◌≢◌, ℕ, ◌+◌, ◌≤◌, ◌<◌, inl, inr, ◌∷◌, Some, slice_get, sym, ◌∙◌, ap}
-use Rattle.std.proofs.Common.{subst, arith}
+use Rattle.std.proofs.Common.{◌≡◌, ◌≢◌, ℕ, ◌+◌, ◌≤◌, ◌<◌, inl, inr, ◌∷◌, Some, slice_get, sym}
+use Rattle.std.proofs.Common.{◌∙◌, ap, subst, arith}
 use Rattle.std.specs.Prelude.{ℤ, slice_set}
 use Rattle.tagged_word.specs.declared.header.Header.{Header}
 use Rattle.tagged_word.specs.Headers.{header_bits}
@@ -64,7 +64,8 @@ module _ {old new : Mutator} {graph : Graph} {plain : PlainObject} {object : ℕ
         below = omega (arith, there.found.stands, there.found.size, there.capacity, below);
       } in
       store_word_is (store_head + k) (omega (arith, below)) (λ same. omega (arith, same, below))
-      ∙ with_store_copied (heap_words adds.mid.seat) object store (grown store.capacity) (next_at old) (makes growing) k below
+      ∙ with_store_copied (heap_words adds.mid.seat) object store (grown store.capacity)
+      (next_at old) (makes growing) k below
       ∙ adds.path.stay (store.at + (store_head + k))
       (cell_below_layouts known.shows.shows.whole there.found.refers.has of_store)
 
@@ -74,7 +75,8 @@ module _ {old new : Mutator} {graph : Graph} {plain : PlainObject} {object : ℕ
       let adds = growing.adds in
       let words = boxed old adds.mid object value store in
       let long = length-with_content (stored old adds.mid object store) (beside_content value) (box_at old store)
-      ∙ length-with_store (heap_words adds.mid.seat) object store (grown store.capacity) (next_at old) (makes growing) ∙ counted growing in
+      ∙ length-with_store (heap_words adds.mid.seat) object store (grown store.capacity) (next_at old)
+      (makes growing) ∙ counted growing in
       let put = slice_set words (slot_at old store) (slot_word old value store) in
       ap (λ all. slice_get all (slot_at old store)) adds.words.heap
       ∙ slice_get-set_other put object (slot_at old store) (header_bits (record header { shape = adds.next }))
@@ -87,7 +89,8 @@ module _ {old new : Mutator} {graph : Graph} {plain : PlainObject} {object : ℕ
       → slice_get (heap_words new.seat) (next_at old + (store_head + k)) ≡ Some hole_word
   slot_hole k from below =
       store_word_is (store_head + k) (omega (arith, below)) (λ same. omega (arith, same, from))
-      ∙ with_store_word (heap_words growing.adds.mid.seat) object store (grown store.capacity) (next_at old) (makes growing) (store_head + k)
+      ∙ with_store_word (heap_words growing.adds.mid.seat) object store (grown store.capacity) (next_at old)
+      (makes growing) (store_head + k)
       (omega (arith, below)) (inr (omega (arith, from)))
       ∙ empty_store_hole (grown store.capacity) k below
 
@@ -96,7 +99,8 @@ module _ {old new : Mutator} {graph : Graph} {plain : PlainObject} {object : ℕ
       → slice_get (heap_words new.seat) (next_at old + k) ≡ slice_get (empty_store (grown store.capacity)) k
   head_word k below =
       store_word_is k (omega (arith, below)) (λ same. omega (arith, same, below))
-      ∙ with_store_word (heap_words growing.adds.mid.seat) object store (grown store.capacity) (next_at old) (makes growing) k
+      ∙ with_store_word (heap_words growing.adds.mid.seat) object store (grown store.capacity)
+      (next_at old) (makes growing) k
       (omega (arith, below))
       (inl below)
 
@@ -126,7 +130,8 @@ module _ {old new : Mutator} {graph : Graph} {plain : PlainObject} {object : ℕ
       let space = over_space (over growing) in
       let start = ap (λ (s : Space). eden_start s) space in
       let segments = ap (λ (s : Space). segments_start s) space in
-      let long = length-with_store (heap_words adds.mid.seat) object store (grown store.capacity) (next_at old) (makes growing)
+      let long =
+      length-with_store (heap_words adds.mid.seat) object store (grown store.capacity) (next_at old) (makes growing)
       ∙ counted growing in
       let behind = marks_start_is old.seat.space in
       let words = λ (v : ℤ) (is : beside_content value ≡ content.Boxed v).

@@ -1,6 +1,6 @@
 -- The words where a store was made for a field that is new, and a box behind it where the field needs one.
-use Rattle.std.proofs.Common.{◌≡◌, ◌≢◌, ℕ, ◌+◌, ◌≤◌, ◌<◌, inl, inr, List, length, Some, slice_get, refl, sym, ◌∙◌, ap}
-use Rattle.std.proofs.Common.{arith, length-set}
+use Rattle.std.proofs.Common.{◌≡◌, ◌≢◌, ℕ, ◌+◌, ◌≤◌, ◌<◌, inl, inr, List, length, Some, slice_get}
+use Rattle.std.proofs.Common.{refl, sym, ◌∙◌, ap, arith, length-set}
 use Rattle.std.specs.Prelude.{slice_set}
 use Rattle.tagged_word.specs.declared.header.Header.{Header}
 use Rattle.tagged_word.specs.Headers.{header_bits}
@@ -86,7 +86,7 @@ module _ {old new : Mutator} {graph : Graph} {plain : PlainObject} {object : ℕ
 
   -- there are as many words as stand before the marks
   pub counted : length (heap_words growing.adds.mid.seat) ≡ marks_start old.seat.space
-  counted = growing.adds.path.sized.words ∙ ap (λ (s : Space). marks_start s) growing.adds.path.space
+  counted = growing.adds.path.sized.words ∙ ap (λ (s : Space). marks_start s) growing.adds.path.beside.space
 
   -- the layout words stand behind eden
   pub eden_below : segments_start old.seat.space ≤ layouts_start old.seat.space
@@ -153,7 +153,8 @@ module _ {old new : Mutator} {graph : Graph} {plain : PlainObject} {object : ℕ
       ∙ length-with_store words object store (grown store.capacity) (next_at old) makes
 
   -- a word of the object's cell is none of a box or of the new slot
-  not_in_run : (a : ℕ) → IsOfCell growing.known.cell a → next_at old ≤ a → a < next_at old + run_words value store → ⊥
+  not_in_run : (a : ℕ) → IsOfCell growing.known.cell a → next_at old ≤ a
+      → a < next_at old + run_words value store → ⊥
   not_in_run a of_cell from below = apart_from_run a a growing.known.has of_cell from below refl
 
   -- the words that are put are the slot for the store and the header, and words that were reserved

@@ -82,8 +82,8 @@ ready_put {old} {mid} {new} {first} {head} {second} {word} {need} ready puts fir
     let is_new = λ (a : ℕ) (from : next_at old ≤ a) (before : a < next_at old + need).
     still_new a ready puts (record { from = from; below = omega (arith, before, used) }) in
     record {
-      space = puts.space ∙ ready.space;
-      phase = puts.phase ∙ ready.phase;
+      space = puts.beside.space ∙ ready.space;
+      phase = puts.beside.phase ∙ ready.phase;
       young = puts.young ∙ ready.young;
       room = ready.room;
       more = ready.more;

@@ -15,9 +15,9 @@ use Rattle.shape_change.specs.declared.slot_setting.SlotSetting.{SlotSetting}
 use Rattle.shape_change.specs.declared.stop.FieldStop.{FieldStop}
 use Rattle.shape_change.specs.declared.stop.FieldStop.TheVariants as stop
 use Rattle.object_cells.specs.CellsAt.{HasField}
-use Rattle.object_cells.specs.Contents.{filling_at, LacksRoom}
+use Rattle.object_cells.specs.Contents.{filling_at, LacksRoom, FillsSlot}
 use Rattle.shape_change.specs.FieldChanges.{HasSetField, SetsField}
-use Rattle.shape_change.specs.Fillings.{FillsSlot, IsSlotSetting, SetsWider}
+use Rattle.shape_change.specs.Fillings.{IsSlotSetting, SetsWider}
 use Rattle.shape_change.specs.Places.{place_at}
 use Rattle.object_cells.proofs.HeldContents.{held_rep_is}
 use Rattle.shape_change.proofs.Settings.{Setting}

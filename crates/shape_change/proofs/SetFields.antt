@@ -103,10 +103,10 @@ field_shown {old} {new = new} {graph} {slot = slot} {next} {plain = plain} {what
     let shown = subst (λ n. ShowsPlain heap s.cell (words_of_cell heap s.cell) n plain.fields) s.cap s.shown in
     let added = ap (λ paths. with_path (Some paths_most) paths (path_of plain.cap fields)) (sym s.shows.shows.paths)
     ∙ shape.added in
-    let space : new.seat.space ≡ old.seat.space = puts.space ∙ ready.space in
+    let space : new.seat.space ≡ old.seat.space = puts.beside.space ∙ ready.space in
     let tied : IsTied new =
     ap (λ (y : Young). y.space) (puts.young ∙ ready.young) ∙ s.shows.tied ∙ sym space in
-    let quiet : new.seat.phase ≡ Quiet = puts.phase ∙ ready.phase ∙ s.shows.quiet in
+    let quiet : new.seat.phase ≡ Quiet = puts.beside.phase ∙ ready.phase ∙ s.shows.quiet in
     record {
       shows = subst (ShowsRefilled new graph plain) (sym same)
           (written_fields_show old new graph plain s.cell next others made fields s.shows s.is.object s.carries s.cap

@@ -15,7 +15,7 @@ use Rattle.page_space.specs.Sizes.{AreWithin}
 use Rattle.page_space.specs.Extents.{Space}
 use Rattle.shape_tree.specs.Shapes.{shape_path, IsShapeOf}
 use Rattle.nursery.specs.Young.{Young, HasRoom}
-use Rattle.heap_table.specs.Seats.{heap_words}
+use Rattle.heap_table.specs.Seats.{heap_words, StaysBeside}
 use Rattle.heap_model.specs.Heaps.{Heap, words_of_cell}
 use Rattle.heap_model.specs.Needs.{set_need_at, set_need_by, path_at, index_of, field_word, is_raw_after, box_need}
 use Rattle.heap_model.specs.Needs.{is_box_word, capacity_at}
@@ -29,12 +29,12 @@ use Rattle.object_cells.specs.HeldValues.{is_wide}
 use Rattle.object_cells.specs.Uses.{UsesMore}
 use Rattle.object_cells.specs.Capacities.{ChangesObject, set_capacity_at, set_capacity_by}
 use Rattle.shape_change.specs.FieldChanges.{HasSetField}
-use Rattle.object_cells.specs.Contents.{box_in, next_at, filling_of, filling_at, filling_need, filled}
-use Rattle.shape_change.specs.Fillings.{FillsSlot, FillsWider}
+use Rattle.object_cells.specs.Contents.{box_in, next_at, filling_of, filling_at, filling_need, filled, FillsSlot}
+use Rattle.shape_change.specs.Fillings.{FillsWider}
 use Rattle.shape_change.specs.Places.{place_at, IsPlaceOf}
 use Rattle.object_cells.proofs.FieldWords.{path_field}
 use Rattle.shape_change.proofs.FieldsSet.{index_found, path_stays}
-use Rattle.shape_change.proofs.Filled.{allocates_paths, filled_space}
+use Rattle.shape_change.proofs.Filled.{allocates_paths}
 use Rattle.shape_change.proofs.FilledFields.{next_head}
 use Rattle.shape_change.proofs.FoundPlaces.{field_word_at}
 use Rattle.object_cells.proofs.OneWord.{IsReady}
@@ -107,27 +107,23 @@ filled_paths main at (filling.OldBox box v) = refl
 
 -- where the header is put too, only words have changed
 head_rest : (before old new : Mutator) (object head : ℕ) → HasHead before old new object head
-    → (new.seat.space ≡ old.seat.space) × (new.young ≡ old.young) × (new.paths ≡ old.paths)
+    → (new.young ≡ old.young) × (new.paths ≡ old.paths)
 head_rest before old new object head (inl is) = (
-  ap (λ (main : Mutator). main.seat.space) is.0,
   ap (λ (main : Mutator). main.young) is.0,
   ap (λ (main : Mutator). main.paths) is.0,
 )
 head_rest before old new object head (inr is) = (
-  ap (λ (main : Mutator). main.seat.space) is,
   ap (λ (main : Mutator). main.young) is,
   ap (λ (main : Mutator). main.paths) is,
 )
 
 -- so many words of eden more are used
 uses_more : {old mid new : Mutator} {need : ℕ} (object head at : ℕ) (filling : Filling) → IsReady old mid need
-    → HasHead mid (filled mid at filling) new object head → UsesMore old new need
-uses_more {mid = mid} {new} object head at filling ready put =
-    let rest = head_rest mid (filled mid at filling) new object head put in
-    record {
-      space = rest.0 ∙ filled_space mid at filling ∙ ready.space;
-      young = rest.1 ∙ filled_young mid at filling ∙ ready.young;
-    }
+    → StaysBeside old.seat new.seat → HasHead mid (filled mid at filling) new object head → UsesMore old new need
+uses_more {mid = mid} {new} object head at filling ready beside put = record {
+  beside = beside;
+  young = (head_rest mid (filled mid at filling) new object head put).0 ∙ filled_young mid at filling ∙ ready.young;
+}
 
 -- the young generation has room for no word more
 room_for_none : {old : Mutator} {graph : Graph} {object slot : ℕ} {plain : PlainObject} {what : Value} {name : ℕ}
@@ -156,15 +152,16 @@ pub has_set_field : {old mid new : Mutator} {graph : Graph} {object slot : ℕ} 
     → AreWithin old.seat.space.sizes old.seat.space.variables
     → IsPlaceOf (heap_of old) s.cell.at s.cell.layout.cap slot place → FillsAt s (place_at s.cell.at place) word content
     → IsReady old mid (filling_need (filling_at old (place_at s.cell.at place) content)) → IsNextShape old new s next
+    → StaysBeside old.seat new.seat
     → HasHead mid (filled mid (place_at s.cell.at place) (filling_at old (place_at s.cell.at place) content)) new
     s.cell.at (next_head s next)
     → HasSetField old new graph object plain name what
 has_set_field {old} {new = new} {graph} {object} {plain = plain} {what} {name} place word next content s within is
-    fills ready shape head =
+    fills ready shape beside head =
     let at : ℕ = place_at s.cell.at place in
     let need = setting_need place word content s within is fills in
     let P : ℕ → Type 0 = λ n. HasRoom old.young n × UsesMore old new n in
-    let uses = uses_more s.cell.at (next_head s next) at (filling_at old at content) ready head in
+    let uses = uses_more s.cell.at (next_head s next) at (filling_at old at content) ready beside head in
     let used = subst P (sym need) (ready.room, uses) in
     let at_object = subst (λ a. P (set_need_at (heap_of old) a name (is_wide what))) s.stands used in
     let shown = fill_shown at word next content s fills ready shape head in
@@ -182,7 +179,7 @@ has_set_field {old} {new = new} {graph} {object} {plain = plain} {what} {name} p
 filled_with_paths : (mid new : Mutator) (object head at : ℕ) (filling : Filling)
     → HasHead mid (filled mid at filling) new object head → new.paths ≡ mid.paths
 filled_with_paths mid new object head at filling put =
-    (head_rest mid (filled mid at filling) new object head put).2 ∙ filled_paths mid at filling
+    (head_rest mid (filled mid at filling) new object head put).1 ∙ filled_paths mid at filling
 
 -- where the representation stays, the shape does
 same_shape : {old new : Mutator} {graph : Graph} {object slot : ℕ} {plain : PlainObject} {what : Value} {name : ℕ}
@@ -219,7 +216,8 @@ set_as_it_is {old} {new} place word content s within is fills same filled_so =
     inl (filled_so.fills, head_was s ready) in
     let paths = filled_with_paths between new s.cell.at (next_head s s.cell.header.shape) at filling head
     ∙ allocates_paths old between filling filled_so.allocates in
-    has_set_field place word s.cell.header.shape content s within is fills ready (same_shape s same paths) head
+    has_set_field place word s.cell.header.shape content s within is fills ready (same_shape s same paths)
+    filled_so.beside head
 
 -- paths were added behind the others
 added_behind : (old new : List Path) (path : Path) → with_path (Some paths_most) old path ≡ Some new
@@ -256,4 +254,4 @@ set_wider_has {old} {new} {plain = plain} {what} place word path content s withi
           (subst (λ all. IsShapeOf all path wider.next) (sym paths) wider.leads.shape_is);
       added = ap (with_path (Some paths_most) old.paths) is_path ∙ wider.leads.added ∙ ap Some (sym paths);
     } in
-    has_set_field place word wider.next content s within is fills ready shape head
+    has_set_field place word wider.next content s within is fills ready shape wider.beside head

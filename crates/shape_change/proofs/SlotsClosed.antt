@@ -1,21 +1,25 @@
 -- Slots of a plain object that moved down by one, in the object and in its store.
-use Rattle.std.proofs.Common.{◌≡◌, ◌≢◌, ℕ, suc, ◌+◌, ◌-◌, ◌<◌, ◌≤◌, ◌⊎◌, inl, inr, slice_get}
-use Rattle.std.proofs.Common.{length, sym, ◌∙◌, ap, arith, length-set}
+use Rattle.std.proofs.Common.{◌≡◌, ◌≢◌, ℕ, suc, ◌+◌, ◌-◌}
+use Rattle.std.proofs.Common.{◌<◌, ◌≤◌, ◌⊎◌, inl, inr, slice_get}
+use Rattle.std.proofs.Common.{Some, length, sym, ◌∙◌, ap, arith, length-set}
 use Rattle.std.specs.Prelude.{slice_set}
 use Rattle.std.proofs.lemmas.Bool.{cases_lt}
 use Rattle.tagged_word.specs.Cells.{plain_head, store_head}
+use Rattle.page_space.specs.Extents.{marks_start}
+use Rattle.object_graph.proofs.Lists.{slice_get-set_same, slice_get-set_other}
 use Rattle.heap_table.specs.Seats.{heap_words}
+use Rattle.heap_table.specs.Staying.{stays_beside_itself, stays_beside_again}
 use Rattle.heap_model.specs.Slots.{hole_word}
 use Rattle.write_barrier.specs.Mains.{Mutator, with_word}
-use Rattle.shape_change.specs.Shifts.{KeepsRest, ClosesGap, ClosesSlots, slot_at}
+use Rattle.object_cells.proofs.WordsBeside.{put_beside}
+use Rattle.shape_change.specs.Shifts.{KeepsRest, MovesDown, ClosesGap, ClosesSlots, slot_at}
 use Rattle.shape_change.proofs.SlotAddresses.{slot_at-own, slot_at-beside}
 
 -- one word was put
 pub rest_put : (old new : Mutator) (a word : ℕ) → new ≡ with_word old a word
-    → heap_words new.seat ≡ slice_set (heap_words old.seat) a word → KeepsRest old new
-rest_put old new a word is heap = record {
-  space = ap (λ (main : Mutator). main.seat.space) is;
-  phase = ap (λ (main : Mutator). main.seat.phase) is;
+    → heap_words new.seat ≡ slice_set (heap_words old.seat) a word → a < marks_start old.seat.space → KeepsRest old new
+rest_put old new a word is heap below = record {
+  beside = put_beside a word (stays_beside_itself old.seat) is below;
   paths = ap (λ (main : Mutator). main.paths) is;
   young = ap (λ (main : Mutator). main.young) is;
   count = ap length heap ∙ length-set (heap_words old.seat) a word;
@@ -24,12 +28,37 @@ rest_put old new a word is heap = record {
 -- words change after others
 pub rest_then : (old mid new : Mutator) → KeepsRest old mid → KeepsRest mid new → KeepsRest old new
 rest_then old mid new before then = record {
-  space = then.space ∙ before.space;
-  phase = then.phase ∙ before.phase;
+  beside = stays_beside_again old.seat mid.seat new.seat before.beside then.beside;
   paths = then.paths ∙ before.paths;
   young = then.young ∙ before.young;
   count = then.count ∙ before.count;
 }
+
+-- one more slot has moved once the word of the next is put in it
+pub moved_more : {old mid new : Mutator} (from to word : ℕ) → from ≤ to → MovesDown old mid from to
+    → new ≡ with_word mid to word → heap_words new.seat ≡ slice_set (heap_words mid.seat) to word
+    → slice_get (heap_words mid.seat) (to + 1) ≡ Some word → to < marks_start mid.seat.space
+    → to < length (heap_words mid.seat) → MovesDown old new from (to + 1)
+moved_more {old} {mid} {new} from to word ordered moves is heap read below within =
+    let words = heap_words mid.seat in
+    let other : (a : ℕ) → a ≢ to → slice_get (heap_words new.seat) a ≡ slice_get words a = λ a apart.
+    ap (λ all. slice_get all a) heap ∙ slice_get-set_other words to a word apart in
+    record {
+      rest = rest_then old mid new moves.rest (rest_put mid new to word is heap below);
+      moved = λ a low high. elim (cases_lt a to) [
+        | inl before ↦ other a (λ same. omega (arith, same, before)) ∙ moves.moved a low before
+        | inr from_it ↦
+            let same : a ≡ to = omega (arith, high, from_it) in
+            ap (slice_get (heap_words new.seat)) same
+            ∙ ap (λ all. slice_get all to) heap ∙ slice_get-set_same words to word within ∙ sym read
+            ∙ moves.beside (to + 1) (inr (omega arith))
+            ∙ ap (λ n. slice_get (heap_words old.seat) (n + 1)) (sym same)
+      ];
+      beside = λ a out. elim out [
+        | inl before ↦ other a (λ same. omega (arith, same, before, ordered)) ∙ moves.beside a (inl before)
+        | inr behind ↦ other a (λ same. omega (arith, same, behind)) ∙ moves.beside a (inr (omega (arith, behind)))
+      ];
+    }
 
 -- what is none of so many addresses is before or behind them
 outside : (at base first last : ℕ) → ((k : ℕ) → first ≤ k → k ≤ last → base + k ≢ at)

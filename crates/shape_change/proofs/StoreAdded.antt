@@ -1,6 +1,6 @@
 -- A field that comes to a slot that the property store has is shown, in a box where it needs one.
-use Rattle.std.proofs.Common.{◌≡◌, ◌≢◌, ℕ, ◌+◌, ◌≤◌, ◌<◌, false, List, ◌∷◌, length, refl, sym, ◌∙◌, ap, subst}
-use Rattle.std.proofs.Common.{arith, inl, inr, nat_lt, slice_get, Contains}
+use Rattle.std.proofs.Common.{◌≡◌, ◌≢◌, ℕ, ◌+◌, ◌≤◌, ◌<◌, false, List, ◌∷◌, length, refl, sym}
+use Rattle.std.proofs.Common.{◌∙◌, ap, subst, arith, inl, inr, nat_lt, slice_get, Contains}
 use Rattle.std.specs.Prelude.{ℤ, slice_set}
 use Rattle.std.proofs.lemmas.Bool.{false≢true}
 use Rattle.std.proofs.lemmas.Bool.Decides.{nat_tests}
@@ -158,7 +158,7 @@ module _ {old new : Mutator} {graph : Graph} {plain : PlainObject} {object : ℕ
       let ends = next_before_segments old (content_need (beside_content value)) adding.known.can.tied adds.room in
       let start = ap (λ (s : Space). eden_start s) space in
       let segments = ap (λ (s : Space). segments_start s) space in
-      let count = adds.path.sized.words ∙ ap (λ (s : Space). marks_start s) adds.path.space in
+      let count = adds.path.sized.words ∙ ap (λ (s : Space). marks_start s) adds.path.beside.space in
       let within : segments_start old.seat.space ≤ marks_start old.seat.space =
       omega (arith, roots_start_is old.seat.space, layouts_start_is old.seat.space, marks_start_is old.seat.space) in
       let words = λ (v : ℤ) (boxed : beside_content value ≡ content.Boxed v).

@@ -34,7 +34,7 @@ one_fewer old mid object shape slot next there found =
     record {
       cap = ap (λ (p : Path). p.cap) path;
       fields = omega (arith, ap (λ (p : Path). length p.fields) path, fewer);
-      marks = ap marks_start found.2.space;
+      marks = ap marks_start found.2.beside.space;
     }
 
 -- all slots of the object stand before the marks

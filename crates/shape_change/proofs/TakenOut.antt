@@ -1,6 +1,7 @@
 -- A field is taken out of a plain object: its path is added, its slots are closed, and its header is put.
-use Rattle.std.proofs.Common.{◌≡◌, ◌≢◌, ℕ, suc, ◌+◌, ◌-◌, ◌<◌, ◌≤◌, inl, inr, List, length, Some, slice_get}
-use Rattle.std.proofs.Common.{sym, ◌∙◌, ap, subst, arith, length-append, length-take, length-drop, take, drop}
+use Rattle.std.proofs.Common.{◌≡◌, ◌≢◌, ℕ, suc, ◌+◌, ◌-◌, ◌<◌, ◌≤◌, inl, inr, List, length, Some}
+use Rattle.std.proofs.Common.{slice_get, sym, ◌∙◌, ap, subst, arith, length-append, length-take, length-drop, take}
+use Rattle.std.proofs.Common.{drop}
 use Rattle.std.specs.Prelude.{slice_set}
 use Rattle.std.proofs.lemmas.Bool.{cases_lt}
 use Rattle.tagged_word.specs.declared.header.Header.{Header}
@@ -12,6 +13,7 @@ use Rattle.object_graph.proofs.Lists.{slice_get-set_same, slice_get-set_other}
 use Rattle.shape_tree.specs.Shapes.{shape_path, without, Leads, AreShapes}
 use Rattle.shape_tree.specs.ShapeLayouts.{layout_word}
 use Rattle.heap_table.specs.Seats.{heap_words}
+use Rattle.heap_table.specs.Staying.{stays_beside_again}
 use Rattle.heap_model.specs.Wholeness.{HasSizes}
 use Rattle.write_barrier.specs.Mains.{Mutator, heap_of, with_word}
 use Rattle.shape_change.specs.Shifts.{KeepsRest, ClosesSlots, slot_at}
@@ -64,10 +66,10 @@ sized_stays : (old new : Mutator) → HasSizes (heap_of old) → KeepsRest old n
     → slice_get (heap_words new.seat) at ≡ slice_get (heap_words old.seat) at)
     → HasSizes (heap_of new)
 sized_stays old new sized rest same = record {
-  words = rest.count ∙ sized.words ∙ ap marks_start (sym rest.space);
+  words = rest.count ∙ sized.words ∙ ap marks_start (sym rest.beside.space);
   shapes = subst AreShapes (sym rest.paths) sized.shapes;
   layouts = λ shape below.
-      ap (λ (space : Space). slice_get (heap_words new.seat) (layouts_start space + shape)) rest.space
+      ap (λ (space : Space). slice_get (heap_words new.seat) (layouts_start space + shape)) rest.beside.space
       ∙ same (layouts_start old.seat.space + shape) (omega arith) ∙ sized.layouts shape below
       ∙ ap (λ (paths : List Path). Some (layout_word paths shape)) (sym rest.paths);
 }
@@ -89,7 +91,11 @@ took_out old mid closed new object header slot next cap last store first leads s
     let space = old.seat.space in
     let path : Path = without (shape_path old.paths header.shape) slot in
     let before : object < layouts_start space = omega (arith, stand.own, layouts_start_is space) in
-    let rest : KeepsRest mid new = rest_then mid closed new closes.rest (rest_put closed new object bits is heap) in
+    let marks : marks_start closed.seat.space ≡ marks_start space =
+    ap marks_start (closes.rest.beside.space ∙ adds.beside.space) in
+    let within : object < marks_start closed.seat.space = omega (arith, marks, before, marks_start_is space) in
+    let rest : KeepsRest mid new =
+    rest_then mid closed new closes.rest (rest_put closed new object bits is heap within) in
     let other : (at : ℕ) → object ≢ at → slice_get (heap_words new.seat) at ≡ slice_get (heap_words closed.seat) at =
     λ at apart. ap (λ words. slice_get words at) heap
     ∙ slice_get-set_other (heap_words closed.seat) object at bits (λ same. apart (sym same)) in
@@ -100,17 +106,16 @@ took_out old mid closed new object header slot next cap last store first leads s
     let stands : (one : ℕ) → one ≤ last → SlotStands old object cap store one =
     λ one few. slot_stands old object cap store (suc last) one stand (omega (arith, few)) in
     let long : length (heap_words closed.seat) ≡ marks_start space =
-    closes.rest.count ∙ sized.words ∙ ap marks_start adds.space in
+    closes.rest.count ∙ sized.words ∙ ap marks_start adds.beside.space in
     record {
       next = next;
       leads = subst (λ (paths : List Path). Leads old.paths paths path next) (sym rest.paths) leads;
       sized = sized_stays mid new sized rest (λ at from.
           let behind : layouts_start space ≤ at =
-          omega (arith, from, ap (λ (s : Space). layouts_start s) adds.space) in
+          omega (arith, from, ap (λ (s : Space). layouts_start s) adds.beside.space) in
           stay at (λ same. omega (arith, same, before, behind))
           (λ one low high same. omega (arith, same, (stands one high).below, behind)));
-      space = rest.space ∙ adds.space;
-      phase = rest.phase ∙ adds.phase;
+      beside = stays_beside_again old.seat mid.seat new.seat adds.beside rest.beside;
       young = rest.young ∙ adds.young;
       cap = cap;
       caps = caps;

@@ -1,6 +1,6 @@
 -- How a field of a new name comes to a plain object, behind its other fields: which words that puts.
-use Rattle.std.specs.Prelude.{◌≡◌, ℕ, ◌+◌, ◌-◌, ◌<◌, ◌≤◌, ◌⊎◌, Bool, true, false, not, List, length, slice_get}
-use Rattle.std.specs.Prelude.{slice_set}
+use Rattle.std.specs.Prelude.{◌≡◌, ℕ, ◌+◌, ◌-◌, ◌<◌, ◌≤◌, ◌⊎◌, Bool, true, false, not, List}
+use Rattle.std.specs.Prelude.{length, slice_get, slice_set}
 use Rattle.tagged_word.specs.declared.header.Header.{Header}
 use Rattle.tagged_word.specs.declared.layout.Kind.TheVariants as kind
 use Rattle.tagged_word.specs.Words.{small}
@@ -17,7 +17,7 @@ use Rattle.cell_layout.specs.declared.cell.Cell.{Cell}
 use Rattle.handle_roots.specs.declared.held.Held.{Held}
 use Rattle.handle_roots.specs.declared.held.Held.TheVariants as held
 use Rattle.word_store.specs.Copies.{copied}
-use Rattle.heap_table.specs.Seats.{heap_words}
+use Rattle.heap_table.specs.Seats.{heap_words, StaysBeside}
 use Rattle.heap_model.specs.Heaps.{Heap, HasCell}
 use Rattle.heap_model.specs.Slots.{reference_word, raw_word}
 use Rattle.heap_model.specs.Kinds.{HasSlots}
@@ -30,8 +30,8 @@ use Rattle.object_cells.specs.declared.content.Content.{Content}
 use Rattle.object_cells.specs.declared.content.Content.TheVariants as content
 use Rattle.object_cells.specs.declared.stores.Store.{Store}
 use Rattle.object_cells.specs.CellsAt.{IsWhole}
-use Rattle.object_cells.specs.Made.{IsStoreAt, PutsWords, RefusesRoom, with_store, with_content, content_need, content_word}
-use Rattle.object_cells.specs.Made.{is_wide_held, beside_content}
+use Rattle.object_cells.specs.Made.{IsStoreAt, PutsWords, RefusesRoom, with_store, with_content, content_need}
+use Rattle.object_cells.specs.Made.{content_word, is_wide_held, beside_content}
 use Rattle.object_cells.specs.Contents.{held_rep, content_of, next_at}
 
 -- there may be as many paths as these and those that the path lacks
@@ -84,8 +84,7 @@ pub record CanAdd (main : Mutator) (object : ℕ) (header : Header) (name : ℕ)
 -- The path was added with its missing prefixes, and their layout words were put; its shape is this one. Nothing
 -- else has changed.
 pub record AddsPath (old new : Mutator) (path : Path) (shape : ℕ) : Type 0 where
-  pub space : new.seat.space ≡ old.seat.space
-  pub phase : new.seat.phase ≡ old.seat.phase
+  pub beside : StaysBeside old.seat new.seat
   pub young : new.young ≡ old.young
   pub leads : Leads old.paths new.paths path shape
   pub sized : HasSizes (heap_of new)

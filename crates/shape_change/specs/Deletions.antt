@@ -1,6 +1,6 @@
 -- How a field is taken out of the cells of a plain object.
-use Rattle.std.specs.Prelude.{◌≡◌, ◌≢◌, ℕ, suc, ◌+◌, ◌<◌, ◌≤◌, List, length, Some, slice_get, ℤ, false}
-use Rattle.std.specs.Prelude.{Result, Ok, Err}
+use Rattle.std.specs.Prelude.{◌≡◌, ◌≢◌, ℕ, suc, ◌+◌, ◌<◌, ◌≤◌, List, length, Some, slice_get, ℤ}
+use Rattle.std.specs.Prelude.{false, Result, Ok, Err}
 use Rattle.tagged_word.specs.declared.header.Header.{Header}
 use Rattle.tagged_word.specs.declared.layout.Kind.TheVariants as kind
 use Rattle.tagged_word.specs.Headers.{header_bits}
@@ -12,7 +12,7 @@ use Rattle.object_graph.specs.declared.value.Rep.TheVariants.{Small, Wide, Tagge
 use Rattle.shape_tree.specs.declared.full.ShapesFull.{ShapesFull}
 use Rattle.shape_tree.specs.Shapes.{IsPathShape, shape_path, without, Leads, IsFullFor}
 use Rattle.cell_layout.specs.declared.cell.Cell.{Cell}
-use Rattle.heap_table.specs.Seats.{heap_words}
+use Rattle.heap_table.specs.Seats.{heap_words, StaysBeside}
 use Rattle.heap_model.specs.Heaps.{Heap, HasCell}
 use Rattle.heap_model.specs.Slots.{raw_word, hole_word, RefersTo, RefersToBox, IsFieldWord}
 use Rattle.heap_model.specs.Kinds.{HasWord}
@@ -59,8 +59,7 @@ DrawsInFirst heap store shape drawn =
 
 -- all words before the layout words are the same, and so is all but the paths
 pub record AddsPaths (old new : Mutator) : Type 0 where
-  pub space : new.seat.space ≡ old.seat.space
-  pub phase : new.seat.phase ≡ old.seat.phase
+  pub beside : StaysBeside old.seat new.seat
   pub young : new.young ≡ old.young
   pub count : length (heap_words new.seat) ≡ length (heap_words old.seat)
   pub same : (at : ℕ) → at < layouts_start old.seat.space
@@ -93,8 +92,7 @@ pub record TakesOut (old new : Mutator) (object : ℕ) (header : Header) (slot :
   pub next : ℕ
   pub leads : Leads old.paths new.paths (without (shape_path old.paths header.shape) slot) next
   pub sized : HasSizes (heap_of new)
-  pub space : new.seat.space ≡ old.seat.space
-  pub phase : new.seat.phase ≡ old.seat.phase
+  pub beside : StaysBeside old.seat new.seat
   pub young : new.young ≡ old.young
   pub cap : ℕ
   pub caps : (shape_path old.paths header.shape).cap ≡ cap

@@ -29,9 +29,10 @@ pub record IsShownSetting (main : Mutator) (at : ℕ) (held : Held) : Type 0 whe
   pub is : IsPlainAt main graph at plain
   pub is_held : IsValueHeld main graph held value
 
--- How a field of the object at the address comes to have a value: it allocates what that needs, for which there is room,
--- and the heap shows the graph in which the field has it. Only words of the object change, and those that it allocates. Its
--- property store is made anew where it is full or absent and the field needs a slot of it; no other object's is.
+-- How a field of the object at the address comes to have a value: it allocates what that needs, for which there is
+-- room, and the heap shows the graph in which the field has it. Only words of the object change, and those that it
+-- allocates. Its property store is made anew where it is full or absent and the field needs a slot of it; no other
+-- object's is.
 pub record HasSetField (old new : Mutator) (graph : Graph) (at : ℕ) (plain : PlainObject) (name : ℕ) (value : Value)
     : Type 0 where
   pub few : LacksFields plain name → ⊥
@@ -40,13 +41,13 @@ pub record HasSetField (old new : Mutator) (graph : Graph) (at : ℕ) (plain : P
   pub changes : ChangesObject (heap_of old) (heap_of new) at (set_capacity_at (heap_of old) at name)
   pub shows : ShowsRefilled new graph plain (with_field plain.fields name value)
 
--- There may not be as many paths as the object with these fields needs; the refusal says how many there are, and how many
--- it lacks.
+-- There may not be as many paths as the object with these fields needs; the refusal says how many there are, and how
+-- many it lacks.
 abbrev pub IsFullOfPaths : Graph → PlainObject → List Field → ShapesFull → Type 0
 IsFullOfPaths graph plain fields full = IsFullFor graph.paths graph.paths (path_of plain.cap fields) full
 
--- `set` of a field: the field has the value; or there are too many fields, too many paths, or no room, in this order, and
--- nothing changes.
+-- `set` of a field: the field has the value; or there are too many fields, too many paths, or no room, in this order,
+-- and nothing changes.
 abbrev pub SetsField : Mutator → Mutator → Graph → ℕ → PlainObject → ℕ → Value → Result Unit FieldStop
     → Type 0
 SetsField old new graph at plain name value (Ok _) = HasSetField old new graph at plain name value
@@ -57,8 +58,8 @@ SetsField old new graph at plain name value (Err (stop.Full room)) =
     (LacksFields plain name → ⊥) × (LacksPaths graph plain (with_field plain.fields name value) → ⊥)
     × (room.need ≡ set_need_at (heap_of old) at name (is_wide value)) × (HasRoom old.young room.need → ⊥) × (new ≡ old)
 
--- How a field is taken out: the heap shows the graph in which the object lacks it, and nothing changes where it lacked it
--- before. Only words of the object change, and each property store stays.
+-- How a field is taken out: the heap shows the graph in which the object lacks it, and nothing changes where it lacked
+-- it before. Only words of the object change, and each property store stays.
 pub record HasDeletedField (old new : Mutator) (graph : Graph) (at : ℕ) (plain : PlainObject) (name : ℕ) : Type 0 where
   pub none : field_value plain.fields name ≡ None → new ≡ old
   pub uses : UsesMore old new 0

@@ -9,6 +9,7 @@ use Rattle.object_graph.specs.Limits.{paths_most}
 use Rattle.object_graph.specs.Values.{join}
 use Rattle.shape_tree.specs.Shapes.{IsPathShape, shape_path, Leads, IsFullFor}
 use Rattle.handle_roots.specs.declared.held.Held.{Held}
+use Rattle.heap_table.specs.Seats.{StaysBeside}
 use Rattle.heap_model.specs.Heaps.{Heap}
 use Rattle.heap_model.specs.Needs.{word_at}
 use Rattle.heap_model.specs.Wholeness.{HasSizes}
@@ -46,14 +47,9 @@ pub record CanSetSlot (main : Mutator) (object shape slot : ℕ) (setting : Slot
 abbrev pub with_paths : Mutator → List Path → Mutator
 with_paths main paths = record main { paths = paths }
 
--- the slot at the address came to hold this: the words that it needs are used, and it was filled
-pub record FillsSlot (old new : Mutator) (at : ℕ) (content : Content) : Type 0 where
-  pub between : Mutator
-  pub allocates : Allocates old between (filling_at old at content)
-  pub fills : new ≡ filled between at (filling_at old at content)
-
 -- The slot at the address came to hold this, and the object has the shape of this path: the words that it needs are
--- used, the paths were added with their layout words, the slot was filled, and then the header was put.
+-- used, the paths were added with their layout words, the slot was filled, and then the header was put. The marks and
+-- the board are as they were.
 pub record FillsWider (old new : Mutator) (object at : ℕ) (path : Path) (content : Content) : Type 0 where
   pub between : Mutator
   pub allocates : Allocates old between (filling_at old at content)
@@ -67,6 +63,7 @@ pub record FillsWider (old new : Mutator) (object at : ℕ) (path : Path) (conte
   pub is_header : IsHeaderAt (heap_of old) object header
   pub fills : new ≡ with_word (filled laid at (filling_at old at content)) object
       (header_bits (record header { shape = next }))
+  pub beside : StaysBeside old.seat new.seat
 
 -- the slot came to hold this, with the object of another shape; or there are too many paths, or no room, in this
 -- order, and nothing has changed

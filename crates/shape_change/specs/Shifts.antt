@@ -1,18 +1,17 @@
 -- Slots that move down by one, where a field before them is taken out of a plain object.
-use Rattle.std.specs.Prelude.{◌≡◌, ◌≢◌, ℕ, suc, ◌+◌, ◌-◌, ◌<◌, ◌≤◌, ◌⊎◌, Some, length, slice_get, nat_lt}
-use Rattle.std.specs.Prelude.{if◌then◌else◌}
+use Rattle.std.specs.Prelude.{◌≡◌, ◌≢◌, ℕ, suc, ◌+◌, ◌-◌, ◌<◌, ◌≤◌, ◌⊎◌, Some, length}
+use Rattle.std.specs.Prelude.{slice_get, nat_lt, if◌then◌else◌}
 use Rattle.tagged_word.specs.Cells.{plain_head, store_head}
 use Rattle.page_space.specs.Extents.{marks_start}
 use Rattle.object_graph.specs.declared.path.Path.{Path}
 use Rattle.shape_tree.specs.Shapes.{shape_path}
-use Rattle.heap_table.specs.Seats.{heap_words}
+use Rattle.heap_table.specs.Seats.{heap_words, StaysBeside}
 use Rattle.heap_model.specs.Slots.{hole_word}
 use Rattle.write_barrier.specs.Mains.{Mutator}
 
 -- of all that the mutator has, at most words before the marks have changed
 pub record KeepsRest (old new : Mutator) : Type 0 where
-  pub space : new.seat.space ≡ old.seat.space
-  pub phase : new.seat.phase ≡ old.seat.phase
+  pub beside : StaysBeside old.seat new.seat
   pub paths : new.paths ≡ old.paths
   pub young : new.young ≡ old.young
   pub count : length (heap_words new.seat) ≡ length (heap_words old.seat)
@@ -25,7 +24,8 @@ KeepsBeside old new from to =
 -- the words from an address up to another became those one further, and nothing else changed
 pub record MovesDown (old new : Mutator) (from to : ℕ) : Type 0 where
   pub rest : KeepsRest old new
-  pub moved : (a : ℕ) → from ≤ a → a < to → slice_get (heap_words new.seat) a ≡ slice_get (heap_words old.seat) (a + 1)
+  pub moved : (a : ℕ) → from ≤ a → a < to
+      → slice_get (heap_words new.seat) a ≡ slice_get (heap_words old.seat) (a + 1)
   pub beside : KeepsBeside old new from to
 
 -- the same up to the last, which became this word

@@ -1,5 +1,6 @@
 //! A field of a name that is new to its object.
-ghost use Rattle.std.specs.Prelude.{◌≡◌, ℕ, ℤ, ◌+◌, ◌-◌, ◌<◌, ◌≤◌, false, OnOk, IfErr, None, slice_set};
+ghost use Rattle.std.specs.Prelude.{◌≡◌, ℕ, ℤ, ◌+◌, ◌-◌, ◌<◌, ◌≤◌, false, OnOk, IfErr, None};
+ghost use Rattle.std.specs.Prelude.{slice_set};
 ghost use Rattle.tagged_word.specs.Headers.{IsHeader};
 ghost use Rattle.tagged_word.specs.Cells.{plain_head, store_head};
 ghost use Rattle.page_space.specs.Extents.{marks_start};
@@ -43,6 +44,7 @@ const FIELDS_MOST: u32 = 64;
 /// # Errors
 /// The object has 64 fields, there may not be as many field paths, or there is no room for a store
 /// or a box that the field needs; nothing has changed.
+#[inline(never)]
 pub(crate) fn add_there(
     main: &mut Main,
     object: u32,

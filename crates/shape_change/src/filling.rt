@@ -14,6 +14,7 @@ use object_cells::{Content, Filling};
 use write_barrier::{Main, NoRoom};
 
 // The address of a place of an object.
+#[inline(always)]
 fn address_of(main: &Main, object: u32, place: Place) -> u32
     requires within { place_at object place < marks_start main.now.seat.space }
     ensures { result ≡ place_at object place }
@@ -31,6 +32,7 @@ fn address_of(main: &Main, object: u32, place: Place) -> u32
 ///
 /// # Errors
 /// There is no room for a box; nothing has changed.
+#[inline(always)]
 pub(crate) fn filling_of(
     main: &mut Main,
     object: u32,
@@ -55,6 +57,7 @@ pub(crate) fn filling_of(
 }
 
 /// Fills the slot at a place of an object.
+#[inline(always)]
 pub(crate) fn fill(main: &mut Main, object: u32, place: Place, filling: Filling)
     requires quiet { main.old.seat.phase ≡ Quiet }
     requires within { place_at object place < marks_start main.old.seat.space }

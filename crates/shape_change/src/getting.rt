@@ -12,6 +12,7 @@ use handle_roots::Held;
 use write_barrier::Main;
 
 // The value of a field of the plain object at an address, by its place in the path.
+#[inline(always)]
 fn value_of_slot(main: &Main, object: u32, shape: u32, slot: u32) -> Held
     requires whole { IsWhole main.now }
     requires there { HasField (heap_of main.now) object shape slot }
@@ -26,6 +27,7 @@ fn value_of_slot(main: &Main, object: u32, shape: u32, slot: u32) -> Held
 
 /// The value of a field of the plain object at an address; `undefined` where there is none of the
 /// name.
+#[inline(always)]
 pub fn get(main: &Main, object: u32, name: u32) -> Held
     requires { IsShownPlain main.now object }
     ensures { (graph : Graph) (plain : PlainObject) → MainShows main.now graph

@@ -27,6 +27,7 @@ use write_barrier::Main;
 pub(crate) const PLAIN_HEAD: u32 = 2;
 
 /// The header of the cell at an address.
+#[inline(always)]
 pub fn header_at(main: &Main, at: u32) -> Header
     requires whole { IsWhole main.now }
     requires there { HasCellAt (heap_of main.now) at }
@@ -39,6 +40,7 @@ pub fn header_at(main: &Main, at: u32) -> Header
 }
 
 // What a reference to a cell stands for: the integer of a box, or the object.
+#[inline(never)]
 fn value_at(main: &Main, at: u32) -> Held
     requires whole { IsWhole main.now }
     requires there { HasCellAt (heap_of main.now) at }
@@ -55,6 +57,7 @@ fn value_at(main: &Main, at: u32) -> Held
 }
 
 /// What the word of a slot stands for; of a hole, `undefined`.
+#[inline(always)]
 pub(crate) fn value_of_word(main: &Main, word: Word) -> Held
     requires whole { IsWhole main.now }
     requires slot { IsSlotWord (heap_of main.now) word.0 }
@@ -75,6 +78,7 @@ pub(crate) fn value_of_word(main: &Main, word: Word) -> Held
 }
 
 // Whether a slot is raw, by where it stands and its representation.
+#[inline(always)]
 fn is_raw(own: bool, rep: Rep) -> bool
     ensures raw { result ≡ true → (own ≡ true) × (rep ≡ rep_of.Wide) }
     ensures tagged { result ≡ false → own ≡ true → rep ≢ rep_of.Wide }
@@ -87,6 +91,7 @@ fn is_raw(own: bool, rep: Rep) -> bool
 }
 
 /// The value of a field, by its word.
+#[inline(always)]
 pub(crate) fn value_of_field(main: &Main, own: bool, rep: Rep, word: u64) -> Held
     requires whole { IsWhole main.now }
     requires field { IsFieldWord (heap_of main.now) own rep word }
@@ -102,6 +107,7 @@ pub(crate) fn value_of_field(main: &Main, own: bool, rep: Rep, word: u64) -> Hel
 
 /// Where a slot of the plain object at an address stands: one of its own below its cap, or in its
 /// property store.
+#[inline(always)]
 pub(crate) fn place_of(main: &Main, object: u32, cap: u32, slot: u32) -> Place
     requires whole { IsWhole main.now }
     requires there { HasPlainSlot (heap_of main.now) object slot }
@@ -126,6 +132,7 @@ pub(crate) fn place_of(main: &Main, object: u32, cap: u32, slot: u32) -> Place
 }
 
 /// The word at a place of an object.
+#[inline(always)]
 pub(crate) fn word_of_place(main: &Main, object: u32, place: Place) -> u64
     requires whole { IsWhole main.now }
     requires within { place_at object place < marks_start main.now.seat.space }

@@ -11,8 +11,7 @@ ghost use Rattle.shape_change.specs.FieldChanges.{IsShownSetting};
 ghost use Rattle.shape_change.specs.FieldChanges.{SetsField};
 ghost use Rattle.shape_change.specs.Places.{place_at};
 ghost use Rattle.object_cells.specs.CellsAt.{IsWhole, HasField};
-ghost use Rattle.object_cells.specs.Contents.{HoldsSlotWord, LacksRoom, filling_at};
-ghost use Rattle.shape_change.specs.Fillings.{FillsSlot};
+ghost use Rattle.object_cells.specs.Contents.{HoldsSlotWord, LacksRoom, FillsSlot, filling_at};
 
 use crate::adding::add_there;
 use crate::filling::{fill, filling_of};
@@ -22,11 +21,17 @@ use crate::slot_setting::setting_of;
 use crate::stop::FieldStop;
 use crate::widening::set_wider;
 use handle_roots::Held;
-use object_cells::Content;
+use object_cells::{Content, Filling};
 use write_barrier::{Main, NoRoom};
 
-// The slot at a place of a plain object comes to hold this; its shape stays.
-fn set_as_is(main: &mut Main, object: u32, place: Place, content: Content) -> Result<(), NoRoom>
+// The slot at a place of a plain object comes to hold this, by a filling: a box is made or written.
+#[inline(never)]
+fn set_by_filling(
+    main: &mut Main,
+    object: u32,
+    place: Place,
+    content: Content,
+) -> Result<(), NoRoom>
     requires whole { IsWhole main.old }
     requires tied { IsTied main.old }
     requires within { place_at object place < marks_start main.old.seat.space }
@@ -42,8 +47,30 @@ fn set_as_is(main: &mut Main, object: u32, place: Place, content: Content) -> Re
     Ok(())
 }
 
+// The slot at a place of a plain object comes to hold this; its shape stays.
+#[inline(always)]
+fn set_as_is(main: &mut Main, object: u32, place: Place, content: Content) -> Result<(), NoRoom>
+    requires whole { IsWhole main.old }
+    requires tied { IsTied main.old }
+    requires within { place_at object place < marks_start main.old.seat.space }
+    requires held { let word = word_at (heap_of main.old) (place_at object place) in
+        HoldsSlotWord (heap_of main.old) word content }
+    ensures fills { OnOk result (FillsSlot main.old main.new (place_at object place) content) }
+    ensures refused { IfErr result (λ full.
+        LacksRoom main.old (filling_at main.old (place_at object place) content) full) }
+    ensures unchanged { OnErr result (main.new ≡ main.old) }
+{
+    match content {
+        Content::Tagged(word) => fill(main, object, place, Filling::Tagged(word)),
+        Content::Raw(word) => fill(main, object, place, Filling::Raw(word)),
+        Content::Boxed(_) => return set_by_filling(main, object, place, content),
+    }
+    Ok(())
+}
+
 /// Gives the field of this number of the plain object at an address the value. Its representation
 /// never narrows, and the object gets another shape where it widens.
+#[inline(always)]
 pub(crate) fn set_there(
     main: &mut Main,
     object: u32,
@@ -77,6 +104,7 @@ pub(crate) fn set_there(
 /// # Errors
 /// The object has 64 fields and the name is new; there may not be as many field paths; there is no
 /// room. In this order; nothing has changed.
+#[inline(always)]
 pub fn set(main: &mut Main, object: u32, name: u32, value: Held) -> Result<(), FieldStop>
     requires { IsShownSetting main.old object value }
     ensures { (graph : Graph) (plain : PlainObject) (what : Value) → MainShows main.old graph

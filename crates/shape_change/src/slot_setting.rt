@@ -26,6 +26,7 @@ pub(crate) struct SlotSetting {
 }
 
 /// How the slot of the field of this number of the plain object at an address is set to a value.
+#[inline(always)]
 pub(crate) fn setting_of(
     main: &Main,
     object: u32,

@@ -12,7 +12,8 @@ use Rattle.shape_tree.specs.Nodes.{same_transition}
 use Rattle.shape_tree.proofs.SameTransitions.{same_transition_equiv}
 
 -- these entries were put in, of those that the other holds
-pub record Copies {S : Type 0} (total : ℕ) (so_far : List (Transition × ℕ)) (steps : HashMap Transition ℕ S) : Type 0 where
+pub record Copies {S : Type 0} (total : ℕ) (so_far : List (Transition × ℕ))
+    (steps : HashMap Transition ℕ S) : Type 0 where
   pub finds : (step : Transition) → get same_transition steps step ≡ update_all same_transition (λ _. None) so_far step
   pub room : total ≤ length so_far + spare steps
   pub unique : IsUnique same_transition steps
@@ -49,4 +50,5 @@ copied_all total steps others copies unique step =
 pub copied_len : {S : Type 0} (total : ℕ) (steps others : HashMap Transition ℕ S) → Copies total others.entries steps
     → IsUnique same_transition others → hash_map_len steps ≡ hash_map_len others
 copied_len total steps others copies unique =
-    hash_map_len_from_get same_transition_equiv steps others copies.unique unique (copied_all total steps others copies unique)
+    hash_map_len_from_get same_transition_equiv steps others copies.unique unique
+    (copied_all total steps others copies unique)

@@ -56,7 +56,8 @@ root_is_node paths cap = record { within = omega arith; layout = refl; parent = 
 roots_are_nodes : (paths : List Path) → All (IsNode [] paths) root_nodes_of
 roots_are_nodes paths k d below =
     let inside : k < 9 = omega (arith, length-map-range_with_len root_node_of 0 9) in
-    subst (IsNode [] paths) (sym (get_or-map-range_with_len root_node_of 0 9 k k d inside (omega arith))) (root_is_node paths k)
+    subst (IsNode [] paths)
+    (sym (get_or-map-range_with_len root_node_of 0 9 k k d inside (omega arith))) (root_is_node paths k)
 
 -- no transition leads to an empty path
 no_transition : (step : Transition) (shape : ℕ) → IsTransition empty_paths step shape → ⊥

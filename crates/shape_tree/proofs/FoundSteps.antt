@@ -14,9 +14,8 @@ use Rattle.shape_tree.specs.Shapes.{IsPathShape, IsShapeOf, shape_path, stepped}
 use Rattle.shape_tree.specs.Growth.{extended, IsMissing}
 use Rattle.shape_tree.specs.Nodes.{same_transition, IsTransition, FindsSteps}
 use Rattle.shape_tree.proofs.SameTransitions.{Decides-same_transition}
-use Rattle.shape_tree.proofs.ShapePaths.{IsPathShape-append, shape_path-append, IsShapeOf-append, IsShapeOf-last, shape_cases}
-use Rattle.shape_tree.proofs.ShapePaths.{one_shape}
-use Rattle.shape_tree.proofs.ShapePaths.{shape_of, has_shape_path, has_its_path}
+use Rattle.shape_tree.proofs.ShapePaths.{IsPathShape-append, shape_path-append, IsShapeOf-append, IsShapeOf-last}
+use Rattle.shape_tree.proofs.ShapePaths.{shape_cases, one_shape, shape_of, has_shape_path, has_its_path}
 use Rattle.shape_tree.proofs.MissingPaths.{missing_not_there}
 use Rattle.shape_tree.proofs.GrownPaths.{has_prefix_of, are_with_next}
 
@@ -85,9 +84,11 @@ is_added paths step other after starts others same =
     let field : PathField = record { name = step.name; rep = step.rep } in
     let other_field : PathField = record { name = other.name; rep = other.rep } in
     let caps = ap (λ (path : Path). path.cap) same in
-    let rows = same_from_push (shape_path paths step.parent).fields (shape_path new other.parent).fields field other_field
+    let rows =
+    same_from_push (shape_path paths step.parent).fields (shape_path new other.parent).fields field other_field
     (ap (λ (path : Path). path.fields) same) in
-    let resized : Path = record { cap = (shape_path new other.parent).cap; fields = (shape_path paths step.parent).fields } in
+    let resized : Path =
+    record { cap = (shape_path new other.parent).cap; fields = (shape_path paths step.parent).fields } in
     let first : shape_path paths step.parent ≡ resized =
     ap (λ n. record { cap = n; fields = (shape_path paths step.parent).fields }) caps in
     let second : resized ≡ shape_path new other.parent =
@@ -164,7 +165,8 @@ pub finds_more : (paths : List Path) (parent : ℕ) (field : PathField) (look mo
     → FindsSteps (paths ++ extended (shape_path paths parent) (field ∷ []) ∷ []) more
 finds_more paths parent field look more are starts missed is finds adds =
     let step = transition_by parent field in
-    let after = are_with_next paths (shape_path paths parent) field are (has_shape_path paths parent starts) missed is in
+    let after =
+    are_with_next paths (shape_path paths parent) field are (has_shape_path paths parent starts) missed is in
     record {
       sound = finds_more_sound paths step look more starts finds adds;
       complete = finds_more_complete paths step look more are after starts missed finds adds;

@@ -18,7 +18,8 @@ use Rattle.shape_tree.proofs.GrownPaths.{extended-nil, extended-extended, is_pre
 use Rattle.shape_tree.proofs.GrownPaths.{length-growths}
 use Rattle.shape_tree.proofs.GrownPaths.{are_with_next, fresh_behind, missing-next}
 
--- the shape is that of the longest prefix so far of the path, and these fields are left; nothing was added but what was missing
+-- the shape is that of the longest prefix so far of the path, and these fields are left; nothing was added but what was
+-- missing
 pub record Grows (old : List Path) (path : Path) (paths : List Path) (shape : ℕ) (rest : List PathField) : Type 0 where
   pub are : ArePaths paths
   pub at : IsPathShape paths shape

@@ -31,7 +31,8 @@ pub extended-nil : (path : Path) → extended path [] ≡ path
 extended-nil path = ap (λ fs. record { cap = path.cap; fields = fs }) (append-nil path.fields)
 
 -- one field more, and then the others
-pub extended-extended : (path : Path) (xs ys : List PathField) → extended (extended path xs) ys ≡ extended path (xs ++ ys)
+pub extended-extended : (path : Path) (xs ys : List PathField)
+    → extended (extended path xs) ys ≡ extended path (xs ++ ys)
 extended-extended path xs ys = ap (λ fs. record { cap = path.cap; fields = fs }) (append_assoc path.fields xs ys)
 
 -- a shorter prefix of a path with a field more is one of the path

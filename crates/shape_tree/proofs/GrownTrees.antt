@@ -27,7 +27,8 @@ pub record IsMore (tree new : Inside) (parent : ℕ) (field : PathField) (node g
   pub rows : new.rows.items ≡ rows_with tree.rows.items node field
   pub nodes : new.nodes.items ≡ tree.nodes.items ++ grown ∷ []
   pub steps :
-      AddsStep (paths_of tree) (transition_by parent field) (get same_transition tree.steps) (get same_transition new.steps)
+      AddsStep (paths_of tree) (transition_by parent field) (get same_transition tree.steps)
+      (get same_transition new.steps)
   pub room : HasRoom new
 
 -- it shows the paths with that path, and is a tree
@@ -53,10 +54,12 @@ more_becomes tree new parent field node grown is more starts missed may room =
     ∙ paths_in-grown rows nodes parent field node grown is.each starts more.at more.node_is in
     let each = each-grown rows nodes parent field node grown (path ∷ []) is.each starts more.at more.node_is in
     let good : AreShapes after = record {
-      are = are_with_next paths (shape_path paths parent) field is.shapes.are (has_shape_path paths parent starts) missed may;
+      are = are_with_next paths (shape_path paths parent) field is.shapes.are
+          (has_shape_path paths parent starts) missed may;
       few = omega (arith, room, length-append paths (path ∷ []));
     } in
-    let finds = finds_more paths parent field (get same_transition tree.steps) (get same_transition new.steps) is.shapes.are
+    let finds =
+    finds_more paths parent field (get same_transition tree.steps) (get same_transition new.steps) is.shapes.are
     starts missed may is.finds more.steps in
     record {
       is = record {
@@ -71,8 +74,8 @@ more_becomes tree new parent field node grown is more starts missed may room =
     }
 
 -- the same of a tree that shows these paths
-pub more_shown : (tree new : Inside) (paths : List Path) (parent : ℕ) (field : PathField) (node grown : Node) → IsTree tree
-    → paths_of tree ≡ paths → IsMore tree new parent field node grown → IsPathShape paths parent
+pub more_shown : (tree new : Inside) (paths : List Path) (parent : ℕ) (field : PathField) (node grown : Node)
+    → IsTree tree → paths_of tree ≡ paths → IsMore tree new parent field node grown → IsPathShape paths parent
     → IsMissing paths (extended (shape_path paths parent) (field ∷ []))
     → IsPath (extended (shape_path paths parent) (field ∷ [])) → length paths < paths_most
     → Became paths (extended (shape_path paths parent) (field ∷ [])) new

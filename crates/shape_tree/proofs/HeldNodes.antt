@@ -22,7 +22,8 @@ use Rattle.shape_tree.specs.Nodes.{path_at, paths_in, IsNode, IsNodeOf}
 -- the path of a shape is a path
 pub shape_path_is : (paths : List Path) (shape : ℕ) → AreShapes paths → IsPathShape paths shape
     → IsPath (shape_path paths shape)
-shape_path_is paths shape good is = good.are.each (shape - first_path_shape) (record { cap = 0; fields = [] }) (omega arith)
+shape_path_is paths shape good is =
+    good.are.each (shape - first_path_shape) (record { cap = 0; fields = [] }) (omega arith)
 
 -- there is a node for each path
 pub length-paths_in : (rows : List PathField) (nodes : List Node) → length (paths_in rows nodes) ≡ length nodes
@@ -57,7 +58,8 @@ length-path_at rows node within =
     omega (arith, length-take node.count (drop node.start rows), length-drop node.start rows)
 
 -- so the node tells of the path of its shape
-pub IsNodeOf-at : (rows : List PathField) (nodes : List Node) (shape : ℕ) (node : Node) → AreShapes (paths_in rows nodes)
+pub IsNodeOf-at : (rows : List PathField) (nodes : List Node) (shape : ℕ) (node : Node)
+    → AreShapes (paths_in rows nodes)
     → All (IsNode rows (paths_in rows nodes)) nodes → IsPathShape (paths_in rows nodes) shape
     → node ≡ get_or nodes (shape - first_path_shape) node → IsNodeOf (paths_in rows nodes) shape node
 IsNodeOf-at rows nodes shape node good each is at =
@@ -72,12 +74,14 @@ IsNodeOf-at rows nodes shape node good each is at =
       count = sym long ∙ ap (λ (p : Path). length p.fields) (sym path);
       short = omega (arith, long, may.short);
       layout = here.layout ∙ ap layout_of (sym path);
-      parent = λ some. subst (λ p. IsShapeOf paths (prefix_of p (node.count - 1)) node.parent) (sym path) (here.parent some);
+      parent =
+          λ some. subst (λ p. IsShapeOf paths (prefix_of p (node.count - 1)) node.parent) (sym path) (here.parent some);
     }
 
 -- the same of a tree that shows these paths
 pub IsNodeOf-shown : (tree : Inside) (paths : List Path) (shape : ℕ) (node : Node) → IsTree tree → paths_of tree ≡ paths
-    → IsPathShape paths shape → node ≡ get_or tree.nodes.items (shape - first_path_shape) node → IsNodeOf paths shape node
+    → IsPathShape paths shape → node ≡ get_or tree.nodes.items (shape - first_path_shape) node
+    → IsNodeOf paths shape node
 IsNodeOf-shown tree paths shape node is shown starts at =
     subst (λ ps. IsNodeOf ps shape node) shown
     (IsNodeOf-at tree.rows.items tree.nodes.items shape node is.shapes is.each

@@ -2,8 +2,8 @@
 use Rattle.std.proofs.Common.{◌≡◌, ℕ, ◌+◌, ◌*◌, ◌-◌, ◌<◌, ◌≤◌, ◌^◌, List, [], ◌∷◌}
 use Rattle.std.proofs.Common.{◌++◌, length, get_or, map, take, refl, sym, ap, ◌∙◌, subst}
 use Rattle.std.proofs.Common.{arith, length-append, append_assoc, Some, lit<, pow-suc, inl, inr}
-use Rattle.std.proofs.lemmas.List.{length-map, map-append, get_or-map, get_or_append_left, get_or-append_right, take_all}
-use Rattle.std.proofs.lemmas.List.{take-append-le, length-take}
+use Rattle.std.proofs.lemmas.List.{length-map, map-append, get_or-map, get_or_append_left, get_or-append_right}
+use Rattle.std.proofs.lemmas.List.{take_all, take-append-le, length-take}
 use Rattle.std.proofs.lemmas.Option.{unwrap_or-slice_get}
 use Rattle.std.proofs.lemmas.Bool.{cases_lt}
 use Rattle.tagged_word.specs.declared.layout.LayoutWord.{LayoutWord}
@@ -20,7 +20,8 @@ use Rattle.object_graph.specs.Limits.{paths_most}
 use Rattle.object_graph.proofs.AddedPaths.{with_path-is}
 use Rattle.shape_tree.specs.Shapes.{IsPathShape, Leads, shape_path}
 use Rattle.shape_tree.specs.Growth.{extended}
-use Rattle.shape_tree.specs.ShapeLayouts.{IsInUse, layout_of, layout_word, layout_words, in_object_fields, raw_bit, raw_mask}
+use Rattle.shape_tree.specs.ShapeLayouts.{IsInUse, layout_of, layout_word, layout_words, in_object_fields, raw_bit}
+use Rattle.shape_tree.specs.ShapeLayouts.{raw_mask}
 
 -- the layout word of a path
 abbrev word_of : Path → ℕ
@@ -49,10 +50,11 @@ layout_word-append paths more shape is =
     ∙ sym (unwrap_or-slice_get (layout_words paths) shape 0)
 
 -- the same after a change of fields
-pub layout_word-after : (old new : List Path) (path : Path) (next shape : ℕ) → Leads old new path next → IsInUse old shape
-    → layout_word new shape ≡ layout_word old shape
+pub layout_word-after : (old new : List Path) (path : Path) (next shape : ℕ) → Leads old new path next
+    → IsInUse old shape → layout_word new shape ≡ layout_word old shape
 layout_word-after old new path next shape leads is =
-    subst (λ paths. layout_word paths shape ≡ layout_word old shape) (with_path-is (Some paths_most) old new path leads.added)
+    subst (λ paths. layout_word paths shape ≡ layout_word old shape)
+    (with_path-is (Some paths_most) old new path leads.added)
     (layout_word-append old (missing old path) shape is)
 
 -- the layout word of a path's shape is that of the path

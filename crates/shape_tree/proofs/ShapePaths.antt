@@ -48,7 +48,8 @@ pub has_its_path : (paths : List Path) (path : Path) (shape : ℕ) → IsShapeOf
 has_its_path paths path shape is = subst (Contains paths) is.of_path (has_shape_path paths shape is.is_shape)
 
 -- a shape stays one where paths are added
-pub IsPathShape-append : (paths more : List Path) (shape : ℕ) → IsPathShape paths shape → IsPathShape (paths ++ more) shape
+pub IsPathShape-append : (paths more : List Path) (shape : ℕ) → IsPathShape paths shape
+    → IsPathShape (paths ++ more) shape
 IsPathShape-append paths more shape is =
     record { from = is.from; below = omega (arith, length-append paths more, is.below) }
 
@@ -68,7 +69,8 @@ IsShapeOf-append paths more path shape is =
     }
 
 -- a path that comes last has the next shape
-pub IsShapeOf-last : (paths : List Path) (path : Path) → IsShapeOf (paths ++ path ∷ []) path (first_path_shape + length paths)
+pub IsShapeOf-last : (paths : List Path) (path : Path)
+    → IsShapeOf (paths ++ path ∷ []) path (first_path_shape + length paths)
 IsShapeOf-last paths path =
     shape_at (paths ++ path ∷ []) path (length paths) (omega (arith, length-append paths (path ∷ [])))
     (get_or_push paths path path (length paths) refl)

@@ -16,7 +16,8 @@ use Rattle.shape_tree.proofs.ShapePaths.{shape_of, has_its_path}
 use Rattle.shape_tree.proofs.MissingPaths.{missing_not_there, missing_if_not}
 use Rattle.shape_tree.proofs.FoundSteps.{transition_by, target}
 
--- what the look-up of a step finds is the shape of the path with the field more; where it finds nothing that path is missing
+-- what the look-up of a step finds is the shape of the path with the field more; where it finds nothing that path is
+-- missing
 step_found : (paths : List Path) (shape : ℕ) (field : PathField) (look : Transition → Option ℕ) (found : Option ℕ)
     → IsPathShape paths shape → FindsSteps paths look → look (transition_by shape field) ≡ found
     → MatchOption found (IsMissing paths (extended (shape_path paths shape) (field ∷ [])))

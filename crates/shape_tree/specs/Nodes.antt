@@ -28,7 +28,8 @@ path_at rows node = record { cap = node.cap; fields = take node.count (drop node
 abbrev pub paths_in : List PathField → List Node → List Path
 paths_in rows nodes = map (path_at rows) nodes
 
--- the row of the node is there; its layout is that of its path, and its parent the shape of the path without the last field
+-- the row of the node is there; its layout is that of its path, and its parent the shape of the path without the last
+-- field
 pub record IsNode (rows : List PathField) (paths : List Path) (node : Node) : Type 0 where
   pub within : node.start + node.count ≤ length rows
   pub layout : node.layout ≡ layout_of (path_at rows node)

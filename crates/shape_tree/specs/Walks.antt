@@ -7,7 +7,8 @@ use Rattle.shape_tree.specs.declared.route.Route.{Route}
 use Rattle.shape_tree.specs.Shapes.{AreShapes, IsPathShape, shape_path}
 use Rattle.shape_tree.specs.Growth.{extended, IsFresh}
 
--- the walk came to the longest prefix of the path that is there: what is left makes the path, and the next one is missing
+-- the walk came to the longest prefix of the path that is there: what is left makes the path, and the next one is
+-- missing
 pub record WalksTo (paths : List Path) (path : Path) (walk : Walk) : Type 0 where
   pub good : AreShapes paths
   pub at : IsPathShape paths walk.shape

@@ -54,6 +54,7 @@ impl ShapeTree {
     }
 
     /// The node of a path's shape.
+    #[inline(always)]
     pub(crate) fn node(&self, shape: u32) -> Node
         requires { IsPathShape self.now shape }
         ensures { IsNodeOf self.now shape result }
@@ -62,6 +63,7 @@ impl ShapeTree {
     }
 
     /// The fields of a path's shape.
+    #[inline(always)]
     pub(crate) fn row(&self, shape: u32) -> &[PathField]
         requires { IsPathShape self.now shape }
         ensures row { result.now ≡ (shape_path self.now shape).fields }
@@ -91,6 +93,7 @@ impl ShapeTree {
     }
 
     /// How many in-object slots an object of this shape has, used and unused: at most 8.
+    #[inline(always)]
     pub fn cap(&self, shape: u32) -> u32
         requires { IsPathShape self.now shape }
         ensures cap { result ≡ (shape_path self.now shape).cap }
@@ -115,6 +118,7 @@ impl ShapeTree {
     }
 
     /// The field at a place of the path of a shape, counted from 0.
+    #[inline(always)]
     pub fn field(&self, shape: u32, at: u32) -> PathField
         requires path { IsPathShape self.now shape }
         requires there { at < length (shape_path self.now shape).fields }
@@ -124,6 +128,7 @@ impl ShapeTree {
     }
 
     /// The place of the field of this name in the path of a shape.
+    #[inline(always)]
     pub fn find(&self, shape: u32, name: u32) -> Option<u32>
         requires { IsPathShape self.now shape }
         ensures found { let fields = (shape_path self.now shape).fields in

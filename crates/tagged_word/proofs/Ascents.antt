@@ -43,7 +43,8 @@ rises_in_object layout =
 -- and stand behind the store's slot
 in_object_later : (layout : LayoutWord) → All (λ x. store_slot < x) (in_object_offsets layout)
 in_object_later layout k d l =
-    let slot = in_object_is layout (get_or (in_object_offsets layout) k d) (Contains-get_or (in_object_offsets layout) k d l) in
+    let slot = in_object_is layout (get_or (in_object_offsets layout) k d)
+    (Contains-get_or (in_object_offsets layout) k d l) in
     omega (arith, slot.behind)
 
 -- no offsets ascend

@@ -1,5 +1,7 @@
 -- Cells: an address reads as one cell, its size is that of a page or less, and its slots lie in it.
-use Rattle.std.proofs.Common.{ℕ, ◌<◌, ◌≤◌, ◌+◌, ◌*◌, ◌≡◌, ◌≢◌, ◌⊎◌, inl, inr, List, slice_get, Option, Some, arith, refl, ap, ◌∙◌}
+use Rattle.std.proofs.Common.{ℕ, ◌<◌, ◌≤◌, ◌+◌, ◌*◌, ◌≡◌, ◌≢◌, ◌⊎◌, inl, inr, List}
+use Rattle.std.proofs.Common.{slice_get, Option, Some, IsTrue, arith, refl, ap, ◌∙◌}
+use Rattle.std.proofs.lemmas.Bool.{false≢true}
 use Rattle.std.proofs.lemmas.Bool.Decides.{nat_tests}
 use Rattle.std.specs.List.{Contains}
 use Rattle.tagged_word.specs.declared.header.Header.{Header}
@@ -8,9 +10,9 @@ use Rattle.tagged_word.specs.declared.layout.Kind.TheVariants as kind
 use Rattle.tagged_word.specs.declared.layout.LayoutWord.{LayoutWord}
 use Rattle.tagged_word.specs.declared.reading.Reading.{Reading}
 use Rattle.tagged_word.specs.Layouts.{IsLayout, IsLayoutOfKind, HasInObjectSlots, layout_bits}
-use Rattle.tagged_word.specs.Cells.{ReadsAs, has_length, length_by, length_offset, cell_size, size_within}
-use Rattle.tagged_word.specs.Cells.{words_least, words_of, cell_words_most, in_object_offsets, plain_head, store_head}
-use Rattle.tagged_word.specs.Cells.{store_slot, scavenge_offsets, scavenge_offsets_of, tagged_offsets, tagged_offsets_of}
+use Rattle.tagged_word.specs.Cells.{ReadsAs, has_length, length_by, length_offset, cell_size, size_within, words_least}
+use Rattle.tagged_word.specs.Cells.{words_of, cell_words_most, in_object_offsets, plain_head, store_head, store_slot}
+use Rattle.tagged_word.specs.Cells.{scavenge_offsets, scavenge_offsets_of, tagged_offsets, tagged_offsets_of}
 use Rattle.tagged_word.proofs.Headers.{same_header}
 use Rattle.tagged_word.proofs.Layouts.{same_layout}
 use Rattle.tagged_word.proofs.Members.{one_in, in_cases, range_bounds}
@@ -20,6 +22,14 @@ use Rattle.tagged_word.proofs.Offsets.{in_object_is}
 pub size_is : (least words size : ℕ) → size_within least words ≡ Some size →
     (words ≡ size) × (least ≤ words) × (words ≤ cell_words_most)
 size_is least words size e = (grind (arith, nat_tests), grind (arith, nat_tests), grind (arith, nat_tests))
+
+-- a cell of a kind with a length has two words at least: its header and its length
+pub two_words_of : (k : Kind) (cap long size : ℕ) → IsTrue (has_length k) → words_of k cap long ≡ size
+    → words_least k ≤ size → 2 ≤ size
+two_words_of kind.Store cap long size has is least = omega arith
+two_words_of kind.Table cap long size has is least = omega arith
+two_words_of kind.Gap cap long size has is least = omega arith
+two_words_of _ cap long size has is least = absurd (false≢true has)
 
 -- the fewest words are one at least
 least_one : (k : Kind) → 1 ≤ words_least k
@@ -54,7 +64,8 @@ slots_within kind.Plain layout is long offset c =
     plain_within layout is offset (in_cases store_slot (in_object_offsets layout) offset c)
 slots_within kind.List layout is long offset c = let e = one_in store_slot offset c in (omega arith, omega arith)
 slots_within kind.Weak layout is long offset c = let e = one_in store_slot offset c in (omega arith, omega arith)
-slots_within kind.Store layout is long offset c = let b = range_bounds store_head long offset c in (omega arith, omega arith)
+slots_within kind.Store layout is long offset c =
+    let b = range_bounds store_head long offset c in (omega arith, omega arith)
 slots_within kind.Table layout is long offset c =
     let b = range_bounds store_head (2 * long) offset c in (omega arith, omega arith)
 slots_within kind.Boxed layout is long offset (k, l, e) = absurd (omega (arith, l))

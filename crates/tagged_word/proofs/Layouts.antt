@@ -1,10 +1,12 @@
 -- Layout words: a layout may be read from its bits.
-use Rattle.std.proofs.Common.{ℕ, ◌<◌, ◌+◌, ◌*◌, ◌/◌, ◌%◌, ◌≤◌, ◌≡◌, ◌∷◌, slice_get, unwrap_or, arith, refl, sym, ap, ◌∙◌}
+use Rattle.std.proofs.Common.{ℕ, ◌<◌, ◌+◌, ◌*◌, ◌/◌, ◌%◌, ◌≤◌, ◌≡◌, ◌∷◌, slice_get}
+use Rattle.std.proofs.Common.{unwrap_or, arith, refl, sym, ap, ◌∙◌}
 use Rattle.std.proofs.lemmas.Nat.{pow_pos}
 use Rattle.tagged_word.specs.declared.layout.Kind.{Kind}
 use Rattle.tagged_word.specs.declared.layout.Kind.TheVariants as kind
 use Rattle.tagged_word.specs.declared.layout.LayoutWord.{LayoutWord}
-use Rattle.tagged_word.specs.Layouts.{HasInObjectSlots, HasNoInObjectSlots, IsLayout, IsLayoutOfKind, layout_bits, kind_number}
+use Rattle.tagged_word.specs.Layouts.{HasInObjectSlots, HasNoInObjectSlots, IsLayout, IsLayoutOfKind, layout_bits}
+use Rattle.tagged_word.specs.Layouts.{kind_number}
 use Rattle.tagged_word.specs.Shapes.{fixed_kinds}
 use Rattle.tagged_word.proofs.Masks.{eight_bits}
 
@@ -19,6 +21,17 @@ kind_number-lt kind.Boxed = omega arith
 kind_number-lt kind.Filler = omega arith
 kind_number-lt kind.Gap = omega arith
 
+-- and is not 0
+pub kind_number-some : (k : Kind) → 1 ≤ kind_number k
+kind_number-some kind.Plain = omega arith
+kind_number-some kind.List = omega arith
+kind_number-some kind.Weak = omega arith
+kind_number-some kind.Store = omega arith
+kind_number-some kind.Table = omega arith
+kind_number-some kind.Boxed = omega arith
+kind_number-some kind.Filler = omega arith
+kind_number-some kind.Gap = omega arith
+
 -- the parts of a layout fit their bits of the word
 pub record FitsBits (layout : LayoutWord) : Type 0 where
   pub cap : layout.cap ≤ 8
@@ -30,7 +43,9 @@ fits_in_object : (layout : LayoutWord) → HasInObjectSlots layout → FitsBits 
 fits_in_object layout slots = record {
   cap = omega (arith, slots.cap);
   used = omega (arith, slots.cap, slots.used);
-  raw = let few : layout.used ≤ 8 = omega (arith, slots.cap, slots.used) in eight_bits layout.raw layout.used few slots.raw;
+  raw =
+      let few : layout.used ≤ 8 = omega (arith, slots.cap, slots.used) in
+      eight_bits layout.raw layout.used few slots.raw;
 }
 
 -- those of a layout with no in-object slots do

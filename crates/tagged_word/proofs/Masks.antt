@@ -1,5 +1,6 @@
 -- Masks of raw slots.
-use Rattle.std.proofs.Common.{ℕ, ◌<◌, ◌≤◌, ◌/◌, ◌^◌, ◌%◌, ◌≡◌, ◌==◌, ◌↔◌, IsTrue, false, arith, ap, eq-eqb, eqb-true}
+use Rattle.std.proofs.Common.{ℕ, ◌<◌, ◌≤◌, ◌/◌, ◌^◌, ◌%◌, ◌≡◌, ◌==◌, ◌↔◌, IsTrue, false}
+use Rattle.std.proofs.Common.{arith, ap, eq-eqb, eqb-true}
 use Rattle.std.proofs.lemmas.Nat.{pow_pos}
 use Rattle.std.proofs.lemmas.Nat.Bits.{bit_at_above}
 use Rattle.std.proofs.Math.Nat.{div-eq_of_lt, lt-mul-div-succ, pow-le-pow_right}

@@ -1,6 +1,6 @@
 -- What a list made from another, and a run of numbers, contains.
-use Rattle.std.proofs.Common.{ℕ, zero, suc, ◌<◌, ◌≤◌, ◌+◌, ◌-◌, ◌≡◌, ◌⊎◌, inl, inr, Bool, true, false, cond, List, []}
-use Rattle.std.proofs.Common.{◌∷◌, map, filter, arith, refl, ap, sym, subst, ◌∙◌}
+use Rattle.std.proofs.Common.{ℕ, zero, suc, ◌<◌, ◌≤◌, ◌+◌, ◌-◌, ◌≡◌, ◌⊎◌, inl, inr, Bool, true}
+use Rattle.std.proofs.Common.{false, cond, List, [], ◌∷◌, map, filter, arith, refl, ap, sym, subst, ◌∙◌}
 use Rattle.std.specs.List.{Contains, range_with_len}
 use Rattle.std.proofs.lemmas.List.Elements.{All-contains, All-contains_itself, All-filter, All-map, All-weaker}
 use Rattle.std.proofs.lemmas.List.Elements.{filter_passes, Contains-append_right, Contains-append_cases}

@@ -1,6 +1,6 @@
 -- The functions of one word read exactly what stands there.
-use Rattle.std.proofs.Common.{ℕ, zero, suc, ◌/◌, ◌%◌, ◌<◌, ◌≡◌, ◌==◌, ◌&&◌, Bool, true, false, IsTrue, nat_lt, Option}
-use Rattle.std.proofs.Common.{Some, arith, refl, sym, ap, subst, ◌∙◌}
+use Rattle.std.proofs.Common.{ℕ, zero, suc, ◌/◌, ◌%◌, ◌<◌, ◌≡◌, ◌==◌, ◌&&◌, Bool, true, false, IsTrue}
+use Rattle.std.proofs.Common.{nat_lt, Option, Some, arith, refl, sym, ap, subst, ◌∙◌}
 use Rattle.std.proofs.lemmas.Bool.Decides.{nat_tests}
 use Rattle.std.specs.Option.{option_and_then}
 use Rattle.std.proofs.lemmas.Option.{option_and_then_some}
@@ -39,7 +39,8 @@ reference_from word address e = (grind (arith, nat_tests), grind (arith, nat_tes
 pub reference_to : (word address : ℕ) → IsClass (Ref address) → word ≡ bits_of (Ref address) →
     reference_in word ≡ Some address
 reference_to word address is e =
-    given_some (word % 4 == 1 && nat_lt (word / 4) 4294967296) (word / 4) address (grind (arith, nat_tests)) (omega arith)
+    given_some (word % 4 == 1 && nat_lt (word / 4) 4294967296) (word / 4) address
+    (grind (arith, nat_tests)) (omega arith)
 
 -- the header of the parts of a word
 abbrev header_made : ℕ → Header
@@ -153,7 +154,8 @@ parts_are word k e t =
 pub layout_from : (word : ℕ) (layout : LayoutWord) → layout_in word ≡ Some layout →
     IsLayout layout × (word ≡ layout_bits layout)
 layout_from word layout e =
-    option_and_then_some (λ k. given (is_layout (layout_parts word k)) (layout_parts word k)) (kind_in (word % 16)) layout e
+    option_and_then_some (λ k. given (is_layout (layout_parts word k)) (layout_parts word k))
+    (kind_in (word % 16)) layout e
     (λ k is f. let g = given_is (is_layout (layout_parts word k)) (layout_parts word k) layout f in
     subst (λ l. IsLayout l × (word ≡ layout_bits l)) g.1
     (layout_test_from k (layout_parts word k) g.0, parts_are word k (kind_from (word % 16) k is) g.0))

@@ -1,7 +1,7 @@
 -- The table of cells, by kind: is it an object, is it free, is the second word a length, how many words are there, and
 -- which of them are slots. And what words read as at an address.
-use Rattle.std.specs.Prelude.{◌≡◌, ℕ, ◌+◌, ◌*◌, ◌<◌, ◌≤◌, Bool, true, false, not, ◌&&◌, List, [], ◌∷◌, map, filter}
-use Rattle.std.specs.Prelude.{length, slice_get, Option, Some, None, nat_le, if◌then◌else◌}
+use Rattle.std.specs.Prelude.{◌≡◌, ℕ, ◌+◌, ◌*◌, ◌<◌, ◌≤◌, Bool, true, false, not, ◌&&◌, List, []}
+use Rattle.std.specs.Prelude.{◌∷◌, map, filter, length, slice_get, Option, Some, None, nat_le, if◌then◌else◌}
 use Rattle.std.specs.List.{range_with_len}
 use Rattle.tagged_word.specs.declared.layout.Kind.{Kind}
 use Rattle.tagged_word.specs.declared.layout.Kind.TheVariants as kind
@@ -115,6 +115,7 @@ tagged_offsets_of kind.Boxed layout length = []
 tagged_offsets_of kind.Filler layout length = []
 tagged_offsets_of kind.Gap layout length = []
 
+-- those of a cell, by its layout and its length
 abbrev pub tagged_offsets : LayoutWord → ℕ → List ℕ
 tagged_offsets layout length = tagged_offsets_of layout.kind layout length
 
@@ -123,6 +124,7 @@ abbrev pub scavenge_offsets_of : Kind → LayoutWord → ℕ → List ℕ
 scavenge_offsets_of kind.Table layout length = range_with_len store_head (2 * length)
 scavenge_offsets_of other layout length = tagged_offsets_of other layout length
 
+-- those of a cell, by its layout and its length
 abbrev pub scavenge_offsets : LayoutWord → ℕ → List ℕ
 scavenge_offsets layout length = scavenge_offsets_of layout.kind layout length
 
@@ -131,8 +133,8 @@ abbrev pub length_by : Bool → Option ℕ → Option ℕ
 length_by true second = second
 length_by false second = Some 0
 
--- These words, with one layout word for each shape, read as this at an address: a header and the layout of its shape, with
--- a length and a size. It ends at the bound or before, and all its words are there.
+-- These words, with one layout word for each shape, read as this at an address: a header and the layout of its shape,
+-- with a length and a size. It ends at the bound or before, and all its words are there.
 pub record ReadsAs (words layouts : List ℕ) (at bound : ℕ) (reading : Reading) : Type 0 where
   pub is_header : IsHeader reading.header
   pub first : slice_get words at ≡ Some (header_bits reading.header)

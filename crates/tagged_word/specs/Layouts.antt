@@ -31,6 +31,7 @@ pub record HasNoInObjectSlots (layout : LayoutWord) : Type 0 where
   pub used : layout.used ≡ 0
   pub raw : layout.raw ≡ 0
 
+-- what a layout of a kind may be, by the in-object slots that it has or has not
 abbrev pub IsLayoutOfKind : Kind → LayoutWord → Type 0
 IsLayoutOfKind kind.Plain layout = HasInObjectSlots layout
 IsLayoutOfKind kind.List layout = HasNoInObjectSlots layout
@@ -45,7 +46,8 @@ IsLayoutOfKind kind.Gap layout = HasNoInObjectSlots layout
 abbrev pub IsLayout : LayoutWord → Type 0
 IsLayout layout = IsLayoutOfKind layout.kind layout
 
--- bits 0 to 3 are the kind's number, bits 4 to 7 the cap, bits 8 to 11 the used in-object slots, bits 12 to 19 the raw mask
+-- bits 0 to 3 are the kind's number, bits 4 to 7 the cap, bits 8 to 11 the used in-object slots, bits 12 to 19 the raw
+-- mask
 abbrev pub layout_bits : LayoutWord → ℕ
 layout_bits layout = 4096 * layout.raw + (256 * layout.used + (16 * layout.cap + kind_number layout.kind))
 

@@ -1,6 +1,6 @@
 -- What a word means, and the cell at an address, as functions of the words. The relations beside them say the same.
-use Rattle.std.specs.Prelude.{◌≡◌, ℕ, zero, suc, ◌+◌, ◌/◌, ◌%◌, ◌^◌, ◌==◌, ◌&&◌, ◌↔◌, Bool, List, ◌∷◌, length}
-use Rattle.std.specs.Prelude.{slice_get, Option, Some, None, nat_lt, nat_le, if◌then◌else◌}
+use Rattle.std.specs.Prelude.{◌≡◌, ℕ, zero, suc, ◌+◌, ◌/◌, ◌%◌, ◌^◌, ◌==◌, ◌&&◌, ◌↔◌, Bool}
+use Rattle.std.specs.Prelude.{List, ◌∷◌, length, slice_get, Option, Some, None, nat_lt, nat_le, if◌then◌else◌}
 use Rattle.std.specs.Option.{option_and_then}
 use Rattle.tagged_word.specs.declared.header.Header.{Header}
 use Rattle.tagged_word.specs.declared.layout.Kind.{Kind}
@@ -52,6 +52,7 @@ abbrev pub has_in_object_slots : LayoutWord → Bool
 has_in_object_slots layout =
     nat_le layout.cap in_object_most && nat_le layout.used layout.cap && nat_lt layout.raw (2 ^ layout.used)
 
+-- whether a layout is one that its kind may have, which is tested by the bits of its word
 abbrev pub is_layout_of_kind : Kind → LayoutWord → Bool
 is_layout_of_kind kind.Plain layout = has_in_object_slots layout
 is_layout_of_kind kind.List layout = has_no_in_object_slots layout

@@ -4,24 +4,31 @@ use Rattle.tagged_word.specs.declared.layout.Kind.{Kind}
 use Rattle.tagged_word.specs.declared.layout.Kind.TheVariants as kind
 use Rattle.tagged_word.specs.Layouts.{kind_number}
 
+-- the shape of lists
 abbrev pub list_shape : ℕ
 list_shape = 1
 
+-- the shape of weak maps
 abbrev pub weak_shape : ℕ
 weak_shape = 2
 
+-- the shape of the property stores and of the elements of lists
 abbrev pub store_shape : ℕ
 store_shape = 3
 
+-- the shape of the tables of weak maps
 abbrev pub table_shape : ℕ
 table_shape = 4
 
+-- the shape of the boxes of large integers
 abbrev pub box_shape : ℕ
 box_shape = 5
 
+-- the shape of fillers, each of one free word
 abbrev pub filler_shape : ℕ
 filler_shape = 6
 
+-- the shape of gaps, each of two free words or more
 abbrev pub gap_shape : ℕ
 gap_shape = 7
 

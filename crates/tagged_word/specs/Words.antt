@@ -1,5 +1,6 @@
 -- The classes of a word, and the bits of each.
-use Rattle.std.specs.Prelude.{ℕ, ◌+◌, ◌*◌, ◌<◌, ◌^◌, Bool, ◌&&◌, IsTrue, ℤ, pos, negsuc, ◌+ℤ◌, int_le}
+use Rattle.std.specs.Prelude.{ℕ, ◌+◌, ◌*◌, ◌<◌, ◌^◌, Bool, ◌&&◌, IsTrue, ℤ, pos, negsuc, ◌+ℤ◌}
+use Rattle.std.specs.Prelude.{int_le}
 use Rattle.std.specs.Int.{cast_unsigned, w64}
 use Rattle.tagged_word.specs.declared.word.Class.{Class}
 use Rattle.tagged_word.specs.declared.word.Class.TheVariants.{Small, Ref, Odd}

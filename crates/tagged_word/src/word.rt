@@ -24,6 +24,7 @@ const SMALL_MIN: i64 = -1_073_741_824;
 const SMALL_MAX: i64 = 1_073_741_823;
 
 /// Whether an integer fits a small one: it lies from -1073741824 to 1073741823.
+#[inline(always)]
 pub fn is_small(v: i64) -> bool
     ensures { result ≡ small v }
 {
@@ -32,6 +33,7 @@ pub fn is_small(v: i64) -> bool
 
 impl Word {
     /// The word of a small integer; none for an integer outside its range.
+    #[inline(always)]
     pub fn small(v: i64) -> Option<Word>
         ensures small { IfSome result (λ word. word.0 ≡ bits_of (Class.Small v)) }
         ensures outside { IsNone result ↔ (small v ≡ false) }
@@ -44,6 +46,7 @@ impl Word {
     }
 
     /// The word of a reference to the cell at an address.
+    #[inline(always)]
     pub fn reference(address: u32) -> Word
         ensures { result.0 ≡ bits_of (Class.Ref address) }
     {
@@ -51,6 +54,7 @@ impl Word {
     }
 
     /// The word of an odd value.
+    #[inline(always)]
     pub fn odd(code: u32) -> Word
         ensures { result.0 ≡ bits_of (Class.Odd code) }
     {
@@ -58,6 +62,7 @@ impl Word {
     }
 
     /// The address of the cell that the word refers to; none for a word that is no reference.
+    #[inline(always)]
     pub fn address(self) -> Option<u32>
         ensures { result ≡ reference_in self.0 }
     {
@@ -69,6 +74,7 @@ impl Word {
     }
 
     /// What the word stands for; none for bits of no class.
+    #[inline(always)]
     pub fn class(self) -> Option<Class>
         ensures parses { (class : Class) → IsClass class → self.0 ≡ bits_of class →
             result ≡ Some class }
@@ -81,9 +87,28 @@ impl Word {
             _ => small_class(self.0),
         }
     }
+
+    /// What the word stands for, where it is known to have a class. Its two lowest bits tell which.
+    #[inline(always)]
+    pub fn known_class(self) -> Class
+        requires known { (class : Class) × IsClass class × (self.0 ≡ bits_of class) }
+        ensures { (class : Class) → IsClass class → self.0 ≡ bits_of class → result ≡ class }
+    {
+        let bits = self.0;
+        if bits % 2 == 0 {
+            return Class::Small((bits.cast_signed() / 2) as i32);
+        }
+        let above = (bits / 4) as u32;
+        if bits % 4 == 1 {
+            Class::Ref(above)
+        } else {
+            Class::Odd(above)
+        }
+    }
 }
 
 // What stands above the two lowest bits, if 32 bits hold it.
+#[inline(always)]
 fn payload(bits: u64) -> Option<u32>
     ensures { SomeIff result (bits / 4 < 4294967296) (bits / 4) }
 {
@@ -91,6 +116,7 @@ fn payload(bits: u64) -> Option<u32>
 }
 
 // The small integer whose bits an even word has, if it has one's.
+#[inline(always)]
 fn small_class(bits: u64) -> Option<Class>
     requires { bits % 2 ≡ 0 }
     ensures parses { (v : ℤ) → IsTrue (small v) → bits ≡ bits_of (Class.Small v) →
@@ -155,5 +181,21 @@ mod tests {
         assert_eq!(rt; Word(0x15).class(), Some(Class::Ref(5)));
         assert_eq!(rt; Word(0xf).class(), Some(Class::Odd(3)));
         assert_eq!(rt; Word(1 << 40).class(), None);
+    }
+
+    /// Whether the class that is told of a word is the one that it is known to have.
+    fn tells_its_class(word: Word) -> bool {
+        match word.class() {
+            Some(class) => word.known_class() == class,
+            None => false,
+        }
+    }
+
+    #[test]
+    fn a_word_of_a_class_tells_it_by_its_lowest_bits(rt: HostRuntime) {
+        let words = [0xffff_ffff_8000_0000, 0x7fff_fffe, 0x3_ffff_fffd, 0xf];
+        for bits in words {
+            assert!(rt; tells_its_class(Word(bits)), "{bits}");
+        }
     }
 }

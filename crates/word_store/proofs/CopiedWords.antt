@@ -115,7 +115,8 @@ pub copied_more : (words : List ℕ) (from to count i word : ℕ) → from + cou
     to + count ≤ length words → i < count → get_or words (from + i) 0 ≡ word →
     set (copied words from to i) (to + i) word ≡ copied words from to (i + 1)
 copied_more words from to count i word within room below read =
-    let len : length (copied words from to i) ≡ length words = length-copied words from to i (omega arith) (omega arith) in
+    let len : length (copied words from to i) ≡ length words =
+    length-copied words from to i (omega arith) (omega arith) in
     let len_more : length (copied words from to (i + 1)) ≡ length words =
     length-copied words from to (i + 1) (omega arith) (omega arith) in
     ext_get_or 0 _ _ (length-set (copied words from to i) (to + i) word ∙ len ∙ sym len_more)

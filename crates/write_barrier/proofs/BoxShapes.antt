@@ -66,7 +66,8 @@ box_of_shape : {heap : Heap} {cell : Cell} {words : List ℕ} → HasSizes heap 
 box_of_shape {heap} {cell} sized has same =
     let bits : layout_bits cell.layout ≡ 6 = bits_are sized has ∙ ap (layout_word heap.paths) same in
     ap (λ (layout : LayoutWord). layout.kind)
-    (same_layout cell.layout box_layout (has_is_cell has).reads.is_layout (record { cap = refl; used = refl; raw = refl }) bits)
+    (same_layout cell.layout box_layout (has_is_cell has).reads.is_layout
+    (record { cap = refl; used = refl; raw = refl }) bits)
 
 -- a layout of a box has this word
 box_bits : (layout : LayoutWord) → IsLayoutOfKind kind.Boxed layout → layout.kind ≡ kind.Boxed → layout_bits layout ≡ 6
@@ -93,7 +94,8 @@ shape_is {heap} {cell} has =
 -- a box is told
 pub told_box : {heap : Heap} {cell : Cell} {words : List ℕ} → HasSizes heap → HasCell heap cell words
     → cell.layout.kind ≡ kind.Boxed → is_box_at heap (Some cell.at) ≡ true
-told_box {heap} {cell} sized has same = eq-eqb (shape_at heap cell.at) box_shape (shape_is has ∙ shape_of_box sized has same)
+told_box {heap} {cell} sized has same = eq-eqb (shape_at heap cell.at) box_shape
+    (shape_is has ∙ shape_of_box sized has same)
 
 -- an object is told from it
 pub told_object : {heap : Heap} {cell : Cell} {words : List ℕ} → HasSizes heap → HasCell heap cell words

@@ -68,12 +68,14 @@ cells_alone space extent there =
     (λ in_eden. subst P (ap (λ (e : Extent). e.region) (contains_only _ extent in_eden)) refl)
     (stands_cases 0 (pages space) (eden space) extent earlier))
     (λ in_half.
-    let found : IsNumbered (λ n. Segment 0 n) space.sizes.young (space.sizes.helpers + 1) (0 + words_in (to_eden space)) extent =
+    let found : IsNumbered (λ n. Segment 0 n) space.sizes.young (space.sizes.helpers + 1)
+    (0 + words_in (to_eden space)) extent =
     numbered _ _ _ _ extent in_half in
     subst P found.of_region refl)
     (stands_cases 0 (to_eden space) (half_of space 0) extent early))
     (λ in_half.
-    let found : IsNumbered (λ n. Segment 1 n) space.sizes.young (space.sizes.helpers + 1) (0 + words_in (to_half space)) extent =
+    let found : IsNumbered (λ n. Segment 1 n) space.sizes.young (space.sizes.helpers + 1)
+    (0 + words_in (to_half space)) extent =
     numbered _ _ _ _ extent in_half in
     subst P found.of_region refl)
     (stands_cases 0 (to_half space) (half_of space 1) extent there)

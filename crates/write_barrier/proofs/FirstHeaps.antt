@@ -66,7 +66,8 @@ rows_are main is = record {
   everywhere = map-map (λ (row : Row). row.extent) first_row (cell_extents main.seat.space)
       ∙ map-id (cell_extents main.seat.space);
   each = All-map (IsUsedRow (heap_of main)) first_row (cell_extents main.seat.space)
-      (λ k extent below. first_row_stands main _ is (All-contains_itself (cell_extents main.seat.space) k extent below));
+      (λ k extent below. first_row_stands main _ is (All-contains_itself
+      (cell_extents main.seat.space) k extent below));
 }
 
 -- the survivors and the used words are none

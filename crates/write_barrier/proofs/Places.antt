@@ -1,5 +1,6 @@
 -- Where runs, layout words and root words stand among the words before the marks.
-use Rattle.std.proofs.Common.{◌≡◌, ◌∙◌, ℕ, ◌+◌, ◌<◌, ◌≤◌, length, refl, sym, subst, arith, length-set}
+use Rattle.std.proofs.Common.{◌≡◌, ◌∙◌, ℕ, ◌+◌, ◌<◌, ◌≤◌, length, refl, sym, ap, subst, arith}
+use Rattle.std.proofs.Common.{length-set}
 use Rattle.page_space.specs.Extents.{Space, eden_start, layouts_start, marks_start, words_count}
 use Rattle.page_space.proofs.Starts.{roots_start_is, layouts_start_is, marks_start_is, board_start_is, words_count_is}
 use Rattle.nursery.specs.Young.{Young, HasRoom}
@@ -8,10 +9,10 @@ use Rattle.shape_tree.specs.ShapeLayouts.{IsInUse}
 use Rattle.object_graph.specs.declared.path.Path.{Path}
 use Rattle.std.specs.Prelude.{List, slice_set}
 use Rattle.handle_roots.specs.declared.held.Held.{Held}
-use Rattle.handle_roots.specs.Roots.{Holds, root_at, with_root, first_word}
+use Rattle.handle_roots.specs.Roots.{Holds, root_at, with_root, first_word, second_word}
 use Rattle.handle_roots.proofs.RootWords.{root_before_layouts}
 use Rattle.heap_table.specs.Seats.{Seat, heap_words}
-use Rattle.heap_table.proofs.HeapWords.{slice_get-heap_words}
+use Rattle.heap_table.proofs.HeapWords.{slice_get-heap_words, heap_words-put}
 use Rattle.write_barrier.specs.Mains.{IsNextRun}
 
 -- words that eden has room for end in eden, so before the marks
@@ -43,7 +44,8 @@ pub holds_before_marks : (seat : Seat) (variable : ℕ) (held : Held) → length
     → Holds seat.space (heap_words seat) variable held
 holds_before_marks seat variable held counted known holds =
     let below = root_before_layouts seat.space variable known in
-    let first : root_at seat.space variable < marks_start seat.space = omega (arith, below, marks_start_is seat.space) in
+    let first : root_at seat.space variable < marks_start seat.space =
+    omega (arith, below, marks_start_is seat.space) in
     let second : root_at seat.space variable + 1 < marks_start seat.space =
     omega (arith, below, marks_start_is seat.space) in
     record {
@@ -52,12 +54,41 @@ holds_before_marks seat variable held counted known holds =
       second = slice_get-heap_words seat (root_at seat.space variable + 1) counted second ∙ holds.second;
     }
 
+-- and the other way round: the words before the marks are those of the table
+pub holds_in_table : (seat : Seat) (variable : ℕ) (held : Held) → length seat.table ≡ words_count seat.space
+    → variable < seat.space.variables → Holds seat.space (heap_words seat) variable held
+    → Holds seat.space seat.table variable held
+holds_in_table seat variable held counted known holds =
+    let below = root_before_layouts seat.space variable known in
+    let first : root_at seat.space variable < marks_start seat.space =
+    omega (arith, below, marks_start_is seat.space) in
+    let second : root_at seat.space variable + 1 < marks_start seat.space =
+    omega (arith, below, marks_start_is seat.space) in
+    record {
+      fits = holds.fits;
+      first = sym (slice_get-heap_words seat (root_at seat.space variable) counted first) ∙ holds.first;
+      second = sym (slice_get-heap_words seat (root_at seat.space variable + 1) counted second) ∙ holds.second;
+    }
+
 -- the table with other root words has as many words
 length-with_root : (space : Space) (words : List ℕ) (variable : ℕ) (held : Held)
     → length (with_root space words variable held) ≡ length words
 length-with_root space words variable held =
     length-set (slice_set words (root_at space variable) (first_word held)) (root_at space variable + 1) _
     ∙ length-set words (root_at space variable) (first_word held)
+
+-- root words that are put in the table are put among the words before the marks
+pub heap_words-with_root : (seat : Seat) (variable : ℕ) (held : Held) → variable < seat.space.variables
+    → heap_words (record seat { table = with_root seat.space seat.table variable held })
+    ≡ with_root seat.space (heap_words seat) variable held
+heap_words-with_root seat variable held known =
+    let below = root_before_layouts seat.space variable known in
+    let at = root_at seat.space variable in
+    let second : at + 1 < marks_start seat.space = omega (arith, below, marks_start_is seat.space) in
+    let put : Seat = record seat { table = slice_set seat.table at (first_word held) } in
+    heap_words-put put (at + 1) (second_word held) second
+    ∙ ap (λ (words : List ℕ). slice_set words (at + 1) (second_word held))
+    (heap_words-put seat at (first_word held) (omega (arith, second)))
 
 -- what a variable was made to hold in the table, it holds among the words before the marks
 pub held_before_marks : (old new : Seat) (variable : ℕ) (held : Held)

@@ -39,7 +39,8 @@ layouts_put : (old : Mutator) (words : List ℕ) (shape : ℕ)
 layouts_put old words shape is within below =
     let start = layouts_start old.seat.space in
     let word = layout_word old.paths shape in
-    below_more (λ other. other < shapes_most → slice_get words (start + other) ≡ Some (layout_word old.paths other)) shape
+    below_more (λ other. other < shapes_most → slice_get words (start + other) ≡ Some
+    (layout_word old.paths other)) shape
     (λ other before few.
     let apart : start + other ≢ start + shape = omega arith in
     ap (λ all. slice_get all (start + other)) is

@@ -36,7 +36,8 @@ small_fits : (v : ℤ) → IsTrue (small v) → FitsSigned w64 v
 small_fits v is = grind (arith, ints)
 
 -- the words of a cell's address and of the one behind it are before the marks, and the address has 32 bits
-cell_before : {heap : Heap} {cell : Cell} {words : List ℕ} → HasCell heap cell words → cell.at + 1 < marks_start heap.space
+cell_before : {heap : Heap} {cell : Cell} {words : List ℕ} → HasCell heap cell words
+    → cell.at + 1 < marks_start heap.space
 cell_before {heap} {cell} has =
     let is_cell = has_is_cell has in
     omega (
@@ -73,14 +74,16 @@ object_by_class heap word number space sized refers =
     let place = refers.place in
     let told : is_box_at heap (Some refers.at) ≡ false =
     ap (λ (at : ℕ). is_box_at heap (Some at)) (sym place.stands) ∙ told_object sized place.has place.object in
-    let stands : held.Ref refers.at ≡ held_of_class heap (of_class.Ref refers.at) = ap (held_at heap refers.at) (sym told) in
+    let stands : held.Ref refers.at ≡ held_of_class heap (of_class.Ref refers.at) = ap (held_at heap refers.at)
+    (sym told) in
     let fits : refers.at < 2 ^ 32 = subst (λ (at : ℕ). at < 2 ^ 32) place.stands (address_fits space place.has) in
     record {
       class = of_class.Ref refers.at;
       is_class = fits;
       bits = refers.refers;
       fits = subst FitsHeld stands fits;
-      shows = subst (λ (one : Held). ShowsHeld heap one (Some (Ref number))) stands (ShowsHeld.object refers.at number place);
+      shows = subst (λ (one : Held). ShowsHeld heap one (Some (Ref number))) stands
+          (ShowsHeld.object refers.at number place);
       within = λ at same. refers_within word at place.has (refers.refers ∙ ap reference_word (sym place.stands)) same;
     }
 

@@ -27,7 +27,8 @@ put_to space first gaps last is pages roots =
     record {
       is = is;
       pages = subst (λ (s : Space). ChangesWithin first gaps 0 (eden_start s)) same pages;
-      roots = subst (λ (s : Space). ChangesWithin gaps last (roots_start s) (layouts_start s)) (pages.space ∙ same) roots;
+      roots = subst (λ (s : Space). ChangesWithin gaps last (roots_start s) (layouts_start s))
+          (pages.space ∙ same) roots;
     }
 
 -- the space is the same
@@ -78,7 +79,8 @@ put_all space first gaps bound last put gaps_are unbound seconds layouts layouts
       seconds = subst (λ (s : Space). (variable : ℕ) → variable < s.variables
           → slice_get (heap_words bound.seat) (root_at s variable + 1)
           ≡ slice_get (heap_words gaps.seat) (root_at s variable + 1)) same seconds;
-      layouts = subst (λ (s : Space). ChangesWithin bound last (layouts_start s) (marks_start s)) (put_space put) layouts;
+      layouts = subst (λ (s : Space). ChangesWithin bound last (layouts_start s) (marks_start s))
+          (put_space put) layouts;
       layouts_are = layouts_are;
     }
 
@@ -114,7 +116,8 @@ all_unbound {space} {bound = bound} all variable below =
     let same = put_space all.put in
     let there = all.unbound variable (subst (λ (s : Space). variable < s.variables) (sym same) below) in
     all.layouts.beside (root_at space variable) (inl (omega (arith, layouts_start_is space)))
-    ∙ subst (λ (s : Space). slice_get (heap_words bound.seat) (root_at s variable) ≡ Some (first_word Unbound)) same there
+    ∙ subst (λ (s : Space). slice_get (heap_words bound.seat) (root_at s variable) ≡ Some (first_word Unbound))
+    same there
 
 -- and their second words are 0
 all_seconds : {space : Space} {first gaps bound last : Mutator} → IsPutAll space first gaps bound last → (variable : ℕ)
@@ -128,7 +131,8 @@ all_seconds {space} all variable below =
 
 -- all that a heap begins with is there
 pub all_started : (space : Space) (first gaps bound last : Mutator) → IsPutAll space first gaps bound last
-    → AreWithin space.sizes space.variables → length (heap_words last.seat) ≡ marks_start last.seat.space → IsStarted last
+    → AreWithin space.sizes space.variables → length (heap_words last.seat) ≡ marks_start last.seat.space
+    → IsStarted last
 all_started space first gaps bound last all within counted =
     let same : space ≡ last.seat.space = sym (all.layouts.space ∙ put_space all.put) in
     let words = heap_words last.seat in

@@ -39,8 +39,8 @@ heap_of main = record {
 abbrev pub IsTied : Mutator → Type 0
 IsTied main = main.young.space ≡ main.seat.space
 
--- The parts agree, only the mutator runs, and the heap shows the graph, which is one that a script makes. No entry of a weak
--- map was cleared.
+-- The parts agree, only the mutator runs, and the heap shows the graph, which is one that a script makes. No entry of a
+-- weak map was cleared.
 pub record MainShows (main : Mutator) (graph : Graph) : Type 0 where
   pub tied : IsTied main
   pub is_graph : IsGraph graph

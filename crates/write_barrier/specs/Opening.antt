@@ -50,7 +50,8 @@ AreGaps main = (page : ℕ) → page < main.seat.space.sizes.pages → IsOneGap 
 abbrev pub blank : Space → Mutator
 blank space = record { seat = fresh space; paths = empty_paths; young = new_young space }
 
--- Nothing is used, each page is one gap, segments hold 0, each variable is bound to nothing, and the layout words are there.
+-- Nothing is used, each page is one gap, segments hold 0, each variable is bound to nothing, and the layout words are
+-- there.
 pub record IsStarted (main : Mutator) : Type 0 where
   pub quiet : main.seat.phase ≡ Quiet
   pub paths : main.paths ≡ empty_paths

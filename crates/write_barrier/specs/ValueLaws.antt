@@ -12,8 +12,8 @@ use Rattle.heap_model.specs.Wholeness.{HasSizes}
 use Rattle.heap_model.specs.Showing.{ShowsValue, ShowsHeld}
 use Rattle.write_barrier.specs.Values.{held_of_class}
 
--- The word has a class, and what this stands for shows the value to a variable. Both words at the address of a reference
--- are before the marks.
+-- The word has a class, and what this stands for shows the value to a variable. Both words at the address of a
+-- reference are before the marks.
 pub record ShowsByClass (heap : Heap) (word : ℕ) (value : Value) : Type 0 where
   pub class : Class
   pub is_class : IsClass class

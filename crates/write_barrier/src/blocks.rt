@@ -14,6 +14,7 @@ use tagged_word::{Header, Word, odd, shape};
 
 impl Main {
     /// Makes two words at an address a box of an integer.
+    #[inline(never)]
     pub fn make_box(&mut self, at: u32, v: i64)
         requires quiet { self.old.seat.phase ≡ Quiet }
         requires within { at + 1 < marks_start self.old.seat.space }

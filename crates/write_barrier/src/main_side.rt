@@ -38,6 +38,7 @@ impl Model for Main {
 
 impl Main {
     /// Where the regions of the heap stand.
+    #[inline(always)]
     pub fn regions(&self) -> Regions
         ensures regions { result ≡ self.now.seat.space }
         ensures counted { length self.now.seat.table ≡ words_count self.now.seat.space }
@@ -51,7 +52,7 @@ impl Main {
     }
 
     /// The word at an address before the marks.
-    #[inline]
+    #[inline(always)]
     pub fn word(&self, a: u32) -> u64
         requires within { a < marks_start self.now.seat.space }
         requires quiet { self.now.seat.phase ≡ Quiet }
@@ -115,10 +116,12 @@ impl Reads for Main {
 
     ghost stays_steady = { stays_quiet };
 
+    #[inline(always)]
     fn count(&self) -> u32 {
         self.seat.count()
     }
 
+    #[inline(always)]
     fn load(&mut self, a: u32) -> u64 {
         // There are as many of these words as addresses before the marks.
         let _regions = self.regions();

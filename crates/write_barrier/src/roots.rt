@@ -1,7 +1,8 @@
 //! What the variables hold.
-ghost use Rattle.std.specs.Prelude.{◌≡◌, ◌<◌};
+ghost use Rattle.std.specs.Prelude.{◌≡◌, ◌≢◌, ◌↔◌, ◌<◌, IsTrue};
 ghost use Rattle.heap_table.specs.declared.phase.Phase.TheVariants.{Quiet};
 ghost use Rattle.heap_table.specs.Seats.{heap_words};
+ghost use Rattle.handle_roots.specs.declared.held.Held.TheVariants.{Unbound};
 ghost use Rattle.handle_roots.specs.Roots.{Holds, IsRoot, with_root};
 ghost use Rattle.write_barrier.specs.Mains.{with_variable};
 
@@ -10,6 +11,7 @@ use handle_roots::{Held, held_by};
 use heap_table::MainSeat;
 
 // Both root words of a variable become those of a value.
+#[inline(always)]
 fn hold_in(seat: &mut MainSeat, variable: u32, value: Held)
     requires quiet { seat.old.phase ≡ Quiet }
     requires known { variable < seat.old.space.variables }
@@ -22,8 +24,26 @@ fn hold_in(seat: &mut MainSeat, variable: u32, value: Held)
     handle_roots::hold(&mut paused, &regions, variable, value);
 }
 
+// Both root words of a variable become those of another one.
+fn copy_in(seat: &mut MainSeat, from: u32, to: u32)
+    requires quiet { seat.old.phase ≡ Quiet }
+    requires known { from < seat.old.space.variables }
+    requires target_known { to < seat.old.space.variables }
+    requires root { IsRoot seat.old.space seat.old.table from }
+    ensures copied { (held : Held) → Holds seat.old.space seat.old.table from held →
+        let words = with_root seat.old.space seat.old.table to held in
+        seat.new ≡ record seat.old { table = words } }
+    ensures holds { (held : Held) → Holds seat.old.space seat.old.table from held →
+        Holds seat.old.space seat.new.table to held }
+{
+    let regions = seat.regions();
+    let mut paused = seat.paused();
+    handle_roots::copy(&mut paused, &regions, from, to);
+}
+
 impl Main {
     /// What a variable holds.
+    #[inline(always)]
     pub fn held(&mut self, variable: u32) -> Held
         requires quiet { self.old.seat.phase ≡ Quiet }
         requires known { variable < self.old.seat.space.variables }
@@ -36,7 +56,43 @@ impl Main {
         held_by(self, &regions, variable)
     }
 
+    /// Whether a variable is bound to something.
+    #[inline(always)]
+    pub fn is_bound(&mut self, variable: u32) -> bool
+        requires quiet { self.old.seat.phase ≡ Quiet }
+        requires known { variable < self.old.seat.space.variables }
+        requires root { IsRoot self.old.seat.space (heap_words self.old.seat) variable }
+        ensures bound { (held : Held) → let words = heap_words self.old.seat in
+            Holds self.old.seat.space words variable held → (IsTrue result ↔ (held ≢ Unbound)) }
+        ensures same { self.new ≡ self.old }
+    {
+        let regions = self.regions();
+        handle_roots::is_bound(self, &regions, variable)
+    }
+
+    /// Makes a variable hold what another one holds. Only its two root words change.
+    #[inline(always)]
+    pub fn copy(&mut self, from: u32, to: u32)
+        requires quiet { self.old.seat.phase ≡ Quiet }
+        requires known { from < self.old.seat.space.variables }
+        requires target_known { to < self.old.seat.space.variables }
+        requires root { IsRoot self.old.seat.space (heap_words self.old.seat) from }
+        ensures held { (held : Held) → let words = heap_words self.old.seat in
+            Holds self.old.seat.space words from held → self.new ≡ with_variable self.old to held }
+        ensures heap { (held : Held) → let words = heap_words self.old.seat in
+            Holds self.old.seat.space words from held →
+            heap_words self.new.seat ≡ with_root self.old.seat.space words to held }
+        ensures holds { (held : Held) → let words = heap_words self.old.seat in
+            Holds self.old.seat.space words from held →
+            Holds self.old.seat.space (heap_words self.new.seat) to held }
+    {
+        // The table has a word for each address.
+        let _regions = self.seat.regions();
+        copy_in(&mut self.seat, from, to);
+    }
+
     /// Makes a variable hold a value. Only its two root words change.
+    #[inline(always)]
     pub fn hold(&mut self, variable: u32, value: Held)
         requires quiet { self.old.seat.phase ≡ Quiet }
         requires known { variable < self.old.seat.space.variables }

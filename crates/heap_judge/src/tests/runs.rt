@@ -71,11 +71,16 @@ fn kept_heaps_show_the_graphs_of_their_scripts(rt: HostRuntime) -> Result<(), Fa
         b"new x 1\nnew y 1\nset x a y\nset y a x\nnew x 1\nlet z -9223372036854775808\nadd z z",
         b"new x 2\nset x a 1\nnew y 2\nset y b 1\nset y a 1\nset x b undefined\nprint q",
         b"list l\npush l 1\npush l 5000000000\npush l l\npush l undefined\npush l 5000000000\nput l 0 l\nput l 1 7",
-        b"list l\npush l 1\npush l 5000000000\npush l l\npush l undefined\nshift l 1\npush l 7\ntrunc l 3\nput l 0 5000000001",
-        b"new x 1\nlist l\npush l x\npush l l\nshift l 2\npush l x\npush l 1\ntrunc l 1\nlist m\ntrunc m 0\nset x a l\nshift l 2",
-        b"new x 1\nlist l\npush l x\nset x a l\nlist m\npush m l\nat y m 0\nat z l 0\ndrop l\npush y 5000000000\nput y 0 5000000001",
-        b"weak m\nnew k 1\nwput m k 5000000000\nwput m m k\nlist l\nwput m l l\nset k a m\nwdel m k\nwput m k 7\nwput m l 6000000000",
-        b"weak m\nnew k 0\nwput m k 1\nnew k 0\nwput m k m\nwget y m k\nnew k 0\nwput m k 5000000000\ndrop k\nweak n\nwput n m n\nwdel n m\nwdel n n",
+        b"list l\npush l 1\npush l 5000000000\npush l l\npush l undefined\nshift l 1\npush l 7\n\
+          trunc l 3\nput l 0 5000000001",
+        b"new x 1\nlist l\npush l x\npush l l\nshift l 2\npush l x\npush l 1\ntrunc l 1\nlist m\n\
+          trunc m 0\nset x a l\nshift l 2",
+        b"new x 1\nlist l\npush l x\nset x a l\nlist m\npush m l\nat y m 0\nat z l 0\ndrop l\n\
+          push y 5000000000\nput y 0 5000000001",
+        b"weak m\nnew k 1\nwput m k 5000000000\nwput m m k\nlist l\nwput m l l\nset k a m\n\
+          wdel m k\nwput m k 7\nwput m l 6000000000",
+        b"weak m\nnew k 0\nwput m k 1\nnew k 0\nwput m k m\nwget y m k\nnew k 0\n\
+          wput m k 5000000000\ndrop k\nweak n\nwput n m n\nwdel n m\nwdel n n",
     ];
     for script in scripts {
         let more = Command::LetValue {

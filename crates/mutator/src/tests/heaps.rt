@@ -1,5 +1,5 @@
 //! A heap with seven variables, and what commands come to on it.
-ghost use Rattle.std.specs.Prelude.{◌≡◌, ◌+◌, ◌≤◌, length, IsTrue, IfOk};
+ghost use Rattle.std.specs.Prelude.{◌≡◌, ◌+◌, ◌≤◌, length, IsTrue, IfOk, OnOk};
 ghost use Rattle.heap_command.specs.Commands.{IsWithin, NamesBelow};
 ghost use Rattle.object_graph.specs.Graphs.{Graph, start};
 ghost use Rattle.write_barrier.specs.Mains.{MainShows};
@@ -7,13 +7,14 @@ ghost use Rattle.mutator.specs.Carries.{field_numbers};
 ghost use Rattle.script_text.specs.Sound.{AreShort};
 
 use crate::{
-    OUTPUT_BYTES, Output, ROOM, Stop, add, alike, at, del, drop_var, get, let_value, list,
-    new_plain, print, push, put, same, set, shape, shift, trunc, wdel, weak, wget, wput,
+    OUTPUT_BYTES, Output, ROOM, Stop, add, alike, at, del, drop_var, get, let_value, new_list,
+    new_plain, new_weak, print, push, put, same, set, shape, shift, trunc, wdel, wget, wput,
 };
 use heap_command::Command::{
-    self, Add, Alike, At, Del, DropVar, Get, LetValue, Print, Push, Put, Same, Set, Shape, Shift,
-    Trunc, WDel, WGet, WPut,
+    self, Add, Alike, At, Del, DropVar, Get, LetValue, List, New, Print, Push, Put, Same, Set,
+    Shape, Shift, Trunc, WDel, WGet, WPut, Weak,
 };
+use heap_command::FaultWord;
 use heap_command::Operand::{self, Int, Undefined, Var};
 use heap_table::HeapTable;
 use page_space::{Regions, Sizes};
@@ -113,12 +114,28 @@ fn prepared(rt: &impl Abort, alloc: Global) -> Result<Main, Fail>
     ensures variables { IfOk result (λ main. main.seat.space.variables ≡ VARIABLES) }
 {
     let mut main = opened(rt, alloc)?;
-    new_plain(&mut main, X, 0, 0)?;
-    new_plain(&mut main, Y, 1, 0)?;
-    new_plain(&mut main, Z, 2, 1)?;
-    list(&mut main, L, 3)?;
-    weak(&mut main, M, 4)?;
+    made(&mut main, New { x: X, cap: 0 }, 0)?;
+    made(&mut main, New { x: Y, cap: 0 }, 1)?;
+    made(&mut main, New { x: Z, cap: 1 }, 2)?;
+    made(&mut main, List { x: L }, 3)?;
+    made(&mut main, Weak { x: M }, 4)?;
     Ok(main)
+}
+
+/// Carries out a command that makes an object, on a heap with so many. Another one is refused.
+fn made(main: &mut Main, command: Command, objects: u32) -> Result<(), Stop>
+    requires shown { (graph : Graph) × MainShows main.old graph × (objects ≡ length graph.objects) }
+    requires within { IsWithin main.old.seat.space.variables field_numbers command }
+    ensures shown { OnOk result
+        ((graph : Graph) × MainShows main.new graph × (objects + 1 ≡ length graph.objects)) }
+    ensures variables { OnOk result (main.new.seat.space.variables ≡ main.old.seat.space.variables) }
+{
+    match command {
+        New { x, cap } => new_plain(main, x, objects, cap),
+        List { x } => new_list(main, x, objects),
+        Weak { x } => new_weak(main, x, objects),
+        _ => Err(Stop::Fault(FaultWord::Unbound)),
+    }
 }
 
 /// Carries the command out. One that `is_within` refuses does nothing.

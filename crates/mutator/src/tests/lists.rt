@@ -2,7 +2,7 @@
 
 use super::heaps::{L, N, W, X, check_rows, opened, said};
 use super::{let_to, print_of};
-use crate::{Stop, list};
+use crate::{Stop, new_list};
 use heap_command::Command::{self, At, Push, Put};
 use heap_command::FaultWord::{self, NotInt, NotList, Range, Unbound};
 use heap_command::Operand::{self, Int, Undefined, Var};
@@ -108,7 +108,7 @@ fn an_element_is_refused_where_its_words_do_not_fit(rt: HostRuntime) -> Result<(
 #[test]
 fn a_list_has_three_words(rt: HostRuntime) -> Result<(), Fail> {
     let mut main = opened(&rt, rt.alloc())?;
-    list(&mut main, X, 0)?;
+    new_list(&mut main, X, 0)?;
     assert_eq!(rt; main.used(), 3);
     Ok(())
 }

@@ -2,7 +2,7 @@
 
 use super::heaps::{L, M, N, W, X, Y, Z, check_rows, opened, said};
 use super::{let_to, print_of};
-use crate::{Stop, weak};
+use crate::{Stop, new_weak};
 use heap_command::Command::{self, WDel, WGet, WPut};
 use heap_command::FaultWord::{self, BadKey, NotWeak, Unbound};
 use heap_command::Operand::{self, Int, Undefined, Var};
@@ -70,7 +70,7 @@ fn entries_have_the_values_of_their_keys(rt: HostRuntime) -> Result<(), Fail> {
 #[test]
 fn a_weak_map_has_three_words(rt: HostRuntime) -> Result<(), Fail> {
     let mut main = opened(&rt, rt.alloc())?;
-    weak(&mut main, X, 0)?;
+    new_weak(&mut main, X, 0)?;
     assert_eq!(rt; main.used(), 3);
     Ok(())
 }

@@ -49,14 +49,29 @@ write-requires-clause-within c =
     let is = c.store_of-store.ensures in
     let within = head_within c.store_of-store.result c.args.gone c.requires.ready is c.requires.few in
     let none = puts_none (c.made.ensures.same ∙ c.blacken.ensures.same) in
-    let headed = puts_then _ _ none c.set_header.ensures.written c.set_header.ensures.heap in
+    let headed = puts_then _ _ none c.set_header.ensures.written c.set_header.ensures.heap
+    (omega (
+      arith,
+      head_within c.store_of-store.result c.args.gone c.requires.ready c.store_of-store.ensures
+          c.requires.few,
+    )) in
     omega (arith, within, marks_still headed)
 
 pub store-requires-clause-within : goal.store-requires-clause-within
 store-requires-clause-within c =
     let none = puts_none (c.made.ensures.same ∙ c.blacken.ensures.same) in
-    let headed = puts_then _ _ none c.set_header.ensures.written c.set_header.ensures.heap in
-    let moved = puts_then _ _ headed c.write.ensures.written c.write.ensures.heap in
+    let headed = puts_then _ _ none c.set_header.ensures.written c.set_header.ensures.heap
+    (omega (
+      arith,
+      head_within c.store_of-store.result c.args.gone c.requires.ready c.store_of-store.ensures
+          c.requires.few,
+    )) in
+    let moved = puts_then _ _ headed c.write.ensures.written c.write.ensures.heap
+    (omega (
+      arith,
+      head_within c.store_of-store.result c.args.gone c.requires.ready c.store_of-store.ensures
+          c.requires.few,
+    )) in
     omega (arith, slot_within c.requires.ready.whole.whole c.requires.ready.there, marks_still moved)
 
 pub overflow_add-list : goal.overflow_add-list
@@ -66,9 +81,20 @@ overflow_add-list c =
 pub write-requires-2-clause-within : goal.write-requires-2-clause-within
 write-requires-2-clause-within c =
     let none = puts_none (c.made.ensures.same ∙ c.blacken.ensures.same) in
-    let headed = puts_then _ _ none c.set_header.ensures.written c.set_header.ensures.heap in
-    let moved = puts_then _ _ headed c.write.ensures.written c.write.ensures.heap in
-    let linked = puts_then _ _ moved c.store.ensures.stored c.store.ensures.heap in
+    let headed = puts_then _ _ none c.set_header.ensures.written c.set_header.ensures.heap
+    (omega (
+      arith,
+      head_within c.store_of-store.result c.args.gone c.requires.ready c.store_of-store.ensures
+          c.requires.few,
+    )) in
+    let moved = puts_then _ _ headed c.write.ensures.written c.write.ensures.heap
+    (omega (
+      arith,
+      head_within c.store_of-store.result c.args.gone c.requires.ready c.store_of-store.ensures
+          c.requires.few,
+    )) in
+    let linked = puts_then _ _ moved c.store.ensures.stored c.store.ensures.heap
+    (omega (arith, slot_within c.requires.ready.whole.whole c.requires.ready.there)) in
     omega (arith, count_within c.requires.ready.whole.whole c.requires.ready.there, marks_still linked)
 
 pub cover-requires-clause-within : goal.cover-requires-clause-within
@@ -76,10 +102,22 @@ cover-requires-clause-within c =
     let is = c.store_of-store.ensures in
     let within = head_within c.store_of-store.result c.args.gone c.requires.ready is c.requires.few in
     let none = puts_none (c.made.ensures.same ∙ c.blacken.ensures.same) in
-    let headed = puts_then _ _ none c.set_header.ensures.written c.set_header.ensures.heap in
-    let moved = puts_then _ _ headed c.write.ensures.written c.write.ensures.heap in
-    let linked = puts_then _ _ moved c.store.ensures.stored c.store.ensures.heap in
-    let counted = puts_then _ _ linked c.write-2.ensures.written c.write-2.ensures.heap in
+    let headed = puts_then _ _ none c.set_header.ensures.written c.set_header.ensures.heap
+    (omega (
+      arith,
+      head_within c.store_of-store.result c.args.gone c.requires.ready c.store_of-store.ensures
+          c.requires.few,
+    )) in
+    let moved = puts_then _ _ headed c.write.ensures.written c.write.ensures.heap
+    (omega (
+      arith,
+      head_within c.store_of-store.result c.args.gone c.requires.ready c.store_of-store.ensures
+          c.requires.few,
+    )) in
+    let linked = puts_then _ _ moved c.store.ensures.stored c.store.ensures.heap
+    (omega (arith, slot_within c.requires.ready.whole.whole c.requires.ready.there)) in
+    let counted = puts_then _ _ linked c.write-2.ensures.written c.write-2.ensures.heap
+    (omega (arith, count_within c.requires.ready.whole.whole c.requires.ready.there)) in
     omega (arith, within, marks_still counted)
 
 pub returns : goal.returns
@@ -87,13 +125,18 @@ returns c =
     let old = c.args.main.now in
     let store = c.store_of-store.result in
     let start : ℕ = store.at + c.args.gone in
+    let within = head_within store c.args.gone c.requires.ready c.store_of-store.ensures c.requires.few in
     let none = puts_none (c.made.ensures.same ∙ c.blacken.ensures.same) in
     let head = c.set_header.ensures in
-    let headed = puts_then start (header_bits store_header) none head.written head.heap in
-    let moved = puts_then (start + 1) _ headed c.write.ensures.written c.write.ensures.heap in
+    let headed = puts_then start (header_bits store_header) none head.written head.heap
+    (omega (arith, within)) in
+    let moved = puts_then (start + 1) _ headed c.write.ensures.written c.write.ensures.heap
+    (omega (arith, within)) in
     let linked = puts_then (c.args.list + 1) (reference_word start) moved
-    (rw c.reference.ensures at c.store.ensures.stored) (rw c.reference.ensures at c.store.ensures.heap) in
-    let counted = puts_then (c.args.list + 2) _ linked c.write-2.ensures.written c.write-2.ensures.heap in
+    (rw c.reference.ensures at c.store.ensures.stored) (rw c.reference.ensures at c.store.ensures.heap)
+    (omega (arith, slot_within c.requires.ready.whole.whole c.requires.ready.there)) in
+    let counted = puts_then (c.args.list + 2) _ linked c.write-2.ensures.written c.write-2.ensures.heap
+    (omega (arith, count_within c.requires.ready.whole.whole c.requires.ready.there)) in
     let some : 0 < store.capacity =
     omega (arith, store_has_room store c.requires.ready c.store_of-store.ensures, c.requires.some, c.requires.few) in
     let all = covers_then store.at c.args.gone counted c.cover.ensures in

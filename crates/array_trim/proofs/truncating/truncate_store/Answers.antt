@@ -7,7 +7,7 @@ use Rattle.object_cells.proofs.UnusedWords.{marks_fit}
 use Rattle.list_store.proofs.ListCells.{list_beside, count_within, store_has_room}
 use Rattle.array_trim.specs.TrimWords.{covered, truncated_words}
 use Rattle.array_trim.proofs.CoveredWords.{puts_none, puts_then, covers_then, marks_still}
-use Rattle.array_trim.proofs.OwnStores.{store_named}
+use Rattle.array_trim.proofs.OwnStores.{store_named, length_within}
 use Rattle.array_trim.proofs.truncating.truncate_store.Goals as goal
 
 pub store_of-store-requires-clause-there : goal.store_of-store-requires-clause-there
@@ -20,7 +20,8 @@ overflow_add-list c =
 pub write-requires-2-clause-within : goal.write-requires-2-clause-within
 write-requires-2-clause-within c =
     let none = puts_none c.blacken.ensures.same in
-    let shrunk = puts_then _ _ none c.write.ensures.written c.write.ensures.heap in
+    let shrunk = puts_then _ _ none c.write.ensures.written c.write.ensures.heap
+    (length_within c.store_of-store.result c.requires.ready c.store_of-store.ensures) in
     omega (arith, count_within c.requires.ready.whole.whole c.requires.ready.there, marks_still shrunk)
 
 pub overflow_add-store-3 : goal.overflow_add-store-3
@@ -41,8 +42,10 @@ overflow_sub-store c =
 pub cover-requires-clause-within : goal.cover-requires-clause-within
 cover-requires-clause-within c =
     let none = puts_none c.blacken.ensures.same in
-    let shrunk = puts_then _ _ none c.write.ensures.written c.write.ensures.heap in
-    let counted = puts_then _ _ shrunk c.write-2.ensures.written c.write-2.ensures.heap in
+    let shrunk = puts_then _ _ none c.write.ensures.written c.write.ensures.heap
+    (length_within c.store_of-store.result c.requires.ready c.store_of-store.ensures) in
+    let counted = puts_then _ _ shrunk c.write-2.ensures.written c.write-2.ensures.heap
+    (omega (arith, count_within c.requires.ready.whole.whole c.requires.ready.there)) in
     let room = store_has_room c.store_of-store.result c.requires.ready c.store_of-store.ensures in
     omega (arith, room, c.requires.fewer, c.store_of-store.ensures.within, marks_still counted)
 
@@ -51,8 +54,10 @@ returns c =
     let old = c.args.main.now in
     let store = c.store_of-store.result in
     let none = puts_none c.blacken.ensures.same in
-    let shrunk = puts_then (store.at + 1) c.args.kept none c.write.ensures.written c.write.ensures.heap in
-    let counted = puts_then (c.args.list + 2) c.args.kept shrunk c.write-2.ensures.written c.write-2.ensures.heap in
+    let shrunk = puts_then (store.at + 1) c.args.kept none c.write.ensures.written c.write.ensures.heap
+    (length_within store c.requires.ready c.store_of-store.ensures) in
+    let counted = puts_then (c.args.list + 2) c.args.kept shrunk c.write-2.ensures.written c.write-2.ensures.heap
+    (omega (arith, count_within c.requires.ready.whole.whole c.requires.ready.there)) in
     let some : 0 < store.capacity =
     omega (arith, store_has_room store c.requires.ready c.store_of-store.ensures, c.requires.fewer) in
     let at : ℕ = store.at + (2 + c.args.kept) in

@@ -8,7 +8,8 @@ returns-then-size-room-clause-cell g c =
     let words : List ℕ = g.W.Reads.words c.args.words.now in
     let layout = c.in_ok-layout.layout in
     let kept : g.W.Reads.words c.layout_of.new.words ≡ words = c.in_ok-layout.ensures.kept in
-    let parts : HasParts c.args.regions.now words c.args.a c.in_ok-header.header layout c.in_ok-length.length c.in_ok-size.size =
+    let parts : HasParts c.args.regions.now words c.args.a c.in_ok-header.header layout
+    c.in_ok-length.length c.in_ok-size.size =
     record {
       is_header = c.in_ok-header.ensures.one.0;
       first = c.requires.read ∙ ap (λ bits. Some bits) c.in_ok-header.ensures.one.1;
@@ -39,7 +40,8 @@ returns-clause-cell g c =
     let words : List ℕ = g.W.Reads.words c.args.words.now in
     let layout = c.in_ok-layout.layout in
     let kept : g.W.Reads.words c.layout_of.new.words ≡ words = c.in_ok-layout.ensures.kept in
-    let parts : HasParts c.args.regions.now words c.args.a c.in_ok-header.header layout c.in_ok-length.length c.in_ok-size.size =
+    let parts : HasParts c.args.regions.now words c.args.a c.in_ok-header.header layout
+    c.in_ok-length.length c.in_ok-size.size =
     record {
       is_header = c.in_ok-header.ensures.one.0;
       first = c.requires.read ∙ ap (λ bits. Some bits) c.in_ok-header.ensures.one.1;

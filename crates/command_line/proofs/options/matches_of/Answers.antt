@@ -8,7 +8,8 @@ use Rattle.command_line.proofs.options.matches_of.Goals as goal
 
 pub returns-in_err-try_get_matches_from-clause-refused : goal.returns-in_err-try_get_matches_from-clause-refused
 returns-in_err-try_get_matches_from-clause-refused c = λ bad.
-    none_parsed (app_of c.in_ok-parser.parser) (map string_bytes c.args.words.now) c.in_err-try_get_matches_from.field-0.0
+    none_parsed (app_of c.in_ok-parser.parser) (map string_bytes c.args.words.now)
+    c.in_err-try_get_matches_from.field-0.0
     c.in_ok-parser.ensures c.in_err-try_get_matches_from.ensures.kinds (search rules)
 
 pub returns-clause-rows : goal.returns-clause-rows

@@ -14,4 +14,5 @@ returns-in-Some-clause-sizes c =
 
 pub returns-clause-refused : goal.returns-clause-refused
 returns-clause-refused c = λ bad.
-    sizes_found (map string_bytes c.args.words.now) c.in_ok-matches.matches None c.in_ok-matches.ensures.rows (search rules)
+    sizes_found (map string_bytes c.args.words.now) c.in_ok-matches.matches None
+    c.in_ok-matches.ensures.rows (search rules)

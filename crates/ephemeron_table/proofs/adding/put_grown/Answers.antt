@@ -5,7 +5,10 @@ use Rattle.ephemeron_table.specs.Movings.{PutsInNewTable}
 use Rattle.ephemeron_table.proofs.FullTables.{put_known}
 use Rattle.ephemeron_table.proofs.GrowableMaps.{can_grow}
 use Rattle.ephemeron_table.proofs.GrownEntries.{IsGrowing}
-use Rattle.ephemeron_table.proofs.NewTableEntries.{growing_few, growing_lacks, grown_entry}
+use Rattle.ephemeron_table.proofs.NewTableEntries.{growing_refused, grown_entry, grown_pair}
+use Rattle.ephemeron_table.proofs.PairsByKey.{shown_known}
+use Rattle.ephemeron_table.proofs.PutRefusals.{pair_refused}
+use Rattle.ephemeron_table.proofs.PutShown.{has_put_pair}
 use Rattle.ephemeron_table.proofs.adding.put_grown.Goals as goal
 
 pub put_in_new_table-requires : goal.put_in_new_table-requires
@@ -31,7 +34,11 @@ returns-in-Ok c graph weak number what shows is is_key held fresh =
     let fits : FitsHeld c.args.value = search rules in
     let puts = subst (λ n. PutsInNewTable c.args.main.now c.put_in_new_table.new.main c.args.map c.args.table c.args.key
     (n + 1) c.args.value) (sym c.requires.counted) c.in-Ok.ensures.ok in
-    grown_entry growing fits held puts c.laws_of_tables.ensures.grow c.laws_of_entries.ensures.show
+    let grow = c.laws_of_tables.ensures.grow in
+    record {
+      entry = grown_entry growing fits held puts grow c.laws_of_entries.ensures.show;
+      pairs = has_put_pair (grown_pair growing fits held puts grow) c.laws_of_values.ensures;
+    }
 
 pub returns-in-Err : goal.returns-in-Err
 returns-in-Err c graph weak number what shows is is_key held fresh =
@@ -45,5 +52,6 @@ returns-in-Err c graph weak number what shows is is_key held fresh =
       few = omega (arith, c.requires.counted, c.requires.few);
       over = omega (arith, c.requires.counted, c.requires.over);
     } in
-    let lacks = growing_lacks growing c.args.value what c.in-Err.no_room held c.in-Err.ensures.refused in
-    (growing_few growing, lacks.0, lacks.1, lacks.2)
+    let refused = growing_refused growing c.args.value what c.in-Err.no_room held c.in-Err.ensures.refused in
+    let known = shown_known shows is c.regions-regions.ensures.within c.requires.table in
+    record { entry = refused; pairs = pair_refused known shows is is_key c.in-Err.no_room held refused }

@@ -1,13 +1,13 @@
 -- The pair of the entry is taken out.
 use Rattle.std.proofs.Common.{◌<◌, ◌∙◌, subst, arith}
 use Rattle.page_space.specs.Extents.{marks_start}
-use Rattle.heap_model.specs.Slots.{reference_word}
 use Rattle.object_cells.proofs.CellsRead.{cell_at_before_marks}
 use Rattle.ephemeron_table.proofs.EntryPairs.{entry_pair}
-use Rattle.ephemeron_table.proofs.KeysFound.{weak_shown, shown_there, key_told, number_is, comes_as, passes_as}
-use Rattle.ephemeron_table.proofs.KeysFound.{comes_within, none_nowhere, none_where_free}
+use Rattle.ephemeron_table.proofs.KeysFound.{weak_shown, shown_there, key_told}
+use Rattle.ephemeron_table.proofs.KeysProbed.{comes_within, none_at_free, none_passed}
 use Rattle.ephemeron_table.proofs.KnownTables.{KnownMap, keys_beside, map_beside}
 use Rattle.ephemeron_table.proofs.TablesRead.{count_within}
+use Rattle.ephemeron_table.proofs.DeletedPairs.{deletes_no_pair, deletes_pair}
 use Rattle.ephemeron_table.proofs.DeletedEntries.{deletes_none, deletes_entry, IsDeleting, length-without_entry}
 use Rattle.ephemeron_table.proofs.deleting.delete.Goals as goal
 
@@ -66,27 +66,57 @@ take_out-requires-clause-some c =
     omega (arith, counted, less)
 
 pub returns-in-Key : goal.returns-in-Key
-returns-in-Key c graph weak number shows is is_key =
-    let comes = c.in-Key.ensures.0 in
+returns-in-Key c =
+    let table = c.table_of-table.result in
+    let place = c.in-Key.place in
+    let within = comes_within c.in-Key.ensures.0 in
     let key_read = c.in-Key.ensures.1 ∙ c.reference.ensures in
-    let has = entry_pair c.table_of-table.result c.in-Key.place shows is is_key c.regions-regions.ensures.within
-    c.table_of-table.ensures (comes_within comes) key_read in
-    let deleting : IsDeleting c.args.main.now c.take_out.new.main graph c.args.map c.args.key weak number c.in-Key.place
-    c.table_of-table.result = record { has = has; takes = c.take_out.ensures } in
-    deletes_entry deleting c.laws_of_tables.ensures.stay c.laws_of_entries.ensures.show
+    let sizes = c.regions-regions.ensures.within in
+    let is_table = c.table_of-table.ensures in
+    let asked = c.requires.shown in
+    record {
+      entry = λ graph weak number shows is is_key.
+          let has = entry_pair table place shows is is_key sizes is_table within key_read in
+          let deleting : IsDeleting c.args.main.now c.take_out.new.main graph c.args.map c.args.key weak number place
+          table = record { has = has; takes = c.take_out.ensures } in
+          deletes_entry deleting c.laws_of_tables.ensures.stay c.laws_of_entries.ensures.show;
+      pairs = λ before has_pairs.
+          let told = key_told table place (weak_shown asked.shows asked.is) asked.is_key is_table within key_read in
+          deletes_pair asked.shows asked.is asked.is_key sizes is_table told has_pairs c.take_out.ensures
+          c.laws_of_pairs.ensures.own c.laws_of_tables.ensures.stay;
+    }
 
+-- where no entry has the key, nothing changes
 pub returns-in-Free : goal.returns-in-Free
-returns-in-Free c graph weak number shows is is_key =
-    let comes = comes_as c.number_at.result number c.reference.result.0 (reference_word c.args.key)
-    (c.number_at.ensures ∙ number_is is_key.place) c.reference.ensures c.in-Free.ensures.0 in
-    deletes_none c.args.main.now graph c.args.map weak number shows is
-    (none_where_free c.table_of-table.result c.in-Free.field-0 shows (weak_shown shows is) is_key c.table_of-table.ensures
-    comes c.in-Free.ensures.1)
+returns-in-Free c =
+    let is_table = c.table_of-table.ensures in
+    let number_read = c.number_at.ensures in
+    let key_read = c.reference.ensures in
+    let ends = c.in-Free.ensures in
+    let asked = c.requires.shown in
+    let shown = weak_shown asked.shows asked.is in
+    record {
+      entry = λ graph weak number shows is is_key.
+          deletes_none c.args.main.now graph c.args.map weak number shows is
+          (none_at_free _ _ shows (weak_shown shows is) is_key is_table number_read key_read ends);
+      pairs = λ before has.
+          deletes_no_pair asked.shows asked.is asked.is_key c.regions-regions.ensures.within is_table
+          (none_at_free _ _ asked.shows shown asked.is_key is_table number_read key_read ends) has;
+    }
 
 pub returns-in-Nowhere : goal.returns-in-Nowhere
-returns-in-Nowhere c graph weak number shows is is_key =
-    let table = c.table_of-table.result in
-    let passes = passes_as c.number_at.result number c.reference.result.0 (reference_word c.args.key) table.capacity
-    (c.number_at.ensures ∙ number_is is_key.place) c.reference.ensures c.in-Nowhere.ensures in
-    deletes_none c.args.main.now graph c.args.map weak number shows is
-    (none_nowhere table shows (weak_shown shows is) is_key c.table_of-table.ensures passes)
+returns-in-Nowhere c =
+    let is_table = c.table_of-table.ensures in
+    let number_read = c.number_at.ensures in
+    let key_read = c.reference.ensures in
+    let ends = c.in-Nowhere.ensures in
+    let asked = c.requires.shown in
+    let shown = weak_shown asked.shows asked.is in
+    record {
+      entry = λ graph weak number shows is is_key.
+          deletes_none c.args.main.now graph c.args.map weak number shows is
+          (none_passed _ _ shows (weak_shown shows is) is_key is_table number_read key_read ends);
+      pairs = λ before has.
+          deletes_no_pair asked.shows asked.is asked.is_key c.regions-regions.ensures.within is_table
+          (none_passed _ _ asked.shows shown asked.is_key is_table number_read key_read ends) has;
+    }

@@ -3,7 +3,8 @@ use Rattle.std.proofs.Common.{◌≡◌, ◌+◌, Some, None, unwrap_or, sym, �
 use Rattle.tagged_word.specs.Readings.{reference_in}
 use Rattle.write_barrier.specs.Mains.{Mutator}
 use Rattle.ephemeron_table.specs.Movings.{MovesPairs}
-use Rattle.ephemeron_table.proofs.MovingTables.{moving_begins, moving_free, moving_key, moving_passes, moving_settles, next_read}
+use Rattle.ephemeron_table.proofs.MovingTables.{moving_begins, moving_free, moving_key, moving_passes, moving_settles}
+use Rattle.ephemeron_table.proofs.MovingTables.{next_read}
 use Rattle.ephemeron_table.proofs.TableBounds.{none_from_not_some, table_within}
 use Rattle.ephemeron_table.proofs.growing.move_pairs.Goals as goal
 use Rattle.ephemeron_table.proofs.growing.move_pairs.Goals.{in-Some, in_default}
@@ -18,7 +19,8 @@ settle-requires-clause-key c =
     let within = table_within c.args.main.now c.args.to c.requires.to counted in
     let read = next_read within_from within c.requires.more c.requires.apart c.requires.keys c.loop-at.invariant
     c.loop-at-test.true in
-    moving_key within_from within c.requires.more c.requires.apart c.requires.keys c.loop-at.invariant c.loop-at-test.true
+    moving_key within_from within c.requires.more c.requires.apart c.requires.keys c.loop-at.invariant
+    c.loop-at-test.true
     c.in-Some.key (sym (c.address.ensures ∙ ap reference_in (c.key_of.ensures ∙ read.key)) ∙ c.in-Some.is)
 
 pub settle-requires-clause-free : goal.settle-requires-clause-free
@@ -26,7 +28,8 @@ settle-requires-clause-free c =
     let counted = c.regions-regions.ensures.heap_counted in
     let within_from = table_within c.args.main.now c.args.from c.requires.from counted in
     let within = table_within c.args.main.now c.args.to c.requires.to counted in
-    moving_free within_from within c.requires.more c.requires.apart c.requires.keys c.loop-at.invariant c.loop-at-test.true
+    moving_free within_from within c.requires.more c.requires.apart c.requires.keys c.loop-at.invariant
+    c.loop-at-test.true
 
 pub loop-at-preserved : goal.loop-at-preserved
 loop-at-preserved c =

@@ -1,8 +1,11 @@
 -- The table and the box that are made stand in the words that were reserved.
-use Rattle.std.proofs.Common.{◌≡◌, ◌+◌, ◌*◌, ap, ◌∙◌, arith}
+use Rattle.std.proofs.Common.{◌≡◌, ◌+◌, ◌*◌, ap, ◌∙◌, arith, rules}
 use Rattle.page_space.specs.Extents.{Space, marks_start}
+use Rattle.heap_table.specs.Seats.{StaysBeside}
+use Rattle.heap_table.specs.Staying.{stays_beside_again}
 use Rattle.write_barrier.specs.Mains.{Mutator}
 use Rattle.object_cells.specs.Made.{content_need}
+use Rattle.object_cells.proofs.WordsBeside.{same_beside, reserved_beside, put_beside}
 use Rattle.ephemeron_table.proofs.GrowingTables.{begun_within, boxed_free, grown_apart, grown_before_marks, grown_keys}
 use Rattle.ephemeron_table.proofs.GrowingTables.{grown_more, grown_nothing}
 use Rattle.ephemeron_table.proofs.growing.put_in_new_table.Goals as goal
@@ -46,7 +49,7 @@ pub boxed_word-word-requires-clause-within : goal.boxed_word-word-requires-claus
 boxed_word-word-requires-clause-within c v boxed =
     let counted = c.regions-regions.ensures.heap_counted in
     let two : c.need_of.result ≡ 2 = c.need_of.ensures ∙ ap content_need boxed in
-    let space = c.move_pairs.ensures.changes.space ∙ c.begin_table.ensures.space
+    let space = c.move_pairs.ensures.changes.rest.space ∙ c.begin_table.ensures.beside.space
     ∙ ap (λ (main : Mutator). main.seat.space) c.in_ok-at.ensures.reserved in
     let before = grown_before_marks c.requires.can counted c.in_ok-at.at c.grown-capacity.result c.need_of.result
     c.in_ok-at.ensures.room (c.in_ok-at.ensures.at (omega arith)) c.grown-capacity.ensures in
@@ -59,3 +62,43 @@ settle-requires-clause-free c =
     (c.in_ok-at.ensures.at (omega arith)) c.grown-capacity.ensures c.in_ok-at.ensures.reserved
     c.begin_table.ensures c.content_for-content.result
     c.move_pairs.ensures c.boxed_word-word.ensures.made
+
+pub returns-clause-ok : goal.returns-clause-ok
+returns-clause-ok c =
+    let old : Mutator = c.args.main.now in
+    let begun : Mutator = c.begin_table.new.main in
+    let moved : Mutator = c.move_pairs.new.main in
+    let boxed : Mutator = c.boxed_word-word.new.main in
+    let settled : Mutator = c.settle.new.main in
+    let told : Mutator = c.made.new.self in
+    let linked : Mutator = c.store.new.self in
+    let reached : StaysBeside old.seat settled.seat =
+    stays_beside_again old.seat boxed.seat settled.seat
+    (stays_beside_again old.seat moved.seat boxed.seat
+    (stays_beside_again old.seat begun.seat moved.seat
+    (stays_beside_again old.seat c.room_for.new.main.seat begun.seat
+    (reserved_beside old _ c.in_ok-at.ensures.reserved) c.begin_table.ensures.beside)
+    c.move_pairs.ensures.changes.rest) c.boxed_word-word.ensures.made.beside) c.settle.ensures.words.beside in
+    let still : StaysBeside settled.seat told.seat = same_beside c.made.ensures.same in
+    let marks = ap (λ (s : Space). marks_start s) reached.space in
+    let named : StaysBeside settled.seat linked.seat =
+    put_beside (c.args.map + 1) _ still c.store.ensures.stored
+    (omega (arith, c.requires.can.map_within, marks, ap (λ (s : Space). marks_start s) still.space)) in
+    record {
+      room = search rules;
+      begun = begun;
+      begins = search rules;
+      moved = moved;
+      moves = search rules;
+      boxed = boxed;
+      boxes = search rules;
+      settled = settled;
+      settles = search rules;
+      words = record {
+        beside = put_beside (c.args.map + 2) _ named c.write.ensures.written
+            (omega (arith, c.requires.can.map_within, marks, ap (λ (s : Space). marks_start s) named.space));
+        paths = search rules;
+        young = search rules;
+        heap = search rules;
+      };
+    }

@@ -2,7 +2,8 @@
 use Rattle.std.proofs.Common.{◌<◌, ◌∙◌, subst}
 use Rattle.page_space.specs.Extents.{marks_start}
 use Rattle.object_cells.proofs.CellsRead.{cell_at_before_marks}
-use Rattle.ephemeron_table.proofs.KeysFound.{weak_shown, shown_there, comes_within}
+use Rattle.ephemeron_table.proofs.KeysFound.{weak_shown, shown_there}
+use Rattle.ephemeron_table.proofs.KeysProbed.{comes_within}
 use Rattle.ephemeron_table.proofs.EntryPairs.{entry_pair}
 use Rattle.ephemeron_table.proofs.PutKeys.{value_before}
 use Rattle.ephemeron_table.proofs.maps.put.Goals as goal
@@ -25,6 +26,33 @@ put_there-requires-clause-held c =
     value_before has c.args.value
 
 pub returns-in-Key : goal.returns-in-Key
-returns-in-Key c graph weak number what shows is is_key held =
-    c.put_there.ensures c.args.map c.args.key graph weak number what shows is is_key held c.table_of-table.ensures
-    (c.in-Key.ensures.1 ∙ c.reference.ensures)
+returns-in-Key c =
+    let asked = c.requires.shown in
+    let read = c.in-Key.ensures.1 ∙ c.reference.ensures in
+    let is_table = c.table_of-table.ensures in
+    record {
+      entry = λ graph weak number what shows is is_key held.
+          (c.put_there.ensures c.args.map c.args.key graph weak number what shows is is_key held is_table read).entry;
+      pairs = (c.put_there.ensures c.args.map c.args.key asked.graph asked.weak asked.number asked.value asked.shows
+          asked.is asked.is_key asked.is_held is_table read).pairs;
+    }
+
+pub returns-in-Free : goal.returns-in-Free
+returns-in-Free c =
+    let asked = c.requires.shown in
+    record {
+      entry = λ graph weak number what shows is is_key held.
+          (c.put_new.ensures graph weak number what shows is is_key held).entry;
+      pairs = (c.put_new.ensures asked.graph asked.weak asked.number asked.value asked.shows asked.is asked.is_key
+          asked.is_held).pairs;
+    }
+
+pub returns-in-Nowhere : goal.returns-in-Nowhere
+returns-in-Nowhere c =
+    let asked = c.requires.shown in
+    record {
+      entry = λ graph weak number what shows is is_key held.
+          (c.put_new-in-Nowhere.ensures graph weak number what shows is is_key held).entry;
+      pairs = (c.put_new-in-Nowhere.ensures asked.graph asked.weak asked.number asked.value asked.shows asked.is
+          asked.is_key asked.is_held).pairs;
+    }

@@ -8,7 +8,7 @@ use Rattle.ephemeron_table.specs.Probes as probes
 use Rattle.ephemeron_table.specs.Probes.{EndsNew}
 use Rattle.ephemeron_table.proofs.FullTables.{put_known, over_nowhere, counted_within}
 use Rattle.ephemeron_table.proofs.KeysFound.{weak_shown, shown_there, number_is}
-use Rattle.ephemeron_table.proofs.NewEntries.{refuses_entry}
+use Rattle.ephemeron_table.proofs.NewEntries.{refuses_entry, refuses_pair}
 use Rattle.ephemeron_table.proofs.NewKeys.{lacks_new}
 use Rattle.ephemeron_table.proofs.TablesRead.{count_within}
 use Rattle.ephemeron_table.proofs.maps.put_new.Goals as goal
@@ -39,7 +39,11 @@ returns-then-count-ge-ENTRIES_MOST c graph weak number what shows is is_key held
     let ends = subst (λ n. EndsNew heap c.args.table n (reference_word c.args.key) c.args.place)
     (number_is is_key.place) c.requires.ends in
     let lacks = lacks_new c.args.place shows is is_key c.regions-regions.ensures.within c.requires.table ends in
-    refuses_entry what c.word-count.result lacks read c.if-count-ge-ENTRIES_MOST.true
+    let many = c.if-count-ge-ENTRIES_MOST.true in
+    record {
+      entry = refuses_entry what c.word-count.result lacks read many;
+      pairs = λ before has. refuses_pair c.args.value c.word-count.result lacks read many has;
+    }
 
 pub put_free-requires-clause-map : goal.put_free-requires-clause-map
 put_free-requires-clause-map c =

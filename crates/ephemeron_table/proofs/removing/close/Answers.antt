@@ -19,7 +19,8 @@ loop-passed-init c =
     let within = table_within c.args.main.now c.args.table c.requires.within c.regions-regions.ensures.heap_counted in
     record {
       changes = nothing_changed c.args.main.now c.args.table;
-      taking = taking_begins (heap_of c.args.main.now) (pairs_of (heap_words c.args.main.now.seat) c.args.table) c.args.at
+      taking = taking_begins (heap_of c.args.main.now)
+          (pairs_of (heap_words c.args.main.now.seat) c.args.table) c.args.at
           (omega (arith, c.requires.place, (pairs_read (heap_words c.args.main.now.seat) c.args.table within).long));
     }
 
@@ -58,8 +59,9 @@ number_at-number-requires-clause-within c =
     let one = read within far.changes far.taking next few c.place-next.ensures in
     let refers : reference_in one.pair.key ≡ Some c.in-Some.key =
     sym (c.address.ensures ∙ ap reference_in (c.key_of.ensures ∙ one.key)) ∙ c.in-Some.is in
-    let beside = key_beside within far.changes far.taking next few c.place-next.ensures c.in-Some.key refers c.requires.keys in
-    subst (λ (space : Space). c.in-Some.key < marks_start space) (sym far.changes.space) beside.within
+    let beside = key_beside within far.changes far.taking next few c.place-next.ensures c.in-Some.key refers
+    c.requires.keys in
+    subst (λ (space : Space). c.in-Some.key < marks_start space) (sym far.changes.rest.space) beside.within
 
 pub loop-passed-preserved-then-steps-passed : goal.loop-passed-preserved-then-steps-passed
 loop-passed-preserved-then-steps-passed c =
@@ -72,7 +74,8 @@ loop-passed-preserved-then-steps-passed c =
     sym (c.address.ensures ∙ ap reference_in (c.key_of.ensures ∙ one.key)) ∙ c.in-Some.is in
     record {
       changes = far.changes;
-      taking = passes_on within far.changes far.taking next few c.place-next.ensures c.in-Some.key refers c.requires.keys
+      taking = passes_on within far.changes far.taking next few c.place-next.ensures c.in-Some.key refers
+          c.requires.keys
           c.number_at-number.result c.steps.result c.number_at-number.ensures c.steps.ensures c.if-steps-passed.true;
     }
 
@@ -123,5 +126,6 @@ returns c =
       below = stays_below within far.changes far.taking;
       found = ends_at_last (numbers (heap_of c.args.main.now) (pairs_of (heap_words c.args.main.now.seat) c.args.table))
           (numbers (heap_of c.args.main.now) (pairs_of (heap_words c.loop-passed.main.seat) c.args.table)) c.args.at
-          c.args.table.capacity c.loop-passed.hole c.loop-passed.passed far.taking.removal long c.loop-passed-test.false;
+          c.args.table.capacity c.loop-passed.hole c.loop-passed.passed far.taking.removal long
+          c.loop-passed-test.false;
     }

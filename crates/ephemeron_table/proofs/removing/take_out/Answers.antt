@@ -16,4 +16,5 @@ returns c =
     takes_at c.args.map c.args.at c.close-hole.result c.word-count.result c.args.table
     (omega (arith, c.requires.within, c.regions-regions.ensures.heap_counted))
     (omega (arith, c.requires.map, c.regions-regions.ensures.heap_counted))
-    c.requires.beside c.close-hole.ensures puts c.word-count.ensures.of_heap c.write.ensures.written c.write.ensures.heap
+    c.requires.map c.requires.beside c.close-hole.ensures puts c.word-count.ensures.of_heap
+    c.write.ensures.written c.write.ensures.heap

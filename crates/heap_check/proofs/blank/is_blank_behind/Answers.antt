@@ -8,7 +8,8 @@ returns-in-Some c =
     let heap = image_heap c.args.image.now in (
       λ zero. zero_from heap c.args.start c.args.end c.in-Some.end_of_row c.in-Some.ensures
           c.count-words_count.ensures.within (c.are_zero.ensures.0 zero),
-      λ blank. c.are_zero.ensures.1 (from_zero heap c.args.start c.args.end c.in-Some.end_of_row c.in-Some.ensures blank),
+      λ blank. c.are_zero.ensures.1
+          (from_zero heap c.args.start c.args.end c.in-Some.end_of_row c.in-Some.ensures blank),
     )
 
 -- the rows are whole

@@ -1,11 +1,31 @@
-use Rattle.std.proofs.Common.{arith}
+use Rattle.std.proofs.Common.{arith, refl}
+use Rattle.heap_model.proofs.CellsApart.{first_of_cell, used_few}
+use Rattle.heap_model.proofs.WordsAlike.{cell_below_roots}
 use Rattle.heap_check.proofs.finding.find_cell.Goals as goal
+
+-- cells end before the roots
+pub returns-in_default : goal.returns-in_default
+returns-in_default c cell words has here =
+    omega (
+      arith,
+      here,
+      c.in_default.ensures.behind.0 refl,
+      (first_of_cell has).below,
+      cell_below_roots (used_few c.requires.rows) has,
+    )
 
 -- a cell at the address would be the first
 pub returns-else-cell-address : goal.returns-else-cell-address
 returns-else-cell-address c cell words has here =
-    let first = c.in-Some.ensures.first cell words has (omega (arith, here)) in
-    c.if-cell-address.false (omega (arith, first, here, c.in-Some.ensures.reached))
+    let found = c.in-Some-first_of_region.ensures in
+    let first = found.first cell words has (omega (arith, here, c.start_before.ensures.before)) (omega (arith, here)) in
+    c.if-cell-address.false (omega (arith, first, here, found.reached))
 
 pub returns-in-None : goal.returns-in-None
-returns-in-None c cell words has here = omega (arith, here, c.in-None.ensures cell words has)
+returns-in-None c cell words has here =
+    omega (
+      arith,
+      here,
+      c.in-None.ensures cell words has (omega (arith, here, c.start_before.ensures.before))
+          (omega (arith, here, c.in-Some.ensures.ahead)),
+    )

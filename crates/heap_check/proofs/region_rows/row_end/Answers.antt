@@ -24,4 +24,5 @@ returns-in-Found c row is =
 pub returns-in-Broken : goal.returns-in-Broken
 returns-in-Broken c row is =
     c.in-Broken.ensures row.end row.cells
-    (row_walks (image_heap c.args.image.now) c.args.start c.args.end c.bound_of-bound.result row c.bound_of-bound.ensures is)
+    (row_walks (image_heap c.args.image.now) c.args.start c.args.end c.bound_of-bound.result row
+    c.bound_of-bound.ensures is)

@@ -24,10 +24,13 @@ returns-in-Some c =
         },
       ),
       λ place. c.is_object.ensures
-          ∙ ap (λ (one : Cell). is_object_kind one.layout.kind) (one_at found.1 place.1.has (found.0 ∙ sym place.1.stands))
+          ∙ ap (λ (one : Cell). is_object_kind one.layout.kind)
+          (one_at found.1 place.1.has (found.0 ∙ sym place.1.stands))
           ∙ place.1.object,
     )
 
 pub returns-in-None : goal.returns-in-None
-returns-in-None c =
-    (λ wrong. absurd (false≢true wrong), λ place. absurd (c.in-None.ensures place.1.cell place.1.words place.1.has place.1.stands))
+returns-in-None c = (
+  λ wrong. absurd (false≢true wrong),
+  λ place. absurd (c.in-None.ensures place.1.cell place.1.words place.1.has place.1.stands),
+)

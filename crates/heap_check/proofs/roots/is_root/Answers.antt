@@ -13,12 +13,14 @@ returns-in-Some c =
     let heap = image_heap c.args.image.now in
     let class = c.in-Some.class in
     let second = c.args.second in (
-      λ yes. root_from_class heap class c.args.first second c.in-Some.ensures.one.0 c.in-Some.ensures.one.1 c.ranges.second
+      λ yes. root_from_class heap class c.args.first second c.in-Some.ensures.one.0
+          c.in-Some.ensures.one.1 c.ranges.second
           (c.is_second.ensures.0 yes),
       λ root.
           let known = class_of_root heap c.args.first second root in
           let By : Class → Type 0 = λ one. IsRootBy heap one second in
-          let same = same_Some _ _ (sym (c.class.ensures.parses known.class known.is_class known.bits) ∙ c.in-Some.is) in
+          let same = same_Some _ _
+          (sym (c.class.ensures.parses known.class known.is_class known.bits) ∙ c.in-Some.is) in
           c.is_second.ensures.1 (subst By same known.by),
     )
 

@@ -18,6 +18,7 @@ returns-in-Some c =
       },
       λ rows. eq-eqb c.in-Some.survivors c.args.image.now.survivors
           (sym found.counted
-          ∙ one_count heap found.rows rows.rows (found.are.everywhere ∙ sym rows.are.everywhere) found.are.each rows.are.each
+          ∙ one_count heap found.rows rows.rows (found.are.everywhere ∙ sym rows.are.everywhere)
+          found.are.each rows.are.each
           ∙ rows.counted),
     )

@@ -1,10 +1,15 @@
-use Rattle.std.proofs.Common.{◌-◌, length}
+use Rattle.std.proofs.Common.{◌-◌}
+use Rattle.page_space.specs.Extents.{roots_start}
 use Rattle.heap_model.specs.Images.{image_heap}
+use Rattle.heap_check.specs.Onward.{IsBoundary}
 use Rattle.heap_check.proofs.CellByCell.{SoundBefore}
 use Rattle.heap_check.proofs.sound.has_sound_cells.Given as goal
 
 abbrev pub invariant-loop-cell : goal.invariant-loop-cell
-invariant-loop-cell l = SoundBefore (image_heap l.image) l.least
+invariant-loop-cell l = record {
+  boundary : IsBoundary (image_heap l.image) l.at;
+  sound : SoundBefore (image_heap l.image) l.at;
+}
 
 abbrev pub decreases-loop-cell : goal.decreases-loop-cell
-decreases-loop-cell l = length l.image.words - l.least
+decreases-loop-cell l = roots_start l.image.regions - l.at

@@ -1,7 +1,7 @@
 use Rattle.std.proofs.Common.{ℕ, ◌+◌, ◌<◌, length, ap, ◌∙◌, arith}
 use Rattle.std.proofs.lemmas.Option.{slice_get-get_or}
 use Rattle.heap_model.specs.Images.{image_heap}
-use Rattle.heap_check.proofs.SpanWords.{cell_ends, word_of_cell}
+use Rattle.heap_check.proofs.SpanWords.{cell_ends, slice_get-words_of_cell}
 use Rattle.heap_check.proofs.spans.word_of.Goals as goal
 
 pub bounds-as_slice-cell : goal.bounds-as_slice-cell
@@ -20,4 +20,5 @@ returns c =
     let within : place < length heap.words =
     omega (arith, c.requires.within, cell_ends heap c.args.cell c.requires.stands) in
     rw c.as_slice.ensures
-    (word_of_cell heap c.args.cell c.args.offset c.requires.within ∙ slice_get-get_or heap.words place 0 within)
+    (slice_get-words_of_cell heap c.args.cell c.args.offset c.requires.within
+    ∙ slice_get-get_or heap.words place 0 within)

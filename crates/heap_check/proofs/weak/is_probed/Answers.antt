@@ -4,9 +4,10 @@ use Rattle.std.proofs.lemmas.Bool.{false≢true}
 use Rattle.std.proofs.lemmas.Option.{same_Some}
 use Rattle.heap_model.specs.Images.{image_heap}
 use Rattle.heap_model.specs.Kinds.{Pair}
+use Rattle.heap_model.proofs.PairLists.{not_free}
 use Rattle.heap_check.specs.TablePairs.{table_pairs, pair_of}
 use Rattle.heap_check.proofs.PairWords.{length-table_pairs}
-use Rattle.heap_check.proofs.Probing.{PassesPair, free_from, not_free, probed_at, not_probed_behind, not_probed}
+use Rattle.heap_check.proofs.Probing.{PassesPair, free_from, probed_at, not_probed_behind, not_probed}
 use Rattle.heap_check.proofs.weak.is_probed.Goals as goal
 
 pub returns-then-place-at : goal.returns-then-place-at

@@ -1,6 +1,6 @@
 use Rattle.std.proofs.Common.{sym, ◌∙◌}
 use Rattle.heap_check.specs.TablePairs.{pair_of}
-use Rattle.heap_judge.proofs.KeysOnce.{not_free}
+use Rattle.heap_model.proofs.PairLists.{not_free}
 use Rattle.heap_judge.proofs.entries.is_known_pair.Goals as goal
 
 pub returns-else-is_free : goal.returns-else-is_free

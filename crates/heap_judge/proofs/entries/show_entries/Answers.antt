@@ -14,10 +14,10 @@ pub returns-then-not-shows_if_reached : goal.returns-then-not-shows_if_reached
 returns-then-not-shows_if_reached c =
     let entries = c.args.entries.now in
     let at = c.loop-entry.entry-index in
-    let entry : Entry = get_or entries at (record { key = 0; value = Int (pos 0) }) in (
+    let none : Entry = record { key = 0; value = Int (pos 0) } in (
       λ wrong. absurd (false≢true wrong),
       λ shown. sym c.if-not-shows_if_reached.true ∙ c.shows_if_reached.ensures.1
-          (shown at entry (slice_get-get_or entries at (record { key = 0; value = Int (pos 0) }) c.loop-entry-test.true)),
+          (shown at (get_or entries at none) (slice_get-get_or entries at none c.loop-entry-test.true)),
     )
 
 pub loop-entry-preserved : goal.loop-entry-preserved

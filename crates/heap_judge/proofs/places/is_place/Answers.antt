@@ -28,5 +28,7 @@ returns-in-Some c =
     )
 
 pub returns-in-None : goal.returns-in-None
-returns-in-None c =
-    (λ wrong. absurd (false≢true wrong), λ place. absurd (c.in-None.ensures place.cell place.words place.has place.stands))
+returns-in-None c = (
+  λ wrong. absurd (false≢true wrong),
+  λ place. absurd (c.in-None.ensures place.cell place.words place.has place.stands),
+)

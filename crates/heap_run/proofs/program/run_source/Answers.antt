@@ -10,7 +10,8 @@ returns-in-Err-BadLine g c =
     let stop = BadLine c.in-Err-BadLine.line c.in-Err-BadLine.why in
     let apart : stop ≢ NoMemory = λ e. cc in
     let refused = rw c.in-Err-BadLine.field-0-is at c.in-Err-BadLine.ensures in
-    Runs-unopened c.args.sizes source _ _ _ _ c.give_up.result (last.BadScript c.in-Err-BadLine.line c.in-Err-BadLine.why)
+    Runs-unopened c.args.sizes source _ _ _ _ c.give_up.result
+    (last.BadScript c.in-Err-BadLine.line c.in-Err-BadLine.why)
     c.give_up.ensures.unopened (Comes-refused c.args.sizes source stop _ (refused.refused apart) refl)
     (rw (c.in-Err-BadLine.line-is, c.in-Err-BadLine.why-is) at c.give_up.ensures.taken)
 

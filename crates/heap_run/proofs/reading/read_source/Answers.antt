@@ -8,7 +8,8 @@ use Rattle.heap_run.proofs.reading.read_source.Goals as goal
 pub loop-turn-preserved : goal.loop-turn-preserved
 loop-turn-preserved g c =
     let given = c.in-Ok-read.ensures.given in
-    let items : c.extend_from_slice.new.self.items ≡ c.loop-turn.bytes.items ++ take c.in-Ok-read.count c.read.new.buffer =
+    let items : c.extend_from_slice.new.self.items ≡ c.loop-turn.bytes.items
+    ++ take c.in-Ok-read.count c.read.new.buffer =
     grind (arith, common_steps) in
     record {
       turns = grind (arith, common_steps);

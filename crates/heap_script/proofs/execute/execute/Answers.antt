@@ -14,7 +14,7 @@ pub returns-in-List-clause-carried : goal.returns-in-List-clause-carried
 returns-in-List-clause-carried c = λ graph shown made. (
   [],
   rw c.in-List.is
-      (rw c.counted-in-List.ensures.same (c.list.ensures.carried graph c.args.script.now.fields shown made)),
+      (rw c.counted-in-List.ensures.same (c.new_list.ensures.carried graph c.args.script.now.fields shown made)),
   written_nothing (is_ok c.counted-in-List.result) c.args.out.now,
 )
 
@@ -22,7 +22,7 @@ pub returns-in-Weak-clause-carried : goal.returns-in-Weak-clause-carried
 returns-in-Weak-clause-carried c = λ graph shown made. (
   [],
   rw c.in-Weak.is
-      (rw c.counted-in-Weak.ensures.same (c.weak.ensures.carried graph c.args.script.now.fields shown made)),
+      (rw c.counted-in-Weak.ensures.same (c.new_weak.ensures.carried graph c.args.script.now.fields shown made)),
   written_nothing (is_ok c.counted-in-Weak.result) c.args.out.now,
 )
 

@@ -23,8 +23,8 @@ loop-at-init g c =
       steady = refl;
     }
 
-pub next-at-requires-clause-deep : goal.next-at-requires-clause-deep
-next-at-requires-clause-deep g c =
+pub execute_line-requires-clause-deep : goal.execute_line-requires-clause-deep
+execute_line-requires-clause-deep g c =
     let r = c.loop-at.invariant.running in
     let lines = c.lines-lines.result.now in
     let line = get_or lines c.loop-at.at past_end in
@@ -69,7 +69,8 @@ returns-clause-pauses g c =
       reached = r.reached;
       spends = r.spends;
       halts = (
-        ComesTo-end c.args.script.now (heap_of c.loop-at.heap.main) c.loop-at.at c.loop-at.executed c.loop-at.turns r.reached r.left past,
+        ComesTo-end c.args.script.now (heap_of c.loop-at.heap.main) c.loop-at.at c.loop-at.executed c.loop-at.turns
+            r.reached r.left past,
         r.handed,
         c.loop-at.invariant.steady,
       );
@@ -91,11 +92,13 @@ returns-in-Err g c =
     let (text, carries, out-is) = c.in-Err.ensures.carried graph r.shown r.made in
     let same = same_heap heap after (same-line script.fields heap.main after.main graph _ text c.in-Err.stop carries)
     c.in-Err.ensures.spare in
-    let comes = ComesTo-line script heap.main after.main _ n line.number _ _ text c.in-Err.stop r.shown.main.tied r.reached
+    let comes = ComesTo-line script heap.main after.main _ n line.number _ _ text c.in-Err.stop r.shown.main.tied
+    r.reached
     below goes carries in
     record {
       pauses = rw (same, out-is, c.stopped.ensures)
-          (Pauses-stopped script (heap_of heap.main) c.loop-at.out n line.number c.in-Err.stop _ _ _ _ r.reached r.spends comes
+          (Pauses-stopped script (heap_of heap.main) c.loop-at.out n line.number c.in-Err.stop _ _ _ _ r.reached
+          r.spends comes
           r.handed c.loop-at.invariant.steady);
       shows = rw same (graph, r.shown);
       space = rw same c.loop-at.invariant.space;
@@ -111,20 +114,21 @@ loop-at-preserved g c =
     let goes = goes_on lines script.lines c.loop-at.at c.loop-at.turns _ c.lines-lines.ensures.all c.loop-at-test.true
     r.left in
     let below : n < lines_most = omega (arith, r.reached.few) in
-    let (text, carries, out-is) = c.in_default.ensures.carried r.reached.so_far.graph r.shown r.made in
+    let (text, carries, out-is) = c.in-Ok.ensures.carried r.reached.so_far.graph r.shown r.made in
     let ran = Running-line script c.loop-at.heap c.execute_line.new.heap c.loop-at.objects c.loop-at.out _ _
-    c.loop-at.at _ c.loop-at.turns _ n line.number _ text r below goes c.in_default.ensures.spare carries in
+    c.loop-at.at _ c.loop-at.turns _ n line.number _ text r below goes c.in-Ok.ensures.spare carries in
     record {
-      running = rw (c.next-at.ensures.place, c.next-at.ensures.turns, c.in_default.ensures.counted)
+      running = rw (c.in-Ok.ensures.place, c.in-Ok.ensures.turned, c.in-Ok.ensures.counted)
           (Running-handed script c.execute_line.new.heap _ _ c.make_room.new.out _ _ _ _ _ _
-          ran (rw out-is at c.in-Ok.ensures.handed));
-      room = c.in-Ok.ensures.room;
-      space = same_space c.loop-at.heap c.execute_line.new.heap _ _ script.fields text carries ∙ c.loop-at.invariant.space;
-      steady = c.in-Ok.ensures.steady ∙ c.loop-at.invariant.steady;
+          ran (rw out-is at c.in-Ok-make_room.ensures.handed));
+      room = c.in-Ok-make_room.ensures.room;
+      space = same_space c.loop-at.heap c.execute_line.new.heap _ _ script.fields text carries
+          ∙ c.loop-at.invariant.space;
+      steady = c.in-Ok-make_room.ensures.steady ∙ c.loop-at.invariant.steady;
     }
 
-pub returns-in_default-make_room : goal.returns-in_default-make_room
-returns-in_default-make_room g c =
+pub returns-in_default : goal.returns-in_default
+returns-in_default g c =
     let script = c.args.script.now in
     let r = c.loop-at.invariant.running in
     let n = c.loop-at.executed in
@@ -133,19 +137,20 @@ returns-in_default-make_room g c =
     let goes = goes_on lines script.lines c.loop-at.at c.loop-at.turns _ c.lines-lines.ensures.all c.loop-at-test.true
     r.left in
     let below : n < lines_most = omega (arith, r.reached.few) in
-    let (text, carries, out-is) = c.in_default.ensures.carried r.reached.so_far.graph r.shown r.made in
+    let (text, carries, out-is) = c.in-Ok.ensures.carried r.reached.so_far.graph r.shown r.made in
     let ran = Running-line script c.loop-at.heap c.execute_line.new.heap c.loop-at.objects c.loop-at.out _ _
-    c.loop-at.at _ c.loop-at.turns _ n line.number _ text r below goes c.in_default.ensures.spare carries in
+    c.loop-at.at _ c.loop-at.turns _ n line.number _ text r below goes c.in-Ok.ensures.spare carries in
     record {
       pauses = record {
         reached = ran.reached;
         spends = ran.spends;
         halts = (
-          (refl, refl, fills-handed ran.handed (rw out-is at c.in_default-make_room.ensures.due)),
-          CutsOff-handed ran.handed (rw out-is at c.in_default-make_room.ensures.stopped),
-          rw c.loop-at.invariant.steady at c.in_default-make_room.ensures.failed,
+          (refl, refl, fills-handed ran.handed (rw out-is at c.in_default.ensures.due)),
+          CutsOff-handed ran.handed (rw out-is at c.in_default.ensures.stopped),
+          rw c.loop-at.invariant.steady at c.in_default.ensures.failed,
         );
       };
       shows = (ran.reached.so_far.graph, ran.shown);
-      space = same_space c.loop-at.heap c.execute_line.new.heap _ _ script.fields text carries ∙ c.loop-at.invariant.space;
+      space = same_space c.loop-at.heap c.execute_line.new.heap _ _ script.fields text carries
+          ∙ c.loop-at.invariant.space;
     }

@@ -4,4 +4,5 @@ use Rattle.ideal_graph.proofs.marks.count_keyed.Given as goal
 
 abbrev pub invariant-loop-entry : goal.invariant-loop-entry
 invariant-loop-entry l =
-    (l.count ≡ count_by (λ entry. is_marked l.marks entry.key) (take l.entry-index l.entries)) × (l.count ≤ l.entry-index)
+    (l.count ≡ count_by (λ entry. is_marked l.marks entry.key) (take l.entry-index l.entries))
+    × (l.count ≤ l.entry-index)

@@ -6,4 +6,5 @@ use Rattle.ideal_graph.proofs.marks.mark_fields.Given as goal
 
 abbrev pub invariant-loop-field : goal.invariant-loop-field
 invariant-loop-field l =
-    MarksAlso l.fn.next l.next (λ number. list_any (λ field. refers_to number field.value) (take l.field-index l.fields))
+    MarksAlso l.fn.next l.next
+    (λ number. list_any (λ field. refers_to number field.value) (take l.field-index l.fields))

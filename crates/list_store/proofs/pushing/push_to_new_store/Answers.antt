@@ -1,9 +1,12 @@
 -- The store and the box that are made stand in the words that were reserved.
-use Rattle.std.proofs.Common.{◌≡◌, ◌+◌, refl, ap, ◌∙◌, arith}
+use Rattle.std.proofs.Common.{◌≡◌, ◌+◌, refl, ap, ◌∙◌, arith, rules}
 use Rattle.page_space.specs.Extents.{Space, marks_start}
+use Rattle.heap_table.specs.Seats.{StaysBeside}
+use Rattle.heap_table.specs.Staying.{stays_beside_again}
 use Rattle.write_barrier.specs.Mains.{Mutator}
 use Rattle.object_cells.specs.Made.{content_need}
 use Rattle.object_cells.proofs.CellsRead.{fits_address}
+use Rattle.object_cells.proofs.WordsBeside.{same_beside, put_beside, reserved_beside}
 use Rattle.object_cells.proofs.UnusedWords.{run_before_marks, marks_fit}
 use Rattle.list_store.proofs.ListCells.{count_within, slot_within}
 use Rattle.list_store.proofs.pushing.push_to_new_store.Goals as goal
@@ -20,7 +23,8 @@ pub boxed_word-word-requires-clause-within : goal.boxed_word-word-requires-claus
 boxed_word-word-requires-clause-within c v boxed =
     let need = 2 + c.grown-capacity.result + c.need_of.result in
     let two : c.need_of.result ≡ 2 = c.need_of.ensures ∙ ap content_need boxed in
-    let space = c.begin_store.ensures.space ∙ ap (λ (main : Mutator). main.seat.space) c.in_ok-at.ensures.reserved in
+    let space = c.begin_store.ensures.beside.space
+    ∙ ap (λ (main : Mutator). main.seat.space) c.in_ok-at.ensures.reserved in
     let before = run_before_marks c.args.main.now need c.in_ok-at.at c.begin_store.new.main.seat.space
     c.requires.can.ready.tied c.in_ok-at.ensures.room (c.in_ok-at.ensures.at (omega arith)) space in
     omega (arith, before, two)
@@ -28,7 +32,7 @@ boxed_word-word-requires-clause-within c v boxed =
 pub store-requires-clause-within : goal.store-requires-clause-within
 store-requires-clause-within c =
     let need = 2 + c.grown-capacity.result + c.need_of.result in
-    let space = c.boxed_word-word.ensures.made.space ∙ c.begin_store.ensures.space
+    let space = c.boxed_word-word.ensures.made.beside.space ∙ c.begin_store.ensures.beside.space
     ∙ ap (λ (main : Mutator). main.seat.space) c.in_ok-at.ensures.reserved in
     let before = run_before_marks c.args.main.now need c.in_ok-at.at c.boxed_word-word.new.main.seat.space
     c.requires.can.ready.tied c.in_ok-at.ensures.room (c.in_ok-at.ensures.at (omega arith)) space in
@@ -46,8 +50,8 @@ pub store-requires-2-clause-within : goal.store-requires-2-clause-within
 store-requires-2-clause-within c =
     let within = slot_within c.requires.can.ready.whole.whole c.requires.can.ready.there in
     let space = ap (λ (main : Mutator). main.seat.space) c.made.ensures.same
-    ∙ ap (λ (main : Mutator). main.seat.space) c.store.ensures.stored ∙ c.boxed_word-word.ensures.made.space
-    ∙ c.begin_store.ensures.space ∙ ap (λ (main : Mutator). main.seat.space) c.in_ok-at.ensures.reserved in
+    ∙ ap (λ (main : Mutator). main.seat.space) c.store.ensures.stored ∙ c.boxed_word-word.ensures.made.beside.space
+    ∙ c.begin_store.ensures.beside.space ∙ ap (λ (main : Mutator). main.seat.space) c.in_ok-at.ensures.reserved in
     omega (arith, within, ap (λ (s : Space). marks_start s) space)
 
 pub overflow_add-list : goal.overflow_add-list
@@ -60,6 +64,42 @@ write-requires-clause-within c =
     let within = count_within c.requires.can.ready.whole.whole c.requires.can.ready.there in
     let space = ap (λ (main : Mutator). main.seat.space) c.store-2.ensures.stored
     ∙ ap (λ (main : Mutator). main.seat.space) c.made.ensures.same
-    ∙ ap (λ (main : Mutator). main.seat.space) c.store.ensures.stored ∙ c.boxed_word-word.ensures.made.space
-    ∙ c.begin_store.ensures.space ∙ ap (λ (main : Mutator). main.seat.space) c.in_ok-at.ensures.reserved in
+    ∙ ap (λ (main : Mutator). main.seat.space) c.store.ensures.stored ∙ c.boxed_word-word.ensures.made.beside.space
+    ∙ c.begin_store.ensures.beside.space ∙ ap (λ (main : Mutator). main.seat.space) c.in_ok-at.ensures.reserved in
     omega (arith, within, ap (λ (s : Space). marks_start s) space)
+
+pub returns-clause-ok : goal.returns-clause-ok
+returns-clause-ok c =
+    let old : Mutator = c.args.main.now in
+    let begun : Mutator = c.begin_store.new.main in
+    let boxed : Mutator = c.boxed_word-word.new.main in
+    let put : Mutator = c.store.new.self in
+    let told : Mutator = c.made.new.self in
+    let linked : Mutator = c.store-2.new.self in
+    let at = c.in_ok-at.at in
+    let need = 2 + c.grown-capacity.result + c.need_of.result in
+    let ready = c.requires.can.ready in
+    let first : StaysBeside old.seat boxed.seat =
+    stays_beside_again old.seat begun.seat boxed.seat
+    (stays_beside_again old.seat c.room_for.new.main.seat begun.seat (reserved_beside old _ c.in_ok-at.ensures.reserved)
+    c.begin_store.ensures.beside) c.boxed_word-word.ensures.made.beside in
+    let before = run_before_marks old need at boxed.seat.space ready.tied c.in_ok-at.ensures.room
+    (c.in_ok-at.ensures.at (omega arith)) first.space in
+    let filled : StaysBeside old.seat put.seat =
+    put_beside (at + (2 + c.args.count)) c.boxed_word-word.result.0 first c.store.ensures.stored
+    (omega (arith, before, c.grown-capacity.ensures, c.requires.few)) in
+    let still : StaysBeside old.seat told.seat =
+    stays_beside_again old.seat put.seat told.seat filled (same_beside c.made.ensures.same) in
+    let named : StaysBeside old.seat linked.seat =
+    put_beside (c.args.list + 1) _ still c.store-2.ensures.stored
+    (omega (arith, slot_within ready.whole.whole ready.there, ap (λ (s : Space). marks_start s) still.space)) in
+    record {
+      room = search rules;
+      words = record {
+        beside = put_beside (c.args.list + 2) _ named c.write.ensures.written
+            (omega (arith, count_within ready.whole.whole ready.there, ap (λ (s : Space). marks_start s) named.space));
+        paths = search rules;
+        young = search rules;
+        heap = search rules;
+      };
+    }

@@ -1,9 +1,12 @@
 -- The box that is made stands in the words that were reserved, and the length in the list's cell.
-use Rattle.std.proofs.Common.{◌≡◌, ap, ◌∙◌, arith}
+use Rattle.std.proofs.Common.{◌≡◌, ◌+◌, ap, ◌∙◌, arith, rules}
 use Rattle.page_space.specs.Extents.{Space, marks_start}
+use Rattle.heap_table.specs.Seats.{StaysBeside}
+use Rattle.heap_table.specs.Staying.{stays_beside_again}
 use Rattle.write_barrier.specs.Mains.{Mutator}
 use Rattle.object_cells.specs.Made.{content_need}
 use Rattle.object_cells.proofs.CellsRead.{fits_address}
+use Rattle.object_cells.proofs.WordsBeside.{put_beside, reserved_beside}
 use Rattle.object_cells.proofs.UnusedWords.{run_before_marks}
 use Rattle.list_store.proofs.ListCells.{count_within}
 use Rattle.list_store.proofs.pushing.push_to_store.Goals as goal
@@ -24,6 +27,36 @@ overflow_add-list c =
 pub write-requires-clause-within : goal.write-requires-clause-within
 write-requires-clause-within c =
     let within = count_within c.requires.can.ready.whole.whole c.requires.can.ready.there in
-    let space = ap (λ (main : Mutator). main.seat.space) c.store.ensures.stored ∙ c.boxed_word-word.ensures.made.space
+    let space = ap (λ (main : Mutator). main.seat.space) c.store.ensures.stored
+    ∙ c.boxed_word-word.ensures.made.beside.space
     ∙ ap (λ (main : Mutator). main.seat.space) c.in_ok-at.ensures.reserved in
     omega (arith, within, ap (λ (s : Space). marks_start s) space)
+
+pub returns-clause-ok : goal.returns-clause-ok
+returns-clause-ok c =
+    let old : Mutator = c.args.main.now in
+    let boxed : Mutator = c.boxed_word-word.new.main in
+    let put : Mutator = c.store.new.self in
+    let store = c.args.store in
+    let ready = c.requires.can.ready in
+    let first : StaysBeside old.seat boxed.seat =
+    stays_beside_again old.seat c.room_for.new.main.seat boxed.seat (reserved_beside old _ c.in_ok-at.ensures.reserved)
+    c.boxed_word-word.ensures.made.beside in
+    let filled : StaysBeside old.seat put.seat =
+    put_beside (store.at + (2 + c.args.count)) c.boxed_word-word.result.0 first c.store.ensures.stored
+    (omega (
+      arith,
+      c.requires.can.is.within,
+      c.requires.room,
+      ap (λ (s : Space). marks_start s) first.space,
+    )) in
+    record {
+      room = search rules;
+      words = record {
+        beside = put_beside (c.args.list + 2) _ filled c.write.ensures.written
+            (omega (arith, count_within ready.whole.whole ready.there, ap (λ (s : Space). marks_start s) filled.space));
+        paths = search rules;
+        young = search rules;
+        heap = search rules;
+      };
+    }

@@ -6,19 +6,17 @@ use Rattle.page_space.specs.Extents.{Space}
 use Rattle.nursery.specs.Young.{HasRoom}
 use Rattle.handle_roots.specs.Roots.{FitsHeld}
 use Rattle.heap_model.specs.Slots.{IsSlotWord}
-use Rattle.heap_model.specs.Needs.{word_at}
 use Rattle.write_barrier.specs.Mains.{heap_of}
-use Rattle.object_cells.specs.Contents.{box_in, filling_at}
+use Rattle.object_cells.specs.Contents.{filling_at}
 use Rattle.object_cells.specs.Made.{beside_content}
 use Rattle.object_cells.proofs.HeldNeeds.{held_is_value, new_value_held}
 use Rattle.object_cells.proofs.SlotBoxes.{lacks_need}
+use Rattle.object_cells.proofs.FilledSlots.{slot_filled, held_before, no_raw}
 use Rattle.list_store.proofs.ListCells.{list_shown, shown_there, shown_beside, shown_ready, count_shown}
 use Rattle.list_store.proofs.ListCells.{store_has_room}
-use Rattle.list_store.proofs.ElementsRead.{place_below, slot_read, held_before}
+use Rattle.list_store.proofs.ElementsRead.{place_below, slot_read}
 use Rattle.list_store.proofs.Places.{index_named, place_stands}
-use Rattle.list_store.proofs.ElementValues.{no_raw}
-use Rattle.list_store.proofs.WrittenSlots.{Changing}
-use Rattle.list_store.proofs.PutWords.{put_by}
+use Rattle.list_store.proofs.ListChanging.{Changing}
 use Rattle.list_store.proofs.PutOutcomes.{put_need, has_put}
 use Rattle.list_store.proofs.putting.put.Goals as goal
 
@@ -50,7 +48,8 @@ fill_slot-requires-clause-held c =
     let below = place_below c.count_of.result c.in-Some.place _ (sym c.place_of.ensures ∙ c.in-Some.is) in
     let room = (place_stands c.store_of-store.result c.in-Some.place ready c.store_of-store.ensures below).below in
     let read = slot_read c.args.list shown.shows.store c.in-Some.place shown.shows.slots c.store_of-store.result
-    c.requires.shows.shows.whole c.store_of-store.ensures shown.has shown.stands shown.shows.slot shown.shows.has room in
+    c.requires.shows.shows.whole c.store_of-store.ensures shown.has shown.stands shown.shows.slot shown.shows.has
+    room in
     held_before heap _ (beside_content c.args.value)
     (subst (IsSlotWord heap) (sym (ap (λ found. unwrap_or found 0) read.stands)) read.is)
 
@@ -76,11 +75,8 @@ returns-in-Ok c graph one what shows is holds =
     let fills = c.in-Ok.ensures in
     let young = ap (λ (space : Space). space.sizes.young) shows.tied in
     let none : HasRoom old.young 0 = omega (arith, shows.shows.whole.rows.few, young) in
-    let at : ℕ = store.at + (2 + place) in
-    let word : ℕ = word_at (heap_of old) at in
-    let by = put_by old fills.between c.fill_slot.new.main at word (beside_content c.args.value)
-    (box_in (heap_of old) word) shows.tied stands.within none refl
-    (λ w. no_raw w (new_value_held false c.args.value what holds.shows)) fills.allocates fills.fills in (
+    let by = slot_filled fills shows.tied stands.within none
+    (λ w. no_raw w (new_value_held false c.args.value what holds.shows)) in (
       place,
       index_named c.count_of.result c.args.index c.place_of.result shown c.count_of.ensures.counted index
           c.place_of.ensures ∙ c.in-Some.is,
@@ -109,7 +105,8 @@ returns-in-Err c graph one what shows is holds =
       shown = shown;
     } in
     let at : ℕ = store.at + (2 + place) in
-    let lacks = lacks_need old (filling_at old at (beside_content c.args.value)) c.in-Err.no_room c.in-Err.ensures.0 in (
+    let lacks = lacks_need old (filling_at old at (beside_content c.args.value)) c.in-Err.no_room
+    c.in-Err.ensures.0 in (
       place,
       index_named c.count_of.result c.args.index c.place_of.result shown c.count_of.ensures.counted index
           c.place_of.ensures ∙ c.in-Some.is,

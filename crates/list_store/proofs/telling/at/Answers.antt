@@ -76,6 +76,7 @@ returns c graph one shows is =
             fits c.place_of.ensures ∙ c.in-Some.is;
         stands = slice_get-get_or one.elements place Undefined few;
       },
-      subst (λ (held : Held). ShowsHeld heap held (Some value)) (sym (c.value_of_word.ensures by.class by.is_class by.bits))
+      subst (λ (held : Held). ShowsHeld heap held (Some value))
+          (sym (c.value_of_word.ensures by.class by.is_class by.bits))
           by.shows,
     )

@@ -1,11 +1,11 @@
 -- The field is taken out, or there may not be as many paths.
-use Rattle.std.proofs.Common.{[], Ok, sym, subst}
+use Rattle.std.proofs.Common.{[], Ok, subst}
 use Rattle.heap_command.specs.declared.command.Command.TheVariants.{Del}
 use Rattle.heap_command.specs.declared.command.FaultWord.TheVariants.{ShapesFull}
 use Rattle.mutator.specs.declared.stop.Stop.TheVariants.{Fault}
 use Rattle.mutator.specs.Carries.{Carries}
 use Rattle.mutator.proofs.FieldsTaken.{taking_known, del_carried, del_stopped}
-use Rattle.mutator.proofs.StoppedBy.{stopped_by}
+use Rattle.mutator.proofs.StoppedBy.{stopped_with}
 use Rattle.mutator.proofs.StillShown.{shows_still, stands_still, value_still}
 use Rattle.mutator.proofs.fields.del.Goals as goal
 
@@ -44,10 +44,7 @@ returns-in_err-delete c = record {
       let found = c.in_ok-found.ensures graph target shown (stands_still same stands) in
       let taking = taking_known c.args.x target shown is found in
       let lacks = c.in_err-delete.ensures graph taking.plain taking.shows taking.stands in
-      let answer = c.from_residual-in_err-delete.result in
-      let stopped = stopped_by answer (Fault ShapesFull) c.from_residual-in_err-delete.ensures.1 in
-      subst (λ main. Carries names main c.delete.new.main graph (Del c.args.x c.args.f) [] answer) same
-      (subst (λ one. Carries names c.bound.new.main c.delete.new.main graph (Del c.args.x c.args.f) [] one)
-      (sym stopped)
-      (del_stopped names c.args.f taking lacks.0.refused lacks.1));
+      stopped_with c.delete.new.main graph names (Del c.args.x c.args.f) c.from_residual-in_err-delete.result
+      (Fault ShapesFull) same c.from_residual-in_err-delete.ensures.1
+      (del_stopped names c.args.f taking lacks.0.refused lacks.1);
 }

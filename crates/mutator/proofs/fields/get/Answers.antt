@@ -8,7 +8,7 @@ use Rattle.heap_model.specs.Showing.{ShowsHeld}
 use Rattle.heap_model.proofs.AnewBindings.{get-insert_same, binds_anew}
 use Rattle.mutator.specs.Carries.{Carries}
 use Rattle.mutator.proofs.Meanings.{get_done}
-use Rattle.mutator.proofs.Rebinding.{binding_carried}
+use Rattle.mutator.proofs.Rebinding.{binds_after, binding_carried}
 use Rattle.mutator.proofs.StillShown.{shows_still, stands_still, value_still}
 use Rattle.mutator.proofs.fields.get.Goals as goal
 
@@ -45,4 +45,5 @@ returns c = record {
       (get_done names graph y c.args.x c.args.f target found.plain is found.refers) refl
       tt (binds_anew graph y value) below c.hold.ensures.holds.fits read
       (record { held = c.hold.ensures.held; heap = c.hold.ensures.heap }) refl (λ at. refl));
+  binds = binds_after c.args.y c.get-value.result c.bound.ensures.same c.hold.ensures.held;
 }

@@ -1,18 +1,17 @@
 -- The field comes to have the value, or the command stops with why it cannot.
-use Rattle.std.proofs.Common.{[], Ok, sym, subst}
+use Rattle.std.proofs.Common.{[], Ok, subst}
 use Rattle.heap_command.specs.declared.command.Command.TheVariants.{Set}
+use Rattle.heap_command.specs.declared.command.Operand.TheVariants.{Var}
 use Rattle.mutator.specs.Stops.{stop_of}
 use Rattle.mutator.specs.Carries.{Carries}
 use Rattle.mutator.proofs.FieldsSet.{setting_known, setting_shown, set_carried, set_stopped}
-use Rattle.mutator.proofs.StoppedBy.{stopped_by}
-use Rattle.mutator.proofs.StillShown.{shows_still, stands_still, value_still}
+use Rattle.mutator.proofs.StoppedBy.{stopped_with}
+use Rattle.mutator.proofs.StillShown.{shows_still, stands_still, first_still}
 use Rattle.mutator.proofs.fields.set.Goals as goal
 
 pub plain-requires : goal.plain-requires
 plain-requires c =
-    let (graph, shows) = c.requires.shown in
-    let both = c.in_ok-target.ensures.found graph shows in
-    value_still graph both.first c.in_ok-target.target c.operands.ensures.same shows both.stands_first
+    first_still (Var c.args.x) c.args.v c.operands.ensures.same c.requires.shown c.in_ok-target.ensures.found
 
 pub set-requires : goal.set-requires
 set-requires c =
@@ -45,11 +44,7 @@ returns-in_err-set c = record {
       let setting = setting_known c.args.x c.args.v same shows both found c.requires.within.0 c.requires.within.2 in
       let stop = c.in_err-set.field-0.0 in
       let sets = c.in_err-set.ensures graph setting.plain setting.value setting.shows setting.stands setting.held in
-      let answer = stopped_by c.from_residual-in_err-set.result (stop_of stop) c.from_residual-in_err-set.ensures.1 in
-      subst (λ main. Carries names main c.set.new.main graph
-      (Set c.args.x c.args.f c.args.v) [] c.from_residual-in_err-set.result)
-      same
-      (subst (λ one. Carries names c.operands.new.main c.set.new.main graph (Set c.args.x c.args.f c.args.v) [] one)
-      (sym answer)
-      (set_stopped c.set.new.main names c.args.f stop setting sets));
+      stopped_with c.set.new.main graph names (Set c.args.x c.args.f c.args.v) c.from_residual-in_err-set.result
+      (stop_of stop) same c.from_residual-in_err-set.ensures.1
+      (set_stopped c.set.new.main names c.args.f stop setting sets);
 }

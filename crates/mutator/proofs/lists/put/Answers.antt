@@ -1,16 +1,14 @@
 -- The element becomes the value, or the command stops with why it cannot.
-use Rattle.std.proofs.Common.{[], Ok, Err, sym, ◌∙◌, subst, ℤ, w64, SFits, rules}
+use Rattle.std.proofs.Common.{◌∙◌, w64, SFits, rules}
 use Rattle.std.proofs.lemmas.Int.{to_z-of_z}
-use Rattle.heap_command.specs.Commands.{NamesBelow}
 use Rattle.heap_command.specs.declared.command.Command.TheVariants.{Put}
-use Rattle.write_barrier.specs.Mains.{Mutator}
-use Rattle.list_store.specs.ListChanges.{PutsElement}
+use Rattle.heap_command.specs.declared.command.Operand.TheVariants.{Var}
 use Rattle.mutator.specs.Stops.{stop_of_put}
-use Rattle.mutator.specs.Carries.{Carries}
-use Rattle.mutator.proofs.ElementsSet.{putting_known, putting_shown, put_carried, put_stopped}
-use Rattle.mutator.proofs.ListMeanings.{IsIndex}
-use Rattle.mutator.proofs.StoppedBy.{stopped_by}
-use Rattle.mutator.proofs.StillShown.{some_still, shows_still, stands_still, value_still}
+use Rattle.mutator.proofs.ElementsSet.{indexed_setting, put_carried, put_stopped}
+use Rattle.mutator.proofs.GivenValues.{given_read}
+use Rattle.mutator.proofs.IndexedLists.{indexed_read}
+use Rattle.mutator.proofs.StoppedBy.{stopped_with}
+use Rattle.mutator.proofs.StillShown.{some_still, shows_still, first_still}
 use Rattle.mutator.proofs.lists.put.Goals as goal
 
 pub operand-requires-clause-shown : goal.operand-requires-clause-shown
@@ -18,50 +16,32 @@ operand-requires-clause-shown c = some_still c.operands.ensures.same c.requires.
 
 pub list_found-requires : goal.list_found-requires
 list_found-requires c =
-    let (graph, shows) = c.requires.shown in
-    let both = c.in_ok-target.ensures.found graph shows in
-    value_still graph both.first c.in_ok-target.target (c.operand.ensures.same ∙ c.operands.ensures.same) shows
-    both.stands_first
+    first_still (Var c.args.x) c.args.i (c.operand.ensures.same ∙ c.operands.ensures.same) c.requires.shown
+    c.in_ok-target.ensures.found
 
 pub put-requires : goal.put-requires
 put-requires c =
     let (graph, shows) = c.requires.shown in
     let read = c.operands.ensures.same in
-    let same = c.operand.ensures.same ∙ read in
-    let shown = shows_still same shows in
-    let both = c.in_ok-target.ensures.found graph shows in
-    let found = c.in_ok-found.ensures graph both.first shown (stands_still same both.stands_first) in
-    let (value, is, stands) = c.in_ok-value.ensures.found graph (shows_still read shows) in
-    putting_shown (putting_known c.args.x c.args.v both.first value same shown both.is_first is
-    (stands_still c.operand.ensures.same stands) found c.requires.within.0 c.requires.within.2)
+    let indexed = indexed_read c.args.x c.args.i (c.operand.ensures.same ∙ read) shows
+    (c.in_ok-target.ensures.found graph shows) (c.in_ok-found.ensures graph)
+    (c.in_ok-place.ensures c.operand.new.main graph) c.requires.within.0 c.requires.within.1 in
+    indexed_setting indexed (given_read c.args.v read c.operand.ensures.same
+    (c.in_ok-value.ensures.found graph (shows_still read shows)) c.requires.within.2)
 
 pub returns : goal.returns
 returns c = record {
   carried = λ graph names shows.
       let read = c.operands.ensures.same in
       let same = c.operand.ensures.same ∙ read in
-      let shown = shows_still same shows in
-      let now = c.operand.new.main in
-      let both = c.in_ok-target.ensures.found graph shows in
-      let found = c.in_ok-found.ensures graph both.first shown (stands_still same both.stands_first) in
-      let (value, is, stands) = c.in_ok-value.ensures.found graph (shows_still read shows) in
-      let putting = putting_known c.args.x c.args.v both.first value same shown both.is_first is
-      (stands_still c.operand.ensures.same stands) found c.requires.within.0 c.requires.within.2 in
-      let below = subst (λ (main : Mutator). NamesBelow main.seat.space.variables c.args.i) (sym same)
+      let indexed = indexed_read c.args.x c.args.i same shows (c.in_ok-target.ensures.found graph shows)
+      (c.in_ok-found.ensures graph) (c.in_ok-place.ensures c.operand.new.main graph) c.requires.within.0
       c.requires.within.1 in
-      let n = c.in_ok-place.place in
-      let index : IsIndex graph c.args.i n = record {
-        value = both.second;
-        value_is = both.is_second;
-        integer = c.in_ok-place.ensures now graph both.second (stands_still same both.stands_second);
-      } in
-      let fits : SFits w64 n = search rules in
-      let puts = subst (λ (k : ℤ). PutsElement now c.put.new.main graph c.in_ok-found.found putting.list k putting.value
-      (Ok tt))
-      (to_z-of_z w64 n fits)
-      (c.in_ok-put.ensures graph putting.list putting.value putting.shows putting.stands putting.held) in
-      subst (λ main. Carries names main c.put.new.main graph (Put c.args.x c.args.i c.args.v) [] (Ok tt)) same
-      (put_carried names c.args.i n putting below index puts);
+      let given = given_read c.args.v read c.operand.ensures.same
+      (c.in_ok-value.ensures.found graph (shows_still read shows)) c.requires.within.2 in
+      let fits : SFits w64 c.in_ok-place.place = search rules in
+      put_carried names same indexed given (to_z-of_z w64 c.in_ok-place.place fits)
+      (c.in_ok-put.ensures graph indexed.list given.value indexed.shows indexed.stands given.held);
 }
 
 pub returns-in_err-put : goal.returns-in_err-put
@@ -69,31 +49,15 @@ returns-in_err-put c = record {
   carried = λ graph names shows.
       let read = c.operands.ensures.same in
       let same = c.operand.ensures.same ∙ read in
-      let shown = shows_still same shows in
-      let now = c.operand.new.main in
-      let both = c.in_ok-target.ensures.found graph shows in
-      let found = c.in_ok-found.ensures graph both.first shown (stands_still same both.stands_first) in
-      let (value, is, stands) = c.in_ok-value.ensures.found graph (shows_still read shows) in
-      let putting = putting_known c.args.x c.args.v both.first value same shown both.is_first is
-      (stands_still c.operand.ensures.same stands) found c.requires.within.0 c.requires.within.2 in
-      let below = subst (λ (main : Mutator). NamesBelow main.seat.space.variables c.args.i) (sym same)
+      let indexed = indexed_read c.args.x c.args.i same shows (c.in_ok-target.ensures.found graph shows)
+      (c.in_ok-found.ensures graph) (c.in_ok-place.ensures c.operand.new.main graph) c.requires.within.0
       c.requires.within.1 in
-      let n = c.in_ok-place.place in
-      let index : IsIndex graph c.args.i n = record {
-        value = both.second;
-        value_is = both.is_second;
-        integer = c.in_ok-place.ensures now graph both.second (stands_still same both.stands_second);
-      } in
-      let fits : SFits w64 n = search rules in
+      let given = given_read c.args.v read c.operand.ensures.same
+      (c.in_ok-value.ensures.found graph (shows_still read shows)) c.requires.within.2 in
+      let fits : SFits w64 c.in_ok-place.place = search rules in
       let stop = c.in_err-put.field-0.0 in
-      let puts = subst (λ (k : ℤ). PutsElement now c.put.new.main graph c.in_ok-found.found putting.list k putting.value
-      (Err stop))
-      (to_z-of_z w64 n fits)
-      (c.in_err-put.ensures graph putting.list putting.value putting.shows putting.stands putting.held) in
-      let answer = c.from_residual-in_err-put.result in
-      let stopped = stopped_by answer (stop_of_put stop) c.from_residual-in_err-put.ensures.1 in
-      subst (λ main. Carries names main c.put.new.main graph (Put c.args.x c.args.i c.args.v) [] answer) same
-      (subst (λ one. Carries names now c.put.new.main graph (Put c.args.x c.args.i c.args.v) [] one)
-      (sym stopped)
-      (put_stopped c.put.new.main names c.args.i n stop putting below index puts));
+      let puts = c.in_err-put.ensures graph indexed.list given.value indexed.shows indexed.stands given.held in
+      stopped_with c.put.new.main graph names (Put c.args.x c.args.i c.args.v) c.from_residual-in_err-put.result
+      (stop_of_put stop) same c.from_residual-in_err-put.ensures.1
+      (put_stopped c.put.new.main names stop indexed given (to_z-of_z w64 c.in_ok-place.place fits) puts);
 }

@@ -17,7 +17,8 @@ returns-clause-filled c =
     let odd : c.odd.result.0 ≡ undefined_word = c.odd.ensures in
     c.made.ensures.same ∙ c.write-2.ensures.written
     ∙ ap (λ (now : Mutator). with_word now (at + 2) 0)
-    (c.write.ensures.written ∙ ap (λ (now : Mutator). with_word now (at + 1) c.odd.result.0) c.set_header.ensures.written
+    (c.write.ensures.written
+    ∙ ap (λ (now : Mutator). with_word now (at + 1) c.odd.result.0) c.set_header.ensures.written
     ∙ ap (λ (word : ℕ). with_word (with_word main at header) (at + 1) word) odd)
     ∙ ap (λ (table : List ℕ). with_table main table)
     (three_in_a_row main.seat.table at header undefined_word 0

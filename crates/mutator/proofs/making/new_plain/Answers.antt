@@ -6,7 +6,10 @@ use Rattle.object_graph.specs.Graphs.{make}
 use Rattle.page_space.specs.Extents.{Space}
 use Rattle.nursery.specs.Young.{HasRoom}
 use Rattle.shape_tree.specs.Shapes.{IsShapeOf}
+use Rattle.mutator.specs.Making.{empty_plain}
+use Rattle.mutator.proofs.EmptyCells.{length-empty_plain}
 use Rattle.mutator.proofs.MadeObjects.{making_carried, plain_made}
+use Rattle.mutator.proofs.OnlyMade.{binds_made}
 use Rattle.mutator.proofs.making.new_plain.Goals as goal
 
 pub returns-in-Ok : goal.returns-in-Ok
@@ -32,6 +35,11 @@ returns-in-Ok c = record {
       c.requires.within.1 shaped
       (omega (arith, c.in-Ok.ensures.room, ap (λ (space : Space). space.sizes.young) shows.tied)) count)
       c.hold.ensures.holds.fits c.requires.within.0 c.in-Ok.ensures.room;
+  binds =
+      let header : Header = record { shape = c.root-shape.result; object = c.args.object } in
+      binds_made c.args.x _ (empty_plain header c.args.cap) c.in-Ok.ensures.run.at
+      (length-empty_plain header c.args.cap) c.in-Ok.ensures.reserved c.fill_plain.ensures.filled
+      c.hold.ensures.held;
 }
 
 pub returns-in-Err : goal.returns-in-Err
@@ -44,4 +52,5 @@ returns-in-Err c = record {
     λ room. c.in-Err.ensures.refused.0 refl (subst (HasRoom c.args.main.now.young) c.in-Err.ensures.need room),
     c.in-Err.ensures.unchanged,
   );
+  binds = tt;
 }

@@ -1,5 +1,5 @@
 -- The variable is bound to the sum.
-use Rattle.std.proofs.Common.{◌≡◌, ℤ, ◌+ℤ◌, w64, SFits, rules, refl, sym, ◌∙◌, ap, subst, arith}
+use Rattle.std.proofs.Common.{◌≡◌, ℤ, ◌+ℤ◌, to_z, of_z, w64, SFits, rules, refl, sym, ◌∙◌, ap, subst, arith}
 use Rattle.std.proofs.lemmas.Int.{ints, to_z-of_z}
 use Rattle.heap_command.specs.declared.command.Command.TheVariants.{Add}
 use Rattle.object_graph.specs.declared.value.Value.TheVariants.{Int}
@@ -10,7 +10,7 @@ use Rattle.write_barrier.specs.Mains.{heap_of}
 use Rattle.heap_model.specs.Showing.{ShowsHeld}
 use Rattle.heap_model.proofs.AnewBindings.{get-insert_same, binds_anew}
 use Rattle.mutator.proofs.Meanings.{add_done}
-use Rattle.mutator.proofs.Rebinding.{HoldsAnew, holds_after, binding_carried}
+use Rattle.mutator.proofs.Rebinding.{HoldsAnew, binds_after, holds_after, binding_carried}
 use Rattle.mutator.proofs.variables.add.Goals as goal
 
 pub returns : goal.returns
@@ -37,4 +37,6 @@ returns c = record {
       (c.in_ok-first.ensures old graph both.first both.stands_first)
       (c.in_ok-second.ensures old graph both.second both.stands_second) sum_fits) refl
       tt (binds_anew graph x (Int sum)) c.requires.within.0 sum_fits shown holds refl (λ at. refl);
+  binds = binds_after c.args.x (held.Int (to_z w64 (of_z w64 c.in-Some.sum))) c.operands.ensures.same
+      c.hold.ensures.held;
 }

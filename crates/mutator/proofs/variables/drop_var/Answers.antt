@@ -6,7 +6,7 @@ use Rattle.object_graph.specs.Meaning.{given, done}
 use Rattle.handle_roots.specs.declared.held.Held.TheVariants as held
 use Rattle.write_barrier.specs.Mains.{heap_of}
 use Rattle.heap_model.specs.Showing.{ShowsHeld}
-use Rattle.mutator.proofs.Rebinding.{holds_after, binding_carried}
+use Rattle.mutator.proofs.Rebinding.{binds_after, holds_after, binding_carried}
 use Rattle.mutator.proofs.Unbinding.{unbind, get-remove_same, unbinds_anew}
 use Rattle.mutator.proofs.variables.drop_var.Goals as goal
 
@@ -22,4 +22,5 @@ returns c = record {
       binding_carried (unbind graph x) names (DropVar x) x held.Unbound shows
       (ap (λ found. given Unbound found (λ _. done (unbind graph x) [])) is) refl
       tt (unbinds_anew graph x) c.requires.within tt shown holds refl (λ at. refl);
+  binds = binds_after c.args.x held.Unbound c.bound.ensures.same c.hold.ensures.held;
 }

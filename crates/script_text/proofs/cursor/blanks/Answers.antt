@@ -12,5 +12,6 @@ returns-clause-counted c =
 
 pub returns-clause-within : goal.returns-clause-within
 returns-clause-within c =
-    let counted : c.unwrap_or.result ≡ position_or_len (λ b. not (is_blank b)) c.args.text.now = returns-clause-counted c in
+    let counted : c.unwrap_or.result ≡ position_or_len (λ b. not (is_blank b)) c.args.text.now =
+    returns-clause-counted c in
     omega (arith, counted, prefix_len-le-length (λ (b : ℕ). not (not (is_blank b))) c.args.text.now)

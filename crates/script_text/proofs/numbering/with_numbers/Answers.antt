@@ -6,7 +6,8 @@ use Rattle.script_text.proofs.Advancing.{IsNext, AreLines-more}
 use Rattle.script_text.proofs.numbering.with_numbers.Goals as goal
 
 pub index-requires : goal.index-requires
-index-requires c = omega (arith, ap length c.in_ok-ends.ensures, length-ends_from c.args.spoken.now 0, c.in_ok-ends.ends.ok)
+index-requires c = omega
+    (arith, ap length c.in_ok-ends.ensures, length-ends_from c.args.spoken.now 0, c.in_ok-ends.ends.ok)
 
 pub loop-i-preserved : goal.loop-i-preserved
 loop-i-preserved c =

@@ -15,7 +15,8 @@ phrases_of-requires c =
 pub with_numbers-requires : goal.with_numbers-requires
 with_numbers-requires c =
     let few = lines-few c.args.source.now c.in_ok-lines.lines.items c.in_ok-lines.ensures in
-    let count = spoken-few c.args.unbuilt.now c.deref.result.now c.in_ok-spoken.spoken.items c.in_ok-spoken.ensures.spoken in
+    let count = spoken-few c.args.unbuilt.now c.deref.result.now c.in_ok-spoken.spoken.items
+    c.in_ok-spoken.ensures.spoken in
     omega (arith, ap length c.deref.ensures.value, ap length c.deref-2.ensures.value)
 
 pub new-requires : goal.new-requires

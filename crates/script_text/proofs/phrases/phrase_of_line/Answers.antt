@@ -5,7 +5,8 @@ use Rattle.script_text.proofs.phrases.phrase_of_line.Goals as goal
 
 pub returns-then-is_among-clause-refused : goal.returns-then-is_among-clause-refused
 returns-then-is_among-clause-refused c =
-    phrase-of_line c.args.unbuilt.now c.args.line.now c.in-Some.first.now c.in-Some-keyword_of.keyword c.of-tokens.result _ _
+    phrase-of_line c.args.unbuilt.now c.args.line.now c.in-Some.first.now
+    c.in-Some-keyword_of.keyword c.of-tokens.result _ _
     (omega arith) c.of-tokens.ensures
     c.in-Some.ensures.taken c.in-Some.ensures.rest c.in-Some-keyword_of.ensures c.if-is_among.ensures
 
@@ -13,14 +14,16 @@ pub returns-in_err-with_operands-clause-refused : goal.returns-in_err-with_opera
 returns-in_err-with_operands-clause-refused c =
     let stop = err_from_is_err_and c.from_residual.result c.from_residual.ensures.1 in
     rw (stop.1, stop.2)
-    (phrase-of_line c.args.unbuilt.now c.args.line.now c.in-Some.first.now c.in-Some-keyword_of.keyword c.of-tokens.result _ _
+    (phrase-of_line c.args.unbuilt.now c.args.line.now c.in-Some.first.now
+    c.in-Some-keyword_of.keyword c.of-tokens.result _ _
     (omega arith) c.of-tokens.ensures
     c.in-Some.ensures.taken c.in-Some.ensures.rest c.in-Some-keyword_of.ensures c.if-is_among.ensures
     ∙ c.in_err-with_operands.ensures.refused)
 
 pub returns-clause-phrase : goal.returns-clause-phrase
 returns-clause-phrase c =
-    phrase-of_line c.args.unbuilt.now c.args.line.now c.in-Some.first.now c.in-Some-keyword_of.keyword c.of-tokens.result _ _
+    phrase-of_line c.args.unbuilt.now c.args.line.now c.in-Some.first.now
+    c.in-Some-keyword_of.keyword c.of-tokens.result _ _
     (omega arith) c.of-tokens.ensures
     c.in-Some.ensures.taken c.in-Some.ensures.rest c.in-Some-keyword_of.ensures c.if-is_among.ensures
     ∙ c.in_ok-with_operands.ensures.phrase

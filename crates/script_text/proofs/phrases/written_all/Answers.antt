@@ -14,13 +14,15 @@ returns-in_err-operands-clause-refused c =
     Reads-refused c.loop-i.operands places c.args.tokens.now c.loop-i.i _ _ _ (omega arith)
     (omega arith) c.in_err-operands.ensures.refused c.loop-i.invariant.reads in
     rw (stop.1, stop.2)
-    (ap (λ ps. written_all ps (map (λ token. token.now) c.args.tokens.now)) (sym c.places-place-items.ensures.all) ∙ refused)
+    (ap (λ ps. written_all ps (map (λ token. token.now) c.args.tokens.now))
+    (sym c.places-place-items.ensures.all) ∙ refused)
 
 pub loop-i-preserved : goal.loop-i-preserved
 loop-i-preserved c = record {
   room = omega (arith, length-set c.loop-i.operands c.loop-i.i c.in_ok-operands.field-0, c.loop-i.invariant.room);
   reads =
-      Reads-more c.loop-i.operands c.places-place-items.result.now c.args.tokens.now c.loop-i.i _ _ c.in_ok-operands.field-0
+      Reads-more c.loop-i.operands c.places-place-items.result.now c.args.tokens.now c.loop-i.i _ _
+      c.in_ok-operands.field-0
       (omega arith) (omega arith) (omega arith)
       c.in_ok-operands.ensures.written c.loop-i.invariant.reads;
 }

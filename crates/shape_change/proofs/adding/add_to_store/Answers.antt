@@ -8,7 +8,8 @@ use Rattle.shape_change.proofs.adding.add_to_store.Goals as goal
 pub boxed_word-word-requires-clause-within : goal.boxed_word-word-requires-clause-within
 boxed_word-word-requires-clause-within c v boxed =
     let need : c.need_of.result ≡ 2 = c.need_of.ensures ∙ ap content_need boxed in
-    let space = c.step_to-next.ensures.space ∙ ap (λ (main : Mutator). main.seat.space) c.in_ok-at.ensures.reserved in
+    let space = c.step_to-next.ensures.beside.space
+    ∙ ap (λ (main : Mutator). main.seat.space) c.in_ok-at.ensures.reserved in
     let before = run_before_marks c.args.main.now c.need_of.result c.in_ok-at.at c.step_to-next.new.main.seat.space
     c.requires.can.tied c.in_ok-at.ensures.room (c.in_ok-at.ensures.at (omega arith)) space in
     omega (arith, before, need)

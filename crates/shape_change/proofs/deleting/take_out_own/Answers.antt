@@ -32,7 +32,7 @@ put_shape-requires-clause-within c =
     let before = own_before_marks c.args.main.now c.shape_without.new.main c.args.object c.args.header.shape c.args.slot
     c.in_ok-next.next c.requires.whole.whole c.requires.there c.in_ok-next.ensures in
     let same = ap (λ (main : Mutator). marks_start main.seat.space) c.blacken.ensures.same in
-    omega (arith, before, same, ap (λ (space : Space). marks_start space) c.close_own.ensures.rest.space)
+    omega (arith, before, same, ap (λ (space : Space). marks_start space) c.close_own.ensures.rest.beside.space)
 
 pub returns : goal.returns
 returns c =

@@ -37,7 +37,8 @@ returns-in-None c graph plain shows is =
     let none : has_name (path_of plain.cap plain.fields) c.args.name ≡ false =
     ap (λ (path : Path). has_name path c.args.name) (sym shown.shows.path)
     ∙ ap (λ s. has_name (shape_path c.args.main.now.paths s) c.args.name) shape
-    ∙ ap (λ (paths : List Path). has_name (shape_path paths c.header_at-shape.result.shape) c.args.name) (sym c.shapes.ensures)
+    ∙ ap (λ (paths : List Path). has_name (shape_path paths c.header_at-shape.result.shape)
+    c.args.name) (sym c.shapes.ensures)
     ∙ c.in-None.ensures.none.0 refl in
     let value : field_value plain.fields c.args.name ≡ None = no_value plain.cap plain.fields c.args.name none in
     let P : Option Value → Type 0 = λ found.
@@ -49,7 +50,8 @@ value_of_slot-requires-clause-there c =
     let shown = plain_shown c.requires.shows c.requires.is in
     let header = c.header_at-shape.ensures shown.cell shown.words shown.has shown.stands in
     let shape : ℕ = c.header_at-shape.result.shape in
-    let named = named_at (shape_path c.shapes.result.now shape).fields c.in-Some.slot c.args.name c.in-Some.ensures.found in
+    let named = named_at (shape_path c.shapes.result.now shape).fields c.in-Some.slot c.args.name
+    c.in-Some.ensures.found in
     let long = ap (λ (paths : List Path). length (shape_path paths shape).fields) c.shapes.ensures in
     record {
       cell = shown.cell;
@@ -100,7 +102,8 @@ returns-in-Some c graph plain shows is =
     let among : slice_get (shape_path c.args.main.now.paths shown.cell.header.shape).fields slot ≡ Some field =
     ap (λ (p : Path). slice_get p.fields slot) (shown.shows.path ∙ sym path) ∙ named.there
     ∙ ap (λ (f : PathField). Some f) (sym at.same) in
-    let P : ℕ → Type 0 = λ cap. ShowsField (heap_of c.args.main.now) (nat_lt slot cap) word at.field.rep at.field.value in
+    let P : ℕ → Type 0 =
+    λ cap. ShowsField (heap_of c.args.main.now) (nat_lt slot cap) word at.field.rep at.field.value in
     let tells = c.value_of_slot.ensures shown.cell shown.words slots field word at.field.value shown.has shown.stands
     shown.shows.has among there
     (subst P (sym (ap (λ (p : Path). p.cap) shown.shows.path)) (shown.shows.each slot at.field word at.there there)) in

@@ -28,12 +28,14 @@ value_of_field-requires-clause-field c =
     c.is_own.ensures ∙ c.place_of-place.ensures.own ∙ ap (nat_lt c.args.slot)
     (c.cap.ensures.cap ∙ ap (λ (paths : List Path). (shape_path paths c.args.shape).cap) c.shapes-shapes.ensures) in
     let field =
-    ap (λ (paths : List Path). slice_get (shape_path paths c.args.shape).fields c.args.slot) (sym c.shapes-shapes.ensures)
+    ap (λ (paths : List Path). slice_get (shape_path paths c.args.shape).fields c.args.slot)
+    (sym c.shapes-shapes.ensures)
     ∙ c.field-rep.ensures in
     let word : HasWord there.slots c.args.slot c.word_of_place-word.result =
     sym (c.place_of-place.ensures.stands there.cell there.words there.slots there.has there.stands there.are)
     ∙ c.word_of_place-word.ensures in
-    field_word_there whole c.requires.there c.is_own.result c.field-rep.result c.word_of_place-word.result own field word
+    field_word_there whole c.requires.there c.is_own.result c.field-rep.result
+    c.word_of_place-word.result own field word
 
 pub returns : goal.returns
 returns c cell words slots field word value has stands are there slot shows =
@@ -43,7 +45,8 @@ returns c cell words slots field word value has stands are there slot shows =
     c.is_own.ensures ∙ c.place_of-place.ensures.own ∙ ap (nat_lt c.args.slot)
     (c.cap.ensures.cap ∙ ap (λ (paths : List Path). (shape_path paths c.args.shape).cap) c.shapes-shapes.ensures)) in
     let found : slice_get (shape_path c.args.main.now.paths c.args.shape).fields c.args.slot ≡ Some c.field-rep.result =
-    ap (λ (paths : List Path). slice_get (shape_path paths c.args.shape).fields c.args.slot) (sym c.shapes-shapes.ensures)
+    ap (λ (paths : List Path). slice_get (shape_path paths c.args.shape).fields c.args.slot)
+    (sym c.shapes-shapes.ensures)
     ∙ c.field-rep.ensures in
     let one : field ≡ c.field-rep.result = same_Some field c.field-rep.result
     (sym there ∙ ap (λ s. slice_get (shape_path c.args.main.now.paths s).fields c.args.slot) shape ∙ found) in

@@ -10,8 +10,8 @@ use Rattle.heap_model.specs.Kinds.{HasWord, HasSlots}
 use Rattle.heap_model.proofs.CellsApart.{one_at, one_words}
 use Rattle.write_barrier.specs.Mains.{heap_of}
 use Rattle.object_cells.proofs.CellsRead.{word_is, fits_address}
-use Rattle.object_cells.proofs.SlotPlaces.{own_slot, own_slot_within, store_within, StandsAt, beside_word, beside_refers}
-use Rattle.object_cells.proofs.SlotPlaces.{behind_cap, behind_cap_below, one_slots}
+use Rattle.object_cells.proofs.SlotPlaces.{own_slot, own_slot_within, store_within, StandsAt, beside_word}
+use Rattle.object_cells.proofs.SlotPlaces.{beside_refers, behind_cap, behind_cap_below, one_slots}
 use Rattle.shape_change.proofs.reading.place_of.Goals as goal
 
 -- a slot below the cap ends before the marks
@@ -61,7 +61,8 @@ in_store c =
     behind_cap c.args.slot c.args.cap there.has there.plain there.are cap c.if-slot-cap.false ∙ is in
     let refers : reference_in there.are.store ≡ Some c.in-Some.store =
     ap reference_in (sym (store_read c)) ∙ sym c.address.ensures ∙ c.in-Some.is in
-    beside_word there.are.store there.are.beside c.in-Some.store (c.args.slot - c.args.cap) x c.requires.whole.whole.sized
+    beside_word there.are.store there.are.beside c.in-Some.store (c.args.slot - c.args.cap) x
+    c.requires.whole.whole.sized
     there.are.stands refers here
 
 pub overflow_add-result-in-Some : goal.overflow_add-result-in-Some
@@ -72,7 +73,8 @@ pub unreachable-requires : goal.unreachable-requires
 unreachable-requires c =
     let there = c.requires.there in
     let cap = c.requires.cap there.cell there.words there.has there.stands in
-    let below = behind_cap_below c.args.slot c.args.cap there.has there.plain there.are cap c.if-slot-cap.false there.below in
+    let below =
+    behind_cap_below c.args.slot c.args.cap there.has there.plain there.are cap c.if-slot-cap.false there.below in
     let read = word_is 1 there.are.store c.word.result c.args.object there.has there.stands there.are.slot
     c.word.ensures.of_heap in
     beside_refers there.are.store there.are.beside (c.args.slot - c.args.cap) c.requires.whole.whole.sized

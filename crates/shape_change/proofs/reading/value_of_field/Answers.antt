@@ -26,4 +26,5 @@ returns-else-is_raw c value shows =
       boxed = c.value_of_word.ensures.boxed;
       object = c.value_of_word.ensures.object;
     } in
-    field_told c.args.word c.value_of_word.result c.args.rep value (c.is_raw.ensures.tagged c.if-is_raw.false) tells shows
+    field_told c.args.word c.value_of_word.result c.args.rep value
+    (c.is_raw.ensures.tagged c.if-is_raw.false) tells shows

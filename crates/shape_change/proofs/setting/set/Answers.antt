@@ -60,5 +60,6 @@ returns-in-None c graph plain what shows is holds =
     c.add_there.ensures graph plain what shows is holds
     (name_is_new c.args.main.now graph c.args.object plain c.header_at-shape.result c.args.name shows is
     c.header_at-shape.ensures
-    (ap (λ (paths : List Path). has_name (shape_path paths c.header_at-shape.result.shape) c.args.name) (sym c.shapes.ensures)
+    (ap (λ (paths : List Path). has_name (shape_path paths c.header_at-shape.result.shape)
+    c.args.name) (sym c.shapes.ensures)
     ∙ c.in-None.ensures.none.0 refl))

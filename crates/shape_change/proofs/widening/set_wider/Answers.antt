@@ -1,10 +1,12 @@
 -- The regions stay, and so what is before the marks.
-use Rattle.std.proofs.Common.{◌<◌, sym, ◌∙◌, ap, subst}
+use Rattle.std.proofs.Common.{◌≡◌, ◌<◌, ℕ, sym, ◌∙◌, ap, subst, rules}
 use Rattle.page_space.specs.Extents.{Space, marks_start}
+use Rattle.heap_table.specs.Seats.{StaysBeside}
 use Rattle.write_barrier.specs.Mains.{Mutator}
 use Rattle.shape_change.specs.Places.{place_at}
-use Rattle.object_cells.specs.Contents.{IsBeforeMarks}
+use Rattle.object_cells.specs.Contents.{IsBeforeMarks, filled}
 use Rattle.object_cells.proofs.CellsRead.{cell_at_before_marks}
+use Rattle.object_cells.proofs.WordsBeside.{put_beside, filled_still}
 use Rattle.shape_change.proofs.Filled.{laid_space, filled_space}
 use Rattle.shape_change.proofs.widening.set_wider.Goals as goal
 
@@ -37,3 +39,33 @@ set_header-requires-clause-within c =
     subst (λ (space : Space). c.args.object < marks_start space) (sym same)
     (subst (λ at. at < marks_start c.args.main.now.seat.space) there.stands
     (cell_at_before_marks c.requires.whole.whole.sized there.has))
+
+pub returns : goal.returns
+returns c =
+    let old : Mutator = c.args.main.now in
+    let between : Mutator = c.filling_of.new.main in
+    let laid : Mutator = c.changed_shape-shape.new.main in
+    let filling = c.in-Ok.filling in
+    let there = c.requires.there in
+    let at : ℕ = place_at c.args.object c.args.setting.place in
+    let put : c.fill.new.main ≡ filled laid at filling =
+    c.fill.ensures ∙ ap (λ (main : Mutator). filled main at filling) c.blacken_for.ensures in
+    let still = filled_still old between laid at filling c.in-Ok.ensures.allocates c.changed_shape-shape.ensures.rest
+    c.requires.within c.in-Ok.ensures.before_marks in
+    let stays = subst (λ (main : Mutator). StaysBeside old.seat main.seat) (sym put) still in
+    let below = subst (λ (space : Space). c.args.object < marks_start space) (sym stays.space)
+    (subst (λ at. at < marks_start old.seat.space) there.stands
+    (cell_at_before_marks c.requires.whole.whole.sized there.has)) in
+    record {
+      between = between;
+      allocates = search rules;
+      laid = laid;
+      changes = search rules;
+      sized = c.changed_shape-shape.ensures.sized;
+      next = c.changed_shape-shape.result;
+      leads = search rules;
+      header = c.header_at-number.result;
+      is_header = search rules;
+      fills = search rules;
+      beside = put_beside c.args.object _ stays c.set_header.ensures.written below;
+    }

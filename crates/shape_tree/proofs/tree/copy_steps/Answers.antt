@@ -14,10 +14,13 @@ loop-step-preserved c =
     let item : Bor Transition × Bor ℕ = (c.in-Some.step, c.in-Some.shape) in
     let put = c.put_step.ensures in
     record {
-      left = left_more deref_pair c.args.others.now.entries c.loop-step.step-iterator c.next.new.self c.loop-step.yielded item
+      left = left_more deref_pair c.args.others.now.entries c.loop-step.step-iterator c.next.new.self
+          c.loop-step.yielded item
           before.left c.in-Some.ensures.steps;
-      copies = subst (λ so_far. Copies total so_far c.put_step.new.steps) (sym (map_push deref_pair c.loop-step.yielded item))
-          (copies_more total (map deref_pair c.loop-step.yielded) c.loop-step.steps c.put_step.new.steps c.in-Some.step.now
+      copies = subst (λ so_far. Copies total so_far c.put_step.new.steps)
+          (sym (map_push deref_pair c.loop-step.yielded item))
+          (copies_more total (map deref_pair c.loop-step.yielded) c.loop-step.steps
+          c.put_step.new.steps c.in-Some.step.now
           c.in-Some.shape.now before.copies put.put put.room put.unique);
     }
 
@@ -35,12 +38,14 @@ copies_all c =
 
 pub returns-clause-copied : goal.returns-clause-copied
 returns-clause-copied c =
-    copied_all (hash_map_len c.args.steps.now + spare c.args.steps.now) c.loop-step.steps c.args.others.now (copies_all c)
+    copied_all (hash_map_len c.args.steps.now + spare c.args.steps.now) c.loop-step.steps
+    c.args.others.now (copies_all c)
     c.into_iter-step-iterator.ensures.into_iter_gives.4
 
 pub returns-clause-len : goal.returns-clause-len
 returns-clause-len c =
-    copied_len (hash_map_len c.args.steps.now + spare c.args.steps.now) c.loop-step.steps c.args.others.now (copies_all c)
+    copied_len (hash_map_len c.args.steps.now + spare c.args.steps.now) c.loop-step.steps
+    c.args.others.now (copies_all c)
     c.into_iter-step-iterator.ensures.into_iter_gives.4
 
 pub returns-clause-room : goal.returns-clause-room

@@ -25,4 +25,5 @@ loop-holder-preserved c =
 
 pub returns-clause-counted : goal.returns-clause-counted
 returns-clause-counted c =
-    c.loop-holder.invariant ∙ entries_all c.args.marks.now c.args.objects.now c.loop-holder.holder c.loop-holder-test.false
+    c.loop-holder.invariant
+    ∙ entries_all c.args.marks.now c.args.objects.now c.loop-holder.holder c.loop-holder-test.false

@@ -13,7 +13,8 @@ loop-value-preserved c =
     let seen = c.loop-value.invariant.0 in
     let value = c.in-Some.value in
     let left = c.next.new.self in
-    let more = rest_more deref c.loop-value.value-iterator left c.next.result value c.in-Some.is c.next.ensures.steps in (
+    let steps = c.next.ensures.steps in
+    let more = rest_more deref c.loop-value.value-iterator left c.next.result value c.in-Some.is steps in (
       seen ++ value.now ∷ [],
       append_assoc seen (value.now ∷ []) left ∙ ap (λ rest. seen ++ rest) (sym more) ∙ c.loop-value.invariant.1,
       MarksAlso-push refers_to seen value.now _ _ _ c.loop-value.invariant.2 c.mark.ensures,

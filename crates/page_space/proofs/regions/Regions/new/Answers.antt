@@ -13,7 +13,13 @@ invariant_of-result c =
       segments = refl;
       roots = omega (arith, c.half_words.ensures.words, roots_start_is space);
       layouts = omega (arith, c.half_words.ensures.words, roots_start_is space, layouts_start_is space);
-      marks = omega (arith, c.half_words.ensures.words, roots_start_is space, layouts_start_is space, marks_start_is space);
+      marks = omega (
+        arith,
+        c.half_words.ensures.words,
+        roots_start_is space,
+        layouts_start_is space,
+        marks_start_is space,
+      );
       board = omega (
         arith,
         c.half_words.ensures.words,

@@ -7,7 +7,8 @@ use Rattle.page_space.proofs.regions.Regions.segment_number.Goals as goal
 pub returns : goal.returns
 returns c =
     let is = computed_for c.self.inside c.args.self.now c.self.view_is c.self.invariant in
-    let found : IsNumberOf c.args.self.now c.args.a ((c.args.a - segments_start c.args.self.now) / c.args.self.now.sizes.young) =
+    let found : IsNumberOf c.args.self.now c.args.a
+    ((c.args.a - segments_start c.args.self.now) / c.args.self.now.sizes.young) =
     number_of c.args.self.now c.args.a (omega arith) c.requires.from c.requires.below in
     let same : (c.args.a - segments_start c.args.self.now) / c.args.self.now.sizes.young
     ≡ (c.args.a - c.self.inside.segments) / c.self.inside.sizes.young = cc (is.segments, is.young) in

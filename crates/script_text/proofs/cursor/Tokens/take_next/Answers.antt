@@ -22,10 +22,12 @@ returns-clause-taken c =
     elim c.if-end-eq0.branch [
       | then-end-eq0 w ↦
           let none = no_next line (text c) end (text-past_blanks c) c.token_len-end.ensures.counted w.if-end-eq0.true in
-          ap (option_map (λ token. token.now)) w.result-is ∙ ap (λ tokens. slice_get tokens 0) (sym none.0 ∙ c.self.view_is)
+          ap (option_map (λ token. token.now)) w.result-is
+          ∙ ap (λ tokens. slice_get tokens 0) (sym none.0 ∙ c.self.view_is)
       | else-end-eq0 w ↦
           let some = next line (text c) end (text-past_blanks c) c.token_len-end.ensures.counted w.if-end-eq0.false in
-          ap (option_map (λ token. token.now)) w.result-is ∙ ap (λ tokens. slice_get tokens 0) (sym some ∙ c.self.view_is)
+          ap (option_map (λ token. token.now)) w.result-is
+          ∙ ap (λ tokens. slice_get tokens 0) (sym some ∙ c.self.view_is)
     ]
 
 pub returns-clause-rest : goal.returns-clause-rest

@@ -43,7 +43,8 @@ returns-clause-what c =
     let all = entered c in
     let k = c.args.phrase.now.keyword in
     let arguments =
-    map (argument_of c.argument-3.new.self.variables c.argument-3.new.self.fields) (phrase_shown c.args.phrase.now).operands in
+    map (argument_of c.argument-3.new.self.variables c.argument-3.new.self.fields)
+    (phrase_shown c.args.phrase.now).operands in
     c.what_of.ensures
     ∙ ap (λ a. what_of c.args.end_at c.args.repeat_at k a c.in_ok-b.b c.in_ok-c.c) all.first
     ∙ ap (λ b. what_of c.args.end_at c.args.repeat_at k (argument_at arguments 0) b c.in_ok-c.c) all.second

@@ -49,14 +49,16 @@ node_is c =
     let rows = c.self.inside.rows.items in
     let node = c.index-node.result.now in
     let starts = subst (λ paths. IsPathShape paths c.args.parent) (sym c.self.view_is) c.requires.path in
-    let is = IsNode-at rows c.self.inside.nodes.items c.args.parent node starts c.self.invariant.each c.index-node.ensures in
+    let is =
+    IsNode-at rows c.self.inside.nodes.items c.args.parent node starts c.self.invariant.each c.index-node.ensures in
     let made = c.layout_with-layout.ensures in
     record {
       cap = refl;
       start = c.len-start.ensures ∙ c.self.inside.rows.ok.0;
       count = refl;
       above = refl;
-      layout = layout_of-grown (path_at rows node) c.args.field node.layout c.layout_with-layout.result node.count is.layout
+      layout =
+          layout_of-grown (path_at rows node) c.args.field node.layout c.layout_with-layout.result node.count is.layout
           (sym (length-path_at rows node is.within)) made.full made.more;
     }
 
@@ -79,7 +81,8 @@ has_room c =
     let nodes : length c.push_reserved.new.self.items ≡ length tree.nodes.items + 1 =
     ap length c.push_reserved.ensures.items ∙ length-append tree.nodes.items (new_node c ∷ []) in
     let steps = c.put_step.ensures.added
-    (nothing_shown tree c.args.self.now c.args.parent c.args.field c.self.invariant c.self.view_is c.requires.missing) in
+    (nothing_shown tree c.args.self.now c.args.parent c.args.field c.self.invariant
+    c.self.view_is c.requires.missing) in
     record {
       rows = omega (arith, before.rows, c.push_row.ensures.room);
       nodes = omega (arith, before.nodes, c.push_reserved.ensures.capacity);

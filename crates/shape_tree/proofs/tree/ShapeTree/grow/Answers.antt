@@ -19,7 +19,8 @@ add-shape-requires-clause-is c =
     let rest = c.loop-rest.rest.now in
     let grows = subst (Grows old path c.loop-rest.self c.loop-rest.shape)
     (first_and_rest rest no_field c.in-len1-up.len_at_least) c.loop-rest.invariant in
-    IsPath-next (shape_path c.loop-rest.self c.loop-rest.shape) (get_or rest 0 no_field) (take (length rest - 1) (drop 1 rest))
+    IsPath-next (shape_path c.loop-rest.self c.loop-rest.shape) (get_or rest 0 no_field)
+    (take (length rest - 1) (drop 1 rest))
     (subst IsPath (sym grows.same) c.requires.is)
 
 pub loop-rest-preserved : goal.loop-rest-preserved
@@ -29,7 +30,8 @@ loop-rest-preserved c =
     let rest = c.loop-rest.rest.now in
     let grows = subst (Grows old path c.loop-rest.self c.loop-rest.shape)
     (first_and_rest rest no_field c.in-len1-up.len_at_least) c.loop-rest.invariant in
-    grows_more old path c.loop-rest.self c.add-shape.new.self c.loop-rest.shape c.add-shape.result (get_or rest 0 no_field)
+    grows_more old path c.loop-rest.self c.add-shape.new.self c.loop-rest.shape c.add-shape.result
+    (get_or rest 0 no_field)
     (take (length rest - 1) (drop 1 rest)) c.requires.is grows c.add-shape.ensures.added c.add-shape.ensures.shape
 
 pub returns-clause-added : goal.returns-clause-added
@@ -37,5 +39,6 @@ returns-clause-added c =
     let old = c.args.self.now in
     let path = extended (shape_path old c.args.from) c.args.tail.now in
     grows_end old path c.loop-rest.self c.loop-rest.shape
-    (subst (Grows old path c.loop-rest.self c.loop-rest.shape) (empty_if_short c.loop-rest.rest.now c.in_default.len_below)
+    (subst (Grows old path c.loop-rest.self c.loop-rest.shape)
+    (empty_if_short c.loop-rest.rest.now c.in_default.len_below)
     c.loop-rest.invariant)

@@ -50,6 +50,7 @@ returns-clause-led c =
       ltb-false paths_most (c.paths-paths.result + length walk.rest.now) test,
     ) in
     record {
-      added = with_path-added old new path (subst (λ p. new ≡ old ++ missing old p) found.same c.grow.ensures.added) few;
+      added =
+          with_path-added old new path (subst (λ p. new ≡ old ++ missing old p) found.same c.grow.ensures.added) few;
       shape_is = subst (λ p. IsShapeOf new p c.grow.result) found.same c.grow.ensures.shape;
     }

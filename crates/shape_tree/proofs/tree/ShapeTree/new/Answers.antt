@@ -10,10 +10,15 @@ invariant_of-result c =
     let rows = c.in_ok-rows.ensures in
     let nodes = c.in_ok-nodes.ensures in
     let steps = c.in_ok-steps.ensures in
-    let long : length c.in_ok-nodes.nodes.items ≡ 9 = ap length nodes.roots ∙ length-map-range_with_len root_node_of 0 9 in
+    let long : length c.in_ok-nodes.nodes.items ≡ 9 =
+    ap length nodes.roots ∙ length-map-range_with_len root_node_of 0 9 in
     let no_rows : length c.in_ok-rows.rows.items ≡ 0 = ap length rows.items in
     let no_steps : length c.in_ok-steps.steps.entries ≡ 0 = ap length steps.empty in
-    first_tree (record { rows = c.in_ok-rows.rows; nodes = c.in_ok-nodes.nodes; steps = c.in_ok-steps.steps }) rows.items
+    first_tree (record {
+      rows = c.in_ok-rows.rows;
+      nodes = c.in_ok-nodes.nodes;
+      steps = c.in_ok-steps.steps;
+    }) rows.items
     nodes.roots steps.empty
     (record {
       rows = omega (arith, rows.exact);

@@ -22,7 +22,8 @@ loop-i-preserved c =
     let within : from + c.args.count ≤ length table = omega (arith, few) in
     let room : to + c.args.count ≤ length table = omega (arith, few) in
     let stood : slice_get (copied table from to i) (from + i) ≡ Some word =
-    ap (λ (main : Mutator). slice_get main.seat.table (from + i)) (sym c.loop-i.invariant) ∙ c.word-word.ensures.of_table in
+    ap (λ (main : Mutator). slice_get main.seat.table (from + i)) (sym c.loop-i.invariant)
+    ∙ c.word-word.ensures.of_table in
     put_more first c.loop-i.self c.write.new.self (copied table from to i) (copied table from to (i + 1)) (to + i) word
     c.loop-i.invariant c.write.ensures.written
     (copied_more table from to c.args.count i word within room c.loop-i-test.true

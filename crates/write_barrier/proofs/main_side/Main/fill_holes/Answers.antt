@@ -19,7 +19,8 @@ loop-i-preserved c =
     let within : c.args.at + i < length first.seat.table =
     omega (arith, c.regions-regions.ensures.counted, marks_within first.seat.space) in
     put_more first c.loop-i.self c.write.new.self (with_range first.seat.table c.args.at (replicate i hole_word))
-    (with_range first.seat.table c.args.at (replicate (i + 1) hole_word)) (c.args.at + i) hole_word c.loop-i.invariant written
+    (with_range first.seat.table c.args.at (replicate (i + 1) hole_word))
+    (c.args.at + i) hole_word c.loop-i.invariant written
     (fill_more first.seat.table c.args.at i hole_word within)
 
 pub returns-clause-heap : goal.returns-clause-heap

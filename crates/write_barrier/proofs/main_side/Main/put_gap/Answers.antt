@@ -27,7 +27,8 @@ pub returns-clause-changes : goal.returns-clause-changes
 returns-clause-changes c =
     let at = page_words * c.args.page in
     changes_then c.args.self.now c.set_header.new.self c.write.new.self at (at + page_words) at (at + page_words)
-    (put_changes c.args.self.now c.set_header.new.self (c.args.page * 2048) (header_bits gap_header) at (at + page_words)
+    (put_changes c.args.self.now c.set_header.new.self (c.args.page * 2048) (header_bits gap_header) at
+    (at + page_words)
     c.set_header.ensures.written c.set_header.ensures.heap (omega arith) (omega arith))
     (put_changes c.set_header.new.self c.write.new.self (c.args.page * 2048 + 1) page_words at (at + page_words)
     c.write.ensures.written c.write.ensures.heap (omega arith) (omega arith)) (omega arith) (omega arith)

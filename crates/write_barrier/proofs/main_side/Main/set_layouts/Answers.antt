@@ -1,11 +1,14 @@
 -- One layout word more.
-use Rattle.std.proofs.Common.{◌≡◌, ◌+◌, ◌<◌, ap, arith, length, List}
+use Rattle.std.proofs.Common.{◌≡◌, ◌+◌, ◌<◌, ap, sym, subst, arith, length, List}
 use Rattle.tagged_word.specs.Shapes.{shapes_most}
 use Rattle.page_space.specs.Extents.{layouts_start, marks_start}
 use Rattle.page_space.proofs.Starts.{marks_start_is}
 use Rattle.object_graph.specs.declared.path.Path.{Path}
 use Rattle.shape_tree.specs.ShapeLayouts.{layout_word}
-use Rattle.heap_table.specs.Seats.{heap_words}
+use Rattle.heap_table.specs.Seats.{heap_words, StaysBeside}
+use Rattle.heap_table.specs.Staying.{stays_beside_itself, stays_beside_again}
+use Rattle.heap_table.proofs.HeapWords.{stays_beside-put}
+use Rattle.write_barrier.specs.Mains.{Mutator}
 use Rattle.write_barrier.proofs.Changes.{changes_none, put_changes, changes_then}
 use Rattle.write_barrier.proofs.PutLayouts.{layouts_more, layouts_all}
 use Rattle.write_barrier.proofs.main_side.Main.set_layouts.Goals as goal
@@ -16,6 +19,7 @@ loop-shape-init c =
     record {
       changes = changes_none c.args.self.now (layouts_start space) (marks_start space);
       layouts = c.requires.layouts;
+      rest = stays_beside_itself c.args.self.now.seat;
     }
 
 pub loop-shape-preserved : goal.loop-shape-preserved
@@ -33,11 +37,16 @@ loop-shape-preserved c =
     record {
       changes = changes_then c.args.self.now old new (layouts_start space) (marks_start space) (layouts_start space)
           (marks_start space) changes
-          (put_changes old new (layouts_start old.seat.space + shape) (layout_word old.paths shape) (layouts_start space)
+          (put_changes old new (layouts_start old.seat.space + shape) (layout_word old.paths shape)
+          (layouts_start space)
           (marks_start space) c.set_layout.ensures.written c.set_layout.ensures.heap (omega arith)
           (omega (arith, marks_start_is space))) (omega arith) (omega arith);
       layouts = layouts_more old new shape c.set_layout.ensures.written c.set_layout.ensures.heap within
           c.loop-shape.invariant.layouts;
+      rest = stays_beside_again c.args.self.now.seat old.seat new.seat c.loop-shape.invariant.rest
+          (subst (λ (main : Mutator). StaysBeside old.seat main.seat) (sym c.set_layout.ensures.written)
+          (stays_beside-put old.seat (layouts_start old.seat.space + shape) (layout_word old.paths shape)
+          (omega (arith, marks_start_is old.seat.space))));
     }
 
 pub returns-clause-layouts : goal.returns-clause-layouts

@@ -1,0 +1,97 @@
+-- What the calls on the entries of a weak map do of the pairs of its table.
+use Rattle.std.specs.Prelude.{◌≡◌, ◌≢◌, ℕ, ◌+◌, ◌≤◌, ◌<◌, List, Result, Ok, Err}
+use Rattle.tagged_word.specs.declared.word.Class.{Class}
+use Rattle.tagged_word.specs.Words.{IsClass, bits_of}
+use Rattle.object_graph.specs.declared.value.Value.{Value}
+use Rattle.object_graph.specs.Graphs.{Graph, WeakObject}
+use Rattle.object_graph.specs.Meaning.{weak_most}
+use Rattle.nursery.specs.Young.{HasRoom}
+use Rattle.handle_roots.specs.declared.held.Held.{Held}
+use Rattle.handle_roots.specs.declared.held.Held.TheVariants.{Undefined}
+use Rattle.heap_model.specs.Heaps.{Heap}
+use Rattle.heap_model.specs.Slots.{reference_word}
+use Rattle.heap_model.specs.Kinds.{Pair}
+use Rattle.heap_model.specs.Needs.{count_at, wput_need_at}
+use Rattle.write_barrier.specs.Mains.{Mutator, heap_of}
+use Rattle.write_barrier.specs.Values.{held_of_class}
+use Rattle.object_cells.specs.Made.{is_wide_held}
+use Rattle.ephemeron_table.specs.EntryChanges.{PutsEntry}
+use Rattle.ephemeron_table.specs.Pairs.{HasPairsAt, IsFilledAt, RemovesPair}
+use Rattle.ephemeron_table.specs.PutWords.{PutsAt}
+use Rattle.ephemeron_table.specs.declared.stop.TableStop.{TableStop}
+use Rattle.ephemeron_table.specs.declared.stop.TableStop.TheVariants as stop
+
+-- the pair at the place holds something, and has the key word
+pub record IsPairOf (pairs : List Pair) (key place : ℕ) (pair : Pair) : Type 0 where
+  pub filled : IsFilledAt pairs place pair
+  pub key_is : pair.key ≡ key
+
+-- no pair that holds something has the key word
+abbrev pub LacksPair : List Pair → ℕ → Type 0
+LacksPair pairs key = (place : ℕ) (pair : Pair) → IsPairOf pairs key place pair → ⊥
+
+-- the word of a pair's value stands for what is held, by its class
+pub record WordStandsFor (heap : Heap) (word : ℕ) (held : Held) : Type 0 where
+  pub class : Class
+  pub is_class : IsClass class
+  pub bits : word ≡ bits_of class
+  pub stands : held_of_class heap class ≡ held
+
+-- The pairs once that of a key word and a value word was put. Each other one that holds something stood before and has
+-- another key, no two from one place; and each before that has another key stands somewhere else than the one that was
+-- put.
+pub record AreWith (before after : List Pair) (key word : ℕ) : Type 0 where
+  pub place : ℕ
+  pub put : IsFilledAt after place (record { key = key; value = word })
+  pub origin : ℕ → ℕ
+  pub from : (at : ℕ) (pair : Pair) → IsFilledAt after at pair → at ≢ place
+      → IsFilledAt before (origin at) pair × (pair.key ≢ key)
+  pub apart : (at other : ℕ) (pair another : Pair) → IsFilledAt after at pair → IsFilledAt after other another
+      → at ≢ place → other ≢ place → origin at ≡ origin other → at ≡ other
+  pub kept : (at : ℕ) (pair : Pair) → IsFilledAt before at pair → pair.key ≢ key
+      → (now : ℕ) × IsFilledAt after now pair × (origin now ≡ at) × (now ≢ place)
+
+-- The pair of the key whose cell stands at an address, and of a value, was put in the weak map whose cell stands at an
+-- address, which may be the same one. Which words that puts is said; what they make of the pairs follows. The map has
+-- one entry more where no pair had the key, and had fewer than it may have then; else it has as many.
+pub record HasPutPair (old new : Mutator) (map key : ℕ) (value : Held) (before : List Pair) : Type 0 where
+  pub few : LacksPair before (reference_word key) → count_at (heap_of old) map < weak_most
+  pub puts : PutsAt old new map key value
+  pub after : List Pair
+  pub are : HasPairsAt (heap_of new) map after
+  pub word : ℕ
+  pub stands : WordStandsFor (heap_of new) word value
+  pub with_it : AreWith before after (reference_word key) word
+  pub as_many : (place : ℕ) (pair : Pair) → IsPairOf before (reference_word key) place pair
+      → count_at (heap_of new) map ≡ count_at (heap_of old) map
+  pub one_more : LacksPair before (reference_word key) → count_at (heap_of new) map ≡ count_at (heap_of old) map + 1
+
+-- `put`: the pair was put; or none has the key and the map has as many entries as it may have; or there is no room, in
+-- this order, and nothing has changed.
+abbrev pub PutsPair : Mutator → Mutator → (map key : ℕ) → Held → List Pair → Result Unit TableStop → Type 0
+PutsPair old new map key value before (Ok _) = HasPutPair old new map key value before
+PutsPair old new map key value before (Err (stop.TableFull entries)) =
+    LacksPair before (reference_word key) × (entries ≡ count_at (heap_of old) map)
+    × (weak_most ≤ count_at (heap_of old) map) × (new ≡ old)
+PutsPair old new map key value before (Err (stop.Full room)) =
+    (LacksPair before (reference_word key) → count_at (heap_of old) map < weak_most)
+    × (room.need ≡ wput_need_at (heap_of old) map (reference_word key) (is_wide_held value))
+    × (HasRoom old.young room.need → ⊥) × (new ≡ old)
+
+-- Both the entry of the key and its pair are put, or why they are not.
+pub record PutsBoth (old new : Mutator) (graph : Graph) (map key : ℕ) (weak : WeakObject) (number : ℕ) (value : Held)
+    (what : Value) (result : Result Unit TableStop) : Type 0 where
+  pub entry : PutsEntry old new graph map key weak number what result
+  pub pairs : (before : List Pair) → HasPairsAt (heap_of old) map before → PutsPair old new map key value before result
+
+-- `get`: what is held is what the value of the pair with the key stands for; undefined where none has it.
+pub record TellsPairValue (main : Mutator) (key : ℕ) (pairs : List Pair) (held : Held) : Type 0 where
+  pub there : (place : ℕ) (pair : Pair) → IsPairOf pairs (reference_word key) place pair
+      → WordStandsFor (heap_of main) pair.value held
+  pub none : LacksPair pairs (reference_word key) → held ≡ Undefined
+
+-- `delete`: the pair with the key was taken out; where none has it, nothing has changed.
+pub record DeletesPair (old new : Mutator) (map key : ℕ) (before : List Pair) : Type 0 where
+  pub there : (place : ℕ) (pair : Pair) → IsPairOf before (reference_word key) place pair
+      → RemovesPair old new map place before
+  pub none : LacksPair before (reference_word key) → new ≡ old
