@@ -75,8 +75,8 @@ module _ {old new : Mutator} {graph : Graph} {at : ℕ} {list : ListObject} {gon
   long = long_shifted stored (length list.elements) gone enough
 
   -- those of neither cell are as before
-  abbrev stays : (a : ℕ) → (at ≤ a → a < at + 3 → ⊥) → (puts.store ≤ a → a < puts.store + (store_head + capacity)
-      → ⊥)
+  abbrev stays : (a : ℕ) → (at ≤ a → a < at + 3 → ⊥)
+      → (puts.store ≤ a → a < puts.store + (store_head + capacity) → ⊥)
       → slice_get words a ≡ slice_get (heap_words old.seat) a
   stays = shifted_stays stored (length list.elements) gone enough
 

@@ -79,8 +79,8 @@ module _ {old new : Mutator} {graph : Graph} {at : ℕ} {list : ListObject} {kep
   long = long_truncated stored kept enough
 
   -- those of neither cell are as before
-  abbrev stays : (a : ℕ) → (at ≤ a → a < at + 3 → ⊥) → (puts.store ≤ a → a < puts.store + (store_head + capacity)
-      → ⊥)
+  abbrev stays : (a : ℕ) → (at ≤ a → a < at + 3 → ⊥)
+      → (puts.store ≤ a → a < puts.store + (store_head + capacity) → ⊥)
       → slice_get words a ≡ slice_get (heap_words old.seat) a
   stays = truncated_stays stored kept enough
 

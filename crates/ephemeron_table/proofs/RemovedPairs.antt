@@ -48,6 +48,7 @@ pub pairs_known : {old : Mutator} {map : ℕ} {table : Table} {pairs : List Pair
 pairs_known {old} {table = table} {pairs} known has =
     pairs_are (heap_words old.seat) table pairs (within_words known) (known.is.pairs pairs has)
 
+-- so a pair of the map that holds something stands in its table
 pub filled_place : {old : Mutator} {map place : ℕ} {table : Table} {pairs : List Pair} {pair : Pair}
     → KnownMap old map table → HasPairsAt (heap_of old) map pairs → IsFilledAt pairs place pair
     → IsFilledAt (pairs_of (heap_words old.seat) table) place pair

@@ -33,6 +33,7 @@ pub filled_elsewhere : (pairs : List Pair) (hole at : ℕ) (put pair : Pair) →
 filled_elsewhere pairs hole at put pair apart filled =
     record { stands = sym (slice_get-set_other pairs hole at put apart) ∙ filled.stands; filled = filled.filled }
 
+-- and what was filled there is so still
 pub still_filled : (pairs : List Pair) (hole at : ℕ) (put pair : Pair) → at ≢ hole → IsFilledAt pairs at pair
     → IsFilledAt (slice_set pairs hole put) at pair
 still_filled pairs hole at put pair apart filled =

@@ -58,6 +58,7 @@ slot_within whole there =
     let sound = sound_at whole there in
     list_within 1 sound.store whole there sound.slot
 
+-- the word of its length is before the marks
 pub count_within : {heap : Heap} {at : ℕ} → Whole heap → IsListCellAt heap at → at + 2 < marks_start heap.space
 count_within whole there =
     let sound = sound_at whole there in

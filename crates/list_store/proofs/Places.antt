@@ -40,6 +40,7 @@ pub record PlaceStands (main : Mutator) (store : Store) (place : ℕ) : Type 0 w
   pub below : place < store.capacity
   pub within : store.at + (store_head + place) < marks_start main.seat.space
 
+-- so it is of each place below the length, in the store that stands beside the list
 pub place_stands : {main : Mutator} {list count : ℕ} (store : Store) (place : ℕ) → IsListReady main list count
     → IsStoreAt (heap_of main) list store → place < count → PlaceStands main store place
 place_stands store place ready is below =
