@@ -1,7 +1,7 @@
 #!/usr/bin/env bash
-# Times heaprun on generated scripts, and prints nanoseconds in all and for each executed line, the best of five runs. The script of
-# parse is refused at its last line, so its lines are read and judged, and none is executed. Nothing is compared, and no
-# time fails.
+# Times heaprun on generated scripts. For each it prints nanoseconds in all and for each line, of the best of five runs.
+# The script of parse is refused at its last line: its lines are read and judged, and none is executed. Nothing is
+# compared, and no time fails.
 top=$(cd "$(dirname "$0")/.." && pwd) || exit 1
 folder=$(mktemp -d) || exit 1
 trap 'rm -rf "$folder"' EXIT
