@@ -115,7 +115,8 @@ Running-start script heap old placed shown opened variables =
     } in
     record {
       reached = reached;
-      spends = Spends.none (heap_of heap.main) opened.used opened.survivors reached;
+      spends = Spends.none (heap_of heap.main) (ap (λ (young : Young). young.used) opened.young)
+          (ap (λ (young : Young). young.survivors) opened.young) reached;
       shown = shown;
       left = begins script.lines placed;
       handed = Handed-none old;

@@ -34,8 +34,9 @@ set_capacity_by heap at path (Some field) = capacity_at heap at
 abbrev pub set_capacity_at : Heap → ℕ → ℕ → ℕ
 set_capacity_at heap at name = set_capacity_by heap at (path_at heap at) (index_of (path_at heap at).fields name)
 
--- Words of one object alone have changed, that at the address. It has a store of so many slots, or a table of so many
--- pairs, and each other object one of as many as before. Each object stands where it stood, and none is made.
+-- Of the words before the layout words only those of the object at the address have changed, and newly used ones. The
+-- object has a store of so many slots, or a table of so many pairs, and each other object one of as many as before. Each
+-- object stands where it stood, and none is made.
 pub record ChangesObject (old new : Heap) (at capacity : ℕ) : Type 0 where
   pub words : ChangesOwnWords old new at
   pub own : capacity_at new at ≡ capacity

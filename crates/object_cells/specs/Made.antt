@@ -72,7 +72,7 @@ abbrev pub with_store : List ℕ → ℕ → Store → ℕ → ℕ → List ℕ
 with_store words object store capacity at =
     slice_set (begun_store words store capacity at) (object + store_slot) (reference_word at)
 
--- how many words of a box that takes which a slot comes to hold
+-- how many words are made for what a slot comes to hold: those of a box, or none
 abbrev pub content_need : Content → ℕ
 content_need (content.Tagged word) = 0
 content_need (content.Raw word) = 0

@@ -1,34 +1,23 @@
 -- What a slot comes to hold for a value shows the value, and names nothing but a box.
-use Rattle.std.proofs.Common.{◌≡◌, ℕ, Bool, true, false, List, Option, Some, None, IsTrue}
-use Rattle.std.proofs.Common.{refl, sym, ◌∙◌, ap}
-use Rattle.std.specs.Prelude.{ℤ, FitsSigned, if◌then◌else◌}
+use Rattle.std.proofs.Common.{◌≡◌, ℕ, Bool, true, false, IsTrue}
+use Rattle.std.proofs.Common.{refl, sym, ◌∙◌}
+use Rattle.std.specs.Prelude.{ℤ, FitsSigned}
 use Rattle.std.specs.Int.{w64}
-use Rattle.std.proofs.lemmas.Bool.{false≢true, eqb-true}
-use Rattle.std.proofs.lemmas.Option.{none-some}
+use Rattle.std.proofs.lemmas.Bool.{false≢true}
 use Rattle.tagged_word.specs.declared.word.Word.{Word}
-use Rattle.tagged_word.specs.declared.layout.Kind.TheVariants as kind
-use Rattle.tagged_word.specs.Readings.{reference_in}
 use Rattle.tagged_word.specs.Words.{small}
-use Rattle.tagged_word.specs.Shapes.{box_shape}
-use Rattle.tagged_word.proofs.Readings.{reference_from}
 use Rattle.object_graph.specs.declared.value.Value.{Value}
 use Rattle.object_graph.specs.declared.value.Value.TheVariants as value
 use Rattle.object_graph.specs.declared.value.Rep.{Rep}
 use Rattle.object_graph.specs.declared.value.Rep.TheVariants as rep
 use Rattle.object_graph.specs.Invariants.{IsValue}
-use Rattle.cell_layout.specs.declared.cell.Cell.{Cell}
 use Rattle.heap_model.specs.Heaps.{Heap}
-use Rattle.heap_model.specs.Slots.{small_word, raw_word, reference_word, IsSlotWord}
-use Rattle.heap_model.specs.Slots.{RefersTo, RefersToPlace, RefersToBox}
-use Rattle.heap_model.specs.Needs.{is_box_word, is_box_at, shape_at}
-use Rattle.heap_model.specs.Wholeness.{HasSizes}
+use Rattle.heap_model.specs.Slots.{small_word, raw_word}
+use Rattle.heap_model.specs.Slots.{RefersToPlace, RefersToBox}
 use Rattle.heap_model.specs.Showing.{ShowsValue, ShowsField}
 use Rattle.heap_model.proofs.WordsStay.{PlacesStay}
 use Rattle.object_cells.specs.declared.content.Content.TheVariants as content
-use Rattle.object_cells.specs.Contents.{box_in}
 use Rattle.object_cells.specs.SlotChanges.{NamesNone}
-use Rattle.object_cells.proofs.CellsRead.{shape_is_box}
-use Rattle.object_cells.proofs.WordsTold.{slot_target}
 use Rattle.object_cells.proofs.WrittenPlaces.{small_names_none, undefined_names_none, object_names_none}
 use Rattle.object_cells.proofs.HeldContents.{HoldsValue}
 

@@ -1,5 +1,5 @@
 -- A field of a new name that was added is set.
-use Rattle.std.proofs.Common.{◌≡◌, ℕ, Some, refl, sym, ◌∙◌, ap, subst}
+use Rattle.std.proofs.Common.{◌≡◌, ℕ, sym, ◌∙◌, ap, subst}
 use Rattle.tagged_word.specs.declared.header.Header.{Header}
 use Rattle.object_graph.specs.declared.value.Value.{Value}
 use Rattle.object_graph.specs.Objects.{with_field}
@@ -7,9 +7,7 @@ use Rattle.object_graph.specs.Graphs.{Graph, PlainObject}
 use Rattle.page_space.specs.Sizes.{AreWithin}
 use Rattle.nursery.specs.Young.{HasRoom}
 use Rattle.handle_roots.specs.declared.held.Held.{Held}
-use Rattle.heap_model.specs.Heaps.{Heap}
 use Rattle.heap_model.specs.Needs.{set_need_at, capacity_at}
-use Rattle.heap_model.specs.Showing.{ShowsHeld}
 use Rattle.write_barrier.specs.Mains.{Mutator, heap_of}
 use Rattle.object_cells.specs.PlainObjects.{ShowsRefilled}
 use Rattle.object_cells.specs.HeldValues.{is_wide}

@@ -27,4 +27,4 @@ filled_space main at (filling.OldBox box v) = refl
 pub laid_space : (old between laid : Mutator) (filling : Filling) (from to : ℕ) → Allocates old between filling
     → ChangesWithin (with_paths between laid.paths) laid from to → laid.seat.space ≡ old.seat.space
 laid_space old between laid filling from to allocates changes =
-    changes.space ∙ ap (λ (seat : Seat). seat.space) (allocates_seat old between filling allocates)
+    changes.seat.space ∙ ap (λ (seat : Seat). seat.space) (allocates_seat old between filling allocates)

@@ -10,13 +10,12 @@ use Rattle.object_graph.specs.declared.path.Path.{Path}
 use Rattle.object_graph.specs.Objects.{field_value, with_field}
 use Rattle.object_graph.specs.Paths.{path_of, with_path, missing}
 use Rattle.object_graph.specs.Graphs.{Graph, PlainObject}
-use Rattle.object_graph.specs.Invariants.{IsValue, fields_most}
+use Rattle.object_graph.specs.Invariants.{fields_most}
 use Rattle.object_graph.specs.Limits.{paths_most}
 use Rattle.shape_tree.specs.declared.full.ShapesFull.{ShapesFull}
 use Rattle.shape_tree.specs.Shapes.{IsPathShape, IsFullFor, shape_path, has_name, stepped}
 use Rattle.shape_tree.proofs.LedPaths.{with_path-added}
 use Rattle.handle_roots.specs.declared.held.Held.{Held}
-use Rattle.handle_roots.specs.Roots.{FitsHeld}
 use Rattle.heap_model.specs.Showing.{ShowsHeld}
 use Rattle.write_barrier.specs.Mains.{Mutator, heap_of, MainShows}
 use Rattle.object_cells.specs.PlainObjects.{IsPlainAt, LacksFields, LacksPaths}

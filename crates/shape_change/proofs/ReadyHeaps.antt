@@ -58,8 +58,8 @@ pub ready_laid : {old between laid : Mutator} (need : ℕ) (more : List Path) �
     → ChangesWithin (with_paths between laid.paths) laid (layouts_start old.seat.space) (marks_start old.seat.space)
     → HasSizes (heap_of laid) → laid.paths ≡ old.paths ++ more → IsReady old laid need
 ready_laid {old} {between} {laid} need more ready changes sized added = record {
-  space = changes.space ∙ ready.space;
-  phase = changes.phase ∙ ready.phase;
+  space = changes.seat.space ∙ ready.space;
+  phase = changes.seat.phase ∙ ready.phase;
   young = changes.young ∙ ready.young;
   room = ready.room;
   more = more;

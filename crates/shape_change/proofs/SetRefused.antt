@@ -1,5 +1,5 @@
 -- What comes of setting a field that is there, where it is refused too.
-use Rattle.std.proofs.Common.{◌≡◌, ℕ, Some, None, set, refl, sym, ◌∙◌, ap, subst}
+use Rattle.std.proofs.Common.{◌≡◌, ℕ, Some, None, set, refl, sym, ◌∙◌, ap}
 use Rattle.std.specs.Prelude.{Result, Ok, Err}
 use Rattle.std.proofs.lemmas.Option.{none-some}
 use Rattle.object_graph.specs.declared.value.Value.{Value}
@@ -11,20 +11,17 @@ use Rattle.object_graph.specs.Limits.{paths_most}
 use Rattle.shape_tree.specs.declared.full.ShapesFull.{ShapesFull}
 use Rattle.shape_tree.specs.Shapes.{IsFullFor}
 use Rattle.page_space.specs.Sizes.{AreWithin}
-use Rattle.nursery.specs.Young.{HasRoom}
 use Rattle.heap_model.specs.Needs.{set_need_at}
 use Rattle.write_barrier.specs.Mains.{Mutator, heap_of}
 use Rattle.write_barrier.specs.declared.room.NoRoom.{NoRoom}
 use Rattle.object_cells.specs.declared.content.Content.{Content}
-use Rattle.object_cells.specs.declared.content.Filling.{Filling}
-use Rattle.object_cells.specs.declared.content.Filling.TheVariants as filling
 use Rattle.shape_change.specs.declared.place.Place.{Place}
 use Rattle.shape_change.specs.declared.stop.FieldStop.{FieldStop}
 use Rattle.shape_change.specs.declared.stop.FieldStop.TheVariants as stop
 use Rattle.object_cells.specs.HeldValues.{is_wide}
 use Rattle.shape_change.specs.FieldChanges.{SetsField, IsFullOfPaths}
 use Rattle.object_cells.proofs.SlotBoxes.{lacks_need}
-use Rattle.object_cells.specs.Contents.{filling_at, filling_need, LacksRoom}
+use Rattle.object_cells.specs.Contents.{filling_at, LacksRoom}
 use Rattle.shape_change.specs.Fillings.{SetsWider}
 use Rattle.shape_change.specs.Places.{place_at, IsPlaceOf}
 use Rattle.shape_change.proofs.FieldsSet.{path_stays}

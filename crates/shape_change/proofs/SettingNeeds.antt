@@ -1,27 +1,21 @@
 -- How many words it takes to set a field that is there.
-use Rattle.std.proofs.Common.{◌≡◌, ℕ, Bool, true, false, List, Option, Some, None, unwrap_or}
+use Rattle.std.proofs.Common.{◌≡◌, ℕ, Bool, true, false, Some}
 use Rattle.std.proofs.Common.{refl, sym, ◌∙◌, ap, not, ◌&&◌}
-use Rattle.std.specs.Prelude.{ℤ, option_map, if◌then◌else◌}
-use Rattle.std.specs.Option.{option_and_then}
+use Rattle.std.specs.Prelude.{ℤ}
 use Rattle.std.proofs.lemmas.Bool.{eq-eqb, false≢true}
-use Rattle.tagged_word.specs.declared.header.Header.{Header}
-use Rattle.tagged_word.specs.Headers.{header_bits}
-use Rattle.tagged_word.specs.Readings.{reference_in, header_in}
+use Rattle.tagged_word.specs.Readings.{reference_in}
 use Rattle.tagged_word.specs.Shapes.{box_shape}
 use Rattle.tagged_word.specs.Words.{small}
-use Rattle.tagged_word.proofs.Readings.{header_to, reference_to}
+use Rattle.tagged_word.proofs.Readings.{reference_to}
 use Rattle.object_graph.specs.declared.value.Value.{Value}
 use Rattle.object_graph.specs.declared.value.Rep.{Rep}
 use Rattle.object_graph.specs.declared.value.Rep.TheVariants as rep
 use Rattle.page_space.specs.Sizes.{AreWithin}
-use Rattle.cell_layout.specs.declared.cell.Cell.{Cell}
-use Rattle.heap_model.specs.Heaps.{Heap, HasCell}
+use Rattle.heap_model.specs.Heaps.{Heap}
 use Rattle.heap_model.specs.Slots.{IsFieldWord, IsWideWord, RefersToBox}
 use Rattle.heap_model.specs.Needs.{box_need, is_box_at, is_box_word, shape_at, is_tagged_rep}
 use Rattle.heap_model.specs.Wholeness.{HasSizes}
-use Rattle.heap_model.proofs.CellsApart.{has_is_cell}
 use Rattle.object_cells.specs.declared.content.Content.{Content}
-use Rattle.object_cells.specs.declared.content.Content.TheVariants as content
 use Rattle.object_cells.specs.Contents.{box_in, filling_of, filling_need}
 use Rattle.object_cells.specs.HeldValues.{is_wide}
 use Rattle.object_cells.proofs.CellsRead.{box_has_shape}

@@ -1,37 +1,29 @@
 -- How a field of a new name comes to a plain object, behind its other fields: which words that puts.
-use Rattle.std.specs.Prelude.{◌≡◌, ℕ, ◌+◌, ◌-◌, ◌<◌, ◌≤◌, ◌⊎◌, Bool, true, false, not, List}
+use Rattle.std.specs.Prelude.{◌≡◌, ℕ, ◌+◌, ◌-◌, ◌<◌, ◌≤◌, true, false, List}
 use Rattle.std.specs.Prelude.{length, slice_get, slice_set}
 use Rattle.tagged_word.specs.declared.header.Header.{Header}
 use Rattle.tagged_word.specs.declared.layout.Kind.TheVariants as kind
-use Rattle.tagged_word.specs.Words.{small}
 use Rattle.tagged_word.specs.Headers.{header_bits}
-use Rattle.tagged_word.specs.Cells.{plain_head, store_head, store_slot, cell_words_most}
+use Rattle.tagged_word.specs.Cells.{plain_head, store_head}
 use Rattle.object_graph.specs.declared.path.Path.{Path}
 use Rattle.object_graph.specs.Paths.{missing}
 use Rattle.object_graph.specs.Invariants.{fields_most}
 use Rattle.object_graph.specs.Limits.{paths_most}
-use Rattle.page_space.specs.Extents.{eden_start, segments_start, layouts_start, marks_start}
+use Rattle.page_space.specs.Extents.{layouts_start, marks_start}
 use Rattle.nursery.specs.Young.{HasRoom}
 use Rattle.shape_tree.specs.Shapes.{IsPathShape, Leads, shape_path, has_name, stepped}
 use Rattle.cell_layout.specs.declared.cell.Cell.{Cell}
 use Rattle.handle_roots.specs.declared.held.Held.{Held}
-use Rattle.handle_roots.specs.declared.held.Held.TheVariants as held
-use Rattle.word_store.specs.Copies.{copied}
 use Rattle.heap_table.specs.Seats.{heap_words, StaysBeside}
 use Rattle.heap_model.specs.Heaps.{Heap, HasCell}
-use Rattle.heap_model.specs.Slots.{reference_word, raw_word}
-use Rattle.heap_model.specs.Kinds.{HasSlots}
 use Rattle.heap_model.specs.Wholeness.{HasSizes}
-use Rattle.heap_model.specs.Needs.{box_words, capacity_at, grown}
-use Rattle.write_barrier.specs.declared.room.NoRoom.{NoRoom}
+use Rattle.heap_model.specs.Needs.{grown}
 use Rattle.write_barrier.specs.Mains.{Mutator, heap_of, IsTied, reserved}
-use Rattle.write_barrier.specs.Values.{box_header, empty_store, with_range}
 use Rattle.object_cells.specs.declared.content.Content.{Content}
-use Rattle.object_cells.specs.declared.content.Content.TheVariants as content
 use Rattle.object_cells.specs.declared.stores.Store.{Store}
 use Rattle.object_cells.specs.CellsAt.{IsWhole}
-use Rattle.object_cells.specs.Made.{IsStoreAt, PutsWords, RefusesRoom, with_store, with_content, content_need}
-use Rattle.object_cells.specs.Made.{content_word, is_wide_held, beside_content}
+use Rattle.object_cells.specs.Made.{IsStoreAt, PutsWords, with_store, with_content, content_need}
+use Rattle.object_cells.specs.Made.{content_word, beside_content}
 use Rattle.object_cells.specs.Contents.{held_rep, content_of, next_at}
 
 -- there may be as many paths as these and those that the path lacks

@@ -4,7 +4,7 @@ ghost use Rattle.tagged_word.specs.Shapes.{shapes_most};
 ghost use Rattle.page_space.specs.Extents.{layouts_start, marks_start};
 ghost use Rattle.shape_tree.specs.ShapeLayouts.{layout_word};
 ghost use Rattle.heap_table.specs.declared.phase.Phase.TheVariants.{Quiet};
-ghost use Rattle.heap_table.specs.Seats.{heap_words, StaysBeside};
+ghost use Rattle.heap_table.specs.Seats.{heap_words};
 ghost use Rattle.heap_model.specs.Wholeness.{HasSizes};
 ghost use Rattle.write_barrier.specs.Mains.{heap_of};
 ghost use Rattle.write_barrier.specs.Opening.{ChangesWithin};
@@ -23,7 +23,6 @@ pub(crate) fn put_new_layouts(main: &mut Main, before: u32)
     ensures sized { HasSizes (heap_of main.new) }
     ensures changes { let space = main.old.seat.space in
         ChangesWithin main.old main.new (layouts_start space) (marks_start space) }
-    ensures rest { StaysBeside main.old.seat main.new.seat }
 {
     // There are no more paths than shapes.
     let _paths = main.shapes().paths();

@@ -5,7 +5,6 @@ ghost use Rattle.object_graph.specs.Paths.{missing};
 ghost use Rattle.object_graph.specs.Limits.{paths_most};
 ghost use Rattle.shape_tree.specs.Shapes.{IsPathShape, shape_path, changed, Leads, IsFullFor};
 ghost use Rattle.heap_table.specs.declared.phase.Phase.TheVariants.{Quiet};
-ghost use Rattle.heap_table.specs.Seats.{StaysBeside};
 ghost use Rattle.heap_model.specs.Wholeness.{HasSizes};
 ghost use Rattle.write_barrier.specs.Mains.{heap_of};
 ghost use Rattle.write_barrier.specs.Opening.{ChangesWithin};
@@ -62,7 +61,6 @@ fn changed_shape(main: &mut Main, shape: u32, slot: u32, rep: Rep) -> u32
     ensures changes { let space = main.old.seat.space in
         let before = with_paths main.old main.new.paths in
         ChangesWithin before main.new (layouts_start space) (marks_start space) }
-    ensures rest { StaysBeside main.old.seat main.new.seat }
 {
     let before = main.shapes().paths();
     let Ok(next) = main.shapes_mut().change(shape, slot, rep) else {

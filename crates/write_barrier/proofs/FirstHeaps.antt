@@ -137,13 +137,13 @@ started_shows main is = (
   record {
     tied = ap (λ (young : Young). young.space) is.young;
     is_graph = start_is;
-    quiet = is.quiet;
+    quiet = is.beside.phase;
     shows = first_shows main is;
     counts = λ number at entries there marked place. absurd (none-some (Weak entries) there);
   },
   record {
-    used = ap (λ (young : Young). young.used) is.young;
-    survivors = ap (λ (young : Young). young.survivors) is.young;
+    young = is.young;
+    beside = is.beside;
     pages = is.gaps;
   },
 )

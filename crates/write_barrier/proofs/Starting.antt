@@ -6,7 +6,8 @@ use Rattle.page_space.specs.Extents.{Space, eden_start, segments_start, roots_st
 use Rattle.page_space.proofs.Starts.{roots_start_is, layouts_start_is, marks_start_is}
 use Rattle.handle_roots.specs.declared.held.Held.TheVariants.{Unbound}
 use Rattle.handle_roots.specs.Roots.{root_at, first_word}
-use Rattle.heap_table.specs.Seats.{heap_words}
+use Rattle.heap_table.specs.Seats.{StaysBeside, fresh, heap_words}
+use Rattle.heap_table.specs.Staying.{stays_beside_again}
 use Rattle.write_barrier.specs.Mains.{Mutator, IsOneGap}
 use Rattle.write_barrier.specs.Opening.{ChangesWithin, AreZero, AreGaps, AreUnbound, HasLayouts, IsStarted, blank}
 use Rattle.write_barrier.proofs.Changes.{blank_zero}
@@ -28,12 +29,12 @@ put_to space first gaps last is pages roots =
       is = is;
       pages = subst (λ (s : Space). ChangesWithin first gaps 0 (eden_start s)) same pages;
       roots = subst (λ (s : Space). ChangesWithin gaps last (roots_start s) (layouts_start s))
-          (pages.space ∙ same) roots;
+          (pages.seat.space ∙ same) roots;
     }
 
 -- the space is the same
 put_space : {space : Space} {first gaps last : Mutator} → IsPutTo space first gaps last → last.seat.space ≡ space
-put_space put = put.roots.space ∙ put.pages.space ∙ ap (λ (main : Mutator). main.seat.space) put.is
+put_space put = put.roots.seat.space ∙ put.pages.seat.space ∙ ap (λ (main : Mutator). main.seat.space) put.is
 
 -- a word before the marks is 0 where neither a page nor a root stands
 put_zero : {space : Space} {first gaps last : Mutator} (a : ℕ) → IsPutTo space first gaps last → eden_start space ≤ a
@@ -71,7 +72,7 @@ pub put_all : (space : Space) (first gaps bound last : Mutator) → IsPutTo spac
     → ChangesWithin bound last (layouts_start bound.seat.space) (marks_start bound.seat.space) → HasLayouts last
     → IsPutAll space first gaps bound last
 put_all space first gaps bound last put gaps_are unbound seconds layouts layouts_are =
-    let same : gaps.seat.space ≡ space = put.pages.space ∙ ap (λ (main : Mutator). main.seat.space) put.is in
+    let same : gaps.seat.space ≡ space = put.pages.seat.space ∙ ap (λ (main : Mutator). main.seat.space) put.is in
     record {
       put = put;
       gaps_are = gaps_are;
@@ -88,7 +89,7 @@ put_all space first gaps bound last put gaps_are unbound seconds layouts layouts
 all_gaps : {space : Space} {first gaps bound last : Mutator} → IsPutAll space first gaps bound last → (page : ℕ)
     → page < space.sizes.pages → IsOneGap (heap_words last.seat) page
 all_gaps {space} {first} all page below =
-    let same = all.put.pages.space ∙ ap (λ (main : Mutator). main.seat.space) all.put.is in
+    let same = all.put.pages.seat.space ∙ ap (λ (main : Mutator). main.seat.space) all.put.is in
     let gap = all.gaps_are page (subst (λ (s : Space). page < s.sizes.pages) (sym same) below) in
     let within : page_words * page + page_words ≤ roots_start space = omega (arith, roots_start_is space) in
     let early : roots_start space ≤ layouts_start space = omega (arith, layouts_start_is space) in
@@ -129,16 +130,23 @@ all_seconds {space} all variable below =
     all.layouts.beside second (inl before) ∙ all.seconds variable below
     ∙ put_zero second all.put (omega (arith, roots_start_is space)) early
 
+-- behind the heap words all is as in words of 0
+all_beside : {space : Space} {first gaps bound last : Mutator} → IsPutAll space first gaps bound last
+    → StaysBeside (fresh space) last.seat
+all_beside {first = first} {gaps = gaps} {bound = bound} {last = last} all =
+    subst (λ (main : Mutator). StaysBeside main.seat last.seat) all.put.is
+    (stays_beside_again first.seat bound.seat last.seat
+    (stays_beside_again first.seat gaps.seat bound.seat all.put.pages.seat all.put.roots.seat) all.layouts.seat)
+
 -- all that a heap begins with is there
 pub all_started : (space : Space) (first gaps bound last : Mutator) → IsPutAll space first gaps bound last
     → AreWithin space.sizes space.variables → length (heap_words last.seat) ≡ marks_start last.seat.space
     → IsStarted last
 all_started space first gaps bound last all within counted =
-    let same : space ≡ last.seat.space = sym (all.layouts.space ∙ put_space all.put) in
+    let same : space ≡ last.seat.space = sym (all.layouts.seat.space ∙ put_space all.put) in
     let words = heap_words last.seat in
     record {
-      quiet = all.layouts.phase ∙ all.put.roots.phase ∙ all.put.pages.phase
-          ∙ ap (λ (main : Mutator). main.seat.phase) all.put.is;
+      beside = subst (λ (s : Space). StaysBeside (fresh s) last.seat) same (all_beside all);
       paths = all.layouts.paths ∙ all.put.roots.paths ∙ all.put.pages.paths
           ∙ ap (λ (main : Mutator). main.paths) all.put.is;
       young = all.layouts.young ∙ all.put.roots.young ∙ all.put.pages.young

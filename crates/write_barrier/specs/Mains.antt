@@ -12,9 +12,9 @@ use Rattle.page_space.specs.Sizes.{page_words}
 use Rattle.page_space.specs.Extents.{Space, eden_start, segments_start, marks_start}
 use Rattle.handle_roots.specs.declared.held.Held.{Held}
 use Rattle.handle_roots.specs.Roots.{with_root}
-use Rattle.nursery.specs.Young.{Young}
+use Rattle.nursery.specs.Young.{Young, new_young}
 use Rattle.heap_table.specs.declared.phase.Phase.TheVariants.{Quiet}
-use Rattle.heap_table.specs.Seats.{Seat, heap_words}
+use Rattle.heap_table.specs.Seats.{Seat, StaysBeside, fresh, heap_words}
 use Rattle.heap_model.specs.Heaps.{Heap}
 use Rattle.heap_model.specs.Showing.{Shows}
 use Rattle.heap_model.specs.Counting.{CountsEntries}
@@ -81,8 +81,9 @@ pub record IsOneGap (words : List ℕ) (page : ℕ) : Type 0 where
   pub header : slice_get words (page_words * page) ≡ Some (header_bits gap_header)
   pub size : slice_get words (page_words * page + length_offset) ≡ Some page_words
 
--- A heap that was just opened: nothing is used, each page is one gap, and the phase is quiet.
+-- A heap that was just opened: nothing is used and nothing has survived, each page is one gap, and the phase is quiet,
+-- each mark white and each place of the board empty, as in words of 0.
 pub record IsOpened (main : Mutator) : Type 0 where
-  pub used : main.young.used ≡ 0
-  pub survivors : main.young.survivors ≡ 0
+  pub young : main.young ≡ new_young main.seat.space
+  pub beside : StaysBeside (fresh main.seat.space) main.seat
   pub pages : (page : ℕ) → page < main.seat.space.sizes.pages → IsOneGap (heap_words main.seat) page

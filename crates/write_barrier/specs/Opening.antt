@@ -8,14 +8,12 @@ use Rattle.object_graph.specs.Paths.{empty_paths}
 use Rattle.shape_tree.specs.ShapeLayouts.{layout_word}
 use Rattle.handle_roots.specs.declared.held.Held.TheVariants.{Unbound}
 use Rattle.handle_roots.specs.Roots.{root_at, first_word}
-use Rattle.heap_table.specs.declared.phase.Phase.TheVariants.{Quiet}
-use Rattle.heap_table.specs.Seats.{fresh, heap_words}
+use Rattle.heap_table.specs.Seats.{StaysBeside, fresh, heap_words}
 use Rattle.write_barrier.specs.Mains.{Mutator, IsOneGap}
 
--- of all that the mutator has, only words from an address to another have changed
+-- of all that the mutator has, only heap words from an address to another have changed
 pub record ChangesWithin (old new : Mutator) (from to : ℕ) : Type 0 where
-  pub space : new.seat.space ≡ old.seat.space
-  pub phase : new.seat.phase ≡ old.seat.phase
+  pub seat : StaysBeside old.seat new.seat
   pub paths : new.paths ≡ old.paths
   pub young : new.young ≡ old.young
   pub count : length (heap_words new.seat) ≡ length (heap_words old.seat)
@@ -50,10 +48,10 @@ AreGaps main = (page : ℕ) → page < main.seat.space.sizes.pages → IsOneGap 
 abbrev pub blank : Space → Mutator
 blank space = record { seat = fresh space; paths = empty_paths; young = new_young space }
 
--- Nothing is used, each page is one gap, segments hold 0, each variable is bound to nothing, and the layout words are
--- there.
+-- Nothing is used, each page is one gap, segments hold 0, each variable is bound to nothing, the layout words are there,
+-- and all behind them is as in words of 0.
 pub record IsStarted (main : Mutator) : Type 0 where
-  pub quiet : main.seat.phase ≡ Quiet
+  pub beside : StaysBeside (fresh main.seat.space) main.seat
   pub paths : main.paths ≡ empty_paths
   pub young : main.young ≡ new_young main.seat.space
   pub within : AreWithin main.seat.space.sizes main.seat.space.variables

@@ -3,7 +3,7 @@ ghost use Rattle.std.specs.Prelude.{◌≡◌, ◌+◌, ◌<◌, ◌≤◌, ◌�
 ghost use Rattle.tagged_word.specs.Headers.{IsHeader, header_bits};
 ghost use Rattle.page_space.specs.Extents.{layouts_start, marks_start};
 ghost use Rattle.heap_table.specs.declared.phase.Phase.TheVariants.{Quiet};
-ghost use Rattle.heap_table.specs.Seats.{heap_words, StaysBeside};
+ghost use Rattle.heap_table.specs.Seats.{heap_words};
 ghost use Rattle.shape_tree.specs.ShapeLayouts.{IsInUse, layout_word};
 ghost use Rattle.tagged_word.specs.Shapes.{first_path_shape};
 ghost use Rattle.write_barrier.specs.Mains.{with_word};
@@ -100,7 +100,6 @@ impl Main {
         ensures layouts { HasLayouts self.new }
         ensures changes { let space = self.old.seat.space in
             ChangesWithin self.old self.new (layouts_start space) (marks_start space) }
-        ensures rest { StaysBeside self.old.seat self.new.seat }
     {
         // There are as many words as addresses before the marks.
         let _regions = self.regions();

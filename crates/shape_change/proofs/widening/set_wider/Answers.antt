@@ -50,8 +50,8 @@ returns c =
     let at : ℕ = place_at c.args.object c.args.setting.place in
     let put : c.fill.new.main ≡ filled laid at filling =
     c.fill.ensures ∙ ap (λ (main : Mutator). filled main at filling) c.blacken_for.ensures in
-    let still = filled_still old between laid at filling c.in-Ok.ensures.allocates c.changed_shape-shape.ensures.rest
-    c.requires.within c.in-Ok.ensures.before_marks in
+    let still = filled_still old between laid at filling c.in-Ok.ensures.allocates
+    c.changed_shape-shape.ensures.changes.seat c.requires.within c.in-Ok.ensures.before_marks in
     let stays = subst (λ (main : Mutator). StaysBeside old.seat main.seat) (sym put) still in
     let below = subst (λ (space : Space). c.args.object < marks_start space) (sym stays.space)
     (subst (λ at. at < marks_start old.seat.space) there.stands

@@ -1,5 +1,5 @@
 -- What another variable holds among the words before the marks, it holds in the table, and back.
-use Rattle.std.proofs.Common.{◌≡◌, ◌∙◌, ◌<◌, ap}
+use Rattle.std.proofs.Common.{◌∙◌, ◌<◌, ap}
 use Rattle.heap_table.specs.Seats.{heap_words}
 use Rattle.write_barrier.proofs.Places.{holds_in_table, heap_words-with_root, held_before_marks}
 use Rattle.write_barrier.proofs.main_side.Main.copy.Goals as goal

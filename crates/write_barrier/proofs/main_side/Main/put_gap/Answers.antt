@@ -1,7 +1,8 @@
 -- The two words of a page's gap.
-use Rattle.std.proofs.Common.{◌+◌, ◌*◌, ap, arith}
+use Rattle.std.proofs.Common.{◌+◌, ◌*◌, ◌≤◌, ap, arith}
 use Rattle.tagged_word.specs.Headers.{header_bits}
 use Rattle.page_space.specs.Sizes.{page_words}
+use Rattle.page_space.specs.Extents.{marks_start}
 use Rattle.heap_table.specs.Seats.{heap_words}
 use Rattle.write_barrier.specs.Mains.{Mutator, gap_header}
 use Rattle.write_barrier.proofs.Changes.{page_before_marks, gap_put, put_changes, changes_then}
@@ -26,9 +27,13 @@ returns-clause-gap c =
 pub returns-clause-changes : goal.returns-clause-changes
 returns-clause-changes c =
     let at = page_words * c.args.page in
+    let space = c.args.self.now.seat.space in
+    let low : at + page_words ≤ marks_start space = page_before_marks space c.args.page c.requires.there in
+    let same = ap (λ (main : Mutator). main.seat.space) c.set_header.ensures.written in
     changes_then c.args.self.now c.set_header.new.self c.write.new.self at (at + page_words) at (at + page_words)
     (put_changes c.args.self.now c.set_header.new.self (c.args.page * 2048) (header_bits gap_header) at
     (at + page_words)
-    c.set_header.ensures.written c.set_header.ensures.heap (omega arith) (omega arith))
+    c.set_header.ensures.written c.set_header.ensures.heap (omega arith) (omega arith) low)
     (put_changes c.set_header.new.self c.write.new.self (c.args.page * 2048 + 1) page_words at (at + page_words)
-    c.write.ensures.written c.write.ensures.heap (omega arith) (omega arith)) (omega arith) (omega arith)
+    c.write.ensures.written c.write.ensures.heap (omega arith) (omega arith) (omega (arith, low, ap marks_start same)))
+    (omega arith) (omega arith)

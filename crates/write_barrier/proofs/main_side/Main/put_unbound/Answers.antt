@@ -1,8 +1,8 @@
 -- One variable more is bound to nothing.
 use Rattle.std.proofs.Common.{◌≡◌, ◌<◌, ◌∙◌, ℕ, ap, arith, length}
 use Rattle.std.specs.Prelude.{slice_set}
-use Rattle.page_space.specs.Extents.{Space, roots_start, layouts_start}
-use Rattle.page_space.proofs.Starts.{layouts_start_is}
+use Rattle.page_space.specs.Extents.{Space, roots_start, layouts_start, marks_start}
+use Rattle.page_space.proofs.Starts.{layouts_start_is, marks_start_is}
 use Rattle.handle_roots.specs.declared.held.Held.TheVariants.{Unbound}
 use Rattle.handle_roots.specs.Roots.{root_at, first_word}
 use Rattle.heap_table.specs.Seats.{heap_words}
@@ -14,7 +14,7 @@ write-requires-clause-within c =
     let space = c.args.self.now.seat.space in
     let known : c.loop-variable.variable < space.variables =
     omega (arith, ap (λ (s : Space). s.variables) c.regions-regions.ensures.regions) in
-    rw (c.loop-variable.invariant.changes.space, c.root_at.ensures.at, c.regions-regions.ensures.regions)
+    rw (c.loop-variable.invariant.changes.seat.space, c.root_at.ensures.at, c.regions-regions.ensures.regions)
     (root_before_marks space c.loop-variable.variable known)
 
 pub loop-variable-preserved : goal.loop-variable-preserved
@@ -42,7 +42,8 @@ loop-variable-preserved c =
       changes = changes_then c.args.self.now old new (roots_start space) (layouts_start space) (roots_start space)
           (layouts_start space) c.loop-variable.invariant.changes
           (put_changes old new c.root_at.result c.odd.result.0 (roots_start space) (layouts_start space)
-          c.write.ensures.written c.write.ensures.heap (omega (arith, at)) (omega (arith, at, layouts_start_is space)))
+          c.write.ensures.written c.write.ensures.heap (omega (arith, at)) (omega (arith, at, layouts_start_is space))
+          (omega (arith, marks_start_is space, ap marks_start c.loop-variable.invariant.changes.seat.space)))
           (omega arith) (omega arith);
       firsts = roots_more space (heap_words old.seat) (heap_words new.seat) variable (first_word Unbound) heap within
           c.loop-variable.invariant.firsts;

@@ -1,14 +1,11 @@
 -- One layout word more.
-use Rattle.std.proofs.Common.{◌≡◌, ◌+◌, ◌<◌, ap, sym, subst, arith, length, List}
+use Rattle.std.proofs.Common.{◌≡◌, ◌+◌, ◌<◌, ap, arith, length, List}
 use Rattle.tagged_word.specs.Shapes.{shapes_most}
 use Rattle.page_space.specs.Extents.{layouts_start, marks_start}
 use Rattle.page_space.proofs.Starts.{marks_start_is}
 use Rattle.object_graph.specs.declared.path.Path.{Path}
 use Rattle.shape_tree.specs.ShapeLayouts.{layout_word}
-use Rattle.heap_table.specs.Seats.{heap_words, StaysBeside}
-use Rattle.heap_table.specs.Staying.{stays_beside_itself, stays_beside_again}
-use Rattle.heap_table.proofs.HeapWords.{stays_beside-put}
-use Rattle.write_barrier.specs.Mains.{Mutator}
+use Rattle.heap_table.specs.Seats.{heap_words}
 use Rattle.write_barrier.proofs.Changes.{changes_none, put_changes, changes_then}
 use Rattle.write_barrier.proofs.PutLayouts.{layouts_more, layouts_all}
 use Rattle.write_barrier.proofs.main_side.Main.set_layouts.Goals as goal
@@ -19,7 +16,6 @@ loop-shape-init c =
     record {
       changes = changes_none c.args.self.now (layouts_start space) (marks_start space);
       layouts = c.requires.layouts;
-      rest = stays_beside_itself c.args.self.now.seat;
     }
 
 pub loop-shape-preserved : goal.loop-shape-preserved
@@ -29,7 +25,7 @@ loop-shape-preserved c =
     let new = c.set_layout.new.self in
     let shape = c.loop-shape.shape in
     let changes = c.loop-shape.invariant.changes in
-    let start : layouts_start old.seat.space ≡ layouts_start space = ap layouts_start changes.space in
+    let start : layouts_start old.seat.space ≡ layouts_start space = ap layouts_start changes.seat.space in
     let few : shape < shapes_most =
     omega (arith, c.paths-paths.ensures.counted, c.paths-paths.ensures.good.few) in
     let within : layouts_start old.seat.space + shape < length (heap_words old.seat) =
@@ -40,13 +36,10 @@ loop-shape-preserved c =
           (put_changes old new (layouts_start old.seat.space + shape) (layout_word old.paths shape)
           (layouts_start space)
           (marks_start space) c.set_layout.ensures.written c.set_layout.ensures.heap (omega arith)
-          (omega (arith, marks_start_is space))) (omega arith) (omega arith);
+          (omega (arith, marks_start_is space)) (omega (arith, ap marks_start changes.seat.space)))
+          (omega arith) (omega arith);
       layouts = layouts_more old new shape c.set_layout.ensures.written c.set_layout.ensures.heap within
           c.loop-shape.invariant.layouts;
-      rest = stays_beside_again c.args.self.now.seat old.seat new.seat c.loop-shape.invariant.rest
-          (subst (λ (main : Mutator). StaysBeside old.seat main.seat) (sym c.set_layout.ensures.written)
-          (stays_beside-put old.seat (layouts_start old.seat.space + shape) (layout_word old.paths shape)
-          (omega (arith, marks_start_is old.seat.space))));
     }
 
 pub returns-clause-layouts : goal.returns-clause-layouts

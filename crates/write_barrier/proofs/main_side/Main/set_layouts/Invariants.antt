@@ -1,6 +1,5 @@
 -- The layout words so far are those of the shapes, the others are 0, and only layout words have changed.
 use Rattle.page_space.specs.Extents.{layouts_start, marks_start}
-use Rattle.heap_table.specs.Seats.{StaysBeside}
 use Rattle.write_barrier.specs.Opening.{ChangesWithin, LayoutsBelow}
 use Rattle.write_barrier.proofs.main_side.Main.set_layouts.Given as goal
 
@@ -8,5 +7,4 @@ abbrev pub invariant-loop-shape : goal.invariant-loop-shape
 invariant-loop-shape l = record {
   changes : ChangesWithin l.fn.self l.self (layouts_start l.fn.self.seat.space) (marks_start l.fn.self.seat.space);
   layouts : LayoutsBelow l.self l.shape;
-  rest : StaysBeside l.fn.self.seat l.self.seat;
 }

@@ -15,7 +15,8 @@ put_layouts-requires-clause-zero c =
 
 pub returns-clause-space : goal.returns-clause-space
 returns-clause-space c =
-    c.put_layouts.ensures.changes.space ∙ c.put_unbound.ensures.changes.space ∙ c.put_gaps.ensures.changes.space
+    c.put_layouts.ensures.changes.seat.space ∙ c.put_unbound.ensures.changes.seat.space
+    ∙ c.put_gaps.ensures.changes.seat.space
     ∙ ap (λ (main : Mutator). main.seat.space) c.requires
 
 pub returns-clause-started : goal.returns-clause-started
