@@ -34,7 +34,7 @@ wants_some main graph zero shows lacks =
     absurd (lacks (omega (arith, same, shows.shows.whole.rows.few)))
 wants_some main graph (suc need) shows lacks = omega arith
 
--- a stop that says so tells this
+-- a command that stops for want of room is refused
 pub refused : (names : List (List ℕ)) (old new : Mutator) (graph : Graph) (fields : ℕ) (command : Command)
     (text : List ℕ) (need : ℕ) → MainShows old graph → IsWithin old.seat.space.variables fields command
     → Carries names old new graph command text (Err (NoRoom need)) → IsRefused old new command need
