@@ -1,51 +1,63 @@
 -- What a call that carries a command out does to a heap, of which it lends the mutator's side.
-use Rattle.std.proofs.Common.{◌≡◌, ℕ, ◌≤◌, List, Result, Ok, Err, IsErrAnd, ap, sym, ◌∙◌, subst}
+use Rattle.std.proofs.Common.{◌≡◌, ◌∙◌, ℕ, zero, suc, ◌<◌, ◌≤◌, List, Result, Ok}
+use Rattle.std.proofs.Common.{Err, IsErrAnd, ap, arith, sym, subst}
 use Rattle.tagged_word.specs.Cells.{cell_words_most}
 use Rattle.heap_command.specs.declared.command.Command.{Command}
 use Rattle.heap_command.specs.Commands.{IsWithin}
 use Rattle.object_graph.specs.Graphs.{Graph}
+use Rattle.page_space.specs.Extents.{Space}
+use Rattle.nursery.specs.Young.{HasRoom}
+use Rattle.heap_model.specs.Needs.{need_of}
 use Rattle.mutator.specs.declared.stop.Stop.{Stop}
 use Rattle.mutator.specs.declared.stop.Stop.TheVariants.{NoRoom}
 use Rattle.mutator.specs.Carries.{Carries}
-use Rattle.write_barrier.specs.Mains.{Mutator, heap_of, MainShows}
+use Rattle.write_barrier.specs.Mains.{Mutator, heap_of, IsTied, MainShows}
 use Rattle.heap_script.proofs.FewWords.{need_few}
+use Rattle.heap_script.proofs.Lacking.{tries_left, fewer_left}
 
--- where there is no room, few words were wanted
-pub wants_few : (names : List (List ℕ)) (old new : Mutator) (graph : Graph) (fields : ℕ) (command : Command)
+-- What is known where a command found no room for so many words: the heap is as it was, and the command needs these
+-- words, which the young generation has not.
+pub record IsRefused (old new : Mutator) (command : Command) (need : ℕ) : Type 0 where
+  pub tied : IsTied old
+  pub same : new ≡ old
+  pub needs : need ≡ need_of (heap_of old) command
+  pub lacks : HasRoom old.young need → ⊥
+  pub some : 1 ≤ need
+  pub few : need ≤ cell_words_most
+
+-- where there is no room, some words were wanted
+wants_some : (main : Mutator) (graph : Graph) (need : ℕ) → MainShows main graph → (HasRoom main.young need → ⊥)
+    → 1 ≤ need
+wants_some main graph zero shows lacks =
+    let same : main.young.space.sizes.young ≡ main.seat.space.sizes.young =
+    ap (λ (space : Space). space.sizes.young) shows.tied in
+    absurd (lacks (omega (arith, same, shows.shows.whole.rows.few)))
+wants_some main graph (suc need) shows lacks = omega arith
+
+-- a command that stops for want of room is refused
+pub refused : (names : List (List ℕ)) (old new : Mutator) (graph : Graph) (fields : ℕ) (command : Command)
     (text : List ℕ) (need : ℕ) → MainShows old graph → IsWithin old.seat.space.variables fields command
-    → Carries names old new graph command text (Err (NoRoom need)) → need ≤ cell_words_most
-wants_few names old new graph fields command text need shows within (after, written, does-is, need-is, room, same) =
-    subst (λ (n : ℕ). n ≤ cell_words_most) (sym need-is)
-    (need_few (heap_of old) fields command shows.shows.whole.sized.shapes within)
+    → Carries names old new graph command text (Err (NoRoom need)) → IsRefused old new command need
+refused names old new graph fields command text need shows within (after, written, does-is, need-is, lacks, same) =
+    record {
+      tied = shows.tied;
+      same = same;
+      needs = need-is;
+      lacks = lacks;
+      some = wants_some old graph need shows lacks;
+      few = subst (λ (n : ℕ). n ≤ cell_words_most) (sym need-is)
+          (need_few (heap_of old) fields command shows.shows.whole.sized.shapes within);
+    }
 
--- where it was refused room once more, it is refused as it was
-pub refused_again : (names : List (List ℕ)) (old mid new : Mutator) (graph : Graph) (command : Command) (text : List ℕ)
-    (need wanted : ℕ) → wanted ≡ need → new ≡ mid → Carries names old mid graph command text (Err (NoRoom need))
-    → Carries names old new graph command text (Err (NoRoom wanted))
-refused_again names old mid new graph command text need wanted same unchanged carries =
-    subst (λ (n : ℕ). Carries names old new graph command text (Err (NoRoom n))) (sym same)
-    (subst (λ (main : Mutator). Carries names old main graph command text (Err (NoRoom need))) (sym unchanged) carries)
-
--- the refusal by its reason
-pub refused_for : (names : List (List ℕ)) (old new : Mutator) (graph : Graph) (command : Command) (text : List ℕ)
-    (stop : Stop) (need : ℕ) → stop ≡ NoRoom need → Carries names old new graph command text (Err stop)
-    → Carries names old new graph command text (Err (NoRoom need))
-refused_for names old new graph command text stop need is carries =
-    subst (λ (s : Stop). Carries names old new graph command text (Err s)) is carries
-
--- where there is no room, the command leaves the heap as it was
-pub refused_leaves : (names : List (List ℕ)) (before old new : Mutator) (graph : Graph) (command : Command)
-    (text : List ℕ) (need : ℕ) → old ≡ before → Carries names old new graph command text (Err (NoRoom need))
-    → new ≡ before
-refused_leaves names before old new graph command text need lent (after, written, does-is, need-is, room, same) =
-    same ∙ lent
-
--- and is refused again on what it leaves
-pub refused_there : (names : List (List ℕ)) (old new : Mutator) (graph : Graph) (command : Command) (text : List ℕ)
-    (need : ℕ) → old ≡ new → Carries names old new graph command text (Err (NoRoom need))
-    → Carries names new new graph command text (Err (NoRoom need))
-refused_there names old new graph command text need same carries =
-    subst (λ (main : Mutator). Carries names main new graph command text (Err (NoRoom need))) same carries
+-- and once the heap was asked for room and has it, the command is not tried again
+pub fewer_after : (old mid new : Mutator) (command : Command) (need : ℕ) → IsRefused old mid command need → new ≡ mid
+    → HasRoom new.young need → tries_left new command < tries_left old command
+fewer_after old mid new command need told same room =
+    let is : old ≡ new = sym (same ∙ told.same) in
+    fewer_left old new command told.tied (subst IsTied is told.tied)
+    (subst (λ (n : ℕ). HasRoom old.young n → ⊥) told.needs told.lacks)
+    (subst (λ (main : Mutator). HasRoom new.young (need_of (heap_of main) command)) is
+    (subst (HasRoom new.young) told.needs room))
 
 -- an answer that hands this stop on is this stop
 pub handed_on : {A : Type 0} (answer : Result A Stop) (stop : Stop) → IsErrAnd answer (λ one. one ≡ stop)

@@ -1,8 +1,7 @@
 -- How a run that goes no further has ended.
 use Rattle.std.proofs.Common.{◌≡◌, ℕ, ◌<◌, ◌≤◌, false, List, [], ◌∷◌, Option}
-use Rattle.std.proofs.Common.{Some, None, Err, cond, refl, sym, ap, subst, ◌∙◌, arith, ◌+◌, IsTrue, inl, inr}
+use Rattle.std.proofs.Common.{Some, None, Err, cond, refl, sym, ap, subst, ◌∙◌, arith}
 use Rattle.std.specs.Prelude.{slice_get, ◌==◌, nat_lt}
-use Rattle.std.proofs.lemmas.Bool.{cases_lt}
 use Rattle.std.proofs.lemmas.Bool.Decides.{nat_tests}
 use Rattle.heap_command.specs.declared.command.Command.{Command}
 use Rattle.heap_command.specs.Executed.{Executed}
@@ -15,15 +14,13 @@ use Rattle.script_text.proofs.Left.{at_end}
 use Rattle.mutator.specs.declared.stop.Stop.{Stop}
 use Rattle.mutator.specs.declared.stop.Stop.TheVariants.{Fault, NoRoom, NoClear}
 use Rattle.object_graph.specs.Limits.{ideal_limits}
-use Rattle.nursery.specs.Young.{HasRoom}
 use Rattle.heap_model.specs.Heaps.{Heap}
-use Rattle.heap_model.specs.Needs.{lacks_room}
 use Rattle.write_barrier.specs.Mains.{Mutator, heap_of, IsTied}
-use Rattle.page_space.specs.Extents.{Space}
 use Rattle.mutator.specs.Carries.{Carries}
 use Rattle.heap_script.specs.declared.finished.How.TheVariants as how
 use Rattle.heap_script.specs.Runs.{left_after, Reached, Spends, EndsAs, ComesTo, IsFullAt}
 use Rattle.heap_script.specs.Progress.{how_of, CarriesLine, Handed, Pauses}
+use Rattle.heap_script.proofs.Lacking.{full_for}
 
 -- within the limit, a run ends by what stands at the lines that are left
 ending-within : (names : List (List ℕ)) (graph : Graph) (n : ℕ) (lines : List Executed) → n ≤ lines_most
@@ -73,17 +70,6 @@ ComesTo-limit script heap at' n number ts' command r goes most =
     ∙ ap (λ m. ending ideal_limits script.fields r.so_far.graph m (executed number command ∷ goes.rest)) most
     ∙ ending-limit script.fields r.so_far.graph (executed number command) goes.rest in
     EndsAs-reached script heap n (limit_at number) r ends
-
--- where the young generation has no room for so many words, the heap is full for them
-full_for : (main : Mutator) (need : ℕ) → IsTied main → (HasRoom main.young need → ⊥)
-    → IsTrue (lacks_room (heap_of main) need)
-full_for main need tied refused =
-    let same : main.young.space.sizes.young ≡ main.seat.space.sizes.young =
-    ap (λ (space : Space). space.sizes.young) tied in
-    elim (cases_lt main.seat.space.sizes.young (main.young.survivors + main.young.used + need)) [
-      | inl over ↦ grind (arith, nat_tests)
-      | inr within ↦ absurd (refused (omega (arith, same, within)))
-    ]
 
 -- a command was not carried out
 ComesTo-stopped : (script : ScriptText) (main after : Mutator) (at' n number : ℕ) (ts' : List ℕ) (command : Command)

@@ -1,5 +1,6 @@
 mod Counts
 mod FewWords
+mod Lacking
 mod Carrying
 pub mod Handing
 mod Ways

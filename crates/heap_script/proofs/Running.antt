@@ -2,9 +2,6 @@
 use Rattle.std.proofs.Common.{◌≡◌, ℕ, suc, zero, ◌+◌, ◌<◌, List, [], ◌∷◌, ◌++◌, length, take, drop}
 use Rattle.std.proofs.Common.{Option, Some, ◌≤◌}
 use Rattle.std.proofs.Common.{None, Ok, refl, sym, ap, subst, ◌∙◌, add-one, add-zero, append-nil, arith}
-use Rattle.std.proofs.Common.{false, inl, inr}
-use Rattle.std.proofs.lemmas.Bool.{cases_lt}
-use Rattle.std.proofs.lemmas.Bool.Decides.{nat_tests}
 use Rattle.std.specs.Prelude.{option_and_then, slice_get}
 use Rattle.heap_command.specs.declared.command.Command.{Command}
 use Rattle.heap_command.specs.Executed.{Executed}
@@ -18,7 +15,7 @@ use Rattle.script_text.specs.Left.{IsLeft, Goes}
 use Rattle.script_text.proofs.Left.{begins}
 use Rattle.object_graph.specs.Limits.{ideal_limits}
 use Rattle.page_space.specs.Extents.{Space, marks_start}
-use Rattle.heap_model.specs.Needs.{need_of, lacks_room}
+use Rattle.heap_model.specs.Needs.{need_of}
 use Rattle.nursery.specs.Young.{Young, HasRoom}
 use Rattle.write_barrier.specs.Mains.{Mutator, heap_of, MainShows, IsTied, IsOpened}
 use Rattle.object_cells.specs.Uses.{UsesMore}
@@ -28,6 +25,7 @@ use Rattle.mutator.specs.Carries.{Carries}
 use Rattle.heap_script.specs.Runs.{left_after, Reached, Spends, Allocates}
 use Rattle.heap_script.specs.Progress.{objects_made, made_by, CarriesLine, Handed}
 use Rattle.heap_script.proofs.Counts.{length-does, makes_one}
+use Rattle.heap_script.proofs.Lacking.{not_lacking}
 use Rattle.heap_script.proofs.Handing.{Handed-none, Handed-more, Handed-told}
 
 -- Between two lines: the lines that are left are those from this place on with these turns left, what was told was
@@ -76,17 +74,6 @@ next_at : {A : Type 0} (xs : List A) (n : ℕ) (x : A) (rest : List A) → drop 
 next_at [] n x rest e = absurd (nil_cons n x rest e)
 next_at (first ∷ xs) zero x rest e = cc
 next_at (first ∷ xs) (suc n) x rest e = next_at xs n x rest e
-
--- where the young generation has room for so many words, the heap does not lack it
-not_lacking : (main : Mutator) (need : ℕ) → IsTied main → HasRoom main.young need
-    → lacks_room (heap_of main) need ≡ false
-not_lacking main need tied room =
-    let same : main.young.space.sizes.young ≡ main.seat.space.sizes.young =
-    ap (λ (space : Space). space.sizes.young) tied in
-    elim (cases_lt main.seat.space.sizes.young (main.young.survivors + main.young.used + need)) [
-      | inl over ↦ absurd (omega (arith, same, over, room))
-      | inr within ↦ grind (arith, nat_tests)
-    ]
 
 -- a command that has used its words allocates them
 allocates : {old new : Mutator} (command : Command) → IsTied old → HasRoom old.young (need_of (heap_of old) command)

@@ -1,5 +1,5 @@
 -- How far a run has come between two of its lines.
-use Rattle.std.specs.Prelude.{◌≡◌, ℕ, List, [], ◌++◌, Option, Some, None, Result, Ok}
+use Rattle.std.specs.Prelude.{◌≡◌, ℕ, List, [], ◌++◌, Option, Some, None, Result, Ok, Err}
 use Rattle.heap_command.specs.declared.command.Command.{Command}
 use Rattle.heap_command.specs.declared.command.Command.TheVariants as command
 use Rattle.heap_command.specs.declared.command.FaultWord.TheVariants.{WeakFull}
@@ -42,6 +42,11 @@ abbrev pub CarriesLine : List (List ℕ) → Mutator → Mutator → Graph → O
     → Result (Unit {0}) Stop → Type 0
 CarriesLine names old new graph None text result = (new ≡ old) × (text ≡ []) × (result ≡ Ok tt)
 CarriesLine names old new graph (Some command) text result = Carries names old new graph command text result
+
+-- what became of a line, whatever the place where the run goes on: it was executed, or this stopped it
+abbrev pub outcome_of : Result ℕ Stop → Result (Unit {0}) Stop
+outcome_of (Ok place) = Ok tt
+outcome_of (Err stop) = Err stop
 
 -- How a run ends at a line whose command was not carried out. Where the entries that are refused one more are not
 -- cleared, the map is full.

@@ -1,23 +1,24 @@
 //! One command of a script on the heap. Which line comes next stands in `interpreter` and `turns`.
 ghost use Rattle.std.specs.Prelude.{◌≡◌, ◌+◌, ◌<◌, ◌≤◌, ◌^◌};
 ghost use Rattle.std.specs.Prelude.{ℕ, List, ◌++◌, length, if◌then◌else◌};
-ghost use Rattle.std.specs.Prelude.{false, is_ok, Err, OnOk, OnErr, IfOk};
-ghost use Rattle.std.specs.Result.{result_map_both};
+ghost use Rattle.std.specs.Prelude.{false, is_ok, IsTrue, OnOk, OnErr, IfOk};
+ghost use Rattle.tagged_word.specs.Cells.{cell_words_most};
 ghost use Rattle.object_graph.specs.Graphs.{Graph};
 ghost use Rattle.object_graph.specs.Run.{lines_most};
 ghost use Rattle.heap_command.specs.Commands.{IsWithin};
 ghost use Rattle.script_text.specs.declared.script.What.TheVariants.{Run};
 ghost use Rattle.script_text.specs.Table.{unbuilt_today};
 ghost use Rattle.script_text.specs.Sound.{IsBuilt, NamesWithin, AreShort};
+ghost use Rattle.nursery.specs.Young.{HasRoom};
 ghost use Rattle.write_barrier.specs.Mains.{MainShows};
-ghost use Rattle.mutator.specs.declared.stop.Stop.TheVariants.{NoRoom};
 ghost use Rattle.mutator.specs.Carries.{Carries, field_numbers};
 ghost use Rattle.collector.specs.States.{HeapShows};
-ghost use Rattle.heap_script.specs.Progress.{objects_made, made_by, command_in, CarriesLine};
+ghost use Rattle.heap_script.specs.Progress.{objects_made, made_by, command_in};
+ghost use Rattle.heap_script.specs.Progress.{CarriesLine, outcome_of};
 ghost use Rattle.heap_script.specs.Turns.{next_of};
 
 use crate::turns::Turns;
-use collector::{Full, Heap};
+use collector::Heap;
 use heap_command::Command;
 use mutator::{OUTPUT_BYTES, Output, ROOM, Stop};
 use script_text::{Script, What};
@@ -45,7 +46,7 @@ pub(crate) fn execute_line(
     ensures carried { (graph : Graph) → HeapShows heap.old graph →
         objects.old ≡ length graph.objects → (text : List ℕ)
         × CarriesLine script.now.fields heap.old.main heap.new.main graph (command_in what.now) text
-        (result_map_both (λ _. tt) (λ stop. stop) result)
+        (outcome_of result)
         × (out.new ≡ (if is_ok result then out.old ++ text else out.old)) }
     ensures place { IfOk result (λ place. place ≡ (next_of at turns.old what.now).at) }
     ensures turned { OnOk result (turns.new ≡ (next_of at turns.old what.now).turns) }
@@ -85,43 +86,31 @@ fn carry_out(
     ensures spare { heap.new.spare ≡ heap.old.spare }
     ensures counted { OnOk result (objects.new ≡ objects.old + objects_made command.now) }
 {
-    match execute(heap.main_mut(), script, objects, command, out) {
-        Err(Stop::NoRoom { need }) => retry_with_room(heap, script, objects, command, out, need),
-        carried => carried,
+    // A call that stands in one place alone is inlined into the loop over lines. Once there is room,
+    // the command finds it, so no third turn comes.
+    'tries: loop {
+        match execute(heap.main_mut(), script, objects, command, out) {
+            Err(Stop::NoRoom { need }) => {
+                if !ensure_room(heap, need) {
+                    return Err(Stop::NoRoom { need });
+                }
+            }
+            carried => return carried,
+        }
     }
 }
 
-/// Asks the heap for so many words, for which a command found no room, and tries the command again.
+/// Asks the heap for so many words, for which a command found no room, and answers whether there
+/// is room now.
 #[cold]
 #[inline(never)]
-fn retry_with_room(
-    heap: &mut Heap,
-    script: &Script<'_>,
-    objects: &mut u32,
-    command: &Command,
-    out: &mut Output,
-    need: u32,
-) -> Result<(), Stop>
-    requires built { IsBuilt unbuilt_today (Run command.now) }
-    requires shown { (graph : Graph) × HeapShows heap.old graph × (objects.old ≡ length graph.objects) }
-    requires within { IsWithin heap.old.main.seat.space.variables field_numbers command.now }
-    requires few { objects.old < lines_most }
-    requires short { AreShort script.now.fields }
-    requires room { length out.old + ROOM ≤ OUTPUT_BYTES }
-    requires refused { (graph : Graph) → HeapShows heap.old graph →
-        objects.old ≡ length graph.objects → (text : List ℕ)
-        × Carries script.now.fields heap.old.main heap.old.main graph command.now text (Err (NoRoom need)) }
-    ensures carried { (graph : Graph) → HeapShows heap.old graph →
-        objects.old ≡ length graph.objects → (text : List ℕ)
-        × Carries script.now.fields heap.old.main heap.new.main graph command.now text result
-        × (out.new ≡ (if is_ok result then out.old ++ text else out.old)) }
-    ensures spare { heap.new.spare ≡ heap.old.spare }
-    ensures counted { OnOk result (objects.new ≡ objects.old + objects_made command.now) }
+fn ensure_room(heap: &mut Heap, need: u32) -> bool
+    requires some { 1 ≤ need }
+    requires few { need ≤ cell_words_most }
+    ensures room { IsTrue result → HasRoom heap.new.main.young need }
+    ensures same { heap.new ≡ heap.old }
 {
-    match heap.ensure(need) {
-        Ok(()) => execute(heap.main_mut(), script, objects, command, out),
-        Err(Full { need }) => Err(Stop::NoRoom { need }),
-    }
+    heap.ensure(need).is_ok()
 }
 
 /// Carries a command out, if there is room for it. `objects` counts the objects made so far.

@@ -8,6 +8,8 @@ use byte_ends::{Failed, Sink, write_all};
 use mutator::{OUTPUT_BYTES, Output};
 
 /// Writes what waits, and then nothing waits.
+#[cold]
+#[inline(never)]
 pub(crate) fn hand_on<K: Sink>(sink: &mut K, out: &mut Output) -> Result<(), Failed>
     ensures appended { OnOk result (Appends (K.HasTaken sink.old) (K.HasTaken sink.new) out.old) }
     ensures emptied { OnOk result (out.new ≡ []) }

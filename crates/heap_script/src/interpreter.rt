@@ -24,6 +24,9 @@ use std::thread::Threads;
 /// How many lines are executed at most.
 const LINES_MOST: u64 = 20_000_000;
 
+/// With more bytes than these waiting, the output may lack room for a command.
+const FULL_FROM: usize = (OUTPUT_BYTES - ROOM) as usize;
+
 /// Runs a script on a heap that was just opened, with an output that is empty, and writes to the sink
 /// what it tells. Threads and gates are not used so far, and the heap is not checked.
 pub fn run_script<K: Sink, G: Gate, R: Threads + Sync>(
@@ -130,6 +133,7 @@ fn stopped(stop: Stop, line: u32, executed: u64) -> Finished
 }
 
 /// Hands the waiting bytes on where they leave too little room for a command.
+#[inline(always)]
 fn make_room<K: Sink>(sink: &mut K, out: &mut Output) -> Result<(), Failed>
     ensures room { OnOk result (length out.new + ROOM ≤ OUTPUT_BYTES) }
     ensures handed { OnOk result (Handed (K.HasTaken sink.old) (K.HasTaken sink.new) out.new out.old) }
@@ -138,7 +142,7 @@ fn make_room<K: Sink>(sink: &mut K, out: &mut Output) -> Result<(), Failed>
     ensures failed { OnErr result (Rose (K.faults sink.old) (K.faults sink.new)) }
     ensures steady { OnOk result (K.faults sink.new ≡ K.faults sink.old) }
 {
-    if out.room() < ROOM {
+    if out.bytes().len() > FULL_FROM {
         hand_on(sink, out)?;
     }
     Ok(())

@@ -37,8 +37,9 @@ impl Turns {
         }
     }
 
-    /// Where the run goes on after the line at this place.
-    #[inline(always)]
+    /// Where the run goes on after the line at this place. It is a call, so that the turns stay in
+    /// memory and take no registers from the loop over lines.
+    #[inline(never)]
     pub(crate) fn next(&mut self, at: usize, what: &What) -> usize
         requires small { at < 2 ^ 63 }
         requires deep { length (next_of at self.old what.now).turns ≤ 4 }
@@ -57,7 +58,6 @@ impl Turns {
     }
 
     /// One block more is open, with so many turns left.
-    #[inline(always)]
     fn enter(&mut self, turns: u32)
         requires room { length self.old < 4 }
         ensures { self.new ≡ turns ∷ self.old }
@@ -68,7 +68,6 @@ impl Turns {
     }
 
     /// Where the run goes on after the `end` at this place, of the `repeat` at the other.
-    #[inline(always)]
     fn end(&mut self, at: usize, repeat_at: u32) -> usize
         requires small { at < 2 ^ 63 }
         ensures place { result ≡ (closed at self.old repeat_at).at }
