@@ -2,7 +2,7 @@
 use Rattle.std.proofs.Common.{◌≡◌, ℕ, ◌-◌, ◌<◌, List, [], ◌∷◌, length, map, Option, None, refl, sym, ap}
 use Rattle.std.proofs.Common.{◌∙◌, subst}
 use Rattle.std.proofs.Common.{arith, length-append}
-use Rattle.std.specs.Prelude.{All}
+use Rattle.std.specs.Prelude.{All, replicate}
 use Rattle.std.specs.List.{range_with_len}
 use Rattle.std.specs.HashMap.{get}
 use Rattle.std.specs.Map.{lookup}
@@ -16,15 +16,17 @@ use Rattle.shape_tree.specs.declared.node.Node.{Node}
 use Rattle.shape_tree.specs.declared.transition.Transition.{Transition}
 use Rattle.shape_tree.specs.declared.tree.ShapeTree.TheInside.{Inside}
 use Rattle.shape_tree.specs.Shapes.{AreShapes, shape_path}
-use Rattle.shape_tree.specs.Nodes.{same_transition, root_node_of, paths_in, IsNode, IsTransition, FindsSteps}
+use Rattle.shape_tree.specs.Nodes.{same_transition, root_node_of, no_child_of, paths_in, IsNode, AreChildren}
+use Rattle.shape_tree.specs.Nodes.{IsTransition, FindsSteps}
 use Rattle.shape_tree.specs.Trees.{HasRoom, IsTree, paths_of}
+use Rattle.shape_tree.proofs.HeldChildren.{first_children}
 
 -- a tree with the rows, the nodes and the transitions of another
 pub copied_tree : (other new : Inside) → IsTree other → new.rows.items ≡ other.rows.items
-    → new.nodes.items ≡ other.nodes.items
+    → new.nodes.items ≡ other.nodes.items → new.children.items ≡ other.children.items
     → ((step : Transition) → get same_transition new.steps step ≡ get same_transition other.steps step)
     → HasRoom new → IsTree new
-copied_tree other new is rows nodes steps room =
+copied_tree other new is rows nodes children steps room =
     let shown : paths_of new ≡ paths_of other =
     ap (λ rs. paths_in rs new.nodes.items) rows ∙ ap (paths_in other.rows.items) nodes in
     let finds : FindsSteps (paths_of other) (get same_transition new.steps) = record {
@@ -36,6 +38,8 @@ copied_tree other new is rows nodes steps room =
       each = subst (λ rs. All (IsNode rs (paths_of new)) new.nodes.items) (sym rows)
           (subst (All (IsNode other.rows.items (paths_of new))) (sym nodes)
           (subst (λ ps. All (IsNode other.rows.items ps) other.nodes.items) (sym shown) is.each));
+      children = subst (AreChildren (paths_of new)) (sym children)
+          (subst (λ ps. AreChildren ps other.children.items) (sym shown) is.children);
       finds = subst (λ ps. FindsSteps ps (get same_transition new.steps)) (sym shown) finds;
       room = room;
     }
@@ -77,9 +81,9 @@ empty_finds look none = record {
 }
 
 -- the first tree
-pub first_tree : (new : Inside) → new.rows.items ≡ [] → new.nodes.items ≡ root_nodes_of → new.steps.entries ≡ []
-    → HasRoom new → IsTree new
-first_tree new rows nodes steps room =
+pub first_tree : (new : Inside) → new.rows.items ≡ [] → new.nodes.items ≡ root_nodes_of
+    → new.children.items ≡ replicate 9 no_child_of → new.steps.entries ≡ [] → HasRoom new → IsTree new
+first_tree new rows nodes children steps room =
     let shown : paths_of new ≡ empty_paths =
     ap (λ rs. paths_in rs new.nodes.items) rows ∙ ap (paths_in []) nodes ∙ paths_in-root_nodes_of in
     let good : AreShapes empty_paths = record { are = empty_paths_are; few = omega (arith, length-empty_paths) } in
@@ -89,6 +93,8 @@ first_tree new rows nodes steps room =
       shapes = subst AreShapes (sym shown) good;
       each = subst (λ rs. All (IsNode rs (paths_of new)) new.nodes.items) (sym rows)
           (subst (All (IsNode [] (paths_of new))) (sym nodes) (roots_are_nodes (paths_of new)));
+      children = subst (AreChildren (paths_of new)) (sym children)
+          (subst (λ ps. AreChildren ps (replicate 9 no_child_of)) (sym shown) first_children);
       finds = subst (λ ps. FindsSteps ps (get same_transition new.steps)) (sym shown)
           (empty_finds (get same_transition new.steps) none);
       room = room;

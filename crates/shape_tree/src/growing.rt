@@ -10,7 +10,9 @@ ghost use Rattle.shape_tree.specs.Shapes.{AreShapes, IsPathShape, IsShapeOf, sha
 ghost use Rattle.shape_tree.specs.Shapes.{IsFullFor};
 ghost use Rattle.shape_tree.specs.ShapeLayouts.{raw_bit};
 ghost use Rattle.shape_tree.specs.Growth.{extended, IsMissing, IsFresh};
+ghost use Rattle.shape_tree.specs.Nodes.{children_with};
 
+use crate::child::Child;
 use crate::full::ShapesFull;
 use crate::node::Node;
 use crate::transition::Transition;
@@ -57,6 +59,17 @@ fn push_row(rows: &mut Vec<PathField>, start: u32, count: u32, field: PathField)
     rows.push_reserved(field);
 }
 
+/// Puts no child behind all children, and this one at a place where none is.
+fn put_child(children: &mut Vec<Child>, at: usize, child: Child)
+    requires there { at < vec_len children.old }
+    requires room { vec_len children.old < vec_capacity children.old }
+    ensures put { children.new.items ≡ children_with children.old.items at child }
+    ensures room { vec_capacity children.old ≤ vec_capacity children.new }
+{
+    children[at] = children[at].or(child);
+    children.push_reserved(Child::none());
+}
+
 /// Whether there may not be as many paths as these and those that are missing.
 fn are_too_many(paths: u32, missing: u32) -> bool
     requires { paths + missing < 2 ^ 32 }
@@ -94,6 +107,8 @@ impl ShapeTree {
             rep: field.rep,
         };
         put_step(&mut self.steps, step, shape);
+        let child = Child { field, shape };
+        put_child(&mut self.children, (parent - FIRST) as usize, child);
         shape
     }
 

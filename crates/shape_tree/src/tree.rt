@@ -1,13 +1,15 @@
 //! The tree itself: what it owns, how it is made, and how it becomes a copy of another.
 ghost use Rattle.std.specs.Prelude.{◌≡◌, ◌+◌, ◌<◌, ◌≤◌, cond, map, length, Some, None, IfOk};
+ghost use Rattle.std.specs.Prelude.{replicate};
 ghost use Rattle.std.specs.List.{range_with_len};
 ghost use Rattle.std.specs.Vec.{vec_capacity};
 ghost use Rattle.std.specs.HashMap.{get, hash_map_len, spare, IsUnique};
 ghost use Rattle.object_graph.specs.Paths.{empty_paths};
 ghost use Rattle.shape_tree.specs.ShapeLayouts.{layout_of};
-ghost use Rattle.shape_tree.specs.Nodes.{same_transition, root_node_of};
+ghost use Rattle.shape_tree.specs.Nodes.{same_transition, root_node_of, no_child_of};
 ghost use Rattle.shape_tree.specs.declared.transition.Transition.{Transition};
 
+use crate::child::Child;
 use crate::node::Node;
 use crate::transition::Transition;
 use object_graph::PathField;
@@ -33,6 +35,8 @@ pub struct ShapeTree {
     pub(crate) rows: Vec<PathField>,
     /// A node for each path, in the order of their shapes.
     pub(crate) nodes: Vec<Node>,
+    /// The first child of each path, in the same order: an answer without the table.
+    pub(crate) children: Vec<Child>,
     /// The shape to which each transition leads.
     pub(crate) steps: HashMap<Transition, u32>,
 }
@@ -79,6 +83,16 @@ fn root_nodes(alloc: Global) -> Result<Vec<Node>, AllocError>
         nodes.push_reserved(root_node(cap));
     }
     Ok(nodes)
+}
+
+/// The children of these nine paths: none so far.
+fn root_children(alloc: Global) -> Result<Vec<Child>, AllocError>
+    ensures none { IfOk result (λ children. children.items ≡ replicate 9 no_child_of) }
+    ensures room { IfOk result (λ children. PATHS_MOST ≤ vec_capacity children) }
+{
+    let mut children = Vec::with_capacity(alloc, PATHS_MOST as usize)?;
+    children.extend_from_slice(&[Child::none(); ROOTS as usize])?;
+    Ok(children)
 }
 
 /// Puts a transition into the table, which has room for it.
@@ -131,8 +145,14 @@ impl ShapeTree {
     {
         let rows = Vec::with_capacity(alloc, PATHS_MOST as usize * FIELDS_MOST)?;
         let nodes = root_nodes(alloc)?;
+        let children = root_children(alloc)?;
         let steps = HashMap::with_capacity(alloc, PATHS_MOST as usize)?;
-        Ok(ShapeTree { rows, nodes, steps })
+        Ok(ShapeTree {
+            rows,
+            nodes,
+            children,
+            steps,
+        })
     }
 
     /// Makes this tree a copy of the other. It takes no memory.
@@ -141,6 +161,7 @@ impl ShapeTree {
     {
         copy_items(&mut self.rows, &other.rows);
         copy_items(&mut self.nodes, &other.nodes);
+        copy_items(&mut self.children, &other.children);
         copy_steps(&mut self.steps, &other.steps);
     }
 }

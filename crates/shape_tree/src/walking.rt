@@ -5,7 +5,7 @@ ghost use Rattle.shape_tree.specs.Shapes.{IsPathShape, IsShapeOf, shape_path};
 ghost use Rattle.shape_tree.specs.Growth.{extended, IsMissing};
 
 use crate::transition::Transition;
-use crate::tree::ShapeTree;
+use crate::tree::{FIRST, ShapeTree};
 use object_graph::PathField;
 
 /// How far fields lead from a shape before the next path is missing.
@@ -21,7 +21,22 @@ impl ShapeTree {
     ghost use Rattle.shape_tree.specs.Walks.{WalksTo};
 
     /// The shape of the path with this field more, if it is there.
+    #[inline]
     pub(crate) fn next(&self, shape: u32, field: PathField) -> Option<u32>
+        requires { IsPathShape self.now shape }
+        ensures { let path = extended (shape_path self.now shape) (field ∷ []) in
+            MatchOption result (IsMissing self.now path) (IsShapeOf self.now path) }
+    {
+        let child = self.children[(shape - FIRST) as usize];
+        if child.is_by(field) {
+            return Some(child.shape);
+        }
+        self.look_up(shape, field)
+    }
+
+    /// The same by the table of transitions. It hashes, so it is kept out of line.
+    #[inline(never)]
+    fn look_up(&self, shape: u32, field: PathField) -> Option<u32>
         requires { IsPathShape self.now shape }
         ensures { let path = extended (shape_path self.now shape) (field ∷ []) in
             MatchOption result (IsMissing self.now path) (IsShapeOf self.now path) }
