@@ -89,7 +89,8 @@ more_becomes tree new parent field node grown child is more starts missed may ro
 
 -- the same of a tree that shows these paths
 pub more_shown : (tree new : Inside) (paths : List Path) (parent : ℕ) (field : PathField) (node grown : Node)
-    (child : Child) → IsTree tree → paths_of tree ≡ paths → IsMore tree new parent field node grown child → IsPathShape paths parent
+    (child : Child) → IsTree tree → paths_of tree ≡ paths → IsMore tree new parent field node grown child
+    → IsPathShape paths parent
     → IsMissing paths (extended (shape_path paths parent) (field ∷ []))
     → IsPath (extended (shape_path paths parent) (field ∷ [])) → length paths < paths_most
     → Became paths (extended (shape_path paths parent) (field ∷ [])) new
