@@ -16,17 +16,17 @@ use Rattle.shape_tree.specs.declared.node.Node.{Node}
 use Rattle.shape_tree.specs.declared.transition.Transition.{Transition}
 use Rattle.shape_tree.specs.declared.tree.ShapeTree.TheInside.{Inside}
 use Rattle.shape_tree.specs.Shapes.{AreShapes, shape_path}
-use Rattle.shape_tree.specs.Nodes.{same_transition, root_node_of, no_child_of, paths_in, IsNode, AreChildren}
-use Rattle.shape_tree.specs.Nodes.{IsTransition, FindsSteps}
+use Rattle.shape_tree.specs.Nodes.{same_transition, root_node_of, shortcuts_most, no_shortcut_of, paths_in, IsNode}
+use Rattle.shape_tree.specs.Nodes.{IsTransition, FindsSteps, AreShortcuts}
 use Rattle.shape_tree.specs.Trees.{HasRoom, IsTree, paths_of}
-use Rattle.shape_tree.proofs.HeldChildren.{first_children}
+use Rattle.shape_tree.proofs.HeldShortcuts.{no_shortcuts}
 
--- a tree with the rows, the nodes and the transitions of another
+-- a tree with the rows, the nodes, the transitions and the shortcuts of another
 pub copied_tree : (other new : Inside) → IsTree other → new.rows.items ≡ other.rows.items
-    → new.nodes.items ≡ other.nodes.items → new.children.items ≡ other.children.items
+    → new.nodes.items ≡ other.nodes.items
     → ((step : Transition) → get same_transition new.steps step ≡ get same_transition other.steps step)
-    → HasRoom new → IsTree new
-copied_tree other new is rows nodes children steps room =
+    → new.shortcuts.items ≡ other.shortcuts.items → HasRoom new → IsTree new
+copied_tree other new is rows nodes steps shortcuts room =
     let shown : paths_of new ≡ paths_of other =
     ap (λ rs. paths_in rs new.nodes.items) rows ∙ ap (paths_in other.rows.items) nodes in
     let finds : FindsSteps (paths_of other) (get same_transition new.steps) = record {
@@ -38,9 +38,9 @@ copied_tree other new is rows nodes children steps room =
       each = subst (λ rs. All (IsNode rs (paths_of new)) new.nodes.items) (sym rows)
           (subst (All (IsNode other.rows.items (paths_of new))) (sym nodes)
           (subst (λ ps. All (IsNode other.rows.items ps) other.nodes.items) (sym shown) is.each));
-      children = subst (AreChildren (paths_of new)) (sym children)
-          (subst (λ ps. AreChildren ps other.children.items) (sym shown) is.children);
       finds = subst (λ ps. FindsSteps ps (get same_transition new.steps)) (sym shown) finds;
+      shortcuts = subst (AreShortcuts (paths_of new)) (sym shortcuts)
+          (subst (λ ps. AreShortcuts ps other.shortcuts.items) (sym shown) is.shortcuts);
       room = room;
     }
 
@@ -82,8 +82,9 @@ empty_finds look none = record {
 
 -- the first tree
 pub first_tree : (new : Inside) → new.rows.items ≡ [] → new.nodes.items ≡ root_nodes_of
-    → new.children.items ≡ replicate 9 no_child_of → new.steps.entries ≡ [] → HasRoom new → IsTree new
-first_tree new rows nodes children steps room =
+    → new.steps.entries ≡ [] → new.shortcuts.items ≡ replicate shortcuts_most no_shortcut_of → HasRoom new
+    → IsTree new
+first_tree new rows nodes steps shortcuts room =
     let shown : paths_of new ≡ empty_paths =
     ap (λ rs. paths_in rs new.nodes.items) rows ∙ ap (paths_in []) nodes ∙ paths_in-root_nodes_of in
     let good : AreShapes empty_paths = record { are = empty_paths_are; few = omega (arith, length-empty_paths) } in
@@ -93,9 +94,8 @@ first_tree new rows nodes children steps room =
       shapes = subst AreShapes (sym shown) good;
       each = subst (λ rs. All (IsNode rs (paths_of new)) new.nodes.items) (sym rows)
           (subst (All (IsNode [] (paths_of new))) (sym nodes) (roots_are_nodes (paths_of new)));
-      children = subst (AreChildren (paths_of new)) (sym children)
-          (subst (λ ps. AreChildren ps (replicate 9 no_child_of)) (sym shown) first_children);
       finds = subst (λ ps. FindsSteps ps (get same_transition new.steps)) (sym shown)
           (empty_finds (get same_transition new.steps) none);
+      shortcuts = subst (AreShortcuts (paths_of new)) (sym shortcuts) (no_shortcuts (paths_of new));
       room = room;
     }

@@ -51,11 +51,11 @@ last_transition paths step starts =
           (sym (target-append paths (target paths step ∷ []) step starts)) (IsShapeOf-last paths (target paths step));
     }
 
--- so the path that comes last, once it was added behind another, may be kept as its child
-pub last_child : (paths : List Path) (parent next : ℕ) (field : PathField) → IsPathShape paths parent
+-- so the step to the path that comes last may be kept as a shortcut
+pub last_step : (paths : List Path) (parent next : ℕ) (field : PathField) → IsPathShape paths parent
     → next ≡ first_path_shape + length paths
     → IsTransition (paths ++ extended (shape_path paths parent) (field ∷ []) ∷ []) (transition_by parent field) next
-last_child paths parent next field starts comes =
+last_step paths parent next field starts comes =
     subst (IsTransition (paths ++ extended (shape_path paths parent) (field ∷ []) ∷ []) (transition_by parent field))
     (sym comes) (last_transition paths (transition_by parent field) starts)
 

@@ -1,14 +1,13 @@
 -- Rows, nodes and transitions: what a tree of shapes holds of a list of paths.
-use Rattle.std.specs.Prelude.{◌≡◌, ℕ, ◌+◌, ◌-◌, ◌<◌, ◌≤◌, Bool, List, [], ◌∷◌, ◌++◌, map, length, take}
-use Rattle.std.specs.Prelude.{drop, get_or, set, cond, ◌==◌, Option, Some}
-use Rattle.tagged_word.specs.Shapes.{first_path_shape}
+use Rattle.std.specs.Prelude.{◌≡◌, ℕ, ◌+◌, ◌-◌, ◌<◌, ◌≤◌, Bool, List, [], map, length, take}
+use Rattle.std.specs.Prelude.{drop, All, Option, Some}
 use Rattle.object_graph.specs.declared.path.Path.{Path}
 use Rattle.object_graph.specs.declared.path.PathField.{PathField}
 use Rattle.object_graph.specs.declared.value.Rep.TheVariants.{Small}
 use Rattle.object_graph.specs.Paths.{prefix_of}
 use Rattle.object_graph.specs.Invariants.{cap_most, fields_most}
-use Rattle.shape_tree.specs.declared.child.Child.{Child}
 use Rattle.shape_tree.specs.declared.node.Node.{Node}
+use Rattle.shape_tree.specs.declared.shortcut.Shortcut.{Shortcut}
 use Rattle.shape_tree.specs.declared.transition.Transition.{Transition}
 use Rattle.shape_tree.specs.contracts.transition.TransitionPartialEq.TheImpl as transition_eq
 use Rattle.shape_tree.specs.Shapes.{IsPathShape, IsShapeOf, shape_path, stepped}
@@ -47,29 +46,23 @@ pub record IsTransition (paths : List Path) (step : Transition) (shape : ℕ) : 
 abbrev pub transition_by : ℕ → PathField → Transition
 transition_by parent field = record { parent = parent; name = field.name; rep = field.rep }
 
--- what stands for a child where there is none
-abbrev pub no_child_of : Child
-no_child_of = record { field = record { name = 0; rep = Small }; shape = 0 }
+-- how many shortcuts there are
+abbrev pub shortcuts_most : ℕ
+shortcuts_most = 4096
 
--- the first of two children that is there
-abbrev pub first_child_of : Child → Child → Child
-first_child_of child other = cond (child.shape == 0) other child
+-- what stands for a shortcut where there is none
+abbrev pub no_shortcut_of : Shortcut
+no_shortcut_of = record { parent = 0; field = record { name = 0; rep = Small }; shape = 0 }
 
--- these children and one of a path more, which has none itself: it is kept for the path at this place, if that had none
-abbrev pub children_with : List Child → ℕ → Child → List Child
-children_with children at child =
-    set children at (first_child_of (get_or children at child) child) ++ no_child_of ∷ []
+-- the shortcut is there only if it is a transition
+abbrev pub IsShortcut : List Path → Shortcut → Type 0
+IsShortcut paths shortcut =
+    0 < shortcut.shape → IsTransition paths (transition_by shortcut.parent shortcut.field) shortcut.shape
 
--- the child of the path of a shape is there only if a transition leads to it
-abbrev pub IsChild : List Path → ℕ → Child → Type 0
-IsChild paths shape child = 0 < child.shape → IsTransition paths (transition_by shape child.field) child.shape
-
--- there is a child for each path, or what stands for none
-pub record AreChildren (paths : List Path) (children : List Child) : Type 0 where
-  pub counted : length children ≡ length paths
-  pub each :
-      (shape : ℕ) (d : Child) → IsPathShape paths shape
-      → IsChild paths shape (get_or children (shape - first_path_shape) d)
+-- each place has a shortcut, or what stands for none
+pub record AreShortcuts (paths : List Path) (shortcuts : List Shortcut) : Type 0 where
+  pub counted : length shortcuts ≡ shortcuts_most
+  pub each : All (IsShortcut paths) shortcuts
 
 -- the look-up finds each transition, and nothing else
 pub record FindsSteps (paths : List Path) (look : Transition → Option ℕ) : Type 0 where

@@ -7,13 +7,12 @@ use Rattle.object_graph.specs.Invariants.{fields_most}
 use Rattle.object_graph.specs.Limits.{paths_most}
 use Rattle.shape_tree.specs.declared.tree.ShapeTree.TheInside.{Inside}
 use Rattle.shape_tree.specs.Shapes.{AreShapes}
-use Rattle.shape_tree.specs.Nodes.{same_transition, paths_in, IsNode, AreChildren, FindsSteps}
+use Rattle.shape_tree.specs.Nodes.{same_transition, paths_in, IsNode, FindsSteps, AreShortcuts}
 
 -- there is room for all the paths that there may be
 pub record HasRoom (tree : Inside) : Type 0 where
   pub rows : fields_most * paths_most ≤ vec_capacity tree.rows
   pub nodes : paths_most ≤ vec_capacity tree.nodes
-  pub children : paths_most ≤ vec_capacity tree.children
   pub steps : paths_most ≤ hash_map_len tree.steps + spare tree.steps
   pub short : length tree.rows.items ≤ fields_most * length tree.nodes.items
   pub few : hash_map_len tree.steps ≤ length tree.nodes.items
@@ -26,6 +25,6 @@ paths_of tree = paths_in tree.rows.items tree.nodes.items
 pub record IsTree (tree : Inside) : Type 0 where
   pub shapes : AreShapes (paths_of tree)
   pub each : All (IsNode tree.rows.items (paths_of tree)) tree.nodes.items
-  pub children : AreChildren (paths_of tree) tree.children.items
   pub finds : FindsSteps (paths_of tree) (get same_transition tree.steps)
+  pub shortcuts : AreShortcuts (paths_of tree) tree.shortcuts.items
   pub room : HasRoom tree

@@ -80,6 +80,7 @@ impl ShapeTree {
     ///
     /// # Errors
     /// There would be more than 8,192 paths; nothing has changed.
+    #[inline]
     pub fn step(&mut self, shape: u32, name: u32, rep: Rep) -> Result<u32, ShapesFull>
         requires path { IsPathShape self.old shape }
         requires is_new { has_name (shape_path self.old shape) name ≡ false }
@@ -142,6 +143,7 @@ impl ShapeTree {
 
     /// How many paths `step` would add. It is not refused where they and those that are there
     /// are at most 8,192.
+    #[inline]
     pub fn missing_step(&self, shape: u32, name: u32, rep: Rep) -> u32
         requires path { IsPathShape self.now shape }
         requires is_new { has_name (shape_path self.now shape) name ≡ false }

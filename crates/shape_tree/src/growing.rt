@@ -1,6 +1,6 @@
 //! How paths are added to a tree of shapes.
 ghost use Rattle.std.specs.Prelude.{◌≡◌, ◌+◌, ◌*◌, ◌^◌, ◌<◌, ◌≤◌, nat_lt, [], ◌∷◌, ◌++◌};
-ghost use Rattle.std.specs.Prelude.{length, take, drop, IfOk, IfErr};
+ghost use Rattle.std.specs.Prelude.{length, take, drop, set, IfOk, IfErr};
 ghost use Rattle.std.specs.Vec.{vec_len, vec_capacity};
 ghost use Rattle.tagged_word.specs.Shapes.{first_path_shape};
 ghost use Rattle.object_graph.specs.Paths.{missing};
@@ -10,11 +10,10 @@ ghost use Rattle.shape_tree.specs.Shapes.{AreShapes, IsPathShape, IsShapeOf, sha
 ghost use Rattle.shape_tree.specs.Shapes.{IsFullFor};
 ghost use Rattle.shape_tree.specs.ShapeLayouts.{raw_bit};
 ghost use Rattle.shape_tree.specs.Growth.{extended, IsMissing, IsFresh};
-ghost use Rattle.shape_tree.specs.Nodes.{children_with};
 
-use crate::child::Child;
 use crate::full::ShapesFull;
 use crate::node::Node;
+use crate::shortcut::{Shortcut, place_of};
 use crate::transition::Transition;
 use crate::tree::{FIRST, PATHS_MOST, ShapeTree, put_step};
 use object_graph::{PathField, Rep};
@@ -59,15 +58,12 @@ fn push_row(rows: &mut Vec<PathField>, start: u32, count: u32, field: PathField)
     rows.push_reserved(field);
 }
 
-/// Puts no child behind all children, and this one at a place where none is.
-fn put_child(children: &mut Vec<Child>, at: usize, child: Child)
-    requires there { at < vec_len children.old }
-    requires room { vec_len children.old < vec_capacity children.old }
-    ensures put { children.new.items ≡ children_with children.old.items at child }
-    ensures room { vec_capacity children.old ≤ vec_capacity children.new }
+/// Puts a shortcut at its place, over what stood there.
+fn put_shortcut(shortcuts: &mut Vec<Shortcut>, place: usize, shortcut: Shortcut)
+    requires there { place < vec_len shortcuts.old }
+    ensures { shortcuts.new.items ≡ set shortcuts.old.items place shortcut }
 {
-    children[at] = children[at].or(child);
-    children.push_reserved(Child::none());
+    shortcuts[place] = shortcut;
 }
 
 /// Whether there may not be as many paths as these and those that are missing.
@@ -107,8 +103,12 @@ impl ShapeTree {
             rep: field.rep,
         };
         put_step(&mut self.steps, step, shape);
-        let child = Child { field, shape };
-        put_child(&mut self.children, (parent - FIRST) as usize, child);
+        let shortcut = Shortcut {
+            parent,
+            field,
+            shape,
+        };
+        put_shortcut(&mut self.shortcuts, place_of(parent, field), shortcut);
         shape
     }
 

@@ -6,11 +6,12 @@ ghost use Rattle.std.specs.Vec.{vec_capacity};
 ghost use Rattle.std.specs.HashMap.{get, hash_map_len, spare, IsUnique};
 ghost use Rattle.object_graph.specs.Paths.{empty_paths};
 ghost use Rattle.shape_tree.specs.ShapeLayouts.{layout_of};
-ghost use Rattle.shape_tree.specs.Nodes.{same_transition, root_node_of, no_child_of};
+ghost use Rattle.shape_tree.specs.Nodes.{same_transition, root_node_of, no_shortcut_of};
+ghost use Rattle.shape_tree.specs.Nodes.{shortcuts_most};
 ghost use Rattle.shape_tree.specs.declared.transition.Transition.{Transition};
 
-use crate::child::Child;
 use crate::node::Node;
+use crate::shortcut::{SHORTCUTS, Shortcut};
 use crate::transition::Transition;
 use object_graph::PathField;
 use std::alloc::{AllocError, Global};
@@ -35,10 +36,10 @@ pub struct ShapeTree {
     pub(crate) rows: Vec<PathField>,
     /// A node for each path, in the order of their shapes.
     pub(crate) nodes: Vec<Node>,
-    /// The first child of each path, in the same order: an answer without the table.
-    pub(crate) children: Vec<Child>,
     /// The shape to which each transition leads.
     pub(crate) steps: HashMap<Transition, u32>,
+    /// Some of these steps, each at its place, or none: answers without the table.
+    pub(crate) shortcuts: Vec<Shortcut>,
 }
 
 impl Model for ShapeTree {
@@ -85,14 +86,14 @@ fn root_nodes(alloc: Global) -> Result<Vec<Node>, AllocError>
     Ok(nodes)
 }
 
-/// The children of these nine paths: none so far.
-fn root_children(alloc: Global) -> Result<Vec<Child>, AllocError>
-    ensures none { IfOk result (λ children. children.items ≡ replicate 9 no_child_of) }
-    ensures room { IfOk result (λ children. PATHS_MOST ≤ vec_capacity children) }
+/// The places of shortcuts, where none stands so far.
+fn no_shortcuts(alloc: Global) -> Result<Vec<Shortcut>, AllocError>
+    ensures { IfOk result (λ shortcuts.
+        shortcuts.items ≡ replicate shortcuts_most no_shortcut_of) }
 {
-    let mut children = Vec::with_capacity(alloc, PATHS_MOST as usize)?;
-    children.extend_from_slice(&[Child::none(); ROOTS as usize])?;
-    Ok(children)
+    let none = Shortcut::none();
+    let shortcuts = vec![in alloc; none; SHORTCUTS]?;
+    Ok(shortcuts)
 }
 
 /// Puts a transition into the table, which has room for it.
@@ -145,13 +146,13 @@ impl ShapeTree {
     {
         let rows = Vec::with_capacity(alloc, PATHS_MOST as usize * FIELDS_MOST)?;
         let nodes = root_nodes(alloc)?;
-        let children = root_children(alloc)?;
         let steps = HashMap::with_capacity(alloc, PATHS_MOST as usize)?;
+        let shortcuts = no_shortcuts(alloc)?;
         Ok(ShapeTree {
             rows,
             nodes,
-            children,
             steps,
+            shortcuts,
         })
     }
 
@@ -161,7 +162,7 @@ impl ShapeTree {
     {
         copy_items(&mut self.rows, &other.rows);
         copy_items(&mut self.nodes, &other.nodes);
-        copy_items(&mut self.children, &other.children);
         copy_steps(&mut self.steps, &other.steps);
+        copy_items(&mut self.shortcuts, &other.shortcuts);
     }
 }

@@ -4,7 +4,6 @@ use Rattle.std.proofs.Common.{◌∙◌, subst, cond, Some, [], ◌∷◌}
 use Rattle.std.specs.HashMap.{get}
 use Rattle.tagged_word.specs.Shapes.{first_path_shape}
 use Rattle.shape_tree.specs.declared.node.Node.{Node}
-use Rattle.shape_tree.specs.declared.child.Child.{Child}
 use Rattle.shape_tree.specs.declared.tree.ShapeTree.TheInside.{Inside}
 use Rattle.shape_tree.specs.Shapes.{IsPathShape, shape_path}
 use Rattle.shape_tree.specs.Growth.{extended}
@@ -28,16 +27,16 @@ layout_with-layout-requires-clause-few c =
     raw-lt path node.layout node.count is.layout is.count
 
 -- the tree as it is then
-abbrev new_tree : goal.After-put_child → Inside
+abbrev new_tree : goal.After-put_shortcut → Inside
 new_tree c = record {
   rows = c.push_row.new.rows;
   nodes = c.push_reserved.new.self;
-  children = c.put_child.new.children;
   steps = c.put_step.new.steps;
+  shortcuts = c.put_shortcut.new.shortcuts;
 }
 
 -- its new node
-abbrev new_node : goal.After-put_child → Node
+abbrev new_node : goal.After-put_shortcut → Node
 new_node c =
     record {
       cap = c.index-node.result.now.cap;
@@ -47,12 +46,8 @@ new_node c =
       layout = c.layout_with-layout.result;
     }
 
--- its new child
-abbrev new_child : goal.After-put_child → Child
-new_child c = record { field = c.args.field; shape = 8 + c.len.result }
-
 -- the new node is that of the path with the field more
-node_is : (c : goal.After-put_child)
+node_is : (c : goal.After-put_shortcut)
     → IsGrown c.self.inside.rows.items c.index-node.result.now c.args.parent c.args.field (new_node c)
 node_is c =
     let rows = c.self.inside.rows.items in
@@ -72,7 +67,7 @@ node_is c =
     }
 
 -- there is room left
-has_room : (c : goal.After-put_child) → HasRoom (new_tree c)
+has_room : (c : goal.After-put_shortcut) → HasRoom (new_tree c)
 has_room c =
     let tree = c.self.inside in
     let node = c.index-node.result.now in
@@ -95,29 +90,27 @@ has_room c =
     record {
       rows = omega (arith, before.rows, c.push_row.ensures.room);
       nodes = omega (arith, before.nodes, c.push_reserved.ensures.capacity);
-      children = omega (arith, before.children, c.put_child.ensures.room);
       steps = omega (arith, before.steps, steps, c.put_step.ensures.room);
       short = omega (arith, before.short, rows, nodes, is.count, c.requires.is.short, short);
       few = omega (arith, before.few, steps, nodes);
     }
 
 -- the tree shows the paths with the new one
-became : (c : goal.After-put_child)
+became : (c : goal.After-put_shortcut)
     → Became c.args.self.now (extended (shape_path c.args.self.now c.args.parent) (c.args.field ∷ [])) (new_tree c)
 became c =
     let tree = c.self.inside in
     let next : 8 + c.len.result ≡ first_path_shape + length (paths_of tree) =
     omega (arith, c.len.ensures, tree.nodes.ok.0, length-paths_in tree.rows.items tree.nodes.items) in
     more_shown tree (new_tree c) c.args.self.now c.args.parent c.args.field c.index-node.result.now (new_node c)
-    (new_child c) c.self.invariant c.self.view_is
+    c.place_of.result (8 + c.len.result) c.self.invariant c.self.view_is
     (record {
       at = c.index-node.ensures;
       node_is = node_is c;
       rows = c.push_row.ensures.pushed;
       nodes = c.push_reserved.ensures.items;
-      next = next;
-      by = refl;
-      children = c.put_child.ensures.put;
+      comes = next;
+      shortcuts = c.put_shortcut.ensures;
       steps = subst (λ (next : ℕ).
           (other : Transition)
           → get same_transition c.put_step.new.steps other

@@ -9,7 +9,7 @@ invariant_of-self c =
     let rows : c.copy_items.new.items.items ≡ other.rows.items = c.copy_items.ensures.copied ∙ c.deref.ensures.value in
     let nodes : c.copy_items-2.new.items.items ≡ other.nodes.items =
     c.copy_items-2.ensures.copied ∙ c.deref-2.ensures.value in
-    let children : c.copy_items-3.new.items.items ≡ other.children.items =
+    let shortcuts : c.copy_items-3.new.items.items ≡ other.shortcuts.items =
     c.copy_items-3.ensures.copied ∙ c.deref-3.ensures.value in
     let row_count = ap length rows in
     let node_count = ap length nodes in
@@ -19,14 +19,13 @@ invariant_of-self c =
     (record {
       rows = c.copy_items.new.items;
       nodes = c.copy_items-2.new.items;
-      children = c.copy_items-3.new.items;
       steps = c.copy_steps.new.steps;
+      shortcuts = c.copy_items-3.new.items;
     })
-    c.other.invariant rows nodes children c.copy_steps.ensures.copied
+    c.other.invariant rows nodes c.copy_steps.ensures.copied shortcuts
     (record {
       rows = omega (arith, own.rows, c.copy_items.ensures.room);
       nodes = omega (arith, own.nodes, c.copy_items-2.ensures.room);
-      children = omega (arith, own.children, c.copy_items-3.ensures.room);
       steps = omega (arith, own.steps, c.copy_steps.ensures.room);
       short = omega (arith, others.short, row_count, node_count);
       few = omega (arith, others.few, node_count, c.copy_steps.ensures.len);

@@ -9,7 +9,6 @@ pub invariant_of-result : goal.invariant_of-result
 invariant_of-result c =
     let rows = c.in_ok-rows.ensures in
     let nodes = c.in_ok-nodes.ensures in
-    let children = c.in_ok-children.ensures in
     let steps = c.in_ok-steps.ensures in
     let long : length c.in_ok-nodes.nodes.items ≡ 9 =
     ap length nodes.roots ∙ length-map-range_with_len root_node_of 0 9 in
@@ -18,14 +17,13 @@ invariant_of-result c =
     first_tree (record {
       rows = c.in_ok-rows.rows;
       nodes = c.in_ok-nodes.nodes;
-      children = c.in_ok-children.children;
       steps = c.in_ok-steps.steps;
+      shortcuts = c.in_ok-shortcuts.shortcuts;
     }) rows.items
-    nodes.roots children.none steps.empty
+    nodes.roots steps.empty c.in_ok-shortcuts.ensures
     (record {
       rows = omega (arith, rows.exact);
       nodes = omega (arith, nodes.room);
-      children = omega (arith, children.room);
       steps = omega (arith, steps.spare, no_steps);
       short = omega (arith, no_rows);
       few = omega (arith, no_steps);
