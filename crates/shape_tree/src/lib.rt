@@ -3,8 +3,8 @@
 //! Model: the list of paths in the order in which they were made; shape `s` is path `s - 8`.
 //! Invariant: the list is that of a graph (`AreShapes` of `specs/Shapes.antt`): the nine empty
 //! paths first, none twice, with each its prefixes. What the tree holds of each path and of each
-//! step is `IsTree` of `specs/Trees.antt`. The shortcuts, steps that are kept at hand for speed, are
-//! tied there to the transitions.
+//! step is `IsTree` of `specs/Trees.antt`. The shortcuts, which are steps kept at hand for speed,
+//! are tied there to the transitions.
 #![tactic(auto)]
 
 mod changing;
