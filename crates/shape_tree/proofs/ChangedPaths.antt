@@ -1,20 +1,22 @@
 -- Paths of which one field was added, changed or taken out.
-use Rattle.std.proofs.Common.{◌≡◌, ℕ, zero, suc, ◌<◌, Bool, false, List, [], ◌∷◌, ◌++◌, length, take, drop}
-use Rattle.std.proofs.Common.{map, refl, sym, ap, ◌∙◌}
+use Rattle.std.proofs.Common.{◌≡◌, ℕ, zero, suc, ◌+◌, ◌-◌, ◌<◌, Bool, false, List, [], ◌∷◌, ◌++◌, length}
+use Rattle.std.proofs.Common.{take, drop, get_or, map, refl, sym, ap, ◌∙◌, add-one, drop-cons}
 use Rattle.std.proofs.Common.{arith, subst, length-append, length-take, length-drop}
 use Rattle.std.specs.Prelude.{◌==◌}
 use Rattle.std.specs.Cmp.{nat_eq_equiv}
 use Rattle.std.specs.List.{list_any, IsDistinct, AllByRecursion}
 use Rattle.std.proofs.lemmas.Bool.{or_parts, or_from}
-use Rattle.std.proofs.lemmas.List.{map-append, take-map, drop-map, length-map}
+use Rattle.std.proofs.lemmas.List.{map-append, take-map, drop-map, length-map, take_rest}
 use Rattle.std.proofs.lemmas.Map.Keys.{IsDistinct-push}
 use Rattle.object_graph.specs.declared.path.Path.{Path}
 use Rattle.object_graph.specs.declared.path.PathField.{PathField}
 use Rattle.object_graph.specs.declared.value.Rep.{Rep}
+use Rattle.object_graph.specs.declared.value.Rep.TheVariants.{Small}
 use Rattle.object_graph.specs.Paths.{prefix_of}
 use Rattle.object_graph.specs.Invariants.{fields_most, IsPath}
 use Rattle.shape_tree.specs.Shapes.{has_name, stepped, changed_fields, changed, without}
 use Rattle.shape_tree.specs.Growth.{extended}
+use Rattle.shape_tree.proofs.GrownPaths.{extended-extended}
 
 -- what holds of all elements holds of those that are left where one was taken out
 All-remove : {X : Type 0} (P : X → Type 0) (xs : List X) (at : ℕ) → AllByRecursion P xs
@@ -120,3 +122,47 @@ pub extended-changed : (path : Path) (at : ℕ) (rep : Rep) → at < length path
 extended-changed path at rep there =
     let made : List PathField → Path = λ fields. record { cap = path.cap; fields = fields } in
     ap made (changed_fields-split path.fields at rep there)
+
+-- the fields behind a place, as they stand in a row
+abbrev pub fields_behind : List PathField → ℕ → List PathField
+fields_behind row at = take (length row - (at + 1)) (drop (at + 1) row)
+
+-- the field at a place of a row, with another representation
+abbrev pub changed_field : List PathField → ℕ → Rep → PathField
+changed_field row at rep = record { name = (get_or row at (record { name = 0; rep = Small })).name; rep = rep }
+
+-- they are those of the path whose row it is
+fields_behind-row : (path : Path) (row : List PathField) (at : ℕ) → row ≡ path.fields
+    → fields_behind row at ≡ drop (suc at) path.fields
+fields_behind-row path row at same =
+    take_rest row (at + 1) ∙ ap (drop (at + 1)) same ∙ ap (λ n. drop n path.fields) (add-one at)
+
+-- the prefix before a field and the fields behind it make the path without it
+pub extended-without : (path front : Path) (row : List PathField) (at : ℕ) → front ≡ prefix_of path at
+    → row ≡ path.fields → extended front (fields_behind row at) ≡ without path at
+extended-without path front row at is same =
+    ap (λ (p : Path). extended p (fields_behind row at)) is
+    ∙ ap (extended (prefix_of path at)) (fields_behind-row path row at same)
+
+-- the prefix before a field, the changed field and the fields behind it make the changed path
+pub extended-changed_at : (path front : Path) (row : List PathField) (at : ℕ) (rep : Rep) → at < length path.fields
+    → front ≡ prefix_of path at → row ≡ path.fields
+    → extended front (changed_field row at rep ∷ fields_behind row at) ≡ changed path at rep
+extended-changed_at path front row at rep there is same =
+    let before = prefix_of path at in
+    let later = drop (suc at) path.fields in
+    let split : drop at path.fields ≡ get_or path.fields at (record { name = 0; rep = Small }) ∷ later =
+    drop-cons path.fields at (record { name = 0; rep = Small }) there in
+    ap (λ (p : Path). extended p (changed_field row at rep ∷ fields_behind row at)) is
+    ∙ ap (λ fields. extended before (changed_field row at rep ∷ fields)) (fields_behind-row path row at same)
+    ∙ ap (λ fields. extended before (changed_field fields at rep ∷ later)) same
+    ∙ ap (λ fields. extended before (changed_fields fields 0 rep)) (sym split) ∙ extended-changed path at rep there
+
+-- so do the path that has the changed field last and the fields behind it
+pub extended-changed_next : (path front next : Path) (row : List PathField) (at : ℕ) (rep : Rep)
+    → at < length path.fields → front ≡ prefix_of path at → row ≡ path.fields
+    → next ≡ extended front (changed_field row at rep ∷ []) → extended next (fields_behind row at) ≡ changed path at rep
+extended-changed_next path front next row at rep there is same comes =
+    ap (λ (p : Path). extended p (fields_behind row at)) comes
+    ∙ extended-extended front (changed_field row at rep ∷ []) (fields_behind row at)
+    ∙ extended-changed_at path front row at rep there is same

@@ -2,7 +2,7 @@
 use Rattle.std.proofs.Common.{◌≡◌, ℕ, ◌-◌, ◌<◌, List, [], ◌∷◌, length, map, Option, None, refl, sym, ap}
 use Rattle.std.proofs.Common.{◌∙◌, subst}
 use Rattle.std.proofs.Common.{arith, length-append}
-use Rattle.std.specs.Prelude.{All}
+use Rattle.std.specs.Prelude.{All, replicate}
 use Rattle.std.specs.List.{range_with_len}
 use Rattle.std.specs.HashMap.{get}
 use Rattle.std.specs.Map.{lookup}
@@ -16,15 +16,17 @@ use Rattle.shape_tree.specs.declared.node.Node.{Node}
 use Rattle.shape_tree.specs.declared.transition.Transition.{Transition}
 use Rattle.shape_tree.specs.declared.tree.ShapeTree.TheInside.{Inside}
 use Rattle.shape_tree.specs.Shapes.{AreShapes, shape_path}
-use Rattle.shape_tree.specs.Nodes.{same_transition, root_node_of, paths_in, IsNode, IsTransition, FindsSteps}
+use Rattle.shape_tree.specs.Nodes.{same_transition, root_node_of, shortcuts_most, no_shortcut_of, paths_in, IsNode}
+use Rattle.shape_tree.specs.Nodes.{IsTransition, FindsSteps, AreShortcuts}
 use Rattle.shape_tree.specs.Trees.{HasRoom, IsTree, paths_of}
+use Rattle.shape_tree.proofs.HeldShortcuts.{no_shortcuts}
 
--- a tree with the rows, the nodes and the transitions of another
+-- a tree with the rows, the nodes, the transitions and the shortcuts of another
 pub copied_tree : (other new : Inside) → IsTree other → new.rows.items ≡ other.rows.items
     → new.nodes.items ≡ other.nodes.items
     → ((step : Transition) → get same_transition new.steps step ≡ get same_transition other.steps step)
-    → HasRoom new → IsTree new
-copied_tree other new is rows nodes steps room =
+    → new.shortcuts.items ≡ other.shortcuts.items → HasRoom new → IsTree new
+copied_tree other new is rows nodes steps shortcuts room =
     let shown : paths_of new ≡ paths_of other =
     ap (λ rs. paths_in rs new.nodes.items) rows ∙ ap (paths_in other.rows.items) nodes in
     let finds : FindsSteps (paths_of other) (get same_transition new.steps) = record {
@@ -37,6 +39,8 @@ copied_tree other new is rows nodes steps room =
           (subst (All (IsNode other.rows.items (paths_of new))) (sym nodes)
           (subst (λ ps. All (IsNode other.rows.items ps) other.nodes.items) (sym shown) is.each));
       finds = subst (λ ps. FindsSteps ps (get same_transition new.steps)) (sym shown) finds;
+      shortcuts = subst (AreShortcuts (paths_of new)) (sym shortcuts)
+          (subst (λ ps. AreShortcuts ps other.shortcuts.items) (sym shown) is.shortcuts);
       room = room;
     }
 
@@ -77,9 +81,10 @@ empty_finds look none = record {
 }
 
 -- the first tree
-pub first_tree : (new : Inside) → new.rows.items ≡ [] → new.nodes.items ≡ root_nodes_of → new.steps.entries ≡ []
-    → HasRoom new → IsTree new
-first_tree new rows nodes steps room =
+pub first_tree : (new : Inside) → new.rows.items ≡ [] → new.nodes.items ≡ root_nodes_of
+    → new.steps.entries ≡ [] → new.shortcuts.items ≡ replicate shortcuts_most no_shortcut_of → HasRoom new
+    → IsTree new
+first_tree new rows nodes steps shortcuts room =
     let shown : paths_of new ≡ empty_paths =
     ap (λ rs. paths_in rs new.nodes.items) rows ∙ ap (paths_in []) nodes ∙ paths_in-root_nodes_of in
     let good : AreShapes empty_paths = record { are = empty_paths_are; few = omega (arith, length-empty_paths) } in
@@ -91,5 +96,6 @@ first_tree new rows nodes steps room =
           (subst (All (IsNode [] (paths_of new))) (sym nodes) (roots_are_nodes (paths_of new)));
       finds = subst (λ ps. FindsSteps ps (get same_transition new.steps)) (sym shown)
           (empty_finds (get same_transition new.steps) none);
+      shortcuts = subst (AreShortcuts (paths_of new)) (sym shortcuts) (no_shortcuts (paths_of new));
       room = room;
     }

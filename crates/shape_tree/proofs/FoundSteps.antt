@@ -12,16 +12,12 @@ use Rattle.object_graph.specs.Invariants.{IsPath, ArePaths}
 use Rattle.shape_tree.specs.declared.transition.Transition.{Transition}
 use Rattle.shape_tree.specs.Shapes.{IsPathShape, IsShapeOf, shape_path, stepped}
 use Rattle.shape_tree.specs.Growth.{extended, IsMissing}
-use Rattle.shape_tree.specs.Nodes.{same_transition, IsTransition, FindsSteps}
+use Rattle.shape_tree.specs.Nodes.{same_transition, transition_by, IsTransition, FindsSteps}
 use Rattle.shape_tree.proofs.SameTransitions.{Decides-same_transition}
 use Rattle.shape_tree.proofs.ShapePaths.{IsPathShape-append, shape_path-append, IsShapeOf-append, IsShapeOf-last}
 use Rattle.shape_tree.proofs.ShapePaths.{shape_cases, one_shape, shape_of, has_shape_path, has_its_path}
 use Rattle.shape_tree.proofs.MissingPaths.{missing_not_there}
 use Rattle.shape_tree.proofs.GrownPaths.{has_prefix_of, are_with_next}
-
--- a field is added behind the path of a shape
-abbrev pub transition_by : ℕ → PathField → Transition
-transition_by parent field = record { parent = parent; name = field.name; rep = field.rep }
 
 -- the path to which a transition leads
 abbrev pub target : List Path → Transition → Path
@@ -54,6 +50,14 @@ last_transition paths step starts =
       leads = subst (λ path. IsShapeOf new path (first_path_shape + length paths))
           (sym (target-append paths (target paths step ∷ []) step starts)) (IsShapeOf-last paths (target paths step));
     }
+
+-- so the step to the path that comes last may be kept as a shortcut
+pub last_step : (paths : List Path) (parent next : ℕ) (field : PathField) → IsPathShape paths parent
+    → next ≡ first_path_shape + length paths
+    → IsTransition (paths ++ extended (shape_path paths parent) (field ∷ []) ∷ []) (transition_by parent field) next
+last_step paths parent next field starts comes =
+    subst (IsTransition (paths ++ extended (shape_path paths parent) (field ∷ []) ∷ []) (transition_by parent field))
+    (sym comes) (last_transition paths (transition_by parent field) starts)
 
 -- a transition to a path that was there was one
 was_transition : (paths more : List Path) (step : Transition) (shape : ℕ) → ArePaths paths → ArePaths (paths ++ more)

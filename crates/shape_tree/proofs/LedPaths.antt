@@ -1,7 +1,7 @@
 -- What a change of fields that was carried out, or refused, leaves.
-use Rattle.std.proofs.Common.{◌≡◌, ℕ, ◌+◌, ◌<◌, ◌≤◌, List, ◌++◌, length, Some, None, refl, sym, ap}
+use Rattle.std.proofs.Common.{◌≡◌, ℕ, ◌+◌, ◌<◌, ◌≤◌, List, [], ◌++◌, length, Some, None, refl, sym, ap}
 use Rattle.std.proofs.Common.{◌∙◌}
-use Rattle.std.proofs.Common.{arith, subst, length-append}
+use Rattle.std.proofs.Common.{arith, subst, append-nil, length-append}
 use Rattle.std.proofs.lemmas.Bool.{leb-true, le-leb, lt-leb, cond-true, cond-false}
 use Rattle.std.proofs.lemmas.Option.{cond_some}
 use Rattle.object_graph.specs.declared.path.Path.{Path}
@@ -10,7 +10,9 @@ use Rattle.object_graph.specs.Limits.{paths_most}
 use Rattle.object_graph.specs.Invariants.{IsPath}
 use Rattle.object_graph.proofs.AddedPaths.{adds}
 use Rattle.shape_tree.specs.declared.full.ShapesFull.{ShapesFull}
-use Rattle.shape_tree.specs.Shapes.{AreShapes, Leads, IsFullFor}
+use Rattle.shape_tree.specs.Shapes.{AreShapes, IsShapeOf, Leads, IsFullFor}
+use Rattle.shape_tree.proofs.ShapePaths.{has_its_path}
+use Rattle.shape_tree.proofs.GrownPaths.{missing-there}
 
 -- there are no more paths afterwards than there may be
 with_path-few : (most : ℕ) (old new : List Path) (path : Path) → with_path (Some most) old path ≡ Some new
@@ -53,3 +55,18 @@ not_refused old new path full is few =
     let added = with_path-added old (old ++ missing old path) path refl few in
     let refused = is.refused in
     cc
+
+-- a path that is there is led to with nothing added
+pub leads_there : (paths : List Path) (path : Path) (shape : ℕ) → AreShapes paths → IsShapeOf paths path shape
+    → Leads paths paths path shape
+leads_there paths path shape good is =
+    let none : missing paths path ≡ [] = missing-there paths path good.are (has_its_path paths path shape is) in
+    let same : paths ≡ paths ++ missing paths path = sym (ap (λ more. paths ++ more) none ∙ append-nil paths) in
+    let few : length paths + length (missing paths path) ≤ paths_most = omega (arith, good.few, ap length none) in
+    record { added = with_path-added paths paths path same few; shape_is = is }
+
+-- of a path that is there none is missing
+pub none_missing : (paths : List Path) (path : Path) (shape : ℕ) → AreShapes paths → IsShapeOf paths path shape
+    → length (missing paths path) ≡ 0
+none_missing paths path shape good is =
+    ap length (missing-there paths path good.are (has_its_path paths path shape is))

@@ -10,6 +10,7 @@ mod FoundSteps
 mod SoughtSteps
 mod CopiedSteps
 mod HeldNodes
+mod HeldShortcuts
 mod GrownNodes
 mod GrownTrees
 mod FirstTrees

@@ -11,10 +11,10 @@ use Rattle.shape_tree.specs.declared.tree.ShapeTree.TheInside.{Inside}
 use Rattle.shape_tree.specs.Trees.{IsTree, paths_of}
 use Rattle.shape_tree.specs.Shapes.{IsPathShape, IsShapeOf, shape_path}
 use Rattle.shape_tree.specs.Growth.{extended, IsMissing}
-use Rattle.shape_tree.specs.Nodes.{same_transition, FindsSteps}
+use Rattle.shape_tree.specs.Nodes.{same_transition, transition_by, FindsSteps}
 use Rattle.shape_tree.proofs.ShapePaths.{shape_of, has_its_path}
 use Rattle.shape_tree.proofs.MissingPaths.{missing_not_there, missing_if_not}
-use Rattle.shape_tree.proofs.FoundSteps.{transition_by, target}
+use Rattle.shape_tree.proofs.FoundSteps.{target}
 
 -- what the look-up of a step finds is the shape of the path with the field more; where it finds nothing that path is
 -- missing

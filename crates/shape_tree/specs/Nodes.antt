@@ -1,11 +1,13 @@
 -- Rows, nodes and transitions: what a tree of shapes holds of a list of paths.
-use Rattle.std.specs.Prelude.{◌≡◌, ℕ, ◌+◌, ◌-◌, ◌<◌, ◌≤◌, Bool, List, [], map, length, take, drop}
-use Rattle.std.specs.Prelude.{Option, Some}
+use Rattle.std.specs.Prelude.{◌≡◌, ℕ, ◌+◌, ◌-◌, ◌<◌, ◌≤◌, Bool, List, [], map, length, take}
+use Rattle.std.specs.Prelude.{drop, All, Option, Some}
 use Rattle.object_graph.specs.declared.path.Path.{Path}
 use Rattle.object_graph.specs.declared.path.PathField.{PathField}
+use Rattle.object_graph.specs.declared.value.Rep.TheVariants.{Small}
 use Rattle.object_graph.specs.Paths.{prefix_of}
 use Rattle.object_graph.specs.Invariants.{cap_most, fields_most}
 use Rattle.shape_tree.specs.declared.node.Node.{Node}
+use Rattle.shape_tree.specs.declared.shortcut.Shortcut.{Shortcut}
 use Rattle.shape_tree.specs.declared.transition.Transition.{Transition}
 use Rattle.shape_tree.specs.contracts.transition.TransitionPartialEq.TheImpl as transition_eq
 use Rattle.shape_tree.specs.Shapes.{IsPathShape, IsShapeOf, shape_path, stepped}
@@ -39,6 +41,28 @@ pub record IsNode (rows : List PathField) (paths : List Path) (node : Node) : Ty
 pub record IsTransition (paths : List Path) (step : Transition) (shape : ℕ) : Type 0 where
   pub starts : IsPathShape paths step.parent
   pub leads : IsShapeOf paths (stepped (shape_path paths step.parent) step.name step.rep) shape
+
+-- a field is added behind the path of a shape
+abbrev pub transition_by : ℕ → PathField → Transition
+transition_by parent field = record { parent = parent; name = field.name; rep = field.rep }
+
+-- how many shortcuts there are
+abbrev pub shortcuts_most : ℕ
+shortcuts_most = 4096
+
+-- what stands for a shortcut where there is none
+abbrev pub no_shortcut_of : Shortcut
+no_shortcut_of = record { parent = 0; field = record { name = 0; rep = Small }; shape = 0 }
+
+-- the shortcut is there only if it is a transition
+abbrev pub IsShortcut : List Path → Shortcut → Type 0
+IsShortcut paths shortcut =
+    0 < shortcut.shape → IsTransition paths (transition_by shortcut.parent shortcut.field) shortcut.shape
+
+-- each place has a shortcut, or what stands for none
+pub record AreShortcuts (paths : List Path) (shortcuts : List Shortcut) : Type 0 where
+  pub counted : length shortcuts ≡ shortcuts_most
+  pub each : All (IsShortcut paths) shortcuts
 
 -- the look-up finds each transition, and nothing else
 pub record FindsSteps (paths : List Path) (look : Transition → Option ℕ) : Type 0 where

@@ -7,7 +7,7 @@ use Rattle.object_graph.specs.Invariants.{fields_most}
 use Rattle.object_graph.specs.Limits.{paths_most}
 use Rattle.shape_tree.specs.declared.tree.ShapeTree.TheInside.{Inside}
 use Rattle.shape_tree.specs.Shapes.{AreShapes}
-use Rattle.shape_tree.specs.Nodes.{same_transition, paths_in, IsNode, FindsSteps}
+use Rattle.shape_tree.specs.Nodes.{same_transition, paths_in, IsNode, FindsSteps, AreShortcuts}
 
 -- there is room for all the paths that there may be
 pub record HasRoom (tree : Inside) : Type 0 where
@@ -26,4 +26,5 @@ pub record IsTree (tree : Inside) : Type 0 where
   pub shapes : AreShapes (paths_of tree)
   pub each : All (IsNode tree.rows.items (paths_of tree)) tree.nodes.items
   pub finds : FindsSteps (paths_of tree) (get same_transition tree.steps)
+  pub shortcuts : AreShortcuts (paths_of tree) tree.shortcuts.items
   pub room : HasRoom tree

@@ -1,9 +1,10 @@
 //! The changes of fields: which shape they lead to, and how many paths are missing for them.
-ghost use Rattle.std.specs.Prelude.{◌≡◌, ◌<◌, ◌≤◌, false, length, IfOk, IfErr};
+ghost use Rattle.std.specs.Prelude.{◌≡◌, ◌<◌, ◌≤◌, false, length, IfOk, IfErr, IfSome};
 ghost use Rattle.object_graph.specs.Paths.{missing};
 ghost use Rattle.object_graph.specs.Invariants.{fields_most};
 ghost use Rattle.shape_tree.specs.Shapes.{IsPathShape, shape_path, has_name, stepped, changed};
-ghost use Rattle.shape_tree.specs.Shapes.{without, Leads, IsFullFor};
+ghost use Rattle.shape_tree.specs.Shapes.{without, IsShapeOf, Leads, IsFullFor};
+ghost use Rattle.shape_tree.specs.Growth.{extended};
 
 use crate::full::ShapesFull;
 use crate::route::{Route, Tail};
@@ -12,6 +13,45 @@ use object_graph::{PathField, Rep};
 
 impl ShapeTree {
     ghost use Rattle.shape_tree.specs.Walks.{RoutesTo};
+
+    /// The shape of the path with these fields more, if it is there.
+    fn there_along(&self, from: u32, tail: &[PathField]) -> Option<u32>
+        requires { IsPathShape self.now from }
+        ensures { let path = extended (shape_path self.now from) tail.now in
+            IfSome result (IsShapeOf self.now path) }
+    {
+        let walk = self.walk(from, tail);
+        if walk.rest.is_empty() {
+            Some(walk.shape)
+        } else {
+            None
+        }
+    }
+
+    /// The shape of the path, one field of which has another representation, if it is there. The
+    /// fields are read where they stand: to add paths they are copied.
+    fn there_changed(&self, shape: u32, at: u32, rep: Rep) -> Option<u32>
+        requires path { IsPathShape self.now shape }
+        requires there { at < length (shape_path self.now shape).fields }
+        ensures { let path = changed (shape_path self.now shape) at rep in
+            IfSome result (IsShapeOf self.now path) }
+    {
+        let row = self.row(shape);
+        let name = row[at as usize].name;
+        let next = self.next(self.ancestor(shape, at), PathField { name, rep })?;
+        self.there_along(next, &row[at as usize + 1..])
+    }
+
+    /// The shape of the path without one field, if it is there, as for `there_changed`.
+    fn there_without(&self, shape: u32, at: u32) -> Option<u32>
+        requires path { IsPathShape self.now shape }
+        requires there { at < length (shape_path self.now shape).fields }
+        ensures { let path = without (shape_path self.now shape) at in
+            IfSome result (IsShapeOf self.now path) }
+    {
+        let row = self.row(shape);
+        self.there_along(self.ancestor(shape, at), &row[at as usize + 1..])
+    }
 
     /// The way to the path of a shape, one field of which has another representation.
     fn way_to_changed(&self, shape: u32, at: u32, rep: Rep) -> Route
@@ -40,6 +80,7 @@ impl ShapeTree {
     ///
     /// # Errors
     /// There would be more than 8,192 paths; nothing has changed.
+    #[inline]
     pub fn step(&mut self, shape: u32, name: u32, rep: Rep) -> Result<u32, ShapesFull>
         requires path { IsPathShape self.old shape }
         requires is_new { has_name (shape_path self.old shape) name ≡ false }
@@ -51,7 +92,11 @@ impl ShapeTree {
     {
         // Opens the tree: the proof needs what holds of each.
         let _ = &self.nodes;
-        self.lead(shape, &[PathField { name, rep }])
+        let field = PathField { name, rep };
+        if let Some(next) = self.next(shape, field) {
+            return Ok(next);
+        }
+        self.lead(shape, &[field])
     }
 
     /// The shape of the path, one field of which has another representation.
@@ -66,6 +111,11 @@ impl ShapeTree {
         ensures full { let path = changed (shape_path self.old shape) at rep in
             IfErr result (λ full. IsFullFor self.old self.new path full) }
     {
+        // Opens the tree: the proof needs what holds of each.
+        let _ = &self.nodes;
+        if let Some(next) = self.there_changed(shape, at, rep) {
+            return Ok(next);
+        }
         let route = self.way_to_changed(shape, at, rep);
         self.lead(route.from, route.tail.as_slice())
     }
@@ -82,12 +132,18 @@ impl ShapeTree {
         ensures full { let path = without (shape_path self.old shape) at in
             IfErr result (λ full. IsFullFor self.old self.new path full) }
     {
+        // Opens the tree: the proof needs what holds of each.
+        let _ = &self.nodes;
+        if let Some(next) = self.there_without(shape, at) {
+            return Ok(next);
+        }
         let route = self.way_without(shape, at);
         self.lead(route.from, route.tail.as_slice())
     }
 
     /// How many paths `step` would add. It is not refused where they and those that are there
     /// are at most 8,192.
+    #[inline]
     pub fn missing_step(&self, shape: u32, name: u32, rep: Rep) -> u32
         requires path { IsPathShape self.now shape }
         requires is_new { has_name (shape_path self.now shape) name ≡ false }
@@ -97,7 +153,10 @@ impl ShapeTree {
     {
         // Opens the tree: the proof needs what holds of each.
         let _ = &self.nodes;
-        self.missing_along(shape, &[PathField { name, rep }])
+        match self.next(shape, PathField { name, rep }) {
+            Some(_) => 0,
+            None => 1,
+        }
     }
 
     /// How many paths `change` would add, as for `missing_step`.
@@ -107,8 +166,15 @@ impl ShapeTree {
         ensures { let path = changed (shape_path self.now shape) at rep in
             result ≡ length (missing self.now path) }
     {
-        let route = self.way_to_changed(shape, at, rep);
-        self.missing_along(route.from, route.tail.as_slice())
+        // Opens the tree: the proof needs what holds of each.
+        let _ = &self.nodes;
+        let row = self.row(shape);
+        let name = row[at as usize].name;
+        let Some(next) = self.next(self.ancestor(shape, at), PathField { name, rep }) else {
+            // No path with a missing prefix is there.
+            return row.len() as u32 - at;
+        };
+        self.missing_along(next, &row[at as usize + 1..])
     }
 
     /// How many paths `without` would add, as for `missing_step`.
@@ -118,7 +184,7 @@ impl ShapeTree {
         ensures { let path = without (shape_path self.now shape) at in
             result ≡ length (missing self.now path) }
     {
-        let route = self.way_without(shape, at);
-        self.missing_along(route.from, route.tail.as_slice())
+        let row = self.row(shape);
+        self.missing_along(self.ancestor(shape, at), &row[at as usize + 1..])
     }
 }

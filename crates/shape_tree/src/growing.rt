@@ -1,6 +1,6 @@
 //! How paths are added to a tree of shapes.
 ghost use Rattle.std.specs.Prelude.{◌≡◌, ◌+◌, ◌*◌, ◌^◌, ◌<◌, ◌≤◌, nat_lt, [], ◌∷◌, ◌++◌};
-ghost use Rattle.std.specs.Prelude.{length, take, drop, IfOk, IfErr};
+ghost use Rattle.std.specs.Prelude.{length, take, drop, set, IfOk, IfErr};
 ghost use Rattle.std.specs.Vec.{vec_len, vec_capacity};
 ghost use Rattle.tagged_word.specs.Shapes.{first_path_shape};
 ghost use Rattle.object_graph.specs.Paths.{missing};
@@ -13,6 +13,7 @@ ghost use Rattle.shape_tree.specs.Growth.{extended, IsMissing, IsFresh};
 
 use crate::full::ShapesFull;
 use crate::node::Node;
+use crate::shortcut::{Shortcut, place_of};
 use crate::transition::Transition;
 use crate::tree::{FIRST, PATHS_MOST, ShapeTree, put_step};
 use object_graph::{PathField, Rep};
@@ -57,6 +58,14 @@ fn push_row(rows: &mut Vec<PathField>, start: u32, count: u32, field: PathField)
     rows.push_reserved(field);
 }
 
+/// Puts a shortcut at its place, over what stood there.
+fn put_shortcut(shortcuts: &mut Vec<Shortcut>, place: usize, shortcut: Shortcut)
+    requires there { place < vec_len shortcuts.old }
+    ensures { shortcuts.new.items ≡ set shortcuts.old.items place shortcut }
+{
+    shortcuts[place] = shortcut;
+}
+
 /// Whether there may not be as many paths as these and those that are missing.
 fn are_too_many(paths: u32, missing: u32) -> bool
     requires { paths + missing < 2 ^ 32 }
@@ -94,6 +103,12 @@ impl ShapeTree {
             rep: field.rep,
         };
         put_step(&mut self.steps, step, shape);
+        let shortcut = Shortcut {
+            parent,
+            field,
+            shape,
+        };
+        put_shortcut(&mut self.shortcuts, place_of(parent, field), shortcut);
         shape
     }
 

@@ -2,8 +2,9 @@
 //!
 //! Model: the list of paths in the order in which they were made; shape `s` is path `s - 8`.
 //! Invariant: the list is that of a graph (`AreShapes` of `specs/Shapes.antt`): the nine empty
-//! paths first, none twice, with each its prefixes. What the table holds of each path and of each
-//! step is `IsTree` of `specs/Trees.antt`.
+//! paths first, none twice, with each its prefixes. What the tree holds of each path and of each
+//! step is `IsTree` of `specs/Trees.antt`. The shortcuts, which are steps kept at hand for speed,
+//! are tied there to the transitions.
 #![tactic(auto)]
 
 mod changing;
@@ -13,6 +14,7 @@ mod laws;
 mod node;
 mod reading;
 mod route;
+mod shortcut;
 mod transition;
 mod tree;
 mod walking;

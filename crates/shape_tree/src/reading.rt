@@ -39,6 +39,7 @@ fn fixed_layout(shape: u32) -> LayoutWord
 
 impl ShapeTree {
     /// How many paths there are: at most 8,192. Their shapes are the numbers from 8 on.
+    #[inline]
     pub fn paths(&self) -> u32
         ensures counted { result ≡ length self.now }
         ensures good { AreShapes self.now }
@@ -47,6 +48,7 @@ impl ShapeTree {
     }
 
     /// Whether the number is the shape of a path.
+    #[inline]
     pub fn has_path(&self, shape: u32) -> bool
         ensures { IsTrue result ↔ IsPathShape self.now shape }
     {
@@ -84,6 +86,7 @@ impl ShapeTree {
     }
 
     /// How many fields the path of a shape has: at most 64.
+    #[inline]
     pub fn fields(&self, shape: u32) -> u32
         requires { IsPathShape self.now shape }
         ensures counted { result ≡ length (shape_path self.now shape).fields }
@@ -103,6 +106,7 @@ impl ShapeTree {
     }
 
     /// The layout of the cells of a shape, of the fixed ones too.
+    #[inline]
     pub fn layout(&self, shape: u32) -> LayoutWord
         requires { IsInUse self.now shape }
         ensures word { layout_bits result ≡ layout_word self.now shape }

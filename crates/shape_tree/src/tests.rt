@@ -247,3 +247,27 @@ fn a_path_may_have_64_fields(rt: HostRuntime) -> Result<(), Fail> {
     assert_eq!(rt; parent_of(&rt, &tree, changed), Some(shorter));
     Ok(())
 }
+
+#[test]
+fn at_a_fork_each_field_leads_to_its_own_path(rt: HostRuntime) -> Result<(), Fail> {
+    let mut tree = ShapeTree::new(rt.alloc())?;
+    let root = tree.root(4);
+    assert_eq!(rt; step_all(&rt, &mut tree, root, &[small(5), small(6)]), 18);
+    // What is added the first time is there the second time.
+    for _ in 0..2 {
+        assert_eq!(rt; step(&rt, &mut tree, root, small(5)), Ok(17));
+        assert_eq!(rt; step(&rt, &mut tree, root, wide(5)), Ok(19));
+        assert_eq!(rt; step(&rt, &mut tree, root, small(6)), Ok(20));
+        assert_eq!(rt; change(&rt, &mut tree, 18, 0, Rep::Wide), Ok(21));
+        assert_eq!(rt; change(&rt, &mut tree, 18, 1, Rep::Wide), Ok(22));
+        assert_eq!(rt; change(&rt, &mut tree, 22, 1, Rep::Small), Ok(18));
+        assert_eq!(rt; without(&rt, &mut tree, 18, 0), Ok(20));
+        assert_eq!(rt; without(&rt, &mut tree, 22, 0), Ok(23));
+        assert_eq!(rt; without(&rt, &mut tree, 21, 1), Ok(19));
+        assert_eq!(rt; tree.paths(), 16);
+    }
+    has_fields(&rt, &tree, 21, 4, &[wide(5), small(6)]);
+    has_fields(&rt, &tree, 22, 4, &[small(5), wide(6)]);
+    has_fields(&rt, &tree, 23, 4, &[wide(6)]);
+    Ok(())
+}

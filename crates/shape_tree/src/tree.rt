@@ -1,14 +1,17 @@
 //! The tree itself: what it owns, how it is made, and how it becomes a copy of another.
 ghost use Rattle.std.specs.Prelude.{◌≡◌, ◌+◌, ◌<◌, ◌≤◌, cond, map, length, Some, None, IfOk};
+ghost use Rattle.std.specs.Prelude.{replicate};
 ghost use Rattle.std.specs.List.{range_with_len};
 ghost use Rattle.std.specs.Vec.{vec_capacity};
 ghost use Rattle.std.specs.HashMap.{get, hash_map_len, spare, IsUnique};
 ghost use Rattle.object_graph.specs.Paths.{empty_paths};
 ghost use Rattle.shape_tree.specs.ShapeLayouts.{layout_of};
-ghost use Rattle.shape_tree.specs.Nodes.{same_transition, root_node_of};
+ghost use Rattle.shape_tree.specs.Nodes.{same_transition, root_node_of, no_shortcut_of};
+ghost use Rattle.shape_tree.specs.Nodes.{shortcuts_most};
 ghost use Rattle.shape_tree.specs.declared.transition.Transition.{Transition};
 
 use crate::node::Node;
+use crate::shortcut::{SHORTCUTS, Shortcut};
 use crate::transition::Transition;
 use object_graph::PathField;
 use std::alloc::{AllocError, Global};
@@ -35,6 +38,8 @@ pub struct ShapeTree {
     pub(crate) nodes: Vec<Node>,
     /// The shape to which each transition leads.
     pub(crate) steps: HashMap<Transition, u32>,
+    /// Some of these steps, each at its place, or none: answers without the table.
+    pub(crate) shortcuts: Vec<Shortcut>,
 }
 
 impl Model for ShapeTree {
@@ -79,6 +84,16 @@ fn root_nodes(alloc: Global) -> Result<Vec<Node>, AllocError>
         nodes.push_reserved(root_node(cap));
     }
     Ok(nodes)
+}
+
+/// The places of shortcuts, where none stands so far.
+fn no_shortcuts(alloc: Global) -> Result<Vec<Shortcut>, AllocError>
+    ensures { IfOk result (λ shortcuts.
+        shortcuts.items ≡ replicate shortcuts_most no_shortcut_of) }
+{
+    let none = Shortcut::none();
+    let shortcuts = vec![in alloc; none; SHORTCUTS]?;
+    Ok(shortcuts)
 }
 
 /// Puts a transition into the table, which has room for it.
@@ -132,7 +147,13 @@ impl ShapeTree {
         let rows = Vec::with_capacity(alloc, PATHS_MOST as usize * FIELDS_MOST)?;
         let nodes = root_nodes(alloc)?;
         let steps = HashMap::with_capacity(alloc, PATHS_MOST as usize)?;
-        Ok(ShapeTree { rows, nodes, steps })
+        let shortcuts = no_shortcuts(alloc)?;
+        Ok(ShapeTree {
+            rows,
+            nodes,
+            steps,
+            shortcuts,
+        })
     }
 
     /// Makes this tree a copy of the other. It takes no memory.
@@ -142,5 +163,6 @@ impl ShapeTree {
         copy_items(&mut self.rows, &other.rows);
         copy_items(&mut self.nodes, &other.nodes);
         copy_steps(&mut self.steps, &other.steps);
+        copy_items(&mut self.shortcuts, &other.shortcuts);
     }
 }

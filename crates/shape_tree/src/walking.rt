@@ -4,6 +4,7 @@ ghost use Rattle.object_graph.specs.Paths.{prefix_of};
 ghost use Rattle.shape_tree.specs.Shapes.{IsPathShape, IsShapeOf, shape_path};
 ghost use Rattle.shape_tree.specs.Growth.{extended, IsMissing};
 
+use crate::shortcut::place_of;
 use crate::transition::Transition;
 use crate::tree::ShapeTree;
 use object_graph::PathField;
@@ -21,7 +22,22 @@ impl ShapeTree {
     ghost use Rattle.shape_tree.specs.Walks.{WalksTo};
 
     /// The shape of the path with this field more, if it is there.
+    #[inline(always)]
     pub(crate) fn next(&self, shape: u32, field: PathField) -> Option<u32>
+        requires { IsPathShape self.now shape }
+        ensures { let path = extended (shape_path self.now shape) (field ∷ []) in
+            MatchOption result (IsMissing self.now path) (IsShapeOf self.now path) }
+    {
+        let shortcut = self.shortcuts[place_of(shape, field)];
+        if shortcut.is_for(shape, field) {
+            return Some(shortcut.shape);
+        }
+        self.look_up(shape, field)
+    }
+
+    /// The same by the table of transitions. It hashes, so it is kept out of line.
+    #[inline(never)]
+    fn look_up(&self, shape: u32, field: PathField) -> Option<u32>
         requires { IsPathShape self.now shape }
         ensures { let path = extended (shape_path self.now shape) (field ∷ []) in
             MatchOption result (IsMissing self.now path) (IsShapeOf self.now path) }

@@ -7,12 +7,11 @@ use Rattle.shape_tree.specs.declared.node.Node.{Node}
 use Rattle.shape_tree.specs.declared.tree.ShapeTree.TheInside.{Inside}
 use Rattle.shape_tree.specs.Shapes.{IsPathShape, shape_path}
 use Rattle.shape_tree.specs.Growth.{extended}
-use Rattle.shape_tree.specs.Nodes.{same_transition, path_at}
+use Rattle.shape_tree.specs.Nodes.{same_transition, transition_by, path_at}
 use Rattle.shape_tree.specs.Trees.{HasRoom, paths_of}
 use Rattle.shape_tree.proofs.HeldNodes.{IsNodeOf-shown, IsNode-at, length-path_at, length-paths_in}
 use Rattle.shape_tree.proofs.GrownNodes.{IsGrown, length-row}
 use Rattle.shape_tree.proofs.GrownTrees.{Became, more_shown}
-use Rattle.shape_tree.proofs.FoundSteps.{transition_by}
 use Rattle.shape_tree.proofs.SoughtSteps.{nothing_shown}
 use Rattle.shape_tree.specs.declared.transition.Transition.{Transition}
 use Rattle.shape_tree.proofs.PathLayouts.{layout_of-grown, raw-lt}
@@ -28,11 +27,16 @@ layout_with-layout-requires-clause-few c =
     raw-lt path node.layout node.count is.layout is.count
 
 -- the tree as it is then
-abbrev new_tree : goal.After-put_step → Inside
-new_tree c = record { rows = c.push_row.new.rows; nodes = c.push_reserved.new.self; steps = c.put_step.new.steps }
+abbrev new_tree : goal.After-put_shortcut → Inside
+new_tree c = record {
+  rows = c.push_row.new.rows;
+  nodes = c.push_reserved.new.self;
+  steps = c.put_step.new.steps;
+  shortcuts = c.put_shortcut.new.shortcuts;
+}
 
 -- its new node
-abbrev new_node : goal.After-put_step → Node
+abbrev new_node : goal.After-put_shortcut → Node
 new_node c =
     record {
       cap = c.index-node.result.now.cap;
@@ -43,7 +47,7 @@ new_node c =
     }
 
 -- the new node is that of the path with the field more
-node_is : (c : goal.After-put_step)
+node_is : (c : goal.After-put_shortcut)
     → IsGrown c.self.inside.rows.items c.index-node.result.now c.args.parent c.args.field (new_node c)
 node_is c =
     let rows = c.self.inside.rows.items in
@@ -63,7 +67,7 @@ node_is c =
     }
 
 -- there is room left
-has_room : (c : goal.After-put_step) → HasRoom (new_tree c)
+has_room : (c : goal.After-put_shortcut) → HasRoom (new_tree c)
 has_room c =
     let tree = c.self.inside in
     let node = c.index-node.result.now in
@@ -92,19 +96,21 @@ has_room c =
     }
 
 -- the tree shows the paths with the new one
-became : (c : goal.After-put_step)
+became : (c : goal.After-put_shortcut)
     → Became c.args.self.now (extended (shape_path c.args.self.now c.args.parent) (c.args.field ∷ [])) (new_tree c)
 became c =
     let tree = c.self.inside in
     let next : 8 + c.len.result ≡ first_path_shape + length (paths_of tree) =
     omega (arith, c.len.ensures, tree.nodes.ok.0, length-paths_in tree.rows.items tree.nodes.items) in
     more_shown tree (new_tree c) c.args.self.now c.args.parent c.args.field c.index-node.result.now (new_node c)
-    c.self.invariant c.self.view_is
+    c.place_of.result (8 + c.len.result) c.self.invariant c.self.view_is
     (record {
       at = c.index-node.ensures;
       node_is = node_is c;
       rows = c.push_row.ensures.pushed;
       nodes = c.push_reserved.ensures.items;
+      comes = next;
+      shortcuts = c.put_shortcut.ensures;
       steps = subst (λ (next : ℕ).
           (other : Transition)
           → get same_transition c.put_step.new.steps other

@@ -9,13 +9,20 @@ invariant_of-self c =
     let rows : c.copy_items.new.items.items ≡ other.rows.items = c.copy_items.ensures.copied ∙ c.deref.ensures.value in
     let nodes : c.copy_items-2.new.items.items ≡ other.nodes.items =
     c.copy_items-2.ensures.copied ∙ c.deref-2.ensures.value in
+    let shortcuts : c.copy_items-3.new.items.items ≡ other.shortcuts.items =
+    c.copy_items-3.ensures.copied ∙ c.deref-3.ensures.value in
     let row_count = ap length rows in
     let node_count = ap length nodes in
     let own = c.self.invariant.room in
     let others = c.other.invariant.room in
     copied_tree other
-    (record { rows = c.copy_items.new.items; nodes = c.copy_items-2.new.items; steps = c.copy_steps.new.steps })
-    c.other.invariant rows nodes c.copy_steps.ensures.copied
+    (record {
+      rows = c.copy_items.new.items;
+      nodes = c.copy_items-2.new.items;
+      steps = c.copy_steps.new.steps;
+      shortcuts = c.copy_items-3.new.items;
+    })
+    c.other.invariant rows nodes c.copy_steps.ensures.copied shortcuts
     (record {
       rows = omega (arith, own.rows, c.copy_items.ensures.room);
       nodes = omega (arith, own.nodes, c.copy_items-2.ensures.room);

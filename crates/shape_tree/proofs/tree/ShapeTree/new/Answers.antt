@@ -18,8 +18,9 @@ invariant_of-result c =
       rows = c.in_ok-rows.rows;
       nodes = c.in_ok-nodes.nodes;
       steps = c.in_ok-steps.steps;
+      shortcuts = c.in_ok-shortcuts.shortcuts;
     }) rows.items
-    nodes.roots steps.empty
+    nodes.roots steps.empty c.in_ok-shortcuts.ensures
     (record {
       rows = omega (arith, rows.exact);
       nodes = omega (arith, nodes.room);

@@ -1,7 +1,7 @@
 -- The look-up finds each step, and nothing else.
 use Rattle.std.proofs.Common.{sym, ◌∙◌}
 use Rattle.shape_tree.proofs.SoughtSteps.{step_shown}
-use Rattle.shape_tree.proofs.tree.ShapeTree.next.Goals as goal
+use Rattle.shape_tree.proofs.tree.ShapeTree.look_up.Goals as goal
 
 pub returns : goal.returns
 returns c =
