@@ -37,10 +37,10 @@ use Rattle.object_cells.specs.Made.{IsStoreAt, beside_content}
 use Rattle.object_cells.specs.declared.content.Content.TheVariants as content
 use Rattle.object_cells.specs.declared.stores.Store.{Store}
 use Rattle.object_cells.proofs.CellsRead.{word_stands}
+use Rattle.object_cells.proofs.ContentValues.{content_shows}
 use Rattle.object_cells.proofs.HeldContents.{HoldsValue}
 use Rattle.object_cells.proofs.HeldNeeds.{new_value_held}
 use Rattle.object_cells.proofs.KeptCapacities.{list_capacities_stay}
-use Rattle.object_cells.proofs.ListWrites.{written_list_keeps_cells, writes_list}
 use Rattle.object_cells.proofs.MadeBoxes.{BoxStands, made_box, boxed_integer, refers_to_made, made_boxed, made_sound}
 use Rattle.object_cells.proofs.MadeBoxes.{length-with_content}
 use Rattle.object_cells.proofs.NewBoxes.{box_cell}
@@ -50,8 +50,9 @@ use Rattle.object_cells.proofs.RefilledLists.{written_elements_show}
 use Rattle.object_cells.proofs.SlotsNow.{word_at_offset}
 use Rattle.object_cells.proofs.StoresRead.{StoredAt}
 use Rattle.object_cells.proofs.WrittenPlaces.{object_places_stay}
+use Rattle.object_cells.proofs.OwnerWrites.{written_list_keeps_cells, writes_own, list_owns}
 use Rattle.list_store.specs.Pushes.{WritesSlot}
-use Rattle.list_store.proofs.ElementValues.{element_value, element_comes}
+use Rattle.list_store.proofs.ElementValues.{element_comes}
 use Rattle.list_store.proofs.ListChanging.{Changing, Elements, store_is_no_box, slot_stands, slot_few, list_word}
 use Rattle.list_store.proofs.SlotWords as of_slot
 use Rattle.list_store.proofs.SlotWords.{SlotWriting}
@@ -161,7 +162,7 @@ module _ {old new : Mutator} {graph : Graph} {at slot count : ℕ} {list : ListO
 
   -- the places of objects stay
   places : PlacesStay (heap_of old) (heap_of new)
-  places = object_places_stay known.shows.shows.whole (writes_list known.shows.shows.whole writes)
+  places = object_places_stay known.shows.shows.whole (writes_own list_owns known.shows.shows.whole writes)
 
   -- the box that was made holds the integer
   refers_box : (v : ℤ) → beside_content value ≡ content.Boxed v
@@ -247,7 +248,7 @@ module _ {old new : Mutator} {graph : Graph} {at slot count : ℕ} {list : ListO
             (λ v is_box. made_box (beside_content value) (next_at old) v is_box));
         shows = λ x holds. subst (λ w. ShowsValue (heap_of new) w what)
             (holds_word x holds)
-            (element_value (next_at old) holds_all places refers_box);
+            (content_shows (next_at old) holds_all places refers_box);
         store_comes = inl known.shown.shows.slot;
         belong = λ one among. (
           cell.at + store_slot,

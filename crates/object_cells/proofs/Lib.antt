@@ -22,7 +22,10 @@ pub mod StoreCells
 pub mod ObjectWrites
 pub mod CellWritesRead
 pub mod CellWrites
-pub mod ListWrites
+pub mod OwnerWrites
+pub mod OwnPuts
+pub mod OwnIntegers
+pub mod ContentValues
 pub mod KeptCapacities
 pub mod NumberedSlots
 pub mod FieldWords
@@ -36,11 +39,6 @@ pub mod ListSlots
 pub mod RefilledElements
 pub mod RefilledLists
 pub mod OneElement
-pub mod ListNow
-pub mod ListPuts
-pub mod ListBoxes
-pub mod ListGrows
-pub mod PutElements
 pub mod PutRanges
 pub mod NewStores
 pub mod MadeBoxes

@@ -173,3 +173,18 @@ with_content_box words (content.Boxed w) box v boxed within =
           (omega (arith, within, length-set words box (header_bits box_header)))
           ∙ ap (λ (n : ℤ). Some (raw_word n)) same;
     }
+
+-- A box that a slot comes to hold stands at an address of eden, where the words from there on were put for it.
+pub put_box : (heap : Heap) (words : List ℕ) (holds : Content) (box : ℕ) → box + content_need holds ≤ length words
+    → eden_start heap.space ≤ box → box + content_need holds ≤ segments_start heap.space
+    → ((b : ℕ) → box ≤ b → b < box + content_need holds
+    → slice_get heap.words b ≡ slice_get (with_content words holds box) b) → BoxStands heap holds box
+put_box heap words holds box within from ends stands =
+    let put = λ (v : ℤ) (is_box : holds ≡ content.Boxed v).
+    with_content_box words holds box v is_box (omega (arith, within, ap content_need is_box)) in
+    record {
+      header = λ v is_box. stands box (omega arith) (omega (arith, ap content_need is_box)) ∙ (put v is_box).header;
+      raw = λ v is_box. stands (box + 1) (omega arith) (omega (arith, ap content_need is_box)) ∙ (put v is_box).raw;
+      from = λ v is_box. from;
+      below = λ v is_box. omega (arith, ends, ap content_need is_box);
+    }

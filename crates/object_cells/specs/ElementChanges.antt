@@ -22,26 +22,13 @@ use Rattle.heap_model.specs.Showing.{ShowsValue, ShowsList}
 use Rattle.heap_model.specs.Changes.{IsNewlyUsed, CellsChange}
 use Rattle.write_barrier.specs.Mains.{Mutator, heap_of, IsTied, MainShows}
 use Rattle.object_cells.specs.HeldValues.{IsReachedValue}
-use Rattle.object_cells.specs.CellWrites.{IsInCell, IsWrittenBeside}
+use Rattle.object_cells.specs.CellWrites.{WritesOwnCells}
 use Rattle.object_cells.specs.SlotChanges.{NamesNone, IsNoBoxOf, StoreComes}
 
 -- Of the words before the layout words only those of the list's cell but its header have changed, slots of these
 -- stores, integers of these boxes, and words that are newly used, in which cells were made.
-pub record WritesList (old new : Heap) (cell : Cell) (others made : List Cell) : Type 0 where
-  pub same_space : new.space ≡ old.space
-  pub same_survivors : new.survivors ≡ old.survivors
-  pub grown : old.used ≤ new.used
-  pub room : new.survivors + new.used ≤ new.space.sizes.young
-  pub paths : new.paths ≡ old.paths
-  pub sized : HasSizes new
-  pub stood : HasCell old cell (words_of_cell old cell)
-  pub list : cell.layout.kind ≡ kind.List
-  pub header : slice_get new.words cell.at ≡ slice_get old.words cell.at
-  pub beside : (other : Cell) → Contains others other → IsWrittenBeside old new other
-  pub made_stand : IsRow new.space new.words (eden_start old.space + old.used) (eden_start old.space + new.used) made
-  pub stay : (at : ℕ) → at < layouts_start old.space → (IsInCell at cell → ⊥)
-      → ((other : Cell) → Contains others other → IsInCell at other → ⊥) → (IsNewlyUsed old new at → ⊥)
-      → slice_get new.words at ≡ slice_get old.words at
+abbrev pub WritesList : Heap → Heap → Cell → List Cell → List Cell → Type 0
+WritesList old new cell others made = WritesOwnCells kind.List kind.Store old new cell others made
 
 -- Then cells stand in rows again: the list's and these others as they were, those that were made, and all else as
 -- before.

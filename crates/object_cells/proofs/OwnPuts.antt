@@ -1,7 +1,9 @@
--- Words that were put in a list's own cells, once so many words of eden were reserved.
-use Rattle.std.proofs.Common.{◌≡◌, ℕ, ◌+◌, ◌≤◌, ◌<◌, List, length, Contains}
-use Rattle.std.proofs.Common.{Some, slice_get, sym, ◌∙◌, ap, subst, arith}
-use Rattle.tagged_word.specs.declared.layout.Kind.TheVariants as kind
+-- Words that were put in an object's own cells, once so many words of eden were reserved.
+use Rattle.std.proofs.Common.{◌≡◌, ℕ, ◌+◌, ◌≤◌, ◌<◌, inl, List, [], ◌∷◌, length, Contains}
+use Rattle.std.proofs.Common.{Some, slice_get, sym, ◌∙◌, ap, subst, arith, add-zero}
+use Rattle.tagged_word.specs.declared.layout.Kind.{Kind}
+use Rattle.tagged_word.specs.Cells.{length_offset}
+use Rattle.tagged_word.proofs.Members.{one_in}
 use Rattle.page_space.specs.Extents.{Space, eden_start, layouts_start, marks_start}
 use Rattle.page_space.proofs.Starts.{roots_start_is, layouts_start_is}
 use Rattle.nursery.specs.Young.{Young, HasRoom}
@@ -10,23 +12,24 @@ use Rattle.shape_tree.specs.ShapeLayouts.{layout_word}
 use Rattle.cell_layout.specs.declared.cell.Cell.{Cell}
 use Rattle.cell_layout.specs.Cells.{IsRow}
 use Rattle.heap_table.specs.Seats.{heap_words}
-use Rattle.heap_model.specs.Heaps.{HasCell, words_of_cell}
+use Rattle.heap_model.specs.Heaps.{Heap, HasCell, words_of_cell}
 use Rattle.heap_model.specs.Wholeness.{Whole, HasSizes}
 use Rattle.heap_model.proofs.CellsApart.{IsOfCell}
 use Rattle.write_barrier.specs.Mains.{Mutator, heap_of, IsTied, reserved}
-use Rattle.object_cells.specs.CellWrites.{IsInCell, IsWrittenBeside}
+use Rattle.object_cells.specs.CellWrites.{IsInCell, IsWrittenOfKind, WritesOwnCells}
 use Rattle.object_cells.specs.Contents.{next_at}
 use Rattle.object_cells.specs.Made.{PutsWords}
-use Rattle.object_cells.specs.ElementChanges.{WritesList}
 use Rattle.object_cells.proofs.OwnCells.{cell_below_layouts}
 use Rattle.object_cells.proofs.UnusedWords.{next_before_segments, cell_is_used}
 
--- So many words were reserved, and then words were put: those of the list's cell, of these others, and newly used ones.
-pub record PutsList (old new : Mutator) (cell : Cell) (others : List Cell) (need : ℕ) (words : List ℕ) : Type 0 where
+-- So many words were reserved, and then words were put: those of the cell of an object of this
+-- kind, of these others, and newly used ones.
+pub record PutsOwn (owner : Kind) (old new : Mutator) (cell : Cell) (others : List Cell) (need : ℕ) (words : List ℕ)
+    : Type 0 where
   pub tied : IsTied old
   pub whole : Whole (heap_of old)
   pub has : HasCell (heap_of old) cell (words_of_cell (heap_of old) cell)
-  pub list : cell.layout.kind ≡ kind.List
+  pub of_kind : cell.layout.kind ≡ owner
   pub stood : (other : Cell) → Contains others other → HasCell (heap_of old) other (words_of_cell (heap_of old) other)
   pub room : HasRoom old.young need
   pub puts : PutsWords (reserved old need) new words
@@ -35,24 +38,24 @@ pub record PutsList (old new : Mutator) (cell : Cell) (others : List Cell) (need
       → (next_at old ≤ a → a < next_at old + need → ⊥) → slice_get words a ≡ slice_get (heap_words old.seat) a
 
 -- a word in a cell is before the layout words
-in_cell_below : {old new : Mutator} {cell one : Cell} {others : List Cell} {need : ℕ} {words : List ℕ} (a : ℕ)
-    → PutsList old new cell others need words → HasCell (heap_of old) one (words_of_cell (heap_of old) one)
+in_cell_below : {owner : Kind} {old new : Mutator} {cell one : Cell} {others : List Cell} {need : ℕ} {words : List ℕ}
+    (a : ℕ) → PutsOwn owner old new cell others need words → HasCell (heap_of old) one (words_of_cell (heap_of old) one)
     → IsInCell a one → a < layouts_start old.seat.space
 in_cell_below a puts has inside = cell_below_layouts puts.whole has
     (record { from = inside.from; below = inside.below })
 
 -- no word of a cell is one that was reserved
-pub not_reserved : {old new : Mutator} {cell one : Cell} {others : List Cell} {need : ℕ} {words more : List ℕ} (a : ℕ)
-    → PutsList old new cell others need words → HasCell (heap_of old) one more → IsOfCell one a → next_at old ≤ a
-    → a < next_at old + need → ⊥
-not_reserved {old} {need = need} a puts has of_cell from below =
+pub not_reserved : {owner : Kind} {old new : Mutator} {cell one : Cell} {others : List Cell} {need : ℕ}
+    {words more : List ℕ} (a : ℕ) → PutsOwn owner old new cell others need words → HasCell (heap_of old) one more
+    → IsOfCell one a → next_at old ≤ a → a < next_at old + need → ⊥
+not_reserved {old = old} {need = need} a puts has of_cell from below =
     cell_is_used puts.whole.rows has of_cell from
     (omega (arith, below, next_before_segments old need puts.tied puts.room))
 
 -- so the sizes are there
-pub list_sized : {old new : Mutator} {cell : Cell} {others : List Cell} {need : ℕ} {words : List ℕ}
-    → PutsList old new cell others need words → HasSizes (heap_of new)
-list_sized {old} {new} {need = need} puts =
+pub own_sized : {owner : Kind} {old new : Mutator} {cell : Cell} {others : List Cell} {need : ℕ} {words : List ℕ}
+    → PutsOwn owner old new cell others need words → HasSizes (heap_of new)
+own_sized {old = old} {new} {need = need} puts =
     let sized = puts.whole.sized in
     let all = puts.puts in
     record {
@@ -76,14 +79,14 @@ list_sized {old} {new} {need = need} puts =
           ∙ ap (λ paths. Some (layout_word paths shape)) (sym all.paths);
     }
 
--- and words of the list's own cells were written
-pub list_writes : {old new : Mutator} {cell : Cell} {others : List Cell} {need : ℕ} {words : List ℕ} (made : List Cell)
-    → PutsList old new cell others need words
+-- and words of the object's own cells were written
+pub own_writes : {owner owned : Kind} {old new : Mutator} {cell : Cell} {others : List Cell} {need : ℕ} {words : List ℕ}
+    (made : List Cell) → PutsOwn owner old new cell others need words
     → slice_get (heap_words new.seat) cell.at ≡ slice_get (heap_words old.seat) cell.at
-    → ((other : Cell) → Contains others other → IsWrittenBeside (heap_of old) (heap_of new) other)
+    → ((other : Cell) → Contains others other → IsWrittenOfKind owned (heap_of old) (heap_of new) other)
     → IsRow new.seat.space (heap_words new.seat) (next_at old) (next_at old + need) made
-    → WritesList (heap_of old) (heap_of new) cell others made
-list_writes {old} {new} {need = need} made puts header beside row =
+    → WritesOwnCells owner owned (heap_of old) (heap_of new) cell others made
+own_writes {old = old} {new} {need = need} made puts header beside row =
     let all = puts.puts in
     let used : new.young.used ≡ old.young.used + need = ap (λ (y : Young). y.used) all.young in
     let survivors : new.young.survivors ≡ old.young.survivors = ap (λ (y : Young). y.survivors) all.young in
@@ -96,9 +99,9 @@ list_writes {old} {new} {need = need} made puts header beside row =
       grown = omega (arith, used);
       room = omega (arith, puts.room, used, survivors, space);
       paths = all.paths;
-      sized = list_sized puts;
+      sized = own_sized puts;
       stood = puts.has;
-      list = puts.list;
+      of_kind = puts.of_kind;
       header = header;
       beside = beside;
       made_stand = subst (λ end. IsRow new.seat.space (heap_words new.seat) (next_at old) end made) ends row;
@@ -106,3 +109,27 @@ list_writes {old} {new} {need = need} made puts header beside row =
           ap (λ every. slice_get every a) all.heap ∙ puts.stay a not_cell not_others
           (λ from high. not_new (record { from = from; below = omega (arith, high, used) }));
     }
+
+-- Of a cell of which the first two words stay neither the header nor the length changed; so it is of the one cell that
+-- was written.
+pub one_beside : {owned : Kind} {old new : Heap} {other : Cell} → HasCell old other (words_of_cell old other)
+    → other.layout.kind ≡ owned
+    → ((k : ℕ) → k < 2 → slice_get new.words (other.at + k) ≡ slice_get old.words (other.at + k)) → (one : Cell)
+    → Contains (other ∷ []) one → IsWrittenOfKind owned old new one
+one_beside {owned} {old} {new} {other} has is stays one among =
+    subst (IsWrittenOfKind owned old new) (one_in other one among) (record {
+      stood = has;
+      of_kind = inl is;
+      header = subst (λ a. slice_get new.words a ≡ slice_get old.words a) (add-zero other.at) (stays 0 (omega arith));
+      length = λ same. stays length_offset (omega arith);
+    })
+
+-- there is room for no more words
+pub room_for_none : (old : Mutator) → IsTied old → Whole (heap_of old) → HasRoom old.young 0
+room_for_none old tied whole =
+    let young = ap (λ (space : Space). space.sizes.young) tied in
+    omega (arith, whole.rows.few, young)
+
+-- where none was reserved, as many are used as before
+pub used_and_none : (young : Young) → young ≡ record young { used = young.used + 0 }
+used_and_none young = ap (λ n. record young { used = n }) (sym (add-zero young.used))
