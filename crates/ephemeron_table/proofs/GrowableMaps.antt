@@ -1,17 +1,13 @@
 -- A table may be made in the place of a weak map's that would be too full.
-use Rattle.std.proofs.Common.{◌≡◌, ℕ, ◌+◌, ◌*◌, ◌≤◌, ◌<◌, inl, inr, List, Some, slice_get, sym}
-use Rattle.std.proofs.Common.{◌∙◌, ap, subst, arith}
-use Rattle.std.proofs.lemmas.Bool.{cases_lt}
+use Rattle.std.proofs.Common.{◌≡◌, ℕ, ◌+◌, ◌*◌, ◌≤◌, ◌<◌, inl, inr, List}
+use Rattle.std.proofs.Common.{subst, arith}
 use Rattle.tagged_word.specs.Cells.{store_head}
-use Rattle.tagged_word.specs.Readings.{reference_in}
 use Rattle.tagged_word.proofs.Readings.{reference_to}
 use Rattle.page_space.specs.Extents.{marks_start}
 use Rattle.cell_layout.specs.declared.cell.Cell.{Cell}
-use Rattle.heap_table.specs.Seats.{heap_words}
 use Rattle.heap_table.specs.declared.phase.Phase.TheVariants.{Quiet}
 use Rattle.heap_model.specs.Heaps.{HasCell}
 use Rattle.heap_model.specs.Slots.{IsPlace}
-use Rattle.heap_model.specs.Kinds.{Pair}
 use Rattle.heap_model.proofs.CellsApart.{IsOfCell, first_of_cell}
 use Rattle.write_barrier.specs.Mains.{Mutator, heap_of}
 use Rattle.object_cells.proofs.CellsRead.{cell_at_before_marks}

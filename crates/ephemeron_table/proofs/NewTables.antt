@@ -1,5 +1,5 @@
 -- A table that was made.
-use Rattle.std.proofs.Common.{◌≡◌, ℕ, ◌+◌, ◌*◌, ◌≤◌, ◌<◌, inl, inr, Some, None, true, nat_le, cond}
+use Rattle.std.proofs.Common.{◌≡◌, ℕ, ◌+◌, ◌*◌, ◌≤◌, inl, inr, Some, None, true, nat_le, cond}
 use Rattle.std.proofs.Common.{◌&&◌, slice_get, refl}
 use Rattle.std.proofs.Common.{◌∙◌, ap, arith, ◌^◌, sym}
 use Rattle.std.proofs.lemmas.Bool.{cases_lt}
@@ -22,8 +22,6 @@ use Rattle.heap_model.specs.Kinds.{IsPowerOfTwo}
 use Rattle.heap_model.specs.Needs.{grown_table}
 use Rattle.heap_model.specs.Wholeness.{HasSizes}
 use Rattle.ephemeron_table.specs.Puttings.{table_header}
-use Rattle.ephemeron_table.specs.Takings.{IsBesidePairs}
-use Rattle.ephemeron_table.specs.declared.reading.Table.{Table}
 
 -- the layout of a table
 abbrev table_layout : LayoutWord
@@ -94,14 +92,3 @@ grown_power capacity power = elim (cases_lt (2 * capacity) 512) [
 -- and so has one that is made where there is none
 pub first_power : (capacity : ℕ) → capacity ≡ 0 → IsPowerOfTwo (grown_table capacity)
 first_power capacity none = (2, omega (arith, none))
-
--- what is not in a run of words that begins with a table is beside the table's pairs
-pub beside_run : (table : Table) (a : ℕ) → (table.at ≤ a → a < table.at + (store_head + 2 * table.capacity) → ⊥)
-    → IsBesidePairs table a
-beside_run table a beside = elim (cases_lt a (table.at + store_head)) [
-  | inl low ↦ inl low
-  | inr from ↦ elim (cases_lt a (table.at + (store_head + 2 * table.capacity))) [
-    | inl below ↦ absurd (beside (omega (arith, from)) below)
-    | inr high ↦ inr high
-  ]
-]
