@@ -2,6 +2,7 @@ pub mod CellsRead
 pub mod WordsTold
 pub mod SlotTargets
 pub mod UnusedWords
+pub mod EdenCells
 pub mod NewBoxes
 pub mod WordsBeside
 pub mod WordsPut
