@@ -48,7 +48,7 @@ use Rattle.ephemeron_table.proofs.KnownTables.{finds_all, found, other_belongs, 
 use Rattle.ephemeron_table.proofs.KnownTables.{pairs_same}
 use Rattle.ephemeron_table.proofs.ReplacedValues.{ReplacesValue}
 use Rattle.object_cells.proofs.OwnIntegers as integer
-use Rattle.object_cells.proofs.OwnPuts.{room_for_none}
+use Rattle.object_cells.proofs.NothingUsed.{room_for_none}
 use Rattle.object_cells.proofs.OwnIntegers.{PutsInteger}
 use Rattle.ephemeron_table.proofs.StayingTables as staying
 use Rattle.ephemeron_table.proofs.BoxedValues as of_box

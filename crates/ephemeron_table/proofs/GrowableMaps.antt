@@ -10,7 +10,7 @@ use Rattle.heap_model.specs.Heaps.{HasCell}
 use Rattle.heap_model.specs.Slots.{IsPlace}
 use Rattle.heap_model.proofs.CellsApart.{IsOfCell, first_of_cell}
 use Rattle.write_barrier.specs.Mains.{Mutator, heap_of}
-use Rattle.object_cells.proofs.CellsRead.{cell_at_before_marks}
+use Rattle.object_cells.proofs.CellsRead.{place_before_marks}
 use Rattle.object_cells.proofs.UnusedWords.{cell_apart}
 use Rattle.object_cells.proofs.WordsTold.{cell_fits}
 use Rattle.ephemeron_table.specs.Movings.{CanGrow, IsUsed, KeysUsed}
@@ -31,8 +31,7 @@ module _ {old : Mutator} {map : ℕ} {table : Table} (known : KnownMap old map t
   place_used place = subst (IsUsed old) place.stands (word_used place.cell.at place.has (first_of_cell place.has))
 
   pub place_within : {number at : ℕ} → IsPlace (heap_of old) number at → at < marks_start old.seat.space
-  place_within place =
-      subst (λ n. n < marks_start old.seat.space) place.stands (cell_at_before_marks known.whole.sized place.has)
+  place_within place = place_before_marks known.whole.sized place
 
   -- and each word of the table's pairs
   pairs_used : (a : ℕ) → table.at + store_head ≤ a → a < table.at + (store_head + 2 * table.capacity) → IsUsed old a

@@ -41,7 +41,8 @@ use Rattle.ephemeron_table.proofs.GrownPairs.{before, origin_other, moved, moved
 use Rattle.ephemeron_table.proofs.GrownPairs.{moved_stands}
 use Rattle.ephemeron_table.proofs.GrownPairs.{NowFilled, now_filled, one_stands}
 use Rattle.ephemeron_table.proofs.GrownWords.{behind, pair}
-use Rattle.ephemeron_table.proofs.KeysFound.{WeakShown, weak_shown, shown_there, shown_pairs}
+use Rattle.ephemeron_table.proofs.KeysFound.{WeakShown, weak_shown, shown_pairs}
+use Rattle.ephemeron_table.proofs.KnownTables.{shown_known}
 use Rattle.ephemeron_table.proofs.KnownTables.{KnownMap, pairs_long, within_words}
 use Rattle.ephemeron_table.proofs.NoPair.{no_key, no_pair, pair_of_none}
 use Rattle.ephemeron_table.proofs.PairLists.{pairs_are}
@@ -130,13 +131,7 @@ module _ {old : Mutator} {graph : Graph} {map key : ℕ} {weak : WeakObject} {nu
 
   -- the map and its table
   abbrev pub known : KnownMap old map table
-  known = record {
-    tied = growing.shows.tied;
-    whole = growing.shows.shows.whole;
-    sizes = growing.sizes;
-    there = shown_there shown;
-    is = growing.is_table;
-  }
+  known = shown_known growing.shows growing.is growing.sizes growing.is_table
 
   -- so a table may be made
   pub growing_can : CanGrow old map table key (count_at (heap_of old) map)

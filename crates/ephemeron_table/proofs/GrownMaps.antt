@@ -28,7 +28,8 @@ use Rattle.object_cells.specs.declared.content.Content.TheVariants as content
 use Rattle.object_cells.specs.Contents.{next_at}
 use Rattle.object_cells.specs.Made.{beside_content}
 use Rattle.object_cells.proofs.HeldContents.{HoldsValue}
-use Rattle.object_cells.proofs.MadeBoxes.{made_box, boxed_integer, refers_to_made, made_boxed, made_sound}
+use Rattle.object_cells.proofs.MadeBoxes.{made_box, boxed_integer, refers_to_made, made_boxed, only_first}
+use Rattle.object_cells.proofs.MadeBoxes.{boxes_sound}
 use Rattle.object_cells.proofs.NewBoxes.{box_cell}
 use Rattle.object_cells.proofs.SlotsNow.{word_at_offset}
 use Rattle.object_cells.proofs.WordsTold.{cell_fits}
@@ -200,19 +201,16 @@ module _ {old new : Mutator} {map key count earlier number : ℕ} {table : Table
 
   pub tables_told : (one : Cell) → Contains all_made one → one.layout.kind ≡ kind.Table
       → HasNoNumber one × (reference_word (next_at old) ≡ reference_word one.at)
-  tables_told one among is = elim (in_cases table_made boxes_made one among) [
-    | inl same ↦ subst (λ (c : Cell). HasNoNumber c × (reference_word (next_at old) ≡ reference_word c.at)) same
-        (refl, refl)
-    | inr is_made ↦ absurd (table_is_no_box is (made_boxed (beside_content value) (behind known can puts) one is_made))
-  ]
+  tables_told one among is =
+      subst (λ (c : Cell). HasNoNumber c × (reference_word (next_at old) ≡ reference_word c.at))
+      (only_first (beside_content value) (behind known can puts) kind.Table (table_is_no_box refl) one among
+      is)
+      (refl, refl)
 
   pub boxes_told : (one : Cell) → Contains all_made one → one.layout.kind ≡ kind.Boxed
       → IsBoxCell one (words_of_cell (heap_of new) one)
-  boxes_told one among box = elim (in_cases table_made boxes_made one among) [
-    | inl same ↦ absurd (table_is_no_box (ap (λ (c : Cell). c.layout.kind) (sym same)) box)
-    | inr is_made ↦ made_sound objects (behind known can puts) one holds fits (box_stands known can puts)
-        (box_has one is_made) is_made
-  ]
+  boxes_told =
+      boxes_sound objects (behind known can puts) (table_is_no_box refl) holds fits (box_stands known can puts) box_has
 
   -- so the map is refilled
   abbrev pub refills : RefillsPairs (heap_of old) (heap_of new) map_cell [] all_made

@@ -1,7 +1,7 @@
 -- The words where an entry came to a table that was made: those of the map's own cell, and newly used ones.
 use Rattle.std.proofs.Common.{◌≡◌, ◌≢◌, ℕ, ◌+◌, ◌*◌, ◌≤◌, ◌<◌, inl, inr, List, [], ◌∷◌}
 use Rattle.std.proofs.Common.{length, Some, slice_get}
-use Rattle.std.proofs.Common.{refl, sym, ◌∙◌, ap, subst, arith, length-set, add-zero}
+use Rattle.std.proofs.Common.{refl, sym, ◌∙◌, ap, arith, length-set, add-zero}
 use Rattle.std.specs.Prelude.{slice_set}
 use Rattle.tagged_word.specs.declared.layout.Kind.TheVariants as kind
 use Rattle.tagged_word.specs.Cells.{store_head, store_slot}
@@ -9,7 +9,7 @@ use Rattle.page_space.specs.Extents.{Space, eden_start, segments_start, marks_st
 use Rattle.page_space.proofs.Starts.{roots_start_is, layouts_start_is, marks_start_is}
 use Rattle.object_graph.proofs.Lists.{slice_get-set_other}
 use Rattle.cell_layout.specs.declared.cell.Cell.{Cell}
-use Rattle.cell_layout.specs.Cells.{IsRow, IsCell, next}
+use Rattle.cell_layout.specs.Cells.{IsRow, IsCell}
 use Rattle.handle_roots.specs.declared.held.Held.{Held}
 use Rattle.heap_table.specs.Seats.{heap_words, StaysBeside}
 use Rattle.heap_table.specs.Staying.{stays_beside_again}
@@ -21,10 +21,10 @@ use Rattle.heap_model.proofs.CellsApart.{IsOfCell, first_of_cell}
 use Rattle.write_barrier.specs.Mains.{Mutator, heap_of}
 use Rattle.object_cells.specs.Contents.{next_at}
 use Rattle.object_cells.specs.Made.{beside_content, content_need, content_word, with_content}
-use Rattle.object_cells.proofs.MadeBoxes.{made_boxes, made_row, BoxStands, with_content_stays}
-use Rattle.object_cells.proofs.MadeBoxes.{length-with_content, put_box}
+use Rattle.object_cells.proofs.MadeBoxes.{made_boxes, BoxStands, with_content_stays}
+use Rattle.object_cells.proofs.MadeBoxes.{length-with_content, row_with_box}
 use Rattle.object_cells.proofs.UnusedWords.{cell_is_used, next_before_segments}
-use Rattle.object_cells.proofs.OwnPuts.{PutsOwn, own_sized, own_writes}
+use Rattle.object_cells.proofs.OwnPuts.{PutsOwn, own_sized, own_writes, box_put}
 use Rattle.ephemeron_table.specs.Movings.{CanGrow, PutsInNewTable, new_table, new_table_need, box_behind}
 use Rattle.ephemeron_table.specs.PairWrites.{WritesWeak}
 use Rattle.ephemeron_table.specs.Puttings.{begun_table}
@@ -235,10 +235,8 @@ module _ {old new : Mutator} {map key count earlier : ℕ} {table : Table} {valu
   -- the box stands there
   pub box_stands : BoxStands (heap_of new) (beside_content value) behind
   box_stands =
-      put_box (heap_of new) (heap_words puts.moved.seat) (beside_content value) behind
-      (omega (arith, puts.moves.changes.long, begun_long, counted, ends, within))
-      (omega (arith, ap (λ (s : Space). eden_start s) puts_weak.puts.beside.space))
-      (omega (arith, ends, ap (λ (s : Space). segments_start s) puts_weak.puts.beside.space)) box_word
+      box_put (heap_words puts.moved.seat) (beside_content value) behind puts_weak
+      (puts.moves.changes.long ∙ begun_long) (omega arith) (omega arith) box_word
 
   -- the cells that are made
   abbrev pub other : Cell
@@ -269,11 +267,8 @@ module _ {old new : Mutator} {map key count earlier : ℕ} {table : Table} {valu
   -- both are the row of the words that were reserved
   new_row : IsRow new.seat.space (heap_words new.seat) (next_at old) (next_at old + need) made
   new_row =
-      let end : ℕ = behind + content_need (beside_content value) in
-      let same : end ≡ next_at old + need = omega arith in
-      let row = made_row (heap_of new) (beside_content value) behind (own_sized puts_weak) box_stands in
-      subst (λ to. IsRow new.seat.space (heap_words new.seat) (next_at old) to made) same
-      (next other end boxes table_cell_is row)
+      row_with_box (heap_of new) other (beside_content value) (next_at old + need) table_cell_is (own_sized puts_weak)
+      box_stands (omega arith)
 
   -- so cells were written
   pub writes : WritesWeak (heap_of old) (heap_of new) map_cell [] made

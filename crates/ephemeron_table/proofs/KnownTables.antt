@@ -14,6 +14,7 @@ use Rattle.page_space.specs.Sizes.{AreWithin}
 use Rattle.cell_layout.specs.declared.cell.Cell.{Cell}
 use Rattle.linear_probing.specs.Tables.{place_after, IsFree, HoldsNumber, FindsAll}
 use Rattle.linear_probing.specs.Tables as probing
+use Rattle.object_graph.specs.Graphs.{Graph, WeakObject}
 use Rattle.heap_table.specs.Seats.{heap_words}
 use Rattle.heap_model.specs.Heaps.{Heap, HasCell, words_of_cell}
 use Rattle.heap_model.specs.Slots.{is_object_kind, RefersToPlace}
@@ -25,18 +26,19 @@ use Rattle.heap_model.proofs.CellsApart.{IsOfCell, first_of_cell, cells_apart}
 use Rattle.heap_model.proofs.CellWords.{words_by_kind, words_are_size}
 use Rattle.heap_model.proofs.OneOwner.{names_store}
 use Rattle.heap_model.proofs.WordClasses.{same_reference}
-use Rattle.write_barrier.specs.Mains.{Mutator, heap_of, IsTied}
+use Rattle.write_barrier.specs.Mains.{Mutator, heap_of, IsTied, MainShows}
 use Rattle.object_cells.specs.CellWrites.{IsInCell}
 use Rattle.object_cells.proofs.CellsRead.{word_stands, cell_at_before_marks}
 use Rattle.object_cells.proofs.OwnPlaces.{has_own_words}
 use Rattle.object_cells.proofs.WordsTold.{cell_fits}
+use Rattle.ephemeron_table.specs.WeakObjects.{IsWeakAt}
 use Rattle.ephemeron_table.specs.Pairs.{HasPairs}
 use Rattle.ephemeron_table.specs.Probes.{IsWeakCellAt, IsTableAt, number_at}
 use Rattle.ephemeron_table.specs.Takings.{KeysBeside, IsKeyBeside, IsBesidePairs, numbers, number_of, pairs_of}
 use Rattle.ephemeron_table.specs.declared.reading.Table.{Table}
 use Rattle.ephemeron_table.proofs.ClosedPairs.{keyed_filled, length-numbers}
 use Rattle.ephemeron_table.proofs.CountedPairs.{count_filled}
-use Rattle.ephemeron_table.proofs.KeysFound.{number_is}
+use Rattle.ephemeron_table.proofs.KeysFound.{number_is, weak_shown, shown_there}
 use Rattle.ephemeron_table.proofs.PairLists.{pairs_are, beside_run}
 use Rattle.ephemeron_table.proofs.TablesRead.{IsFoundTable, found_table, weak_sound, weak_pairs, length-pairs_in}
 
@@ -53,6 +55,18 @@ pub table_is_no_box : {k : Kind} → k ≡ kind.Table → k ≡ kind.Boxed → �
 table_is_no_box table box =
     let apart : kind.Table ≡ kind.Boxed = sym table ∙ box in
     cc
+
+-- a map that is shown is known with its table
+abbrev pub shown_known : {main : Mutator} {graph : Graph} {map : ℕ} {weak : WeakObject} {table : Table}
+    → MainShows main graph → IsWeakAt main graph map weak → AreWithin main.seat.space.sizes main.seat.space.variables
+    → IsTableAt (heap_of main) map table → KnownMap main map table
+shown_known shows is sizes is_table = record {
+  tied = shows.tied;
+  whole = shows.shows.whole;
+  sizes = sizes;
+  there = shown_there (weak_shown shows is);
+  is = is_table;
+}
 
 -- a number that is read of what is there
 number_there : (f : Pair → Option ℕ) (found : Option Pair) (item : Option ℕ) → option_map f found ≡ Some item

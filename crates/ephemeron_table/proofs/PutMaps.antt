@@ -6,7 +6,7 @@ use Rattle.std.specs.Prelude.{slice_set, ℤ}
 use Rattle.std.proofs.lemmas.Bool.{cases_eq}
 use Rattle.tagged_word.specs.declared.layout.Kind.TheVariants as kind
 use Rattle.tagged_word.specs.Cells.{store_slot}
-use Rattle.tagged_word.proofs.Members.{first_in, one_in, in_cases}
+use Rattle.tagged_word.proofs.Members.{first_in, one_in}
 use Rattle.page_space.proofs.Starts.{marks_start_is}
 use Rattle.object_graph.specs.declared.value.Value.{Value}
 use Rattle.object_graph.specs.declared.value.Rep.TheVariants as rep
@@ -28,8 +28,8 @@ use Rattle.object_cells.specs.declared.content.Content.TheVariants as content
 use Rattle.object_cells.specs.Contents.{next_at}
 use Rattle.object_cells.specs.Made.{beside_content, with_content}
 use Rattle.object_cells.proofs.HeldContents.{HoldsValue}
-use Rattle.object_cells.proofs.MadeBoxes.{made_box, boxed_integer, refers_to_made, made_boxed, made_sound}
-use Rattle.object_cells.proofs.MadeBoxes.{length-with_content}
+use Rattle.object_cells.proofs.MadeBoxes.{made_box, boxed_integer, refers_to_made, made_boxed, only_first}
+use Rattle.object_cells.proofs.MadeBoxes.{length-with_content, boxes_sound}
 use Rattle.object_cells.proofs.NewBoxes.{box_cell}
 use Rattle.object_cells.proofs.OwnCells.{cell_below_layouts}
 use Rattle.object_cells.proofs.SlotsNow.{word_at_offset}
@@ -186,20 +186,15 @@ module _ {old new : Mutator} {map place key count number : ℕ} {table : Table} 
   -- of the cells written and made only the table is one
   pub tables_told : (one : Cell) → Contains ((table_cell ∷ []) ++ boxes_made) one → one.layout.kind ≡ kind.Table
       → HasNoNumber one × ((sound known).store ≡ reference_word one.at)
-  tables_told one among is = elim (in_cases table_cell boxes_made one among) [
-    | inl same ↦ subst (λ (c : Cell). HasNoNumber c × ((sound known).store ≡ reference_word c.at)) same
-        (other_number known (some known below puts), (found known (some known below puts)).refers.refers)
-    | inr is_made ↦ absurd (table_is_no_box is (made_boxed (beside_content value) (next_at old) one is_made))
-  ]
+  tables_told one among is = subst (λ (c : Cell). HasNoNumber c × ((sound known).store ≡ reference_word c.at))
+      (only_first (beside_content value) (next_at old) kind.Table (table_is_no_box refl) one among is)
+      (other_number known (some known below puts), (found known (some known below puts)).refers.refers)
 
   pub boxes_told : (one : Cell) → Contains ((table_cell ∷ []) ++ boxes_made) one → one.layout.kind ≡ kind.Boxed
       → IsBoxCell one (words_of_cell (heap_of new) one)
-  boxes_told one among box = elim (in_cases table_cell boxes_made one among) [
-    | inl same ↦ absurd (table_is_no_box (ap (λ (c : Cell). c.layout.kind) (sym same)
-        ∙ (found known (some known below puts)).of_kind) box)
-    | inr is_made ↦ made_sound objects (next_at old) one holds fits (box_stands known below puts) (staying.made_has known written one is_made)
-        is_made
-  ]
+  boxes_told =
+      boxes_sound objects (next_at old) (table_is_no_box (found known (some known below puts)).of_kind) holds fits
+      (box_stands known below puts) (staying.made_has known written)
 
   -- so the map is refilled
   abbrev pub refills : RefillsPairs (heap_of old) (heap_of new) map_cell (table_cell ∷ []) boxes_made

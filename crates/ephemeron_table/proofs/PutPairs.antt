@@ -1,13 +1,11 @@
 -- A pair that was put at a place of a weak map's table refills the map.
-use Rattle.std.proofs.Common.{◌≡◌, ◌≢◌, ℕ, ◌+◌, ◌*◌, ◌≤◌, ◌<◌, inl, List, [], ◌∷◌}
+use Rattle.std.proofs.Common.{◌≡◌, ◌≢◌, ℕ, ◌+◌, ◌*◌, ◌≤◌, ◌<◌, inl, List, [], ◌∷◌, refl}
 use Rattle.std.proofs.Common.{length, slice_get}
 use Rattle.std.proofs.Common.{sym, ◌∙◌, ap, subst, arith, add-zero, length-set}
 use Rattle.std.specs.Prelude.{slice_set}
 use Rattle.tagged_word.specs.declared.layout.Kind.TheVariants as kind
 use Rattle.tagged_word.specs.Cells.{store_head}
 use Rattle.tagged_word.proofs.Members.{first_in, one_in}
-use Rattle.page_space.specs.Extents.{Space, eden_start, segments_start}
-use Rattle.page_space.proofs.Starts.{roots_start_is, layouts_start_is, marks_start_is}
 use Rattle.object_graph.proofs.Lists.{slice_get-set_other}
 use Rattle.cell_layout.specs.declared.cell.Cell.{Cell}
 use Rattle.handle_roots.specs.declared.held.Held.{Held}
@@ -19,9 +17,8 @@ use Rattle.write_barrier.specs.Mains.{Mutator, heap_of}
 use Rattle.object_cells.specs.Contents.{next_at}
 use Rattle.object_cells.specs.Made.{with_content, content_need, content_word, beside_content}
 use Rattle.object_cells.proofs.MadeBoxes.{made_boxes, BoxStands, made_row, length-with_content, with_content_stays}
-use Rattle.object_cells.proofs.MadeBoxes.{put_box}
-use Rattle.object_cells.proofs.UnusedWords.{next_before_segments}
-use Rattle.object_cells.proofs.OwnPuts.{PutsOwn, not_reserved, own_sized, own_writes, one_beside}
+use Rattle.object_cells.proofs.MadeBoxes.{}
+use Rattle.object_cells.proofs.OwnPuts.{PutsOwn, not_reserved, own_sized, own_writes, one_beside, box_put}
 use Rattle.ephemeron_table.specs.PairWrites.{WritesWeak}
 use Rattle.ephemeron_table.specs.Puttings.{PutsInTable}
 use Rattle.ephemeron_table.specs.Takings.{IsBesidePairs, pairs_of, with_pair, made_pair}
@@ -140,18 +137,8 @@ module _ {old new : Mutator} {map place key count : ℕ} {table : Table} {value 
   -- the box stands there
   pub box_stands : BoxStands (heap_of new) (beside_content value) (next_at old)
   box_stands =
-      let ends = next_before_segments old need known.tied puts.room in
-      put_box (heap_of new) (heap_words old.seat) (beside_content value) (next_at old)
-      (omega (
-        arith,
-        known.whole.sized.words,
-        ends,
-        roots_start_is old.seat.space,
-        layouts_start_is old.seat.space,
-        marks_start_is old.seat.space,
-      ))
-      (omega (arith, ap (λ (s : Space). eden_start s) puts.words.beside.space))
-      (omega (arith, ends, ap (λ (s : Space). segments_start s) puts.words.beside.space)) box_word
+      box_put (heap_words old.seat) (beside_content value) (next_at old) puts_weak refl (omega arith) (omega arith)
+      box_word
 
   -- the cells that are made
   abbrev pub made : List Cell

@@ -37,7 +37,8 @@ use Rattle.ephemeron_table.specs.declared.reading.Table.{Table}
 use Rattle.ephemeron_table.proofs.CountedPairs.{count_filled}
 use Rattle.ephemeron_table.proofs.KeysFound.{WeakShown, weak_shown, one_place}
 use Rattle.ephemeron_table.proofs.KnownTables.{KnownMap}
-use Rattle.ephemeron_table.proofs.PairsByKey.{has_pair, lacks_pair, pairs_shown, shown_known}
+use Rattle.ephemeron_table.proofs.KnownTables.{shown_known}
+use Rattle.ephemeron_table.proofs.PairsByKey.{has_pair, lacks_pair, pairs_shown}
 use Rattle.ephemeron_table.proofs.PutRefusals.{few_lacking}
 
 -- what is held where a value is shown

@@ -17,7 +17,8 @@ use Rattle.heap_model.proofs.BoundHeaps.{none_in}
 use Rattle.write_barrier.specs.Mains.{Mutator, heap_of}
 use Rattle.object_cells.specs.Contents.{next_at}
 use Rattle.object_cells.proofs.SlotsNow.{word_at_offset}
-use Rattle.object_cells.proofs.OwnPuts.{PutsOwn, own_writes, room_for_none, used_and_none, one_beside}
+use Rattle.object_cells.proofs.NothingUsed.{room_for_none, used_and_none}
+use Rattle.object_cells.proofs.OwnPuts.{PutsOwn, own_writes, one_beside}
 use Rattle.object_cells.proofs.MadeBoxes.{row_of_none}
 use Rattle.ephemeron_table.specs.Pairs.{HasPairs, IsFilledAt}
 use Rattle.ephemeron_table.specs.PairWrites.{WritesWeak, RefillsPairs, PairComes}

@@ -15,15 +15,17 @@ use Rattle.heap_model.specs.Kinds.{HasWord}
 use Rattle.heap_model.proofs.CellWords.{slice_get-drop, words_by_kind, words_are_size, behind_head_few}
 use Rattle.heap_model.proofs.CellsApart.{IsOfCell}
 use Rattle.write_barrier.specs.Mains.{Mutator, heap_of, MainShows}
+use Rattle.handle_roots.specs.Roots.{FitsHeld}
 use Rattle.object_cells.specs.ElementChanges.{AreNewElements}
 use Rattle.object_cells.specs.HeldValues.{IsValueHeld}
 use Rattle.object_cells.specs.ListObjects.{IsListAt}
 use Rattle.object_cells.specs.Made.{IsStoreAt}
 use Rattle.object_cells.specs.declared.stores.Store.{Store}
+use Rattle.object_cells.proofs.HeldNeeds.{held_is_value}
 use Rattle.object_cells.proofs.OneElement.{DiffersAt}
 use Rattle.object_cells.proofs.SlotsNow.{word_at_offset}
 use Rattle.object_cells.proofs.StoresRead.{StoredAt, stored_at}
-use Rattle.list_store.proofs.ListCells.{ListShown}
+use Rattle.list_store.proofs.ListCells.{ListShown, list_shown}
 
 -- What is known where a value is written to a list that is shown.
 pub record Changing (old : Mutator) (graph : Graph) (at : ℕ) (list : ListObject) (value : Held) (what : Value)
@@ -33,6 +35,18 @@ pub record Changing (old : Mutator) (graph : Graph) (at : ℕ) (list : ListObjec
   pub held : IsValueHeld old graph value what
   pub fits : IsValue (length graph.objects) what
   pub shown : ListShown (heap_of old) at list
+
+-- so it is where the value that is held is one of the graph
+abbrev pub changing : {old : Mutator} {graph : Graph} {at : ℕ} {list : ListObject} {what : Value} (value : Held)
+    → MainShows old graph → IsListAt old graph at list → IsValueHeld old graph value what → FitsHeld value
+    → Changing old graph at list value what
+changing {what = what} value shows is held fits = record {
+  shows = shows;
+  is = is;
+  held = held;
+  fits = held_is_value value what shows fits held.shows;
+  shown = list_shown shows is;
+}
 
 -- a store of the list that has slots is the one of its elements
 pub changing_store : {old : Mutator} {graph : Graph} {at : ℕ} {list : ListObject} {value : Held} {what : Value}

@@ -1,6 +1,6 @@
 -- Which words are put where a value comes to a store that is made for it, and which cells these write.
 use Rattle.std.proofs.Common.{◌≡◌, ◌≢◌, ℕ, ◌+◌, ◌≤◌, ◌<◌, inl, inr, List, [], ◌∷◌, length}
-use Rattle.std.proofs.Common.{Some, slice_get, refl, ◌∙◌, ap, subst, arith, length-set}
+use Rattle.std.proofs.Common.{Some, slice_get, refl, ◌∙◌, ap, arith, length-set}
 use Rattle.std.specs.Prelude.{slice_set}
 use Rattle.tagged_word.specs.declared.layout.Kind.TheVariants as kind
 use Rattle.tagged_word.specs.Cells.{store_head, store_slot}
@@ -10,7 +10,7 @@ use Rattle.object_graph.specs.Graphs.{Graph, ListObject}
 use Rattle.object_graph.specs.Meaning.{list_most}
 use Rattle.object_graph.specs.declared.value.Value.{Value}
 use Rattle.object_graph.proofs.Lists.{slice_get-set_same, slice_get-set_other}
-use Rattle.cell_layout.specs.Cells.{IsRow, IsCell, next}
+use Rattle.cell_layout.specs.Cells.{IsRow, IsCell}
 use Rattle.cell_layout.specs.declared.cell.Cell.{Cell}
 use Rattle.handle_roots.specs.declared.held.Held.{Held}
 use Rattle.heap_table.specs.Seats.{heap_words}
@@ -25,13 +25,13 @@ use Rattle.object_cells.specs.Contents.{next_at}
 use Rattle.object_cells.specs.ElementChanges.{WritesList}
 use Rattle.object_cells.specs.Made.{with_content, content_need, content_word, beside_content, begun_store}
 use Rattle.object_cells.specs.declared.stores.Store.{Store}
-use Rattle.object_cells.proofs.MadeBoxes.{made_boxes, BoxStands, made_row, length-with_content, with_content_stays, put_box}
+use Rattle.object_cells.proofs.MadeBoxes.{made_boxes, BoxStands, length-with_content, with_content_stays, row_with_box}
 use Rattle.object_cells.proofs.NewStores.{store_cell, store_is_cell}
 use Rattle.object_cells.proofs.OwnCells.{cell_below_layouts}
 use Rattle.object_cells.proofs.StoreWords.{MakesStore, copied_long, copied_word, begun_stays, begun_word}
 use Rattle.object_cells.proofs.StoreWords.{empty_store_hole}
 use Rattle.object_cells.proofs.UnusedWords.{next_before_segments, cell_is_used}
-use Rattle.object_cells.proofs.OwnPuts.{PutsOwn, own_sized, own_writes}
+use Rattle.object_cells.proofs.OwnPuts.{PutsOwn, own_sized, own_writes, box_put}
 use Rattle.list_store.specs.Pushes.{with_count, CanChange, PushesToNewStore}
 use Rattle.list_store.proofs.ListChanging.{Changing, list_word}
 
@@ -243,16 +243,8 @@ module _ {old new : Mutator} {graph : Graph} {at count : ℕ} {list : ListObject
   -- the box stands there
   pub box_stands : BoxStands (heap_of new) (beside_content value) behind
   box_stands =
-      put_box (heap_of new) begun (beside_content value) behind
-      (omega (
-        arith,
-        copied_long (heap_words old.seat) at store capacity (next_at old) makes,
-        counted,
-        ends,
-        within,
-      ))
-      (omega (arith, ap (λ (s : Space). eden_start s) pushes.words.beside.space))
-      (omega (arith, ends, ap (λ (s : Space). segments_start s) pushes.words.beside.space)) box_word
+      box_put begun (beside_content value) behind puts
+      (copied_long (heap_words old.seat) at store capacity (next_at old) makes) (omega arith) (omega arith) box_word
 
   -- the cells that are made
   abbrev pub boxes : List Cell
@@ -274,11 +266,8 @@ module _ {old new : Mutator} {graph : Graph} {at count : ℕ} {list : ListObject
   -- both are the row of the words that were reserved
   new_row : IsRow new.seat.space (heap_words new.seat) (next_at old) (next_at old + need) made
   new_row =
-      let end : ℕ = behind + content_need (beside_content value) in
-      let same : end ≡ next_at old + need = omega arith in
-      let row = made_row (heap_of new) (beside_content value) behind (own_sized puts) box_stands in
-      subst (λ to. IsRow new.seat.space (heap_words new.seat) (next_at old) to made) same
-      (next other end boxes store_cell_is row)
+      row_with_box (heap_of new) other (beside_content value) (next_at old + need) store_cell_is (own_sized puts)
+      box_stands (omega arith)
 
   -- so cells were written
   pub writes : WritesList (heap_of old) (heap_of new) cell [] made

@@ -39,7 +39,8 @@ use Rattle.object_cells.proofs.ContentValues.{content_shows}
 use Rattle.object_cells.proofs.HeldContents.{HoldsValue}
 use Rattle.object_cells.proofs.HeldNeeds.{new_value_held}
 use Rattle.object_cells.proofs.KeptCapacities.{list_capacities_grow}
-use Rattle.object_cells.proofs.MadeBoxes.{BoxStands, made_box, boxed_integer, refers_to_made, made_boxed, made_sound}
+use Rattle.object_cells.proofs.MadeBoxes.{BoxStands, made_box, boxed_integer, refers_to_made, made_boxed}
+use Rattle.object_cells.proofs.MadeBoxes.{boxes_sound, only_first}
 use Rattle.object_cells.proofs.NewBoxes.{box_cell}
 use Rattle.object_cells.proofs.NewElements.{pushed_elements_are_new}
 use Rattle.object_cells.proofs.OneElement.{PutsElement, element_refills, pushed_differs}
@@ -258,16 +259,10 @@ module _ {old new : Mutator} {graph : Graph} {at count : ℕ} {list : ListObject
         store_comes = inr (other, first_in other boxes, refl, refl);
         belong = λ one among. absurd (none_in one among);
         kinds = made_kinds;
-        stores = λ one among is_store. elim (in_cases other boxes one among) [
-          | inl same ↦ subst (λ (c : Cell). HasNoNumber c × (reference_word (next_at old) ≡ reference_word c.at)) same
-              (refl, refl)
-          | inr is_made ↦ absurd (store_is_no_box is_store (made_boxed (beside_content value) behind one is_made))
-        ];
-        boxes = λ one among is_box. elim (in_cases other boxes one among) [
-          | inl same ↦ absurd (store_is_no_box (ap (λ (c : Cell). c.layout.kind) (sym same)) is_box)
-          | inr is_made ↦ made_sound (length graph.objects) behind one holds_all known.fits box_stands
-              (box_has one is_made) is_made
-        ];
+        stores = λ one among is. subst (λ (c : Cell). HasNoNumber c × (reference_word (next_at old) ≡ reference_word c.at))
+            (only_first (beside_content value) behind kind.Store (store_is_no_box refl) one among is)
+            (refl, refl);
+        boxes = boxes_sound (length graph.objects) behind (store_is_no_box refl) holds_all known.fits box_stands box_has;
       }
 
   -- and the graph is shown in which it is the last

@@ -38,7 +38,7 @@ use Rattle.object_cells.proofs.UnusedWords.{cell_is_used, next_before_segments}
 use Rattle.object_cells.proofs.WordsTold.{cell_fits}
 use Rattle.heap_model.specs.Needs.{element_word, put_need_at}
 use Rattle.object_cells.proofs.FilledSlots.{FilledBy, held_put, set_there}
-use Rattle.object_cells.proofs.OwnPuts.{room_for_none}
+use Rattle.object_cells.proofs.NothingUsed.{room_for_none}
 use Rattle.list_store.specs.ListChanges.{HasPut}
 use Rattle.list_store.specs.Pushes.{WritesSlot}
 use Rattle.list_store.proofs.BoxedElements.{box_shown, box_keeps, same_young}

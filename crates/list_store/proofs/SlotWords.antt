@@ -1,12 +1,10 @@
 -- Which words are put where a value comes to a slot that the store of a list has, and which cells these write.
-use Rattle.std.proofs.Common.{◌≡◌, ◌≢◌, ℕ, ◌+◌, ◌≤◌, ◌<◌, ◌⊎◌, inl, inr, List, [], ◌∷◌}
+use Rattle.std.proofs.Common.{◌≡◌, ◌≢◌, ℕ, ◌+◌, ◌≤◌, ◌<◌, ◌⊎◌, inl, inr, List, [], ◌∷◌, refl}
 use Rattle.std.proofs.Common.{length, slice_get, sym, ◌∙◌, ap, subst, arith, length-set}
 use Rattle.std.specs.Prelude.{slice_set}
 use Rattle.tagged_word.specs.declared.layout.Kind.TheVariants as kind
 use Rattle.tagged_word.specs.Cells.{store_head}
 use Rattle.tagged_word.proofs.Members.{first_in, one_in}
-use Rattle.page_space.specs.Extents.{Space, eden_start, segments_start}
-use Rattle.page_space.proofs.Starts.{roots_start_is, layouts_start_is, marks_start_is}
 use Rattle.object_graph.specs.Graphs.{Graph, ListObject}
 use Rattle.object_graph.specs.declared.value.Value.{Value}
 use Rattle.object_graph.proofs.Lists.{slice_get-set_other}
@@ -21,11 +19,10 @@ use Rattle.object_cells.specs.Contents.{next_at}
 use Rattle.object_cells.specs.ElementChanges.{WritesList}
 use Rattle.object_cells.specs.Made.{IsStoreAt, with_content, content_need, content_word, beside_content}
 use Rattle.object_cells.specs.declared.stores.Store.{Store}
-use Rattle.object_cells.proofs.MadeBoxes.{made_boxes, BoxStands, made_row, length-with_content, with_content_stays, put_box}
+use Rattle.object_cells.proofs.MadeBoxes.{made_boxes, BoxStands, made_row, length-with_content, with_content_stays}
 use Rattle.object_cells.proofs.OwnPlaces.{has_own_words}
-use Rattle.object_cells.proofs.OwnPuts.{PutsOwn, not_reserved, own_sized, own_writes, one_beside}
+use Rattle.object_cells.proofs.OwnPuts.{PutsOwn, not_reserved, own_sized, own_writes, one_beside, box_put}
 use Rattle.object_cells.proofs.StoresRead.{StoredAt}
-use Rattle.object_cells.proofs.UnusedWords.{next_before_segments}
 use Rattle.list_store.specs.Pushes.{WritesSlot, with_count}
 use Rattle.list_store.proofs.ListChanging.{Changing, changing_store, list_is_no_store, list_word}
 
@@ -154,18 +151,7 @@ module _ {old new : Mutator} {graph : Graph} {at slot count : ℕ} {list : ListO
   -- the box stands there
   pub box_stands : BoxStands (heap_of new) (beside_content value) (next_at old)
   box_stands =
-      let ends = next_before_segments old need known.shows.tied pushes.room in
-      put_box (heap_of new) (heap_words old.seat) (beside_content value) (next_at old)
-      (omega (
-        arith,
-        known.shows.shows.whole.sized.words,
-        ends,
-        roots_start_is old.seat.space,
-        layouts_start_is old.seat.space,
-        marks_start_is old.seat.space,
-      ))
-      (omega (arith, ap (λ (s : Space). eden_start s) pushes.words.beside.space))
-      (omega (arith, ends, ap (λ (s : Space). segments_start s) pushes.words.beside.space)) box_word
+      box_put (heap_words old.seat) (beside_content value) (next_at old) puts refl (omega arith) (omega arith) box_word
 
   -- the cells that are made
   abbrev pub made : List Cell

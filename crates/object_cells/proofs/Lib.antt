@@ -24,6 +24,7 @@ pub mod ObjectWrites
 pub mod CellWritesRead
 pub mod CellWrites
 pub mod OwnerWrites
+pub mod NothingUsed
 pub mod OwnPuts
 pub mod OwnIntegers
 pub mod ContentValues

@@ -25,7 +25,8 @@ use Rattle.object_cells.specs.Contents.{next_at}
 use Rattle.object_cells.proofs.CellsRead.{cell_before_marks, word_stands}
 use Rattle.object_cells.proofs.MadeBoxes.{row_of_none}
 use Rattle.object_cells.proofs.OwnPlaces.{has_own_words, box_size}
-use Rattle.object_cells.proofs.OwnPuts.{PutsOwn, own_writes, one_beside, room_for_none, used_and_none}
+use Rattle.object_cells.proofs.NothingUsed.{room_for_none, used_and_none}
+use Rattle.object_cells.proofs.OwnPuts.{PutsOwn, own_writes, one_beside}
 use Rattle.object_cells.proofs.OwnerWrites.{Owns, written_own_keeps_cells}
 use Rattle.object_cells.proofs.SlotBoxes.{IsBoxOf}
 use Rattle.object_cells.proofs.SlotsNow.{word_at_offset}

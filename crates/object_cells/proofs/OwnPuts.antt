@@ -4,8 +4,8 @@ use Rattle.std.proofs.Common.{Some, slice_get, sym, ◌∙◌, ap, subst, arith,
 use Rattle.tagged_word.specs.declared.layout.Kind.{Kind}
 use Rattle.tagged_word.specs.Cells.{length_offset}
 use Rattle.tagged_word.proofs.Members.{one_in}
-use Rattle.page_space.specs.Extents.{Space, eden_start, layouts_start, marks_start}
-use Rattle.page_space.proofs.Starts.{roots_start_is, layouts_start_is}
+use Rattle.page_space.specs.Extents.{Space, eden_start, segments_start, layouts_start, marks_start}
+use Rattle.page_space.proofs.Starts.{roots_start_is, layouts_start_is, marks_start_is}
 use Rattle.nursery.specs.Young.{Young, HasRoom}
 use Rattle.shape_tree.specs.Shapes.{AreShapes}
 use Rattle.shape_tree.specs.ShapeLayouts.{layout_word}
@@ -17,8 +17,10 @@ use Rattle.heap_model.specs.Wholeness.{Whole, HasSizes}
 use Rattle.heap_model.proofs.CellsApart.{IsOfCell}
 use Rattle.write_barrier.specs.Mains.{Mutator, heap_of, IsTied, reserved}
 use Rattle.object_cells.specs.CellWrites.{IsInCell, IsWrittenOfKind, WritesOwnCells}
+use Rattle.object_cells.specs.declared.content.Content.{Content}
 use Rattle.object_cells.specs.Contents.{next_at}
-use Rattle.object_cells.specs.Made.{PutsWords}
+use Rattle.object_cells.specs.Made.{PutsWords, content_need, with_content}
+use Rattle.object_cells.proofs.MadeBoxes.{BoxStands, put_box}
 use Rattle.object_cells.proofs.OwnCells.{cell_below_layouts}
 use Rattle.object_cells.proofs.UnusedWords.{next_before_segments, cell_is_used}
 
@@ -110,6 +112,29 @@ own_writes {old = old} {new} {need = need} made puts header beside row =
           (λ from high. not_new (record { from = from; below = omega (arith, high, used) }));
     }
 
+-- A box among what was reserved stands there, where the words from its address on were put for it.
+pub box_put : {owner : Kind} {old new : Mutator} {cell : Cell} {others : List Cell} {need : ℕ} {words : List ℕ}
+    (before : List ℕ) (holds : Content) (box : ℕ) → PutsOwn owner old new cell others need words
+    → length before ≡ length (heap_words old.seat) → next_at old ≤ box → box + content_need holds ≤ next_at old + need
+    → ((b : ℕ) → box ≤ b → b < box + content_need holds
+    → slice_get (heap_words new.seat) b ≡ slice_get (with_content before holds box) b) → BoxStands (heap_of new) holds box
+box_put {old = old} {new} {need = need} before holds box puts long from below stands =
+    let space = puts.puts.beside.space in
+    let ends = next_before_segments old need puts.tied puts.room in
+    put_box (heap_of new) before holds box
+    (omega (
+      arith,
+      long,
+      puts.whole.sized.words,
+      below,
+      ends,
+      roots_start_is old.seat.space,
+      layouts_start_is old.seat.space,
+      marks_start_is old.seat.space,
+    ))
+    (omega (arith, from, ap (λ (s : Space). eden_start s) space))
+    (omega (arith, below, ends, ap (λ (s : Space). segments_start s) space)) stands
+
 -- Of a cell of which the first two words stay neither the header nor the length changed; so it is of the one cell that
 -- was written.
 pub one_beside : {owned : Kind} {old new : Heap} {other : Cell} → HasCell old other (words_of_cell old other)
@@ -123,13 +148,3 @@ one_beside {owned} {old} {new} {other} has is stays one among =
       header = subst (λ a. slice_get new.words a ≡ slice_get old.words a) (add-zero other.at) (stays 0 (omega arith));
       length = λ same. stays length_offset (omega arith);
     })
-
--- there is room for no more words
-pub room_for_none : (old : Mutator) → IsTied old → Whole (heap_of old) → HasRoom old.young 0
-room_for_none old tied whole =
-    let young = ap (λ (space : Space). space.sizes.young) tied in
-    omega (arith, whole.rows.few, young)
-
--- where none was reserved, as many are used as before
-pub used_and_none : (young : Young) → young ≡ record young { used = young.used + 0 }
-used_and_none young = ap (λ n. record young { used = n }) (sym (add-zero young.used))
