@@ -1,5 +1,5 @@
 -- A list that keeps all its elements: nothing has changed.
-use Rattle.std.proofs.Common.{◌≡◌, ℕ, List, Some, add-zero, refl, sym, ◌∙◌, ap, subst}
+use Rattle.std.proofs.Common.{◌≡◌, ℕ, List, Some, refl, sym, ◌∙◌, ap, subst}
 use Rattle.std.specs.Prelude.{slice_get, slice_set}
 use Rattle.std.proofs.lemmas.List.{set-get_or}
 use Rattle.std.proofs.lemmas.Option.{get_or_from_slice_get}

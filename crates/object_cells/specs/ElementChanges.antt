@@ -1,6 +1,6 @@
 -- A change of the elements of one list, slot by slot: the list's cell, its store and its boxes stay where they are, or
 -- a store and boxes are made.
-use Rattle.std.specs.Prelude.{◌≡◌, ℕ, ◌+◌, ◌<◌, ◌≤◌, ◌⊎◌, List, ◌∷◌, ◌++◌, length, Contains}
+use Rattle.std.specs.Prelude.{◌≡◌, ℕ, ◌<◌, ◌≤◌, ◌⊎◌, List, ◌∷◌, ◌++◌, length, Contains}
 use Rattle.std.specs.Prelude.{Some, slice_get, All, [], slice_set, IsTrue}
 use Rattle.tagged_word.specs.declared.layout.Kind.TheVariants as kind
 use Rattle.tagged_word.specs.Cells.{store_slot}
@@ -10,16 +10,14 @@ use Rattle.object_graph.specs.Graphs.{Graph, ListObject}
 use Rattle.object_graph.specs.Meaning.{list_most, relist}
 use Rattle.object_graph.specs.Reach.{is_marked, reach}
 use Rattle.object_graph.specs.Invariants.{IsGraph, IsValue, AreElements}
-use Rattle.page_space.specs.Extents.{eden_start, layouts_start}
 use Rattle.cell_layout.specs.declared.cell.Cell.{Cell}
-use Rattle.cell_layout.specs.Cells.{IsRow}
 use Rattle.heap_table.specs.declared.phase.Phase.TheVariants.{Quiet}
-use Rattle.heap_model.specs.Heaps.{Heap, HasCell, words_of_cell}
+use Rattle.heap_model.specs.Heaps.{Heap, words_of_cell}
 use Rattle.heap_model.specs.Slots.{hole_word, reference_word, IsBeside}
 use Rattle.heap_model.specs.Kinds.{HasWord, HasNoNumber, IsBoxCell, count_offset}
-use Rattle.heap_model.specs.Wholeness.{Whole, HasSizes, HasRows, NamesFrom}
+use Rattle.heap_model.specs.Wholeness.{Whole, HasRows, NamesFrom}
 use Rattle.heap_model.specs.Showing.{ShowsValue, ShowsList}
-use Rattle.heap_model.specs.Changes.{IsNewlyUsed, CellsChange}
+use Rattle.heap_model.specs.Changes.{CellsChange}
 use Rattle.write_barrier.specs.Mains.{Mutator, heap_of, IsTied, MainShows}
 use Rattle.object_cells.specs.HeldValues.{IsReachedValue}
 use Rattle.object_cells.specs.CellWrites.{WritesOwnCells}
