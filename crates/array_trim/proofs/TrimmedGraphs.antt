@@ -1,5 +1,5 @@
 -- A heap in which a list was trimmed shows the graph in which the list has the elements that stay.
-use Rattle.std.proofs.Common.{◌≡◌, ℕ, ◌+◌, List, [], ◌∷◌, length, take, drop, sym, ◌∙◌, ap, subst, arith}
+use Rattle.std.proofs.Common.{ℕ, List, [], ◌∷◌, length, take, drop, sym, ◌∙◌, ap, subst, arith}
 use Rattle.std.proofs.Common.{length-take, length-drop}
 use Rattle.std.proofs.lemmas.List.Elements.{All-take, All-drop}
 use Rattle.tagged_word.proofs.Members.{first_in}
@@ -21,6 +21,7 @@ use Rattle.object_cells.specs.ElementChanges.{AreNewElements}
 use Rattle.object_cells.specs.ListObjects.{IsListAt}
 use Rattle.object_cells.specs.Made.{PutsWords}
 use Rattle.object_cells.specs.Uses.{UsesMore}
+use Rattle.object_cells.proofs.NothingUsed.{uses_none}
 use Rattle.object_cells.proofs.NewElements.{elements_are_new}
 use Rattle.object_cells.proofs.RefilledLists.{links_reached}
 use Rattle.object_cells.proofs.ReplacedObjects.{ReplacesCells, replaced_shows}
@@ -108,12 +109,7 @@ module _ {old new : Mutator} {graph : Graph} {at : ℕ} {list : ListObject} {aft
 
   -- no word more is used
   none_used : UsesMore old new 0
-  none_used =
-      let same : old.young.used ≡ old.young.used + 0 = omega arith in
-      record {
-        beside = trimmed.puts.beside;
-        young = trimmed.puts.young ∙ ap (λ n. record old.young { used = n }) same;
-      }
+  none_used = uses_none trimmed.puts.beside trimmed.puts.young
 
   -- the list was trimmed
   pub has_trimmed : HasTrimmed old new graph at list after trimmed.came.length

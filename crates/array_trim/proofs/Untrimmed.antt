@@ -1,5 +1,5 @@
 -- A list that keeps all its elements: nothing has changed.
-use Rattle.std.proofs.Common.{◌≡◌, ℕ, List, Some, add-zero, refl, sym, ◌∙◌, ap, subst}
+use Rattle.std.proofs.Common.{◌≡◌, ℕ, List, Some, refl, sym, ◌∙◌, ap, subst}
 use Rattle.std.specs.Prelude.{slice_get, slice_set}
 use Rattle.std.proofs.lemmas.List.{set-get_or}
 use Rattle.std.proofs.lemmas.Option.{get_or_from_slice_get}
@@ -12,6 +12,7 @@ use Rattle.heap_table.specs.Staying.{stays_beside_itself}
 use Rattle.heap_model.specs.Needs.{capacity_at}
 use Rattle.write_barrier.specs.Mains.{Mutator, heap_of, MainShows}
 use Rattle.object_cells.specs.ListObjects.{IsListAt}
+use Rattle.object_cells.proofs.NothingUsed.{uses_none, nothing_changes}
 use Rattle.array_trim.specs.Trims.{HasTrimmed}
 
 -- a graph in which a list gets its own elements is the graph
@@ -31,17 +32,8 @@ relisted_alike {main} {graph} list elements shows is all =
 pub nothing_trimmed : {main : Mutator} {graph : Graph} {at : ℕ} (list : ListObject) (elements : List Value)
     (capacity : ℕ) → MainShows main graph → IsListAt main graph at list → elements ≡ list.elements
     → capacity ≡ capacity_at (heap_of main) at → HasTrimmed main main graph at list elements capacity
-nothing_trimmed {main} list elements capacity shows is all same = record {
-  uses = record {
-    beside = stays_beside_itself main.seat;
-    young = ap (λ n. record main.young { used = n }) (sym (add-zero main.young.used));
-  };
-  changes = record {
-    words = λ word below not_own not_new. refl;
-    own = sym same;
-    others = λ number other place apart. refl;
-    stays = λ number other place. place;
-    none_made = λ number other place. place;
-  };
+nothing_trimmed {main} {at = at} list elements capacity shows is all same = record {
+  uses = uses_none (stays_beside_itself main.seat) refl;
+  changes = nothing_changes (heap_of main) at capacity (sym same);
   shows = relisted_alike list elements shows is all;
 }

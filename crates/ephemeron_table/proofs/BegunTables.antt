@@ -1,7 +1,7 @@
 -- The words with a table of pairs that hold nothing.
-use Rattle.std.proofs.Common.{◌≡◌, ◌≢◌, ℕ, suc, ◌+◌, ◌*◌, ◌≤◌, ◌<◌, inl, inr, List, length, Some}
+use Rattle.std.proofs.Common.{◌≡◌, ℕ, ◌+◌, ◌*◌, ◌≤◌, ◌<◌, inl, inr, List, length, Some}
 use Rattle.std.proofs.Common.{slice_get, replicate}
-use Rattle.std.proofs.Common.{refl, sym, ◌∙◌, ap, arith, length-set}
+use Rattle.std.proofs.Common.{sym, ◌∙◌, ap, arith, length-set}
 use Rattle.std.specs.Prelude.{slice_set}
 use Rattle.std.proofs.lemmas.Bool.{cases_lt}
 use Rattle.std.proofs.lemmas.List.{length-replicate, get_or-replicate}
@@ -10,7 +10,6 @@ use Rattle.tagged_word.specs.Cells.{store_head, length_offset}
 use Rattle.tagged_word.specs.Headers.{header_bits}
 use Rattle.object_graph.proofs.Lists.{slice_get-set_same, slice_get-set_other}
 use Rattle.heap_model.specs.Slots.{hole_word}
-use Rattle.heap_model.specs.Kinds.{Pair, free_pair}
 use Rattle.object_cells.proofs.PutRanges.{length-with_range, with_range_before, with_range_inside, with_range_behind}
 use Rattle.ephemeron_table.specs.Movings.{HoldNothing}
 use Rattle.ephemeron_table.specs.Probes.{key_offset, value_offset}

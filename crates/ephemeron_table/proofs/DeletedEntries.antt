@@ -1,7 +1,7 @@
 -- An entry of a weak map was taken out.
 use Rattle.std.proofs.Common.{◌≡◌, ◌≢◌, ℕ, ◌+◌, Bool, true, false, cond, List, [], ◌∷◌, length, Some}
 use Rattle.std.proofs.Common.{None}
-use Rattle.std.proofs.Common.{slice_get, get_or, set, refl, sym, ◌∙◌, ap, subst, arith, add-zero, ◌==◌}
+use Rattle.std.proofs.Common.{slice_get, get_or, set, refl, sym, ◌∙◌, ap, subst, arith, ◌==◌}
 use Rattle.std.specs.Prelude.{slice_set}
 use Rattle.std.proofs.lemmas.List.{set-get_or}
 use Rattle.std.proofs.lemmas.Option.{none-some, get_or_from_slice_get}
@@ -21,7 +21,7 @@ use Rattle.heap_model.specs.Kinds.{HasWord, Pair, count_offset}
 use Rattle.heap_model.specs.Needs.{capacity_at, count_at}
 use Rattle.write_barrier.specs.Mains.{Mutator, heap_of, MainShows}
 use Rattle.object_cells.specs.Capacities.{ChangesObject}
-use Rattle.object_cells.specs.Uses.{UsesMore}
+use Rattle.object_cells.proofs.NothingUsed.{uses_none, nothing_changes}
 use Rattle.ephemeron_table.specs.EntryChanges.{DeletesEntry}
 use Rattle.ephemeron_table.specs.WeakObjects.{IsWeakAt}
 use Rattle.ephemeron_table.specs.Pairs.{IsFilledAt}
@@ -74,13 +74,6 @@ reweave_same graph weak is =
     ∙ set-get_or graph.objects weak.number (Weak weak.entries) in
     ap (λ (all : List Object). record graph { objects = all }) objects
 
--- nothing more is used where nothing has changed
-pub uses_none : (old : Mutator) → UsesMore old old 0
-uses_none old = record {
-  beside = stays_beside_itself old.seat;
-  young = ap (λ n. record old.young { used = n }) (sym (add-zero old.young.used));
-}
-
 -- where no entry has the key, nothing changes
 pub deletes_none : (main : Mutator) (graph : Graph) (map : ℕ) (weak : WeakObject) (number : ℕ) → MainShows main graph
     → IsWeakAt main graph map weak → entry_value weak.entries number ≡ None
@@ -90,14 +83,8 @@ deletes_none main graph map weak number shows is none =
     ap (reweave graph weak) (without_none weak.entries number none) ∙ reweave_same graph weak is.object in
     record {
       none = λ no_entry. refl;
-      uses = uses_none main;
-      changes = record {
-        words = λ word below not_own not_new. refl;
-        own = refl;
-        others = λ one other place apart. refl;
-        stays = λ one other place. place;
-        none_made = λ one other place. place;
-      };
+      uses = uses_none (stays_beside_itself main.seat) refl;
+      changes = nothing_changes (heap_of main) map (capacity_at (heap_of main) map) refl;
       shows = subst (MainShows main) (sym same) shows;
     }
 
@@ -170,10 +157,7 @@ module _ {old new : Mutator} {graph : Graph} {map key : ℕ} {weak : WeakObject}
       let refills = refills_weak is_known (some its) takes one (entry_filled its) in
       record {
         none = λ no_entry. absurd (none-some its.told.value (sym no_entry ∙ its.told.is_entry));
-        uses = record {
-          beside = takes.rest;
-          young = takes.young ∙ ap (λ n. record old.young { used = n }) (sym (add-zero old.young.used));
-        };
+        uses = uses_none takes.rest takes.young;
         changes = subst (λ at. ChangesObject (heap_of old) (heap_of new) at (capacity_at (heap_of old) at))
             (shown its).stands (tables_stay (heap_of old) (heap_of new) (shown its).cell _ [] refills
             (slot_stays is_known (some its) takes one (entry_filled its)));

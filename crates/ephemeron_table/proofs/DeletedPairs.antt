@@ -6,7 +6,8 @@ use Rattle.object_graph.specs.Graphs.{Graph, WeakObject}
 use Rattle.heap_model.specs.Kinds.{Pair}
 use Rattle.heap_model.specs.Slots.{reference_word}
 use Rattle.write_barrier.specs.Mains.{Mutator, heap_of, MainShows}
-use Rattle.ephemeron_table.specs.WeakObjects.{IsKeyAt, IsWeakAt}
+use Rattle.ephemeron_table.specs.WeakObjects.{IsKeyAt, IsShownKey, IsWeakAt}
+use Rattle.ephemeron_table.specs.EntryChanges.{DeletesEntry}
 use Rattle.ephemeron_table.specs.Pairs.{HasPairsAt, RemovesPair}
 use Rattle.ephemeron_table.specs.PairChanges.{DeletesPair, IsPairOf}
 use Rattle.ephemeron_table.specs.PairLaws.{WrittenPairsAreOwn, TablesStay}
@@ -14,8 +15,11 @@ use Rattle.ephemeron_table.specs.Probes.{IsTableAt}
 use Rattle.ephemeron_table.specs.Takings.{TakesAt}
 use Rattle.ephemeron_table.specs.declared.reading.Table.{Table}
 use Rattle.ephemeron_table.proofs.KeysFound.{WeakShown, weak_shown, TellsPair}
+use Rattle.ephemeron_table.proofs.DeletedEntries.{deletes_none}
+use Rattle.ephemeron_table.proofs.KeysProbed.{LacksEntry}
 use Rattle.ephemeron_table.proofs.KnownTables.{KnownMap}
-use Rattle.ephemeron_table.proofs.PairsByKey.{lacks_pair, one_pair_of, pairs_shown, shown_known, told_pair}
+use Rattle.ephemeron_table.proofs.KnownTables.{shown_known}
+use Rattle.ephemeron_table.proofs.PairsByKey.{lacks_pair, one_pair_of, pairs_shown, told_pair}
 use Rattle.ephemeron_table.proofs.RemovedPairs.{removes_pair}
 
 -- the pair that was taken out was the one with the key
@@ -55,3 +59,18 @@ deletes_no_pair {main} {graph} {map} {key} {weak} {table = table} {before} shows
       there = λ place pair its. absurd (lacks_pair shown is_key same none place pair its);
       none = λ lacks. refl;
     }
+
+-- so nothing is taken out of the entries or the pairs
+pub deletes_nothing : {main : Mutator} {map key : ℕ} {table : Table} → IsShownKey main map key
+    → AreWithin main.seat.space.sizes main.seat.space.variables → IsTableAt (heap_of main) map table
+    → LacksEntry main map key
+    → ((graph : Graph) (weak : WeakObject) (number : ℕ) → MainShows main graph → IsWeakAt main graph map weak
+    → IsKeyAt main graph key number → DeletesEntry main main graph map weak number)
+    × ((before : List Pair) → HasPairsAt (heap_of main) map before → DeletesPair main main map key before)
+deletes_nothing {main} {map} asked sizes is_table none = (
+  λ graph weak number shows is is_key.
+      deletes_none main graph map weak number shows is (none graph weak number shows is is_key),
+  λ before has.
+      deletes_no_pair asked.shows asked.is asked.is_key sizes is_table
+      (none asked.graph asked.weak asked.number asked.shows asked.is asked.is_key) has,
+)

@@ -24,8 +24,9 @@ use Rattle.ephemeron_table.specs.Takings.{pairs_of}
 use Rattle.ephemeron_table.specs.declared.reading.Table.{Table}
 use Rattle.object_cells.proofs.FilledSlots.{held_put}
 use Rattle.ephemeron_table.proofs.KeysAt.{pair_of_is, pair_word_is}
-use Rattle.ephemeron_table.proofs.KeysFound.{WeakShown, weak_shown, shown_there, shown_pairs, shown_sound, key_filled}
+use Rattle.ephemeron_table.proofs.KeysFound.{WeakShown, weak_shown, shown_pairs, shown_sound, key_filled}
 use Rattle.ephemeron_table.proofs.KeysFound.{one_key, TellsPair, key_told}
+use Rattle.ephemeron_table.proofs.KnownTables.{shown_known}
 use Rattle.ephemeron_table.proofs.KnownTables.{KnownMap, within_words}
 use Rattle.ephemeron_table.proofs.PairLists.{pairs_are}
 
@@ -63,13 +64,7 @@ module _ {old : Mutator} {graph : Graph} {map key : ℕ} {weak : WeakObject} {nu
 
   -- the map and its table
   abbrev pub known : KnownMap old map table
-  known = record {
-    tied = has.shows.tied;
-    whole = has.shows.shows.whole;
-    sizes = has.sizes;
-    there = shown_there shown;
-    is = has.is_table;
-  }
+  known = shown_known has.shows has.is has.sizes has.is_table
 
   pub some : 0 < table.capacity
   some = omega (arith, has.below)

@@ -18,20 +18,13 @@ use Rattle.ephemeron_table.specs.Takings.{pairs_of}
 use Rattle.ephemeron_table.specs.declared.reading.Table.{Table}
 use Rattle.ephemeron_table.proofs.ClosedPairs.{ReadsPair, reads_pair}
 use Rattle.ephemeron_table.proofs.CountedPairs.{count_filled, filled_counts, one_if}
-use Rattle.ephemeron_table.proofs.KeysFound.{weak_shown, shown_there}
-use Rattle.ephemeron_table.proofs.KnownTables.{KnownMap, count_is, pairs_long, within_words}
+use Rattle.ephemeron_table.proofs.KnownTables.{KnownMap, shown_known, count_is, pairs_long, within_words}
 
 -- the map to which an entry is to come, and its table
 abbrev pub put_known : {old : Mutator} {map key : ℕ} {table : Table} {value : Held} → IsShownPutting old map key value
     → AreWithin old.seat.space.sizes old.seat.space.variables → IsTableAt (heap_of old) map table
     → KnownMap old map table
-put_known shown sizes is_table = record {
-  tied = shown.shows.tied;
-  whole = shown.shows.shows.whole;
-  sizes = sizes;
-  there = shown_there (weak_shown shown.shows shown.is);
-  is = is_table;
-}
+put_known shown sizes is_table = shown_known shown.shows shown.is sizes is_table
 
 -- where each of some pairs holds something, so many are counted
 all_counted : (pairs : List Pair) → ((at : ℕ) (pair : Pair) → slice_get pairs at ≡ Some pair → pair ≢ free_pair)

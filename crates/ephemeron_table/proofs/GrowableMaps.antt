@@ -1,20 +1,16 @@
 -- A table may be made in the place of a weak map's that would be too full.
-use Rattle.std.proofs.Common.{◌≡◌, ℕ, ◌+◌, ◌*◌, ◌≤◌, ◌<◌, inl, inr, List, Some, slice_get, sym}
-use Rattle.std.proofs.Common.{◌∙◌, ap, subst, arith}
-use Rattle.std.proofs.lemmas.Bool.{cases_lt}
+use Rattle.std.proofs.Common.{◌≡◌, ℕ, ◌+◌, ◌*◌, ◌≤◌, ◌<◌, inl, inr, List}
+use Rattle.std.proofs.Common.{subst, arith}
 use Rattle.tagged_word.specs.Cells.{store_head}
-use Rattle.tagged_word.specs.Readings.{reference_in}
 use Rattle.tagged_word.proofs.Readings.{reference_to}
 use Rattle.page_space.specs.Extents.{marks_start}
 use Rattle.cell_layout.specs.declared.cell.Cell.{Cell}
-use Rattle.heap_table.specs.Seats.{heap_words}
 use Rattle.heap_table.specs.declared.phase.Phase.TheVariants.{Quiet}
 use Rattle.heap_model.specs.Heaps.{HasCell}
 use Rattle.heap_model.specs.Slots.{IsPlace}
-use Rattle.heap_model.specs.Kinds.{Pair}
 use Rattle.heap_model.proofs.CellsApart.{IsOfCell, first_of_cell}
 use Rattle.write_barrier.specs.Mains.{Mutator, heap_of}
-use Rattle.object_cells.proofs.CellsRead.{cell_at_before_marks}
+use Rattle.object_cells.proofs.CellsRead.{place_before_marks}
 use Rattle.object_cells.proofs.UnusedWords.{cell_apart}
 use Rattle.object_cells.proofs.WordsTold.{cell_fits}
 use Rattle.ephemeron_table.specs.Movings.{CanGrow, IsUsed, KeysUsed}
@@ -35,8 +31,7 @@ module _ {old : Mutator} {map : ℕ} {table : Table} (known : KnownMap old map t
   place_used place = subst (IsUsed old) place.stands (word_used place.cell.at place.has (first_of_cell place.has))
 
   pub place_within : {number at : ℕ} → IsPlace (heap_of old) number at → at < marks_start old.seat.space
-  place_within place =
-      subst (λ n. n < marks_start old.seat.space) place.stands (cell_at_before_marks known.whole.sized place.has)
+  place_within place = place_before_marks known.whole.sized place
 
   -- and each word of the table's pairs
   pairs_used : (a : ℕ) → table.at + store_head ≤ a → a < table.at + (store_head + 2 * table.capacity) → IsUsed old a

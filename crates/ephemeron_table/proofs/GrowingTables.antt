@@ -1,25 +1,21 @@
 -- A table that is made in the place of a map's has the next words of eden, of which no other cell has one.
-use Rattle.std.proofs.Common.{◌≡◌, ℕ, ◌+◌, ◌*◌, ◌≤◌, ◌<◌, inl, inr, List, length, Some, slice_get, refl}
+use Rattle.std.proofs.Common.{◌≡◌, ℕ, ◌+◌, ◌*◌, ◌≤◌, ◌<◌, inl, inr, length, slice_get}
 use Rattle.std.proofs.Common.{sym, ◌∙◌, ap, subst, arith}
-use Rattle.std.specs.Prelude.{ℤ}
 use Rattle.tagged_word.specs.Cells.{store_head}
-use Rattle.tagged_word.specs.Readings.{reference_in}
 use Rattle.page_space.specs.Extents.{Space, segments_start, marks_start}
 use Rattle.nursery.specs.Young.{HasRoom}
 use Rattle.heap_table.specs.Seats.{heap_words}
-use Rattle.heap_model.specs.Kinds.{Pair}
 use Rattle.heap_model.specs.Needs.{grown_table}
 use Rattle.write_barrier.specs.Mains.{Mutator, heap_of, reserved}
 use Rattle.object_cells.specs.declared.content.Content.{Content}
-use Rattle.object_cells.specs.declared.content.Content.TheVariants as content
 use Rattle.object_cells.specs.Contents.{next_at}
-use Rattle.object_cells.specs.Made.{PutsWords, content_need, with_content}
+use Rattle.object_cells.specs.Made.{PutsWords, with_content}
 use Rattle.object_cells.proofs.MadeBoxes.{length-with_content, with_content_stays}
 use Rattle.object_cells.proofs.UnusedWords.{next_before_segments, next_before_marks}
 use Rattle.ephemeron_table.specs.Movings.{CanGrow, HoldNothing, IsBesideTable, KeysMovable, MovesPairs}
 use Rattle.ephemeron_table.specs.Pairs.{IsFilledAt}
 use Rattle.ephemeron_table.specs.Puttings.{HasFree, begun_table}
-use Rattle.ephemeron_table.specs.Takings.{IsBesidePairs, IsKeyBeside, pairs_of}
+use Rattle.ephemeron_table.specs.Takings.{pairs_of}
 use Rattle.ephemeron_table.specs.declared.reading.Table.{Table}
 use Rattle.ephemeron_table.proofs.BegunTables.{begun_beside, begun_long, begun_nothing}
 use Rattle.ephemeron_table.proofs.CountedPairs.{count_filled}

@@ -1,14 +1,11 @@
 -- An entry whose key is new comes to a weak map in a table that is made: the map has it then.
-use Rattle.std.proofs.Common.{◌≡◌, ◌≢◌, ℕ, suc, ◌+◌, ◌*◌, ◌≤◌, ◌<◌, inl, inr, Bool, true, false}
+use Rattle.std.proofs.Common.{◌≡◌, ℕ, suc, ◌+◌, ◌*◌, ◌<◌, Bool, true, false}
 use Rattle.std.proofs.Common.{cond, List, [], ◌∷◌, length, Some, None}
 use Rattle.std.proofs.Common.{slice_get, refl, sym, ◌∙◌, ap, subst, arith, ◌==◌, nat_lt}
 use Rattle.std.proofs.lemmas.Bool.Decides.{nat_tests}
 use Rattle.std.proofs.lemmas.Option.{none-some, same_Some, slice_get_within}
-use Rattle.tagged_word.specs.declared.layout.Kind.TheVariants as kind
-use Rattle.tagged_word.specs.Cells.{store_head, store_slot}
-use Rattle.tagged_word.proofs.Members.{first_in}
+use Rattle.tagged_word.specs.Cells.{store_head}
 use Rattle.page_space.specs.Sizes.{AreWithin}
-use Rattle.nursery.specs.Young.{Young, HasRoom}
 use Rattle.object_graph.specs.declared.value.Value.{Value}
 use Rattle.object_graph.specs.declared.value.Rep.TheVariants as rep
 use Rattle.object_graph.specs.Values.{rep_of}
@@ -16,47 +13,39 @@ use Rattle.object_graph.specs.declared.object.Entry.{Entry}
 use Rattle.object_graph.specs.Objects.{entry_value, with_entry}
 use Rattle.object_graph.specs.Graphs.{Graph, WeakObject}
 use Rattle.object_graph.specs.Invariants.{IsValue}
-use Rattle.cell_layout.specs.declared.cell.Cell.{Cell}
-use Rattle.handle_roots.specs.Roots.{FitsHeld}
 use Rattle.handle_roots.specs.declared.held.Held.{Held}
 use Rattle.heap_table.specs.Seats.{heap_words}
-use Rattle.heap_model.specs.Heaps.{words_of_cell}
 use Rattle.heap_model.specs.Slots.{reference_word, RefersToPlace, IsPlace}
-use Rattle.heap_model.specs.Kinds.{HasWord, Pair, count_offset}
-use Rattle.heap_model.specs.Showing.{ShowsEntry, ShowsValue}
+use Rattle.heap_model.specs.Kinds.{Pair}
+use Rattle.heap_model.specs.Showing.{ShowsEntry}
 use Rattle.heap_model.specs.Needs.{box_need, capacity_at, count_at, grown_table, pair_of, table_need, wput_need_at}
 use Rattle.heap_model.specs.Needs.{wput_need_by}
 use Rattle.write_barrier.specs.Mains.{Mutator, heap_of, MainShows}
-use Rattle.object_cells.specs.Contents.{next_at}
 use Rattle.object_cells.specs.HeldValues.{IsValueHeld, is_wide}
-use Rattle.object_cells.specs.Capacities.{ChangesObject}
-use Rattle.object_cells.specs.Made.{beside_content, content_need}
-use Rattle.object_cells.specs.Uses.{UsesMore}
+use Rattle.object_cells.specs.Made.{beside_content}
 use Rattle.object_cells.proofs.HeldContents.{HoldsValue}
-use Rattle.object_cells.proofs.HeldNeeds.{content_need_is, held_is_value, new_value_held, wide_is}
-use Rattle.object_cells.proofs.UnusedWords.{marks_fit, next_before_marks}
-use Rattle.ephemeron_table.specs.Growth.{put_capacity_by}
+use Rattle.object_cells.proofs.HeldNeeds.{content_need_is, wide_is}
+use Rattle.object_cells.proofs.ContentValues.{content_shows}
 use Rattle.ephemeron_table.specs.Movings.{CanGrow, PutsInNewTable, new_table_need}
 use Rattle.ephemeron_table.specs.Pairs.{IsFilledAt}
-use Rattle.ephemeron_table.specs.PairLaws.{PutsOne, TablesGrow, WrittenEntriesShow, IsNewValue}
+use Rattle.ephemeron_table.specs.PairLaws.{PutsOne}
 use Rattle.ephemeron_table.specs.Probes.{IsTableAt}
 use Rattle.ephemeron_table.specs.Takings.{pairs_of}
 use Rattle.ephemeron_table.specs.WeakObjects.{IsKeyAt, IsWeakAt}
 use Rattle.ephemeron_table.specs.declared.reading.Table.{Table}
 use Rattle.ephemeron_table.proofs.CountedPairs.{count_filled}
 use Rattle.ephemeron_table.proofs.GrowableMaps.{can_grow}
-use Rattle.ephemeron_table.proofs.GrownMaps.{all_made, boxes_made, count_now, places, refers_back, refers_box}
+use Rattle.ephemeron_table.proofs.GrownMaps.{places, refers_back, refers_box}
 use Rattle.ephemeron_table.proofs.GrownMaps.{refills_weak}
-use Rattle.ephemeron_table.proofs.GrownMaps.{slot_there_now, table_made}
-use Rattle.ephemeron_table.proofs.GrownPairs.{before, after, place, origin, origin_other, moved, moved_apart}
+use Rattle.ephemeron_table.proofs.GrownPairs.{before, origin_other, moved, moved_apart}
 use Rattle.ephemeron_table.proofs.GrownPairs.{moved_stands}
-use Rattle.ephemeron_table.proofs.GrownPairs.{NowFilled, now_filled, one_more, one_stands}
-use Rattle.ephemeron_table.proofs.GrownWords.{behind, pair, puts_weak}
-use Rattle.ephemeron_table.proofs.KeysFound.{WeakShown, weak_shown, shown_there, shown_pairs}
-use Rattle.ephemeron_table.proofs.KnownTables.{KnownMap, cell, count_is, pairs_long, within_words}
+use Rattle.ephemeron_table.proofs.GrownPairs.{NowFilled, now_filled, one_stands}
+use Rattle.ephemeron_table.proofs.GrownWords.{behind, pair}
+use Rattle.ephemeron_table.proofs.KeysFound.{WeakShown, weak_shown, shown_pairs}
+use Rattle.ephemeron_table.proofs.KnownTables.{shown_known}
+use Rattle.ephemeron_table.proofs.KnownTables.{KnownMap, pairs_long, within_words}
 use Rattle.ephemeron_table.proofs.NoPair.{no_key, no_pair, pair_of_none}
 use Rattle.ephemeron_table.proofs.PairLists.{pairs_are}
-use Rattle.ephemeron_table.proofs.PutValues.{value_shows}
 
 module _ {old new : Mutator} {map key count earlier number : ℕ} {table : Table} {value : Held} {what : Value}
     (known : KnownMap old map table) (can : CanGrow old map table key earlier)
@@ -77,7 +66,7 @@ module _ {old new : Mutator} {map key count earlier number : ℕ} {table : Table
             refers = refl;
             place = places known can puts objects key_place holds fits counted number key key_place;
           };
-          value = value_shows (behind known can puts) holds (places known can puts objects key_place holds fits counted)
+          value = content_shows (behind known can puts) holds (places known can puts objects key_place holds fits counted)
               (refers_box known can puts objects key_place holds fits counted);
         })
 
@@ -142,13 +131,7 @@ module _ {old : Mutator} {graph : Graph} {map key : ℕ} {weak : WeakObject} {nu
 
   -- the map and its table
   abbrev pub known : KnownMap old map table
-  known = record {
-    tied = growing.shows.tied;
-    whole = growing.shows.shows.whole;
-    sizes = growing.sizes;
-    there = shown_there shown;
-    is = growing.is_table;
-  }
+  known = shown_known growing.shows growing.is growing.sizes growing.is_table
 
   -- so a table may be made
   pub growing_can : CanGrow old map table key (count_at (heap_of old) map)

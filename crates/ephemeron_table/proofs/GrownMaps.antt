@@ -1,34 +1,26 @@
 -- A weak map to which an entry came in a table that was made is refilled.
-use Rattle.std.proofs.Common.{◌≡◌, ◌≢◌, ℕ, ◌+◌, ◌*◌, ◌≤◌, ◌<◌, ◌⊎◌, inl, inr, List, []}
-use Rattle.std.proofs.Common.{◌∷◌, ◌++◌, length, drop, Contains, Some, None}
-use Rattle.std.proofs.Common.{false, true, Bool, slice_get, refl, sym, ◌∙◌, ap, subst, arith, length-set, ◌==◌, Option}
-use Rattle.std.proofs.Common.{unwrap_or}
-use Rattle.std.specs.Prelude.{ℤ, slice_set, option_map}
-use Rattle.std.specs.Option.{option_and_then}
-use Rattle.std.proofs.lemmas.Bool.{cases_eq, cases_lt, eq-eqb, ne_eqb}
-use Rattle.std.proofs.lemmas.Option.{same_Some, slice_get-map, slice_get_within}
-use Rattle.tagged_word.specs.declared.header.Header.{Header}
+use Rattle.std.proofs.Common.{◌≡◌, ℕ, ◌+◌, ◌<◌, ◌⊎◌, inl, inr, List, []}
+use Rattle.std.proofs.Common.{drop, Contains, Some}
+use Rattle.std.proofs.Common.{false, slice_get, refl, sym, ◌∙◌, ap, subst, arith}
+use Rattle.std.specs.Prelude.{ℤ}
+use Rattle.std.proofs.lemmas.Bool.{cases_lt}
+use Rattle.std.proofs.lemmas.Option.{same_Some}
 use Rattle.tagged_word.specs.declared.layout.Kind.TheVariants as kind
 use Rattle.tagged_word.specs.Cells.{store_head, store_slot}
-use Rattle.tagged_word.specs.Readings.{reference_in, header_in}
-use Rattle.tagged_word.proofs.Members.{first_in, rest_in, one_in, in_cases}
+use Rattle.tagged_word.specs.Readings.{reference_in}
+use Rattle.tagged_word.proofs.Members.{first_in, rest_in, in_cases}
 use Rattle.tagged_word.proofs.Readings.{reference_to}
 use Rattle.object_graph.specs.declared.value.Value.{Value}
 use Rattle.object_graph.specs.declared.value.Rep.TheVariants as rep
 use Rattle.object_graph.specs.Values.{rep_of}
 use Rattle.object_graph.specs.Invariants.{IsValue}
-use Rattle.object_graph.proofs.Lists.{slice_get-set_same, slice_get-set_other}
-use Rattle.linear_probing.specs.Tables.{FindsAll}
-use Rattle.linear_probing.specs.Tables as probing
 use Rattle.cell_layout.specs.declared.cell.Cell.{Cell}
 use Rattle.handle_roots.specs.declared.held.Held.{Held}
 use Rattle.heap_table.specs.Seats.{heap_words}
 use Rattle.heap_model.specs.Heaps.{HasCell, words_of_cell}
-use Rattle.heap_model.specs.Slots.{reference_word, RefersTo, RefersToBox, RefersToPlace, IsPlace}
-use Rattle.heap_model.specs.Kinds.{HasWord, Pair, free_pair, HasTable, IsProbed, IsFilledPair, pairs_in, count_offset}
+use Rattle.heap_model.specs.Slots.{reference_word, RefersToBox, RefersToPlace, IsPlace}
+use Rattle.heap_model.specs.Kinds.{HasWord, Pair, HasTable, IsFilledPair, pairs_in, count_offset}
 use Rattle.heap_model.specs.Kinds.{HasNoNumber, IsBoxCell, IsPowerOfTwo}
-use Rattle.heap_model.specs.Changes.{CellsChange}
-use Rattle.heap_model.specs.Wholeness.{NamesFrom, IsOwnedKind}
 use Rattle.heap_model.proofs.BoundHeaps.{none_in}
 use Rattle.heap_model.proofs.WordsStay.{PlacesStay}
 use Rattle.write_barrier.specs.Mains.{Mutator, heap_of}
@@ -36,17 +28,18 @@ use Rattle.object_cells.specs.declared.content.Content.TheVariants as content
 use Rattle.object_cells.specs.Contents.{next_at}
 use Rattle.object_cells.specs.Made.{beside_content}
 use Rattle.object_cells.proofs.HeldContents.{HoldsValue}
-use Rattle.object_cells.proofs.KeptCapacities.{WritesOwn, none_made}
-use Rattle.object_cells.proofs.MadeBoxes.{made_box, boxed_integer, refers_to_made, made_boxed, made_sound}
+use Rattle.object_cells.proofs.MadeBoxes.{made_box, boxed_integer, refers_to_made, made_boxed, only_first}
+use Rattle.object_cells.proofs.MadeBoxes.{boxes_sound}
 use Rattle.object_cells.proofs.NewBoxes.{box_cell}
 use Rattle.object_cells.proofs.SlotsNow.{word_at_offset}
 use Rattle.object_cells.proofs.WordsTold.{cell_fits}
-use Rattle.object_cells.proofs.WrittenPlaces.{object_places_stay}
+use Rattle.object_cells.proofs.ContentValues.{content_shows}
+use Rattle.object_cells.proofs.FieldWords.{value_word}
+use Rattle.object_cells.proofs.ObjectWrites.{owned_or_box}
 use Rattle.ephemeron_table.specs.Movings.{CanGrow, PutsInNewTable}
 use Rattle.ephemeron_table.specs.Pairs.{HasPairs, IsFilledAt}
 use Rattle.ephemeron_table.specs.PairWrites.{RefillsPairs, PairComes}
 use Rattle.ephemeron_table.specs.PairLaws.{RefillsWeak}
-use Rattle.ephemeron_table.specs.Takings.{numbers, number_of, pairs_of}
 use Rattle.ephemeron_table.specs.declared.reading.Table.{Table}
 use Rattle.ephemeron_table.proofs.CountedPairs.{count_filled}
 use Rattle.ephemeron_table.proofs.GrownPairs.{before, after, place, origin, origin_other, all_apart, all_found, moved}
@@ -59,11 +52,12 @@ use Rattle.ephemeron_table.proofs.LinkedMaps.{count_word, slot_word}
 use Rattle.ephemeron_table.proofs.NewTables.{first_power, grown_power}
 use Rattle.ephemeron_table.proofs.PairLists.{pairs_are}
 use Rattle.ephemeron_table.proofs.TablesRead.{found_table, pairs_stand}
-use Rattle.ephemeron_table.proofs.KnownTables.{KnownMap, cell, cell_has, sound, has_table, slot_there, of_map}
-use Rattle.ephemeron_table.proofs.KnownTables.{number_found, probed_pair, found, other_long}
-use Rattle.ephemeron_table.proofs.PutValues.{value_comes, value_word}
-use Rattle.ephemeron_table.proofs.TakenMaps.{table_is_no_box}
-use Rattle.ephemeron_table.proofs.WeakWrites.{writes_weak, written_weak_keeps_cells}
+use Rattle.ephemeron_table.proofs.KnownTables.{table_is_no_box, are_before}
+use Rattle.ephemeron_table.proofs.KnownTables.{KnownMap, cell, of_map}
+use Rattle.ephemeron_table.proofs.KnownTables.{found, other_long}
+use Rattle.ephemeron_table.proofs.PutValues.{value_comes}
+use Rattle.ephemeron_table.proofs.StayingTables as staying
+use Rattle.ephemeron_table.proofs.StayingTables.{WritesMap}
 
 module _ {old new : Mutator} {map key count earlier number : ℕ} {table : Table} {value : Held} {what : Value}
     (known : KnownMap old map table) (can : CanGrow old map table key earlier)
@@ -86,24 +80,32 @@ module _ {old new : Mutator} {map key count earlier number : ℕ} {table : Table
   abbrev pub pairs_after : List Pair
   pairs_after = after known can puts
 
-  -- cells stand in the new heap
-  cells : CellsChange (heap_of old) (heap_of new) (map_cell ∷ []) (map_cell ∷ []) all_made
-  cells = (written_weak_keeps_cells known.whole (writes known can puts)).1
+  -- the cells that were made are a table and a box
+  pub made_kinds : (one : Cell) → Contains all_made one
+      → (one.layout.kind ≡ kind.Table) ⊎ (one.layout.kind ≡ kind.Boxed)
+  made_kinds one among = elim (in_cases table_made boxes_made one among) [
+    | inl same ↦ inl (ap (λ (c : Cell). c.layout.kind) (sym same))
+    | inr is_box ↦ inr (made_boxed (beside_content value) (behind known can puts) one is_box)
+  ]
 
+  -- so words of the map's own cell were written, and cells were made
+  abbrev written : WritesMap old new map table known [] all_made
+  written = record {
+    writes = writes known can puts;
+    belong = λ one among. absurd (none_in one among);
+    kinds = λ one among. owned_or_box (made_kinds one among) tt;
+  }
+
+  -- they stand in the new heap
   map_has : HasCell (heap_of new) map_cell (words_of_cell (heap_of new) map_cell)
-  map_has = cells.comes map_cell (first_in map_cell all_made)
-
-  made_has : (one : Cell) → Contains all_made one → HasCell (heap_of new) one (words_of_cell (heap_of new) one)
-  made_has one among = cells.comes one (rest_in map_cell all_made one among)
-
-  table_has : HasCell (heap_of new) table_made (words_of_cell (heap_of new) table_made)
-  table_has = made_has table_made (first_in table_made boxes_made)
+  map_has = staying.map_has known written
 
   box_has : (one : Cell) → Contains boxes_made one → HasCell (heap_of new) one (words_of_cell (heap_of new) one)
-  box_has one among = made_has one (rest_in table_made boxes_made one among)
+  box_has one among = staying.made_has known written one (rest_in table_made boxes_made one among)
 
+  -- objects keep their places
   pub places : PlacesStay (heap_of old) (heap_of new)
-  places = object_places_stay known.whole (writes_weak known.whole (writes known can puts))
+  places = staying.places known written
 
   -- the box that was made holds the integer
   pub refers_box : (v : ℤ) → beside_content value ≡ content.Boxed v
@@ -113,28 +115,10 @@ module _ {old new : Mutator} {map key count earlier number : ℕ} {table : Table
       (box_stands known can puts)
       (box_has (box_cell (behind known can puts)) (made_box (beside_content value) (behind known can puts) v is_box))
 
-  -- the cells that were made are a table and a box
-  pub made_kinds : (one : Cell) → Contains all_made one
-      → (one.layout.kind ≡ kind.Table) ⊎ (one.layout.kind ≡ kind.Boxed)
-  made_kinds one among = elim (in_cases table_made boxes_made one among) [
-    | inl same ↦ inl (ap (λ (c : Cell). c.layout.kind) (sym same))
-    | inr is_box ↦ inr (made_boxed (beside_content value) (behind known can puts) one is_box)
-  ]
-
   -- what refers to an object did so before
   pub refers_back : (word another : ℕ) → RefersToPlace (heap_of new) word another
       → RefersToPlace (heap_of old) word another
-  refers_back word another refers =
-      let writing : WritesOwn (heap_of old) (heap_of new) map_cell map_cell [] all_made = record {
-        whole = known.whole;
-        writes = writes_weak known.whole (writes known can puts);
-        belong = λ one among. absurd (none_in one among);
-        kinds = λ one among. elim (made_kinds one among) [
-          | inl is ↦ subst IsOwnedKind (sym is) tt
-          | inr is ↦ subst IsOwnedKind (sym is) tt
-        ];
-      } in
-      record { at = refers.at; refers = refers.refers; place = none_made another refers.at writing refers.place }
+  refers_back = staying.refers_back known written
 
   -- the words of the map: it refers to the table, and its count is one more
   pub slot_there_now : slice_get (heap_words new.seat) (map_cell.at + store_slot) ≡ Some (reference_word (next_at old))
@@ -169,7 +153,9 @@ module _ {old new : Mutator} {map key count earlier number : ℕ} {table : Table
       let words = words_of_cell (heap_of new) table_made in
       let pairs = pairs_in (drop store_head words) in
       let has : HasTable (heap_of new) word pairs =
-      HasTable.table word table_made words (record { refers = refl; has = table_has }) refl power in
+      HasTable.table word table_made words
+      (record { refers = refl; has = staying.made_has known written table_made (first_in table_made boxes_made) })
+      refl power in
       let now = found_table word pairs (next_at old) has refl in
       let length_now : now.cell.length ≡ capacity known can puts =
       same_Some now.cell.length (capacity known can puts) (sym now.counted ∙ capacity_word known can puts) in
@@ -181,27 +167,17 @@ module _ {old new : Mutator} {map key count earlier number : ℕ} {table : Table
   abbrev pub are_after : HasPairs (heap_of new) (words_of_cell (heap_of new) map_cell) pairs_after
   are_after = record { store = reference_word (next_at old); slot = slot_now; table = table_now }
 
-  -- probing finds each
-  key_refers : reference_in (reference_word key) ≡ Some key
+  -- the key is what the word refers to
+  pub key_refers : reference_in (reference_word key) ≡ Some key
   key_refers =
       reference_to (reference_word key) key
       (subst (λ n. n < 4294967296) key_place.stands (cell_fits known.whole.sized known.sizes key_place.has)) refl
-
-  pub probed : (at another : ℕ) (one : Pair) → IsFilledAt pairs_after at one
-      → RefersToPlace (heap_of new) one.key another
-      → IsProbed pairs_after another at
-  probed at another one is refers =
-      let number_is = number_found known one another (refers_back one.key another refers) in
-      let there : probing.HoldsNumber (numbers (heap_of old) pairs_after) at another =
-      slice_get-map (number_of (heap_of old)) pairs_after at ∙ ap (option_map (number_of (heap_of old))) is.stands
-      ∙ ap (λ item. Some item) number_is in
-      probed_pair known pairs_after another at (all_found known can puts key_refers at another there)
 
   -- the pair that was put shows a key and a value
   pair_filled : IsFilledPair (heap_of new) (pair known can puts) number
   pair_filled = record {
     key = record { at = key; refers = refl; place = places number key key_place };
-    value = value_word (behind known can puts) holds places refers_box;
+    value = value_word _ what (content_shows (behind known can puts) holds places refers_box);
   }
 
   -- each pair comes from where it may
@@ -225,25 +201,22 @@ module _ {old new : Mutator} {map key count earlier number : ℕ} {table : Table
 
   pub tables_told : (one : Cell) → Contains all_made one → one.layout.kind ≡ kind.Table
       → HasNoNumber one × (reference_word (next_at old) ≡ reference_word one.at)
-  tables_told one among is = elim (in_cases table_made boxes_made one among) [
-    | inl same ↦ subst (λ (c : Cell). HasNoNumber c × (reference_word (next_at old) ≡ reference_word c.at)) same
-        (refl, refl)
-    | inr is_made ↦ absurd (table_is_no_box is (made_boxed (beside_content value) (behind known can puts) one is_made))
-  ]
+  tables_told one among is =
+      subst (λ (c : Cell). HasNoNumber c × (reference_word (next_at old) ≡ reference_word c.at))
+      (only_first (beside_content value) (behind known can puts) kind.Table (table_is_no_box refl) one among
+      is)
+      (refl, refl)
 
   pub boxes_told : (one : Cell) → Contains all_made one → one.layout.kind ≡ kind.Boxed
       → IsBoxCell one (words_of_cell (heap_of new) one)
-  boxes_told one among box = elim (in_cases table_made boxes_made one among) [
-    | inl same ↦ absurd (table_is_no_box (ap (λ (c : Cell). c.layout.kind) (sym same)) box)
-    | inr is_made ↦ made_sound objects (behind known can puts) one holds fits (box_stands known can puts)
-        (box_has one is_made) is_made
-  ]
+  boxes_told =
+      boxes_sound objects (behind known can puts) (table_is_no_box refl) holds fits (box_stands known can puts) box_has
 
   -- so the map is refilled
   abbrev pub refills : RefillsPairs (heap_of old) (heap_of new) map_cell [] all_made
   refills = record {
     before = before known can puts;
-    were = record { store = (sound known).store; slot = slot_there known; table = has_table known };
+    were = are_before known;
     now = pairs_after;
     are = are_after;
     counted = count_now;
@@ -251,7 +224,7 @@ module _ {old new : Mutator} {map key count earlier number : ℕ} {table : Table
     apart = all_apart known can puts;
     one = place known can puts;
     each_pair = comes;
-    probed = probed;
+    probed = staying.probed known written pairs_after (all_found known can puts key_refers);
     table_comes = inr (table_made, first_in table_made boxes_made, refl, refl);
     belong = λ one among. absurd (none_in one among);
     kinds = made_kinds;

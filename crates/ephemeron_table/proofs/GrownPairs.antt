@@ -1,16 +1,14 @@
 -- The pairs of a table that was made: those of the one before, and a new one.
-use Rattle.std.proofs.Common.{◌≡◌, ◌≢◌, ℕ, zero, suc, ◌+◌, ◌*◌, ◌≤◌, ◌<◌, inl, inr, Bool, true}
+use Rattle.std.proofs.Common.{◌≡◌, ◌≢◌, ℕ, zero, suc, ◌+◌, ◌≤◌, ◌<◌, inl, inr, Bool, true}
 use Rattle.std.proofs.Common.{false, List, [], ◌∷◌, length, drop}
-use Rattle.std.proofs.Common.{Option, Some, None, slice_get, unwrap_or, refl, sym, ◌∙◌, ap, subst, arith, ◌==◌}
+use Rattle.std.proofs.Common.{Option, Some, slice_get, unwrap_or, refl, sym, ◌∙◌, ap, subst, arith, ◌==◌}
 use Rattle.std.specs.Prelude.{slice_set, option_map}
 use Rattle.std.specs.Option.{option_and_then}
 use Rattle.std.proofs.lemmas.Bool.{cases_eq, eq-eqb, ne_eqb}
 use Rattle.std.proofs.lemmas.Option.{slice_get_within}
 use Rattle.tagged_word.specs.declared.header.Header.{Header}
-use Rattle.tagged_word.specs.Cells.{store_head}
 use Rattle.tagged_word.specs.Readings.{reference_in, header_in}
 use Rattle.object_graph.proofs.Lists.{slice_get-set_same}
-use Rattle.page_space.specs.Extents.{segments_start}
 use Rattle.linear_probing.specs.Tables.{FindsAll}
 use Rattle.handle_roots.specs.declared.held.Held.{Held}
 use Rattle.heap_table.specs.Seats.{heap_words}
@@ -32,7 +30,7 @@ use Rattle.ephemeron_table.proofs.GrownWords.{begun_stays}
 use Rattle.ephemeron_table.proofs.GrownWords.{boxed_stays, run_word, fits_new, settled_as_long}
 use Rattle.ephemeron_table.proofs.KeysFound.{key_filled}
 use Rattle.ephemeron_table.proofs.KnownTables.{KnownMap, pairs_long}
-use Rattle.ephemeron_table.proofs.PairLists.{at_place, pairs_read, pairs_stay}
+use Rattle.ephemeron_table.proofs.PairLists.{at_place, pairs_stay}
 use Rattle.ephemeron_table.proofs.SettledPairs.{free_or_filled, settled_found, settled_free, settled_pairs}
 use Rattle.ephemeron_table.proofs.TakenPairs.{filled_elsewhere, free_not_filled, still_filled}
 

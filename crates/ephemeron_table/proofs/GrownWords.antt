@@ -1,14 +1,15 @@
 -- The words where an entry came to a table that was made: those of the map's own cell, and newly used ones.
 use Rattle.std.proofs.Common.{◌≡◌, ◌≢◌, ℕ, ◌+◌, ◌*◌, ◌≤◌, ◌<◌, inl, inr, List, [], ◌∷◌}
 use Rattle.std.proofs.Common.{length, Some, slice_get}
-use Rattle.std.proofs.Common.{refl, sym, ◌∙◌, ap, subst, arith, length-set, add-zero}
-use Rattle.std.specs.Prelude.{ℤ, slice_set}
+use Rattle.std.proofs.Common.{refl, sym, ◌∙◌, ap, arith, length-set, add-zero}
+use Rattle.std.specs.Prelude.{slice_set}
+use Rattle.tagged_word.specs.declared.layout.Kind.TheVariants as kind
 use Rattle.tagged_word.specs.Cells.{store_head, store_slot}
 use Rattle.page_space.specs.Extents.{Space, eden_start, segments_start, marks_start}
 use Rattle.page_space.proofs.Starts.{roots_start_is, layouts_start_is, marks_start_is}
 use Rattle.object_graph.proofs.Lists.{slice_get-set_other}
 use Rattle.cell_layout.specs.declared.cell.Cell.{Cell}
-use Rattle.cell_layout.specs.Cells.{IsRow, IsCell, next}
+use Rattle.cell_layout.specs.Cells.{IsRow, IsCell}
 use Rattle.handle_roots.specs.declared.held.Held.{Held}
 use Rattle.heap_table.specs.Seats.{heap_words, StaysBeside}
 use Rattle.heap_table.specs.Staying.{stays_beside_again}
@@ -18,12 +19,12 @@ use Rattle.heap_model.specs.Needs.{grown_table}
 use Rattle.heap_model.proofs.BoundHeaps.{none_in}
 use Rattle.heap_model.proofs.CellsApart.{IsOfCell, first_of_cell}
 use Rattle.write_barrier.specs.Mains.{Mutator, heap_of}
-use Rattle.object_cells.specs.declared.content.Content.TheVariants as content
 use Rattle.object_cells.specs.Contents.{next_at}
 use Rattle.object_cells.specs.Made.{beside_content, content_need, content_word, with_content}
-use Rattle.object_cells.proofs.MadeBoxes.{made_boxes, made_row, BoxStands, with_content_box, with_content_stays}
-use Rattle.object_cells.proofs.MadeBoxes.{length-with_content}
+use Rattle.object_cells.proofs.MadeBoxes.{made_boxes, BoxStands, with_content_stays}
+use Rattle.object_cells.proofs.MadeBoxes.{length-with_content, row_with_box}
 use Rattle.object_cells.proofs.UnusedWords.{cell_is_used, next_before_segments}
+use Rattle.object_cells.proofs.OwnPuts.{PutsOwn, own_sized, own_writes, box_put}
 use Rattle.ephemeron_table.specs.Movings.{CanGrow, PutsInNewTable, new_table, new_table_need, box_behind}
 use Rattle.ephemeron_table.specs.PairWrites.{WritesWeak}
 use Rattle.ephemeron_table.specs.Puttings.{begun_table}
@@ -32,10 +33,9 @@ use Rattle.ephemeron_table.specs.declared.reading.Table.{Table}
 use Rattle.ephemeron_table.proofs.BegunTables.{begun_beside, begun_capacity, begun_header}
 use Rattle.ephemeron_table.proofs.GrowingTables.{begun_words, begun_words_long, boxed_keys, boxed_within}
 use Rattle.ephemeron_table.proofs.KnownTables.{KnownMap, cell, cell_has, of_map}
-use Rattle.ephemeron_table.proofs.NewTables.{beside_run, table_cell, table_is_cell}
-use Rattle.ephemeron_table.proofs.PairLists.{beside_put, length-with_pair}
+use Rattle.ephemeron_table.proofs.NewTables.{table_cell, table_is_cell}
+use Rattle.ephemeron_table.proofs.PairLists.{beside_put, length-with_pair, beside_run}
 use Rattle.ephemeron_table.proofs.SettledPairs.{HaveKeys, settled_below}
-use Rattle.ephemeron_table.proofs.WeakWriting.{PutsWeak, weak_sized, weak_writes}
 
 module _ {old new : Mutator} {map key count earlier : ℕ} {table : Table} {value : Held} (known : KnownMap old map table)
     (can : CanGrow old map table key earlier) (puts : PutsInNewTable old new map table key count value) where
@@ -183,12 +183,12 @@ module _ {old new : Mutator} {map key count earlier : ℕ} {table : Table} {valu
       puts.boxes.beside) puts.settles.words.beside) puts.words.beside
 
   -- so words of the map's own cell were put
-  pub puts_weak : PutsWeak old new map_cell [] need (heap_words new.seat)
+  pub puts_weak : PutsOwn kind.Weak old new map_cell [] need (heap_words new.seat)
   puts_weak = record {
     tied = known.tied;
     whole = known.whole;
     has = cell_has known;
-    weak = known.there.of_kind;
+    of_kind = known.there.of_kind;
     stood = λ one among. absurd (none_in one among);
     room = puts.room;
     puts = record {
@@ -235,19 +235,8 @@ module _ {old new : Mutator} {map key count earlier : ℕ} {table : Table} {valu
   -- the box stands there
   pub box_stands : BoxStands (heap_of new) (beside_content value) behind
   box_stands =
-      let start = ap (λ (s : Space). eden_start s) puts_weak.puts.beside.space in
-      let segments = ap (λ (s : Space). segments_start s) puts_weak.puts.beside.space in
-      let words = λ (v : ℤ) (is_box : beside_content value ≡ content.Boxed v).
-      with_content_box (heap_words puts.moved.seat) (beside_content value) behind v is_box
-      (omega (arith, puts.moves.changes.long, begun_long, counted, ends, within, ap content_need is_box)) in
-      record {
-        header = λ v is_box. box_word behind (omega arith) (omega (arith, ap content_need is_box))
-            ∙ (words v is_box).header;
-        raw = λ v is_box. box_word (behind + 1) (omega arith) (omega (arith, ap content_need is_box))
-            ∙ (words v is_box).raw;
-        from = λ v is_box. omega (arith, start);
-        below = λ v is_box. omega (arith, ends, segments, ap content_need is_box);
-      }
+      box_put (heap_words puts.moved.seat) (beside_content value) behind puts_weak
+      (puts.moves.changes.long ∙ begun_long) (omega arith) (omega arith) box_word
 
   -- the cells that are made
   abbrev pub other : Cell
@@ -267,7 +256,7 @@ module _ {old new : Mutator} {map key count earlier : ℕ} {table : Table} {valu
   table_cell_is : IsCell new.seat.space (heap_words new.seat) other
   table_cell_is =
       let first : next_at old + 0 ≡ next_at old = add-zero (next_at old) in
-      table_is_cell (heap_of new) (next_at old) capacity (weak_sized puts_weak) (omega arith)
+      table_is_cell (heap_of new) (next_at old) capacity (own_sized puts_weak) (omega arith)
       (ap (slice_get (heap_words new.seat)) (sym first) ∙ head_word 0 (omega arith)
       ∙ ap (slice_get (begun_table (heap_words old.seat) made_table)) first
       ∙ begun_header (heap_words old.seat) made_table table_within_old)
@@ -278,18 +267,15 @@ module _ {old new : Mutator} {map key count earlier : ℕ} {table : Table} {valu
   -- both are the row of the words that were reserved
   new_row : IsRow new.seat.space (heap_words new.seat) (next_at old) (next_at old + need) made
   new_row =
-      let end : ℕ = behind + content_need (beside_content value) in
-      let same : end ≡ next_at old + need = omega arith in
-      let row = made_row (heap_of new) (beside_content value) behind (weak_sized puts_weak) box_stands in
-      subst (λ to. IsRow new.seat.space (heap_words new.seat) (next_at old) to made) same
-      (next other end boxes table_cell_is row)
+      row_with_box (heap_of new) other (beside_content value) (next_at old + need) table_cell_is (own_sized puts_weak)
+      box_stands (omega arith)
 
   -- so cells were written
   pub writes : WritesWeak (heap_of old) (heap_of new) map_cell [] made
   writes =
       let first = first_of_cell (cell_has known) in
       let stands : map_cell.at ≡ map = known.there.stands in
-      weak_writes made puts_weak
+      own_writes made puts_weak
       (word_stays map_cell.at (λ same. omega (arith, same, stands)) (λ same. omega (arith, same, stands))
       (λ from below. not_new map_cell.at map_cell.at first from below refl))
       (λ one among. absurd (none_in one among)) new_row

@@ -3,17 +3,18 @@ use Rattle.std.proofs.Common.{List, inr}
 use Rattle.cell_layout.specs.declared.cell.Cell.{Cell}
 use Rattle.heap_model.specs.Heaps.{Heap}
 use Rattle.object_cells.proofs.KeptCapacities.{WritesOwn, object_keeps, object_grows}
+use Rattle.object_cells.proofs.OwnerWrites.{weak_owns, writes_own}
+use Rattle.object_cells.proofs.ObjectWrites.{owned_or_box}
 use Rattle.ephemeron_table.specs.PairLaws.{RefillsWeak, TablesStay, TablesGrow}
-use Rattle.ephemeron_table.proofs.WeakWrites.{table_is_owned, writes_weak}
 
 -- words of a weak map's own cells were so written
 pub of_pairs : {old new : Heap} {cell : Cell} {others made : List Cell} → RefillsWeak old new cell others made
     → WritesOwn old new cell cell others made
 of_pairs refills = record {
   whole = refills.whole;
-  writes = writes_weak refills.whole refills.writes;
+  writes = writes_own weak_owns refills.whole refills.writes;
   belong = refills.pairs.belong;
-  kinds = λ other among. table_is_owned (refills.pairs.kinds other among);
+  kinds = λ other among. owned_or_box (refills.pairs.kinds other among) tt;
 }
 
 -- so the map keeps its table's pairs where the word for the table stays

@@ -13,7 +13,7 @@ use Rattle.heap_model.specs.Slots.{reference_word, hole_word}
 use Rattle.heap_model.specs.Kinds.{Pair, free_pair, IsFoundPair}
 use Rattle.heap_model.proofs.WordClasses.{hole_refers_not}
 use Rattle.write_barrier.specs.Mains.{Mutator, heap_of, MainShows}
-use Rattle.ephemeron_table.specs.WeakObjects.{IsKeyAt}
+use Rattle.ephemeron_table.specs.WeakObjects.{IsKeyAt, IsWeakAt}
 use Rattle.ephemeron_table.specs.Probes.{IsTableAt, ArePairsIn, key_in, number_at, PassesBefore, ComesTo, EndsBy}
 use Rattle.ephemeron_table.specs.declared.probing.End.TheVariants as probe_end
 use Rattle.ephemeron_table.specs.declared.reading.Table.{Table}
@@ -118,6 +118,12 @@ none_passed {main} {key = key} {number = number} {table} read key_read shows sho
     subst (λ k. PassesBefore heap table number k table.capacity) key_reads
     (subst (λ n. PassesBefore heap table n key_read table.capacity) same ends) in
     none_nowhere table shows shown is_key is passes
+
+-- of no graph that the heap shows has the weak map an entry of the key
+abbrev pub LacksEntry : Mutator → ℕ → ℕ → Type 0
+LacksEntry main map key =
+    (graph : Graph) (weak : WeakObject) (number : ℕ) → MainShows main graph → IsWeakAt main graph map weak
+    → IsKeyAt main graph key number → entry_value weak.entries number ≡ None
 
 -- the place to which it comes is one of the table
 pub comes_within : {heap : Heap} {table : Table} {number key place : ℕ} → ComesTo heap table number key place

@@ -4,8 +4,9 @@ use Rattle.std.proofs.Common.{Option, Some, None}
 use Rattle.std.proofs.Common.{slice_get}
 use Rattle.std.proofs.Common.{unwrap_or, refl, sym, ◌∙◌, ap, subst, arith, length-drop}
 use Rattle.std.specs.Prelude.{option_map}
-use Rattle.std.proofs.lemmas.Bool.{cases_lt, false≢true}
+use Rattle.std.proofs.lemmas.Bool.{false≢true}
 use Rattle.std.proofs.lemmas.Option.{same_Some, none-some, slice_get-map}
+use Rattle.tagged_word.specs.declared.layout.Kind.{Kind}
 use Rattle.tagged_word.specs.declared.layout.Kind.TheVariants as kind
 use Rattle.tagged_word.specs.Cells.{store_head, store_slot}
 use Rattle.tagged_word.proofs.Readings.{reference_to, reference_from}
@@ -13,6 +14,7 @@ use Rattle.page_space.specs.Sizes.{AreWithin}
 use Rattle.cell_layout.specs.declared.cell.Cell.{Cell}
 use Rattle.linear_probing.specs.Tables.{place_after, IsFree, HoldsNumber, FindsAll}
 use Rattle.linear_probing.specs.Tables as probing
+use Rattle.object_graph.specs.Graphs.{Graph, WeakObject}
 use Rattle.heap_table.specs.Seats.{heap_words}
 use Rattle.heap_model.specs.Heaps.{Heap, HasCell, words_of_cell}
 use Rattle.heap_model.specs.Slots.{is_object_kind, RefersToPlace}
@@ -24,17 +26,20 @@ use Rattle.heap_model.proofs.CellsApart.{IsOfCell, first_of_cell, cells_apart}
 use Rattle.heap_model.proofs.CellWords.{words_by_kind, words_are_size}
 use Rattle.heap_model.proofs.OneOwner.{names_store}
 use Rattle.heap_model.proofs.WordClasses.{same_reference}
-use Rattle.write_barrier.specs.Mains.{Mutator, heap_of, IsTied}
+use Rattle.write_barrier.specs.Mains.{Mutator, heap_of, IsTied, MainShows}
+use Rattle.object_cells.specs.CellWrites.{IsInCell}
 use Rattle.object_cells.proofs.CellsRead.{word_stands, cell_at_before_marks}
 use Rattle.object_cells.proofs.OwnPlaces.{has_own_words}
 use Rattle.object_cells.proofs.WordsTold.{cell_fits}
+use Rattle.ephemeron_table.specs.WeakObjects.{IsWeakAt}
+use Rattle.ephemeron_table.specs.Pairs.{HasPairs}
 use Rattle.ephemeron_table.specs.Probes.{IsWeakCellAt, IsTableAt, number_at}
 use Rattle.ephemeron_table.specs.Takings.{KeysBeside, IsKeyBeside, IsBesidePairs, numbers, number_of, pairs_of}
 use Rattle.ephemeron_table.specs.declared.reading.Table.{Table}
 use Rattle.ephemeron_table.proofs.ClosedPairs.{keyed_filled, length-numbers}
 use Rattle.ephemeron_table.proofs.CountedPairs.{count_filled}
-use Rattle.ephemeron_table.proofs.KeysFound.{number_is}
-use Rattle.ephemeron_table.proofs.PairLists.{pairs_are}
+use Rattle.ephemeron_table.proofs.KeysFound.{number_is, weak_shown, shown_there}
+use Rattle.ephemeron_table.proofs.PairLists.{pairs_are, beside_run}
 use Rattle.ephemeron_table.proofs.TablesRead.{IsFoundTable, found_table, weak_sound, weak_pairs, length-pairs_in}
 
 -- The table that was read is that of the weak map at the address.
@@ -44,6 +49,24 @@ pub record KnownMap (old : Mutator) (map : ℕ) (table : Table) : Type 0 where
   pub sizes : AreWithin old.seat.space.sizes old.seat.space.variables
   pub there : IsWeakCellAt (heap_of old) map
   pub is : IsTableAt (heap_of old) map table
+
+-- a table is no box
+pub table_is_no_box : {k : Kind} → k ≡ kind.Table → k ≡ kind.Boxed → ⊥
+table_is_no_box table box =
+    let apart : kind.Table ≡ kind.Boxed = sym table ∙ box in
+    cc
+
+-- a map that is shown is known with its table
+abbrev pub shown_known : {main : Mutator} {graph : Graph} {map : ℕ} {weak : WeakObject} {table : Table}
+    → MainShows main graph → IsWeakAt main graph map weak → AreWithin main.seat.space.sizes main.seat.space.variables
+    → IsTableAt (heap_of main) map table → KnownMap main map table
+shown_known shows is sizes is_table = record {
+  tied = shows.tied;
+  whole = shows.shows.whole;
+  sizes = sizes;
+  there = shown_there (weak_shown shows is);
+  is = is_table;
+}
 
 -- a number that is read of what is there
 number_there : (f : Pair → Option ℕ) (found : Option Pair) (item : Option ℕ) → option_map f found ≡ Some item
@@ -86,6 +109,11 @@ module _ {old : Mutator} {map : ℕ} {table : Table} (known : KnownMap old map t
 
   pub slot_there : HasWord (words_of_cell (heap_of old) cell) store_slot sound.store
   slot_there = subst (λ all. HasWord all store_slot sound.store) (sym known.there.has.words_are) sound.slot
+
+  -- so they are the map's
+  abbrev pub are_before : HasPairs (heap_of old) (words_of_cell (heap_of old) cell)
+      (pairs_of (heap_words old.seat) table)
+  are_before = record { store = sound.store; slot = slot_there; table = has_table }
 
   -- each that holds something is found
   pub each_found : (at : ℕ) (pair : Pair) → slice_get (pairs_of (heap_words old.seat) table) at ≡ Some pair
@@ -198,28 +226,42 @@ module _ {old : Mutator} {map : ℕ} {table : Table} (known : KnownMap old map t
           found.long,
         )
 
-    -- what is in no table is beside the pairs
+    -- what is not in the table is beside its pairs
+    pub beside_table : (a : ℕ) → (IsInCell a other → ⊥) → IsBesidePairs table a
+    beside_table a not_in =
+        beside_run table a (λ from below. not_in (record {
+          from = omega (arith, from, found.stands);
+          below = omega (arith, below, found.stands, found.size, other_long);
+        }))
+
+    -- and so is what is in no table
     pub cell_beside : {one : Cell} {words : List ℕ} (a : ℕ) → HasCell (heap_of old) one words
         → (one.layout.kind ≡ kind.Table → ⊥) → IsOfCell one a → IsBesidePairs table a
-    cell_beside {one} a has no_table of_one = elim (cases_lt a (table.at + store_head)) [
-      | inl before ↦ inl before
-      | inr from ↦ elim (cases_lt a (table.at + (store_head + 2 * table.capacity))) [
-        | inl below ↦
-            let of_other : IsOfCell other a = record {
-              from = omega (arith, from, found.stands);
-              below = omega (arith, below, found.stands, found.size, other_long);
-            } in
-            let same : one ≡ other = cells_apart a known.whole.rows has other_has of_one of_other in
-            absurd (no_table (ap (λ (c : Cell). c.layout.kind) same ∙ found.of_kind))
-        | inr behind ↦ inr behind
-      ]
-    ]
+    cell_beside {one} a has no_table of_one = beside_table a (λ inside.
+        let same : one ≡ other = cells_apart a known.whole.rows has other_has of_one
+        (record { from = inside.from; below = inside.below }) in
+        no_table (ap (λ (c : Cell). c.layout.kind) same ∙ found.of_kind))
 
     -- a weak map is no table
     pub map_no_table : cell.layout.kind ≡ kind.Table → ⊥
     map_no_table is =
         let apart : kind.Weak ≡ kind.Table = sym known.there.of_kind ∙ is in
         cc
+
+    -- so no word is one of both
+    pub map_apart : (a : ℕ) → IsOfCell cell a → IsOfCell other a → ⊥
+    map_apart a of_cell of_other =
+        map_no_table (ap (λ (c : Cell). c.layout.kind)
+        (cells_apart a known.whole.rows cell_has other_has of_cell of_other) ∙ found.of_kind)
+
+    -- the words of the table's head
+    pub of_head : (k : ℕ) → k < 2 → IsOfCell other (other.at + k)
+    of_head k below = record { from = omega arith; below = omega (arith, below, found.size) }
+
+    -- so none of them is a word of the map's cell
+    pub head_apart : (j k : ℕ) → j < 3 → k < 2 → other.at + k ≢ map + j
+    head_apart j k within below same =
+        map_apart (other.at + k) (subst (IsOfCell cell) (sym same) (of_map j within)) (of_head k below)
 
     -- so the words of the map's cell are beside the pairs
     pub map_beside : (k : ℕ) → k < 3 → IsBesidePairs table (map + k)

@@ -6,15 +6,14 @@ pub mod PairLists
 pub mod CountedPairs
 pub mod TakenPairs
 pub mod ClosedPairs
-pub mod WeakWrites
 pub mod KeptTables
 pub mod PairWords
 pub mod WovenPairs
 pub mod PairNames
 pub mod EntryLists
-pub mod WeakWriting
 pub mod TakenOut
 pub mod KnownTables
+pub mod StayingTables
 pub mod TakenMaps
 pub mod DeletedEntries
 pub mod ShownEntries

@@ -1,9 +1,9 @@
 -- What the pairs of a table are while those of another one come to it, one after the other.
-use Rattle.std.proofs.Common.{◌≡◌, ◌≢◌, ℕ, zero, suc, ◌+◌, ◌<◌, ◌≤◌, ◌⊎◌, inl, inr, Bool, true}
+use Rattle.std.proofs.Common.{◌≡◌, ◌≢◌, ℕ, zero, suc, ◌+◌, ◌<◌, inl, inr, Bool, true}
 use Rattle.std.proofs.Common.{false, List, [], ◌∷◌, length}
-use Rattle.std.proofs.Common.{drop, Option, Some, None, slice_get, refl, sym, ◌∙◌, ap, subst, arith, cond, not, ◌==◌}
+use Rattle.std.proofs.Common.{drop, Some, slice_get, refl, sym, ◌∙◌, ap, subst, arith, cond, not, ◌==◌}
 use Rattle.std.specs.Prelude.{slice_set}
-use Rattle.std.proofs.lemmas.Bool.{cases_eq, cases_lt, eq-eqb, ne_eqb, false≢true}
+use Rattle.std.proofs.lemmas.Bool.{cases_eq, cases_lt, eq-eqb, ne_eqb}
 use Rattle.std.proofs.lemmas.List.Sums.{sum_by-cons}
 use Rattle.std.proofs.lemmas.Option.{none-some, same_Some, slice_get_within}
 use Rattle.object_graph.proofs.Lists.{slice_get-set_same}

@@ -1,7 +1,7 @@
 -- The pairs of a table come to another one, as their words are read and put.
-use Rattle.std.proofs.Common.{◌≡◌, ◌≢◌, ℕ, ◌+◌, ◌*◌, ◌≤◌, ◌<◌, List, length, Option, Some, None}
+use Rattle.std.proofs.Common.{◌≡◌, ℕ, ◌+◌, ◌*◌, ◌≤◌, ◌<◌, List, length, Option, Some, None}
 use Rattle.std.proofs.Common.{slice_get, unwrap_or}
-use Rattle.std.proofs.Common.{refl, sym, ◌∙◌, ap, subst, arith}
+use Rattle.std.proofs.Common.{sym, ◌∙◌, ap, subst, arith}
 use Rattle.std.specs.Prelude.{slice_set, option_map}
 use Rattle.std.specs.Option.{option_and_then}
 use Rattle.std.proofs.lemmas.Option.{none-some, same_Some}
@@ -11,19 +11,18 @@ use Rattle.tagged_word.specs.Readings.{reference_in, header_in}
 use Rattle.tagged_word.proofs.Readings.{reference_from}
 use Rattle.page_space.specs.Extents.{Space, marks_start}
 use Rattle.heap_table.specs.Seats.{heap_words}
-use Rattle.heap_model.specs.Kinds.{Pair, free_pair}
+use Rattle.heap_model.specs.Kinds.{Pair}
 use Rattle.heap_model.specs.Slots.{reference_word}
 use Rattle.write_barrier.specs.Mains.{Mutator, heap_of}
 use Rattle.ephemeron_table.specs.Movings.{AreMoved, HoldNothing, IsBesideTable, KeysMovable, MovesPairs}
-use Rattle.ephemeron_table.specs.Pairs.{IsFilledAt}
 use Rattle.ephemeron_table.specs.Probes.{number_at}
 use Rattle.ephemeron_table.specs.Puttings.{HasFree, Settles}
-use Rattle.ephemeron_table.specs.Takings.{IsKeyBeside, made_pair, numbers, pairs_of}
+use Rattle.ephemeron_table.specs.Takings.{IsKeyBeside, made_pair, pairs_of}
 use Rattle.ephemeron_table.specs.declared.reading.Table.{Table}
 use Rattle.ephemeron_table.proofs.ClosedPairs.{ReadsPair, reads_pair, keyed_filled, nothing_changed, pair_changed}
 use Rattle.ephemeron_table.proofs.KnownTables.{number_place}
 use Rattle.ephemeron_table.proofs.MovedPairs.{moved_begins, moved_passes, moved_puts}
-use Rattle.ephemeron_table.proofs.PairLists.{pairs_read, pairs_stay}
+use Rattle.ephemeron_table.proofs.PairLists.{pairs_stay}
 use Rattle.ephemeron_table.proofs.SettledPairs.{HaveKeys, free_without, has_free, settled_below, settled_free}
 use Rattle.ephemeron_table.proofs.SettledPairs.{settled_pairs}
 use Rattle.ephemeron_table.proofs.SettledPairs.{settled_found}

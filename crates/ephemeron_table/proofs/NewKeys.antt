@@ -18,8 +18,9 @@ use Rattle.ephemeron_table.specs.declared.probing.End.TheVariants as probe_end
 use Rattle.ephemeron_table.specs.Takings.{pairs_of}
 use Rattle.ephemeron_table.specs.declared.reading.Table.{Table}
 use Rattle.ephemeron_table.proofs.NoPair.{no_pair, no_key, pair_of_none}
-use Rattle.ephemeron_table.proofs.KeysFound.{WeakShown, weak_shown, shown_there, shown_pairs}
+use Rattle.ephemeron_table.proofs.KeysFound.{WeakShown, weak_shown, shown_pairs}
 use Rattle.ephemeron_table.proofs.KeysProbed.{none_nowhere, none_where_free}
+use Rattle.ephemeron_table.proofs.KnownTables.{shown_known}
 use Rattle.ephemeron_table.proofs.KnownTables.{KnownMap, within_words}
 use Rattle.ephemeron_table.proofs.PairLists.{pairs_are}
 
@@ -78,13 +79,7 @@ module _ {old : Mutator} {graph : Graph} {map key : ℕ} {weak : WeakObject} {nu
 
   -- the map and its table
   abbrev pub known : KnownMap old map table
-  known = record {
-    tied = lacks.shows.tied;
-    whole = lacks.shows.shows.whole;
-    sizes = lacks.sizes;
-    there = shown_there shown;
-    is = lacks.is_table;
-  }
+  known = shown_known lacks.shows lacks.is lacks.sizes lacks.is_table
 
   -- the words of its pairs stand in the table
   abbrev stand : ArePairsIn (heap_words old.seat) table shown.shows.pairs

@@ -3,7 +3,7 @@ use Rattle.std.proofs.Common.{◌≡◌, ◌≢◌, ℕ, suc, ◌+◌, ◌-◌, 
 use Rattle.std.proofs.Common.{length, get_or, drop, Some}
 use Rattle.std.proofs.Common.{slice_get, refl, sym, ◌∙◌, ap, arith, length-drop, length-take, length-set}
 use Rattle.std.specs.Prelude.{slice_set, slice_range}
-use Rattle.std.proofs.lemmas.Bool.{cases_eq}
+use Rattle.std.proofs.lemmas.Bool.{cases_eq, cases_lt}
 use Rattle.std.proofs.lemmas.List.{same_lists}
 use Rattle.std.proofs.lemmas.Option.{same_Some, slice_get_within, slice_get-get_or}
 use Rattle.tagged_word.specs.Cells.{store_head}
@@ -205,3 +205,14 @@ pairs_beside words table at word within beside =
       | inl before ↦ omega (arith, before, from, same)
       | inr behind ↦ omega (arith, behind, below, same)
     ]))
+
+-- what is not in a run of words that begins with a table is beside the table's pairs
+pub beside_run : (table : Table) (a : ℕ) → (table.at ≤ a → a < table.at + (store_head + 2 * table.capacity) → ⊥)
+    → IsBesidePairs table a
+beside_run table a beside = elim (cases_lt a (table.at + store_head)) [
+  | inl low ↦ inl low
+  | inr from ↦ elim (cases_lt a (table.at + (store_head + 2 * table.capacity))) [
+    | inl below ↦ absurd (beside (omega (arith, from)) below)
+    | inr high ↦ inr high
+  ]
+]

@@ -20,11 +20,11 @@ use Rattle.heap_model.proofs.SlotWords.{same_target}
 use Rattle.heap_model.proofs.NamedBefore.{slot_named_before}
 use Rattle.object_cells.proofs.WrittenPlaces.{object_names_none, objects_stay}
 use Rattle.object_cells.proofs.OwnWritings.{came_object, went_own, came_stood, boxes_came}
+use Rattle.object_cells.proofs.OwnerWrites.{weak_owns, written_own_keeps_cells}
 use Rattle.ephemeron_table.specs.Pairs.{IsFilledAt}
 use Rattle.ephemeron_table.specs.PairWrites.{PairComes, ValueComes}
 use Rattle.ephemeron_table.specs.PairLaws.{RefillsWeak, WrittenPairsAreOwn}
 use Rattle.heap_model.proofs.WholeStays.{own_changes_keep_whole}
-use Rattle.ephemeron_table.proofs.WeakWrites.{written_weak_keeps_cells}
 use Rattle.ephemeron_table.proofs.PairWords.{is_table_of, IsValueAt, one_place, one_value, value_slot_at, WeakSlot}
 use Rattle.ephemeron_table.proofs.PairWords.{weak_slot}
 use Rattle.ephemeron_table.proofs.WovenPairs.{weak_writes, weak_cells, weak_writing, weak_now, weak_places_stay}
@@ -177,7 +177,7 @@ module _ {old new : Heap} {cell : Cell} {others made : List Cell} (refills : Ref
       let own : NamesFrom new cell slot named = subst (λ (one : Cell). NamesFrom new one slot named) (sym same) names in
       let has_slot : HasSlotAt new cell (words_of_cell new cell) slot own.word =
       subst (λ all. HasSlotAt new cell all slot own.word) (one_words own.has (weak_now refills)) own.of_owner in
-      let slots = weak_slot (weak_now refills) refills.writes.weak refills.pairs.are has_slot in
+      let slots = weak_slot (weak_now refills) refills.writes.of_kind refills.pairs.are has_slot in
       subst (Source slot) own.at (slot_source own.word slots own.refers own.owned)
 
   -- what a cell that came or was made names was named before by one that went, or stands where none stood
@@ -248,7 +248,7 @@ module _ {old new : Heap} {cell : Cell} {others made : List Cell} (refills : Ref
 -- and the heap is whole again
 pub written_pairs_are_own : WrittenPairsAreOwn
 written_pairs_are_own old new cell others made refills =
-    let kept = written_weak_keeps_cells refills.whole refills.writes in
+    let kept = written_own_keeps_cells weak_owns refills.whole refills.writes in
     let own = pairs_own refills in
     let whole : Whole new = own_changes_keep_whole old new (cell ∷ others) (cell ∷ others) made refills.whole
     refills.writes.sized kept.0 kept.1 own in

@@ -1,34 +1,20 @@
 -- Which pairs of a weak map that is shown have the word of a key.
 use Rattle.std.proofs.Common.{◌≡◌, ℕ, List, None, Some, sym, ◌∙◌, ap, slice_get}
-use Rattle.page_space.specs.Sizes.{AreWithin}
 use Rattle.object_graph.specs.declared.value.Value.{Value}
 use Rattle.object_graph.specs.Objects.{entry_value}
 use Rattle.object_graph.specs.Graphs.{Graph, WeakObject}
 use Rattle.heap_model.specs.Slots.{reference_word, RefersToPlace}
 use Rattle.heap_model.specs.Kinds.{Pair}
 use Rattle.write_barrier.specs.Mains.{Mutator, heap_of, MainShows}
-use Rattle.ephemeron_table.specs.WeakObjects.{IsKeyAt, IsWeakAt}
+use Rattle.ephemeron_table.specs.WeakObjects.{IsKeyAt}
 use Rattle.ephemeron_table.specs.Pairs.{HasPairsAt}
 use Rattle.ephemeron_table.specs.PairChanges.{IsPairOf, LacksPair}
-use Rattle.ephemeron_table.specs.Probes.{IsTableAt}
 use Rattle.ephemeron_table.specs.declared.reading.Table.{Table}
-use Rattle.ephemeron_table.proofs.KeysFound.{WeakShown, weak_shown, shown_there, shown_pairs, key_filled, one_key}
+use Rattle.ephemeron_table.proofs.KeysFound.{WeakShown, shown_pairs, key_filled, one_key}
 use Rattle.ephemeron_table.proofs.KeysFound.{entry_has_key, TellsPair}
 use Rattle.ephemeron_table.proofs.KnownTables.{KnownMap}
 use Rattle.ephemeron_table.proofs.NoPair.{no_pair}
 use Rattle.ephemeron_table.proofs.RemovedPairs.{pairs_known}
-
--- a map that is shown is known with its table
-abbrev pub shown_known : {main : Mutator} {graph : Graph} {map : ℕ} {weak : WeakObject} {table : Table}
-    → MainShows main graph → IsWeakAt main graph map weak → AreWithin main.seat.space.sizes main.seat.space.variables
-    → IsTableAt (heap_of main) map table → KnownMap main map table
-shown_known shows is sizes is_table = record {
-  tied = shows.tied;
-  whole = shows.shows.whole;
-  sizes = sizes;
-  there = shown_there (weak_shown shows is);
-  is = is_table;
-}
 
 -- its pairs are those that are shown
 pub pairs_shown : {main : Mutator} {graph : Graph} {map : ℕ} {weak : WeakObject} {table : Table} {pairs : List Pair}

@@ -19,6 +19,7 @@ use Rattle.write_barrier.specs.Mains.{Mutator, heap_of}
 use Rattle.object_cells.specs.Contents.{next_at}
 use Rattle.object_cells.specs.Made.{beside_content}
 use Rattle.object_cells.proofs.HeldContents.{HoldsValue}
+use Rattle.object_cells.proofs.ContentValues.{content_shows}
 use Rattle.ephemeron_table.specs.Pairs.{IsFilledAt}
 use Rattle.ephemeron_table.specs.PairLaws.{PutsOne}
 use Rattle.ephemeron_table.specs.Puttings.{PutsInTable}
@@ -29,7 +30,6 @@ use Rattle.ephemeron_table.proofs.KeysFound.{key_filled}
 use Rattle.ephemeron_table.proofs.KnownTables.{KnownMap, pairs_long}
 use Rattle.ephemeron_table.proofs.PutPairs.{pair, pairs_are_now}
 use Rattle.ephemeron_table.proofs.PutMaps.{refills_weak, refers_back, refers_box, places}
-use Rattle.ephemeron_table.proofs.PutValues.{value_shows}
 use Rattle.ephemeron_table.proofs.TakenPairs.{filled_elsewhere, still_filled}
 
 module _ {old new : Mutator} {map place key count number : ℕ} {table : Table} {value : Held} {what : Value}
@@ -78,7 +78,7 @@ module _ {old new : Mutator} {map place key count number : ℕ} {table : Table} 
           refers = refl;
           place = places known below puts objects key_place holds fits all counted number key key_place;
         };
-        value = value_shows (next_at old) holds (places known below puts objects key_place holds fits all counted)
+        value = content_shows (next_at old) holds (places known below puts objects key_place holds fits all counted)
             (refers_box known below puts objects key_place holds fits all counted);
       })
 

@@ -1,11 +1,9 @@
 -- What comes of a put where the key is there: its entry has the value, or there is no room.
 use Rattle.std.proofs.Common.{◌≡◌, ℕ, ◌+◌, Some, Err, length, sym, ◌∙◌, ap, subst, arith, false}
 use Rattle.std.proofs.lemmas.Option.{none-some}
-use Rattle.page_space.specs.Extents.{Space}
 use Rattle.object_graph.specs.declared.value.Value.{Value}
 use Rattle.object_graph.specs.Graphs.{Graph, WeakObject}
 use Rattle.object_graph.specs.Invariants.{IsValue}
-use Rattle.nursery.specs.Young.{HasRoom}
 use Rattle.handle_roots.specs.Roots.{FitsHeld}
 use Rattle.handle_roots.specs.declared.held.Held.{Held}
 use Rattle.heap_model.specs.Slots.{reference_word, IsSlotWord}
@@ -16,6 +14,7 @@ use Rattle.object_cells.specs.Contents.{next_at, box_in, filling_at, filling_of,
 use Rattle.object_cells.specs.Contents.{FillsSlot}
 use Rattle.object_cells.specs.HeldValues.{IsValueHeld, is_wide}
 use Rattle.object_cells.specs.Made.{beside_content}
+use Rattle.object_cells.proofs.NothingUsed.{room_for_none}
 use Rattle.object_cells.proofs.FilledSlots.{FilledBy, slot_filled, held_before, no_raw}
 use Rattle.object_cells.proofs.HeldNeeds.{held_is_value, new_value_held}
 use Rattle.object_cells.proofs.SlotBoxes.{box_of_word, lacks_need}
@@ -83,8 +82,7 @@ replaces_value : {old new : Mutator} {graph : Graph} {map key : ℕ} {weak : Wea
     → (need : ℕ) × ReplacesValue old new (known has) place key what need
     × (need ≡ wput_need_at (heap_of old) map (reference_word key) (is_wide what))
 replaces_value {old} {new} {place = place} {table} value what has is_value held fills =
-    let young = ap (λ (space : Space). space.sizes.young) has.shows.tied in
-    let room : HasRoom old.young 0 = omega (arith, has.shows.shows.whole.rows.few, young) in
+    let room = room_for_none old has.shows.tied has.shows.shows.whole in
     replaces_by value what has is_value held
     (slot_filled fills has.shows.tied (omega (arith, has.is_table.within, has.below)) room
     (λ w. no_raw w (new_value_held false value what held.shows)))

@@ -1,13 +1,12 @@
 -- A weak map to whose table a pair came is refilled.
-use Rattle.std.proofs.Common.{◌≡◌, ℕ, ◌+◌, ◌<◌, inl, inr, List, [], ◌∷◌, ◌++◌, length, drop, Contains}
+use Rattle.std.proofs.Common.{◌≡◌, ℕ, ◌+◌, ◌<◌, inl, inr, List, [], ◌∷◌, ◌++◌, length, Contains}
 use Rattle.std.proofs.Common.{Some}
 use Rattle.std.proofs.Common.{false, slice_get, refl, sym, ◌∙◌, ap, subst, arith}
-use Rattle.std.specs.Prelude.{slice_set, ℤ, option_map}
+use Rattle.std.specs.Prelude.{slice_set, ℤ}
 use Rattle.std.proofs.lemmas.Bool.{cases_eq}
-use Rattle.std.proofs.lemmas.Option.{same_Some, slice_get-map}
 use Rattle.tagged_word.specs.declared.layout.Kind.TheVariants as kind
-use Rattle.tagged_word.specs.Cells.{store_head, store_slot}
-use Rattle.tagged_word.proofs.Members.{first_in, rest_in, one_in, in_cases}
+use Rattle.tagged_word.specs.Cells.{store_slot}
+use Rattle.tagged_word.proofs.Members.{first_in, one_in}
 use Rattle.page_space.proofs.Starts.{marks_start_is}
 use Rattle.object_graph.specs.declared.value.Value.{Value}
 use Rattle.object_graph.specs.declared.value.Rep.TheVariants as rep
@@ -15,13 +14,12 @@ use Rattle.object_graph.specs.Values.{rep_of}
 use Rattle.object_graph.specs.Invariants.{IsValue}
 use Rattle.object_graph.proofs.Lists.{slice_get-set_same}
 use Rattle.linear_probing.specs.Tables.{FindsAll}
-use Rattle.linear_probing.specs.Tables as probing
 use Rattle.cell_layout.specs.declared.cell.Cell.{Cell}
 use Rattle.handle_roots.specs.declared.held.Held.{Held}
 use Rattle.heap_table.specs.Seats.{heap_words}
-use Rattle.heap_model.specs.Heaps.{HasCell, words_of_cell}
+use Rattle.heap_model.specs.Heaps.{words_of_cell}
 use Rattle.heap_model.specs.Slots.{reference_word, RefersToBox, RefersToPlace, IsPlace}
-use Rattle.heap_model.specs.Kinds.{HasWord, Pair, HasTable, IsProbed, IsFilledPair, pairs_in, count_offset}
+use Rattle.heap_model.specs.Kinds.{HasWord, Pair, IsFilledPair, count_offset}
 use Rattle.heap_model.specs.Kinds.{HasNoNumber, IsBoxCell}
 use Rattle.heap_model.specs.Wholeness.{NamesFrom, IsOwnedKind}
 use Rattle.heap_model.proofs.WordsStay.{PlacesStay}
@@ -29,34 +27,32 @@ use Rattle.write_barrier.specs.Mains.{Mutator, heap_of}
 use Rattle.object_cells.specs.declared.content.Content.TheVariants as content
 use Rattle.object_cells.specs.Contents.{next_at}
 use Rattle.object_cells.specs.Made.{beside_content, with_content}
-use Rattle.object_cells.proofs.CellsRead.{word_stands}
 use Rattle.object_cells.proofs.HeldContents.{HoldsValue}
-use Rattle.object_cells.proofs.KeptCapacities.{WritesOwn, none_made}
-use Rattle.object_cells.proofs.MadeBoxes.{made_box, boxed_integer, refers_to_made, made_boxed, made_sound}
-use Rattle.object_cells.proofs.MadeBoxes.{length-with_content}
+use Rattle.object_cells.proofs.MadeBoxes.{made_box, boxed_integer, refers_to_made, made_boxed, only_first}
+use Rattle.object_cells.proofs.MadeBoxes.{length-with_content, boxes_sound}
 use Rattle.object_cells.proofs.NewBoxes.{box_cell}
 use Rattle.object_cells.proofs.OwnCells.{cell_below_layouts}
 use Rattle.object_cells.proofs.SlotsNow.{word_at_offset}
-use Rattle.object_cells.proofs.WrittenPlaces.{object_places_stay}
-use Rattle.ephemeron_table.specs.Pairs.{HasPairs, IsFilledAt}
+use Rattle.object_cells.proofs.ContentValues.{content_shows}
+use Rattle.object_cells.proofs.FieldWords.{value_word}
+use Rattle.ephemeron_table.specs.Pairs.{IsFilledAt}
 use Rattle.ephemeron_table.specs.PairWrites.{RefillsPairs, PairComes}
 use Rattle.ephemeron_table.specs.PairLaws.{RefillsWeak}
 use Rattle.ephemeron_table.specs.Puttings.{PutsInTable}
-use Rattle.ephemeron_table.specs.Takings.{numbers, number_of, pairs_of, with_pair}
+use Rattle.ephemeron_table.specs.Takings.{numbers, pairs_of, with_pair}
 use Rattle.ephemeron_table.specs.declared.reading.Table.{Table}
 use Rattle.ephemeron_table.proofs.CountedPairs.{count_filled}
-use Rattle.ephemeron_table.proofs.KnownTables.{KnownMap, cell, cell_has, sound, within_words, has_table, slot_there}
+use Rattle.ephemeron_table.proofs.KnownTables.{table_is_no_box, are_before}
+use Rattle.ephemeron_table.proofs.KnownTables.{KnownMap, cell, cell_has, sound, slot_there}
 use Rattle.ephemeron_table.proofs.KnownTables.{of_map}
-use Rattle.ephemeron_table.proofs.KnownTables.{number_found, probed_pair, found, other, other_long, other_belongs}
+use Rattle.ephemeron_table.proofs.KnownTables.{found, other, other_belongs}
 use Rattle.ephemeron_table.proofs.KnownTables.{other_number}
-use Rattle.ephemeron_table.proofs.PairLists.{pairs_are, at_place, length-with_pair}
-use Rattle.ephemeron_table.proofs.PutPairs.{pair, made, pairs_are_now, box_stands, writes, cells, some, map_stays}
-use Rattle.ephemeron_table.proofs.PutPairs.{head_stays, long}
-use Rattle.ephemeron_table.proofs.PutValues.{value_comes, value_word}
-use Rattle.ephemeron_table.proofs.TablesRead.{found_table, pairs_stand}
-use Rattle.ephemeron_table.proofs.TakenMaps.{table_is_no_box}
+use Rattle.ephemeron_table.proofs.PairLists.{at_place, length-with_pair}
+use Rattle.ephemeron_table.proofs.PutPairs.{pair, made, pairs_are_now, box_stands, writes, some, map_stays}
+use Rattle.ephemeron_table.proofs.PutValues.{value_comes}
 use Rattle.ephemeron_table.proofs.TakenPairs.{filled_elsewhere}
-use Rattle.ephemeron_table.proofs.WeakWrites.{writes_weak}
+use Rattle.ephemeron_table.proofs.StayingTables as staying
+use Rattle.ephemeron_table.proofs.StayingTables.{WritesMap, StaysTable}
 
 module _ {old new : Mutator} {map place key count number : ℕ} {table : Table} {value : Held} {what : Value}
     (known : KnownMap old map table) (below : place < table.capacity)
@@ -83,48 +79,13 @@ module _ {old new : Mutator} {map place key count number : ℕ} {table : Table} 
   abbrev pub after : List Pair
   after = pairs_of (heap_words new.seat) table
 
-  pub map_has : HasCell (heap_of new) map_cell (words_of_cell (heap_of new) map_cell)
-  map_has = (cells known below puts).comes map_cell (first_in map_cell (table_cell ∷ boxes_made))
-
-  table_has : HasCell (heap_of new) table_cell (words_of_cell (heap_of new) table_cell)
-  table_has =
-      (cells known below puts).comes table_cell
-      (rest_in map_cell (table_cell ∷ boxes_made) table_cell (first_in table_cell boxes_made))
-
-  made_has : (one : Cell) → Contains boxes_made one → HasCell (heap_of new) one (words_of_cell (heap_of new) one)
-  made_has one among =
-      (cells known below puts).comes one
-      (rest_in map_cell (table_cell ∷ boxes_made) one (rest_in table_cell boxes_made one among))
-
-  pub places : PlacesStay (heap_of old) (heap_of new)
-  places = object_places_stay known.whole (writes_weak known.whole (writes known below puts))
-
-  -- the box that was made holds the integer
-  pub refers_box : (v : ℤ) → beside_content value ≡ content.Boxed v
-      → RefersToBox (heap_of new) (reference_word (next_at old)) v
-  refers_box v is_box =
-      refers_to_made (beside_content value) (next_at old) v is_box (boxed_integer objects v holds fits is_box)
-      (box_stands known below puts)
-      (made_has (box_cell (next_at old)) (made_box (beside_content value) (next_at old) v is_box))
-
+  -- the table belongs to the map
   pub belong : (one : Cell) → Contains (table_cell ∷ []) one → (slot : ℕ) × NamesFrom (heap_of old) map_cell slot one.at
   belong one among = (
     map_cell.at + store_slot,
     subst (λ (c : Cell). NamesFrom (heap_of old) map_cell (map_cell.at + store_slot) c.at) (one_in table_cell one among)
         (other_belongs known (some known below puts)),
   )
-
-  -- what refers to an object did so before
-  pub refers_back : (word another : ℕ) → RefersToPlace (heap_of new) word another
-      → RefersToPlace (heap_of old) word another
-  refers_back word another refers =
-      let writing : WritesOwn (heap_of old) (heap_of new) map_cell map_cell (table_cell ∷ []) boxes_made = record {
-        whole = known.whole;
-        writes = writes_weak known.whole (writes known below puts);
-        belong = belong;
-        kinds = λ one among. subst IsOwnedKind (sym (made_boxed (beside_content value) (next_at old) one among)) tt;
-      } in
-      record { at = refers.at; refers = refers.refers; place = none_made another refers.at writing refers.place }
 
   -- the word of the map for its table stays
   pub slot_stays : slice_get (heap_words new.seat) (map_cell.at + store_slot)
@@ -134,35 +95,34 @@ module _ {old new : Mutator} {map place key count number : ℕ} {table : Table} 
       (sym known.there.stands)
       (map_stays known below puts 1 (omega arith))
 
-  pub slot_now : HasWord (words_of_cell (heap_of new) map_cell) store_slot (sound known).store
-  slot_now =
-      let size = of_map known 1 (omega arith) in
-      word_at_offset store_slot map_has (omega (arith, size.below, known.there.stands)) ∙ slot_stays
-      ∙ word_stands store_slot (sound known).store (cell_has known) (slot_there known)
+  -- so words of the map's own cells were written
+  abbrev written : WritesMap old new map table known (table_cell ∷ []) boxes_made
+  written = record {
+    writes = writes known below puts;
+    belong = belong;
+    kinds = λ one among. subst IsOwnedKind (sym (made_boxed (beside_content value) (next_at old) one among)) tt;
+  }
 
-  -- the table has the pairs after
-  pub table_now : HasTable (heap_of new) (sound known).store after
-  table_now =
-      let one = found known (some known below puts) in
-      let words = words_of_cell (heap_of new) table_cell in
-      let pairs = pairs_in (drop store_head words) in
-      let has : HasTable (heap_of new) (sound known).store pairs =
-      HasTable.table (sound known).store table_cell words
-      (record { refers = one.refers.refers; has = table_has }) one.of_kind one.power in
-      let now = found_table (sound known).store pairs table.at has (one.refers.refers ∙ ap reference_word one.stands) in
-      let length_now : now.cell.length ≡ table.capacity =
-      same_Some now.cell.length table.capacity (sym now.counted
-      ∙ ap (λ n. slice_get (heap_words new.seat) (n + 1)) (sym one.stands) ∙ head_stays known below puts 1 (omega arith)
-      ∙ ap (λ n. slice_get (heap_words old.seat) (n + 1)) one.stands ∙ one.counted
-      ∙ ap (λ n. Some n) (other_long known (some known below puts))) in
-      let as_long = ap length puts.words.heap ∙ long known below puts in
-      let same : after ≡ pairs =
-      pairs_are (heap_words new.seat) table pairs (omega (arith, within_words known, as_long))
-      (pairs_stand (sound known).store pairs table.at table.capacity now length_now) in
-      subst (HasTable (heap_of new) (sound known).store) (sym same) has
+  -- and the table stays where it is
+  abbrev stays : StaysTable old new map table known (some known below puts) (table_cell ∷ []) boxes_made
+  stays = record { written = written; among = first_in table_cell []; slot = slot_stays }
 
-  abbrev pub are_after : HasPairs (heap_of new) (words_of_cell (heap_of new) map_cell) after
-  are_after = record { store = (sound known).store; slot = slot_now; table = table_now }
+  -- objects keep their places
+  pub places : PlacesStay (heap_of old) (heap_of new)
+  places = staying.places known written
+
+  -- what refers to an object did so before
+  pub refers_back : (word another : ℕ) → RefersToPlace (heap_of new) word another
+      → RefersToPlace (heap_of old) word another
+  refers_back = staying.refers_back known written
+
+  -- the box that was made holds the integer
+  pub refers_box : (v : ℤ) → beside_content value ≡ content.Boxed v
+      → RefersToBox (heap_of new) (reference_word (next_at old)) v
+  refers_box v is_box =
+      refers_to_made (beside_content value) (next_at old) v is_box (boxed_integer objects v holds fits is_box)
+      (box_stands known below puts)
+      (staying.made_has known written (box_cell (next_at old)) (made_box (beside_content value) (next_at old) v is_box))
 
   -- as many as the count says hold something
   pub count_after : HasWord (words_of_cell (heap_of new) map_cell) count_offset (count_filled after)
@@ -179,25 +139,19 @@ module _ {old new : Mutator} {map place key count number : ℕ} {table : Table} 
         marks_start_is old.seat.space,
         cell_below_layouts known.whole (cell_has known) size,
       ) in
-      word_at_offset count_offset map_has (omega (arith, size.below, known.there.stands))
+      word_at_offset count_offset (staying.map_has known written)
+      (omega (arith, size.below, known.there.stands))
       ∙ ap (λ n. slice_get (heap_words new.seat) (n + count_offset)) known.there.stands
       ∙ ap (λ every. slice_get every (map + count_offset)) puts.words.heap
       ∙ slice_get-set_same (with_pair (with_content (heap_words old.seat) (beside_content value) (next_at old)) table.at
       place (pair known below puts)) (map + count_offset) count within
       ∙ ap (λ n. Some n) (counted ∙ ap count_filled (sym (pairs_are_now known below puts)))
 
-  -- probing finds each
-  pub probed : (at another : ℕ) (one : Pair) → IsFilledAt after at one → RefersToPlace (heap_of new) one.key another
-      → IsProbed after another at
-  probed at another one is refers =
-      let number_is = number_found known one another (refers_back one.key another refers) in
-      let there : probing.HoldsNumber (numbers (heap_of old) after) at another =
-      slice_get-map (number_of (heap_of old)) after at ∙ ap (option_map (number_of (heap_of old))) is.stands
-      ∙ ap (λ item. Some item) number_is in
-      let all_now = subst (λ pairs. FindsAll (numbers (heap_of old) pairs))
-      (sym (pairs_are_now known below puts)) all in
-      probed_pair known after another at (all_now at another there)
+  -- probing finds all
+  pub finds_after : FindsAll (numbers (heap_of old) after)
+  finds_after = subst (λ pairs. FindsAll (numbers (heap_of old) pairs)) (sym (pairs_are_now known below puts)) all
 
+  -- the table alone was written
   pub is_table : (one : Cell) → Contains (table_cell ∷ []) one → one.layout.kind ≡ kind.Table
   is_table one among =
       ap (λ (c : Cell). c.layout.kind) (sym (one_in table_cell one among))
@@ -207,7 +161,7 @@ module _ {old new : Mutator} {map place key count number : ℕ} {table : Table} 
   pub pair_filled : IsFilledPair (heap_of new) (pair known below puts) number
   pair_filled = record {
     key = record { at = key; refers = refl; place = places number key key_place };
-    value = value_word (next_at old) holds places refers_box;
+    value = value_word _ what (content_shows (next_at old) holds places refers_box);
   }
 
   -- each pair comes from where it may
@@ -232,34 +186,29 @@ module _ {old new : Mutator} {map place key count number : ℕ} {table : Table} 
   -- of the cells written and made only the table is one
   pub tables_told : (one : Cell) → Contains ((table_cell ∷ []) ++ boxes_made) one → one.layout.kind ≡ kind.Table
       → HasNoNumber one × ((sound known).store ≡ reference_word one.at)
-  tables_told one among is = elim (in_cases table_cell boxes_made one among) [
-    | inl same ↦ subst (λ (c : Cell). HasNoNumber c × ((sound known).store ≡ reference_word c.at)) same
-        (other_number known (some known below puts), (found known (some known below puts)).refers.refers)
-    | inr is_made ↦ absurd (table_is_no_box is (made_boxed (beside_content value) (next_at old) one is_made))
-  ]
+  tables_told one among is = subst (λ (c : Cell). HasNoNumber c × ((sound known).store ≡ reference_word c.at))
+      (only_first (beside_content value) (next_at old) kind.Table (table_is_no_box refl) one among is)
+      (other_number known (some known below puts), (found known (some known below puts)).refers.refers)
 
   pub boxes_told : (one : Cell) → Contains ((table_cell ∷ []) ++ boxes_made) one → one.layout.kind ≡ kind.Boxed
       → IsBoxCell one (words_of_cell (heap_of new) one)
-  boxes_told one among box = elim (in_cases table_cell boxes_made one among) [
-    | inl same ↦ absurd (table_is_no_box (ap (λ (c : Cell). c.layout.kind) (sym same)
-        ∙ (found known (some known below puts)).of_kind) box)
-    | inr is_made ↦ made_sound objects (next_at old) one holds fits (box_stands known below puts) (made_has one is_made)
-        is_made
-  ]
+  boxes_told =
+      boxes_sound objects (next_at old) (table_is_no_box (found known (some known below puts)).of_kind) holds fits
+      (box_stands known below puts) (staying.made_has known written)
 
   -- so the map is refilled
   abbrev pub refills : RefillsPairs (heap_of old) (heap_of new) map_cell (table_cell ∷ []) boxes_made
   refills = record {
     before = before;
-    were = record { store = (sound known).store; slot = slot_there known; table = has_table known };
+    were = are_before known;
     now = after;
-    are = are_after;
+    are = staying.are_after known (some known below puts) stays;
     counted = count_after;
     origin = λ at. at;
     apart = λ at other pair another one two same. same;
     one = place;
     each_pair = comes;
-    probed = probed;
+    probed = staying.probed known written after finds_after;
     table_comes = inl (slot_there known);
     belong = belong;
     kinds = λ one among. inr (made_boxed (beside_content value) (next_at old) one among);

@@ -24,6 +24,7 @@ use Rattle.write_barrier.specs.ValueLaws.{ShownValuesAreHeld}
 use Rattle.object_cells.specs.Capacities.{ChangesObject}
 use Rattle.object_cells.specs.HeldValues.{IsReachedValue, IsValueHeld}
 use Rattle.object_cells.proofs.CellsRead.{word_stands}
+use Rattle.object_cells.proofs.OwnerWrites.{weak_owns, written_own_keeps_cells}
 use Rattle.ephemeron_table.specs.WeakObjects.{IsKeyAt, IsWeakAt}
 use Rattle.ephemeron_table.specs.Pairs.{HasPairsAt, IsFilledAt}
 use Rattle.ephemeron_table.specs.PairChanges.{AreWith, HasPutPair, IsPairOf, LacksPair, WordStandsFor}
@@ -36,9 +37,9 @@ use Rattle.ephemeron_table.specs.declared.reading.Table.{Table}
 use Rattle.ephemeron_table.proofs.CountedPairs.{count_filled}
 use Rattle.ephemeron_table.proofs.KeysFound.{WeakShown, weak_shown, one_place}
 use Rattle.ephemeron_table.proofs.KnownTables.{KnownMap}
-use Rattle.ephemeron_table.proofs.PairsByKey.{has_pair, lacks_pair, pairs_shown, shown_known}
+use Rattle.ephemeron_table.proofs.KnownTables.{shown_known}
+use Rattle.ephemeron_table.proofs.PairsByKey.{has_pair, lacks_pair, pairs_shown}
 use Rattle.ephemeron_table.proofs.PutRefusals.{few_lacking}
-use Rattle.ephemeron_table.proofs.WeakWrites.{written_weak_keeps_cells}
 
 -- what is held where a value is shown
 abbrev HeldBy : Heap → Held → Value → Type 0
@@ -174,13 +175,13 @@ module _ {old new : Mutator} {graph : Graph} {map key : ℕ} {weak : WeakObject}
   -- the map has these pairs
   abbrev has_after : HasPairsAt (heap_of new) map after
   has_after =
-      let cells = (written_weak_keeps_cells puts.refills.whole puts.refills.writes).1 in
+      let cells = (written_own_keeps_cells weak_owns puts.refills.whole puts.refills.writes).1 in
       record {
         cell = puts.cell;
         words = words_of_cell (heap_of new) puts.cell;
         has = cells.comes puts.cell (first_in puts.cell (puts.others ++ puts.made));
         stands = puts.stands;
-        of_kind = puts.refills.writes.weak;
+        of_kind = puts.refills.writes.of_kind;
         are = puts.refills.pairs.are;
       }
 
@@ -198,7 +199,7 @@ module _ {old new : Mutator} {graph : Graph} {map key : ℕ} {weak : WeakObject}
     words = words_of_cell (heap_of old) puts.cell;
     has = puts.refills.writes.stood;
     stands = puts.stands;
-    of_kind = puts.refills.writes.weak;
+    of_kind = puts.refills.writes.of_kind;
     are = puts.refills.pairs.were;
   }
 

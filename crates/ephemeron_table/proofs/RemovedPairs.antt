@@ -1,6 +1,6 @@
 -- A pair of a weak map was taken out.
 use Rattle.std.proofs.Common.{◌≡◌, ◌+◌, ◌*◌, ◌≤◌, ◌⊎◌, inl, inr, unwrap_or, ℕ, ◌<◌, List, []}
-use Rattle.std.proofs.Common.{sym, ◌∙◌, ap, subst, arith, add-zero}
+use Rattle.std.proofs.Common.{sym, ◌∙◌, ap, subst, arith}
 use Rattle.heap_model.specs.Slots.{reference_word}
 use Rattle.std.proofs.lemmas.Option.{slice_get_within}
 use Rattle.page_space.specs.Sizes.{AreWithin}
@@ -13,6 +13,7 @@ use Rattle.heap_model.specs.Needs.{capacity_at, count_at, word_at}
 use Rattle.write_barrier.specs.Mains.{Mutator, heap_of, IsTied}
 use Rattle.object_cells.specs.CellsAt.{IsWhole}
 use Rattle.object_cells.specs.Capacities.{ChangesObject}
+use Rattle.object_cells.proofs.NothingUsed.{uses_none}
 use Rattle.object_cells.proofs.CellsRead.{word_stands}
 use Rattle.ephemeron_table.specs.Pairs.{HasPairsAt, IsFilledAt, RemovesPair, AreWithout}
 use Rattle.ephemeron_table.specs.PairLaws.{WrittenPairsAreOwn, TablesStay}
@@ -104,10 +105,7 @@ removes_pair {old} {new} {map} {place} {table} {pairs} {pair} known before has t
         quiet = takes.rest.phase ∙ quiet;
         whole = (are_own (heap_of old) (heap_of new) (cell known) _ [] refills).3;
       };
-      uses = record {
-        beside = takes.rest;
-        young = takes.young ∙ ap (λ n. record old.young { used = n }) (sym (add-zero old.young.used));
-      };
+      uses = uses_none takes.rest takes.young;
       paths = takes.paths;
       changes = subst (λ a. ChangesObject (heap_of old) (heap_of new) a (capacity_at (heap_of old) a)) stands
           (stay (heap_of old) (heap_of new) (cell known) _ [] refills (slot_stays known some takes pair is));

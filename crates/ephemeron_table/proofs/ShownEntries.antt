@@ -202,7 +202,7 @@ module _ {old new : Heap} {graph : Graph} {cell : Cell} {others made : List Cell
   pub weak_shows : (marks : List Bool) → MarksReached graph marks
       → ShowsWeak new marks cell (words_of_cell new cell) (entries_with entries number value)
   weak_shows marks reached = record {
-    of_kind = weaving.refills.writes.weak;
+    of_kind = weaving.refills.writes.of_kind;
     store = pairs.are.store;
     slot = pairs.are.slot;
     pairs = pairs.now;

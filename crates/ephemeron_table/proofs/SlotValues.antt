@@ -28,6 +28,7 @@ use Rattle.object_cells.proofs.FilledSlots.{set_there}
 use Rattle.object_cells.proofs.HeldContents.{HoldsValue}
 use Rattle.object_cells.proofs.MadeBoxes.{with_content_stays}
 use Rattle.object_cells.proofs.UnusedWords.{cell_is_used, next_before_segments}
+use Rattle.object_cells.proofs.ContentValues.{content_shows}
 use Rattle.ephemeron_table.specs.Probes.{number_at, key_offset, value_offset}
 use Rattle.ephemeron_table.specs.Puttings.{PutsInTable}
 use Rattle.ephemeron_table.specs.Takings.{numbers, number_of, pairs_of}
@@ -39,7 +40,6 @@ use Rattle.ephemeron_table.proofs.KnownTables.{cell_has, sound, pairs_same, of_m
 use Rattle.ephemeron_table.proofs.KnownTables.{other_has, other_long, map_beside}
 use Rattle.ephemeron_table.proofs.PutMaps.{refills_weak, refers_back, refers_box, places, slot_stays}
 use Rattle.ephemeron_table.proofs.PutPairs.{pair, made, pairs_are_now}
-use Rattle.ephemeron_table.proofs.PutValues.{value_shows}
 use Rattle.ephemeron_table.proofs.ReplacedValues.{ReplacesValue}
 
 -- where a pair takes the place of one that has the same key, the numbers stay
@@ -148,7 +148,7 @@ module _ {old new : Mutator} {graph : Graph} {map key : ℕ} {weak : WeakObject}
         origin_is = λ at. refl;
         one_is = refl;
         key_is = refl;
-        shows = value_shows (next_at old) holds stay
+        shows = content_shows (next_at old) holds stay
             (refers_box k has.below puts objects has.is_key.place holds fits all counted);
         places = stay;
         back = refers_back k has.below puts objects has.is_key.place holds fits all counted;

@@ -2,7 +2,7 @@
 use Rattle.std.proofs.Common.{◌≡◌, ℕ, suc, ◌+◌, ◌*◌, ◌/◌, ◌<◌, ◌⊎◌, inl, inr, List, [], ◌∷◌}
 use Rattle.std.proofs.Common.{length, drop, Some, None}
 use Rattle.std.proofs.Common.{slice_get, unwrap_or, refl, sym, ◌∙◌, ap, subst, arith, length-drop}
-use Rattle.std.proofs.lemmas.Option.{same_Some, slice_get_within, none-some}
+use Rattle.std.proofs.lemmas.Option.{same_Some, none-some}
 use Rattle.tagged_word.specs.declared.layout.Kind.TheVariants as kind
 use Rattle.tagged_word.specs.Cells.{store_head}
 use Rattle.tagged_word.specs.Readings.{reference_in}
@@ -21,7 +21,7 @@ use Rattle.heap_model.proofs.CellsApart.{has_is_cell}
 use Rattle.heap_model.proofs.CellWords.{words_by_kind, words_are_size, behind_head}
 use Rattle.heap_model.proofs.ObjectSlots.{pair_words}
 use Rattle.heap_model.proofs.WordClasses.{same_reference, undefined_refers_not}
-use Rattle.object_cells.proofs.CellsRead.{cell_before_marks, word_is, word_stands}
+use Rattle.object_cells.proofs.CellsRead.{word_before_marks, cell_before_marks, word_is, word_stands}
 use Rattle.object_cells.proofs.WordsTold.{cell_fits}
 use Rattle.object_cells.proofs.KeptCapacities.{capacity_read, length_stands}
 use Rattle.ephemeron_table.specs.Pairs.{HasPairsAt}
@@ -113,27 +113,16 @@ weak_pairs there sound = record {
   are = record { store = sound.store; slot = sound.slot; table = sound.table };
 }
 
--- a word of the map's cell is before the marks
-pub weak_within : {heap : Heap} {at : ℕ} (k word : ℕ) → Whole heap → (there : IsWeakCellAt heap at)
-    → HasWord there.words k word → at + k < marks_start heap.space
-weak_within k word whole there stands =
-    omega (
-      arith,
-      slice_get_within there.words k word stands,
-      words_are_size there.has,
-      cell_before_marks whole.sized there.has,
-      there.stands,
-    )
-
--- its slot for a table is
+-- the slot of the map's cell for a table is before the marks
 pub slot_within : {heap : Heap} {at : ℕ} → Whole heap → IsWeakCellAt heap at → at + 1 < marks_start heap.space
 slot_within whole there =
     let sound = weak_sound whole there in
-    weak_within 1 sound.store whole there sound.slot
+    word_before_marks 1 sound.store whole.sized there.has there.stands sound.slot
 
 -- and its count
 pub count_within : {heap : Heap} {at : ℕ} → Whole heap → IsWeakCellAt heap at → at + 2 < marks_start heap.space
-count_within whole there = weak_within 2 _ whole there (weak_sound whole there).counted
+count_within whole there =
+    word_before_marks 2 _ whole.sized there.has there.stands (weak_sound whole there).counted
 
 -- the table to which the word that was read refers
 pub read_table : {heap : Heap} (map word at : ℕ) (pairs : List Pair) → HasPairsAt heap map pairs

@@ -1,55 +1,37 @@
 -- A pair that was taken out of a weak map's table refills the map.
-use Rattle.std.proofs.Common.{◌≡◌, ℕ, ◌+◌, ◌-◌, ◌*◌, ◌<◌, inl, inr, List, [], ◌∷◌, drop, Contains}
+use Rattle.std.proofs.Common.{◌≡◌, ℕ, ◌+◌, ◌-◌, ◌<◌, inl, List, [], ◌∷◌, Contains}
 use Rattle.std.proofs.Common.{Some}
 use Rattle.std.proofs.Common.{slice_get, refl, sym, ◌∙◌, ap, subst, arith, add-zero}
-use Rattle.std.proofs.lemmas.Bool.{cases_lt}
-use Rattle.std.proofs.lemmas.Option.{same_Some, slice_get-map}
-use Rattle.std.specs.Prelude.{option_map}
-use Rattle.tagged_word.specs.declared.layout.Kind.{Kind}
 use Rattle.tagged_word.specs.declared.layout.Kind.TheVariants as kind
-use Rattle.tagged_word.specs.Cells.{store_head, store_slot}
-use Rattle.tagged_word.proofs.Members.{first_in, rest_in, one_in}
-use Rattle.page_space.specs.Extents.{Space}
-use Rattle.nursery.specs.Young.{HasRoom}
+use Rattle.tagged_word.specs.Cells.{store_slot}
+use Rattle.tagged_word.proofs.Members.{first_in, one_in}
 use Rattle.cell_layout.specs.declared.cell.Cell.{Cell}
-use Rattle.cell_layout.specs.Cells.{IsRow}
-use Rattle.linear_probing.specs.Tables as probing
 use Rattle.heap_table.specs.Seats.{heap_words}
 use Rattle.heap_model.specs.Heaps.{HasCell, words_of_cell}
 use Rattle.heap_model.specs.Slots.{reference_word, RefersToPlace}
-use Rattle.heap_model.specs.Kinds.{HasWord, Pair, pairs_in, HasTable, IsProbed, count_offset}
+use Rattle.heap_model.specs.Kinds.{HasWord, Pair, count_offset}
 use Rattle.heap_model.specs.Kinds.{HasNoNumber}
-use Rattle.heap_model.specs.Changes.{CellsChange}
 use Rattle.heap_model.specs.Wholeness.{NamesFrom}
 use Rattle.heap_model.specs.Needs.{count_at}
 use Rattle.heap_model.proofs.BoundHeaps.{none_in}
-use Rattle.heap_model.proofs.CellsApart.{IsOfCell, cells_apart}
 use Rattle.write_barrier.specs.Mains.{Mutator, heap_of}
-use Rattle.object_cells.specs.CellWrites.{IsInCell}
 use Rattle.object_cells.specs.Contents.{next_at}
-use Rattle.object_cells.proofs.CellsRead.{word_stands}
 use Rattle.object_cells.proofs.SlotsNow.{word_at_offset}
-use Rattle.object_cells.proofs.KeptCapacities.{WritesOwn, none_made}
+use Rattle.object_cells.proofs.NothingUsed.{room_for_none, used_and_none}
+use Rattle.object_cells.proofs.OwnPuts.{PutsOwn, own_writes, one_beside}
+use Rattle.object_cells.proofs.MadeBoxes.{row_of_none}
 use Rattle.ephemeron_table.specs.Pairs.{HasPairs, IsFilledAt}
-use Rattle.ephemeron_table.specs.PairWrites.{WritesWeak, IsWrittenTable, RefillsPairs, PairComes}
+use Rattle.ephemeron_table.specs.PairWrites.{WritesWeak, RefillsPairs, PairComes}
 use Rattle.ephemeron_table.specs.PairLaws.{RefillsWeak}
-use Rattle.ephemeron_table.specs.Takings.{TakesAt, IsBesidePairs, numbers, number_of, pairs_of}
+use Rattle.ephemeron_table.specs.Takings.{TakesAt, pairs_of}
 use Rattle.ephemeron_table.specs.declared.reading.Table.{Table}
 use Rattle.ephemeron_table.proofs.CountedPairs.{count_filled}
-use Rattle.ephemeron_table.proofs.KnownTables.{KnownMap, cell, cell_has, sound, within_words, has_table, slot_there}
-use Rattle.ephemeron_table.proofs.KnownTables.{count_is, of_map, number_found, finds_all, probed_pair, found, other}
-use Rattle.ephemeron_table.proofs.KnownTables.{other_has, other_long, map_no_table, map_beside, other_belongs}
-use Rattle.ephemeron_table.proofs.KnownTables.{other_number}
-use Rattle.ephemeron_table.proofs.PairLists.{pairs_are}
-use Rattle.ephemeron_table.proofs.TablesRead.{found_table, pairs_stand}
-use Rattle.ephemeron_table.proofs.WeakWrites.{writes_weak, written_weak_keeps_cells}
-use Rattle.ephemeron_table.proofs.WeakWriting.{PutsWeak, weak_writes}
-
--- a table is no box
-pub table_is_no_box : {k : Kind} → k ≡ kind.Table → k ≡ kind.Boxed → ⊥
-table_is_no_box table box =
-    let apart : kind.Table ≡ kind.Boxed = sym table ∙ box in
-    cc
+use Rattle.ephemeron_table.proofs.KnownTables.{KnownMap, cell, cell_has, sound, slot_there}
+use Rattle.ephemeron_table.proofs.KnownTables.{count_is, of_map, finds_all, found, other}
+use Rattle.ephemeron_table.proofs.KnownTables.{other_has, map_beside, other_belongs}
+use Rattle.ephemeron_table.proofs.KnownTables.{other_number, are_before, head_apart, beside_table, table_is_no_box}
+use Rattle.ephemeron_table.proofs.StayingTables as staying
+use Rattle.ephemeron_table.proofs.StayingTables.{WritesMap, StaysTable}
 
 module _ {old new : Mutator} {map place : ℕ} {table : Table} (known : KnownMap old map table)
     (some : 0 < table.capacity)
@@ -69,75 +51,34 @@ module _ {old new : Mutator} {map place : ℕ} {table : Table} (known : KnownMap
   abbrev table_cell : Cell
   table_cell = other known some
 
-  -- of the table's words only those of pairs have changed
-  in_table : (a : ℕ) → (IsInCell a table_cell → ⊥) → IsBesidePairs table a
-  in_table a not_in = elim (cases_lt a (table.at + store_head)) [
-    | inl before ↦ inl before
-    | inr from ↦ elim (cases_lt a (table.at + (store_head + 2 * table.capacity))) [
-      | inl below ↦ absurd (not_in (record {
-        from = omega (arith, from, (found known some).stands);
-        below = omega (arith, below, (found known some).stands, (found known some).size, other_long known some);
-      }))
-      | inr behind ↦ inr behind
-    ]
-  ]
-
-  -- nothing was allocated
-  room : HasRoom old.young 0
-  room =
-      let young = ap (λ (space : Space). space.sizes.young) known.tied in
-      omega (arith, known.whole.rows.few, young)
-
-  young_same : new.young ≡ record old.young { used = old.young.used + 0 }
-  young_same =
-      takes.young ∙ ap (λ n. record old.young { used = n }) (sym (add-zero old.young.used))
-
   -- so words of the map's own cells were put
-  puts : PutsWeak old new map_cell (table_cell ∷ []) 0 (heap_words new.seat)
+  puts : PutsOwn kind.Weak old new map_cell (table_cell ∷ []) 0 (heap_words new.seat)
   puts = record {
     tied = known.tied;
     whole = known.whole;
     has = cell_has known;
-    weak = known.there.of_kind;
+    of_kind = known.there.of_kind;
     stood = λ one among. subst (λ (c : Cell). HasCell (heap_of old) c (words_of_cell (heap_of old) c))
         (one_in table_cell one among) (other_has known some);
-    room = room;
+    room = room_for_none old known.tied known.whole;
     puts = record {
       beside = takes.rest;
       paths = takes.paths;
-      young = young_same;
+      young = takes.young ∙ used_and_none old.young;
       heap = refl;
     };
     long = takes.long;
-    stay = λ a not_cell not_others not_new. takes.beside a (in_table a (not_others table_cell (first_in table_cell [])))
+    stay = λ a not_cell not_others not_new. takes.beside a (beside_table known some a (not_others table_cell (first_in table_cell [])))
         (λ same. let of_cell = of_map known 2 (omega arith) in
         not_cell (record { from = omega (arith, same, of_cell.from); below = omega (arith, same, of_cell.below) }));
   }
 
-  -- of the table neither the header nor the length changed
+  -- a word of the table's head stays
   head_stays : (k : ℕ) → k < 2 → slice_get (heap_words new.seat) (table_cell.at + k)
       ≡ slice_get (heap_words old.seat) (table_cell.at + k)
   head_stays k below =
-      let one = found known some in
-      takes.beside (table_cell.at + k) (inl (omega (arith, below, one.stands))) (λ same.
-      let of_other : IsOfCell table_cell (table_cell.at + k) =
-      record { from = omega arith; below = omega (arith, below, one.size) } in
-      let of_cell = subst (IsOfCell map_cell) (sym same) (of_map known 2 (omega arith)) in
-      let cells = cells_apart (table_cell.at + k) known.whole.rows (cell_has known)
-      (other_has known some) of_cell of_other in
-      map_no_table known some (ap (λ (c : Cell). c.layout.kind) cells ∙ one.of_kind))
-
-  beside : (one : Cell) → Contains (table_cell ∷ []) one → IsWrittenTable (heap_of old) (heap_of new) one
-  beside one among =
-      let first : table_cell.at + 0 ≡ table_cell.at = add-zero table_cell.at in
-      let written : IsWrittenTable (heap_of old) (heap_of new) table_cell = record {
-        stood = other_has known some;
-        of_kind = inl (found known some).of_kind;
-        header = subst (λ n. slice_get (heap_words new.seat) n ≡ slice_get (heap_words old.seat) n) first
-            (head_stays 0 (omega arith));
-        length = λ is. head_stays 1 (omega arith);
-      } in
-      subst (IsWrittenTable (heap_of old) (heap_of new)) (one_in table_cell one among) written
+      takes.beside (table_cell.at + k) (inl (omega (arith, below, (found known some).stands)))
+      (head_apart known some 2 k (omega arith) below)
 
   -- a word of the map's cell but its count stays
   map_stays : (k : ℕ) → k < 2 → slice_get (heap_words new.seat) (map_cell.at + k)
@@ -151,23 +92,13 @@ module _ {old new : Mutator} {map place : ℕ} {table : Table} (known : KnownMap
   pub writes : WritesWeak (heap_of old) (heap_of new) map_cell (table_cell ∷ []) []
   writes =
       let first : map_cell.at + 0 ≡ map_cell.at = add-zero map_cell.at in
-      weak_writes [] puts
+      own_writes [] puts
       (subst (λ n. slice_get (heap_words new.seat) n ≡ slice_get (heap_words old.seat) n) first
       (map_stays 0 (omega arith)))
-      beside
-      (subst (λ end. IsRow new.seat.space (heap_words new.seat) (next_at old) end []) (sym (add-zero (next_at old)))
-      (IsRow.none (next_at old)))
+      (one_beside (other_has known some) (found known some).of_kind head_stays)
+      (row_of_none (heap_of new) (next_at old))
 
-  -- and cells stand in the new heap
-  cells : CellsChange (heap_of old) (heap_of new) (map_cell ∷ table_cell ∷ []) (map_cell ∷ table_cell ∷ []) []
-  cells = (written_weak_keeps_cells known.whole writes).1
-
-  pub map_has : HasCell (heap_of new) map_cell (words_of_cell (heap_of new) map_cell)
-  map_has = cells.comes map_cell (first_in map_cell (table_cell ∷ []))
-
-  table_has : HasCell (heap_of new) table_cell (words_of_cell (heap_of new) table_cell)
-  table_has = cells.comes table_cell (rest_in map_cell (table_cell ∷ []) table_cell (first_in table_cell []))
-
+  -- the table belongs to the map
   pub belong : (one : Cell) → Contains (table_cell ∷ []) one → (slot : ℕ) × NamesFrom (heap_of old) map_cell slot one.at
   belong one among = (
     map_cell.at + store_slot,
@@ -175,51 +106,35 @@ module _ {old new : Mutator} {map place : ℕ} {table : Table} (known : KnownMap
         (other_belongs known some),
   )
 
-  -- what refers to an object did so before
-  pub refers_back : (word number : ℕ) → RefersToPlace (heap_of new) word number
-      → RefersToPlace (heap_of old) word number
-  refers_back word number refers =
-      let writing : WritesOwn (heap_of old) (heap_of new) map_cell map_cell (table_cell ∷ []) [] = record {
-        whole = known.whole;
-        writes = writes_weak known.whole writes;
-        belong = belong;
-        kinds = λ one among. absurd (none_in one among);
-      } in
-      record { at = refers.at; refers = refers.refers; place = none_made number refers.at writing refers.place }
-
   -- the word of the map for its table stays
   pub slot_stays : slice_get (heap_words new.seat) (map_cell.at + store_slot)
       ≡ slice_get (heap_words old.seat) (map_cell.at + store_slot)
   slot_stays = map_stays 1 (omega arith)
 
-  pub slot_now : HasWord (words_of_cell (heap_of new) map_cell) store_slot (sound known).store
-  slot_now =
-      let size = of_map known 1 (omega arith) in
-      word_at_offset store_slot map_has (omega (arith, size.below, known.there.stands)) ∙ slot_stays
-      ∙ word_stands store_slot (sound known).store (cell_has known) (slot_there known)
+  -- so words of the map's own cells were written
+  abbrev written : WritesMap old new map table known (table_cell ∷ []) []
+  written = record {
+    writes = writes;
+    belong = belong;
+    kinds = λ one among. absurd (none_in one among);
+  }
+
+  -- and the table stays where it is
+  abbrev stays : StaysTable old new map table known some (table_cell ∷ []) []
+  stays = record { written = written; among = first_in table_cell []; slot = slot_stays }
+
+  -- the map's cell stands in the new heap
+  pub map_has : HasCell (heap_of new) map_cell (words_of_cell (heap_of new) map_cell)
+  map_has = staying.map_has known written
+
+  -- what refers to an object did so before
+  pub refers_back : (word number : ℕ) → RefersToPlace (heap_of new) word number
+      → RefersToPlace (heap_of old) word number
+  refers_back = staying.refers_back known written
 
   -- the table has the pairs after
-  pub table_now : HasTable (heap_of new) (sound known).store after
-  table_now =
-      let one = found known some in
-      let words = words_of_cell (heap_of new) table_cell in
-      let pairs = pairs_in (drop store_head words) in
-      let has : HasTable (heap_of new) (sound known).store pairs =
-      HasTable.table (sound known).store table_cell words
-      (record { refers = one.refers.refers; has = table_has }) one.of_kind one.power in
-      let now = found_table (sound known).store pairs table.at has (one.refers.refers ∙ ap reference_word one.stands) in
-      let length_now : now.cell.length ≡ table.capacity =
-      same_Some now.cell.length table.capacity (sym now.counted
-      ∙ ap (λ n. slice_get (heap_words new.seat) (n + 1)) (sym one.stands) ∙ head_stays 1 (omega arith)
-      ∙ ap (λ n. slice_get (heap_words old.seat) (n + 1)) one.stands ∙ one.counted
-      ∙ ap (λ n. Some n) (other_long known some)) in
-      let same : after ≡ pairs =
-      pairs_are (heap_words new.seat) table pairs (omega (arith, within_words known, takes.long))
-      (pairs_stand (sound known).store pairs table.at table.capacity now length_now) in
-      subst (HasTable (heap_of new) (sound known).store) (sym same) has
-
   abbrev pub are_after : HasPairs (heap_of new) (words_of_cell (heap_of new) map_cell) after
-  are_after = record { store = (sound known).store; slot = slot_now; table = table_now }
+  are_after = staying.are_after known some stays
 
   -- as many as the count says hold something
   pub count_after : HasWord (words_of_cell (heap_of new) map_cell) count_offset (count_filled after)
@@ -231,16 +146,6 @@ module _ {old new : Mutator} {map place : ℕ} {table : Table} (known : KnownMap
       ∙ ap (λ n. slice_get (heap_words new.seat) (n + count_offset)) known.there.stands ∙ takes.counted
       ∙ ap (λ n. Some n) less
 
-  -- probing finds each
-  pub probed : (at number : ℕ) (pair : Pair) → IsFilledAt after at pair → RefersToPlace (heap_of new) pair.key number
-      → IsProbed after number at
-  probed at number pair is refers =
-      let number_is = number_found known pair number (refers_back pair.key number refers) in
-      let holds : probing.HoldsNumber (numbers (heap_of old) after) at number =
-      slice_get-map (number_of (heap_of old)) after at ∙ ap (option_map (number_of (heap_of old))) is.stands
-      ∙ ap (λ item. Some item) number_is in
-      probed_pair known after number at (takes.found (finds_all known) at number holds)
-
   -- the table alone was written
   pub is_table : (one : Cell) → Contains (table_cell ∷ []) one → one.layout.kind ≡ kind.Table
   is_table one among =
@@ -250,7 +155,7 @@ module _ {old new : Mutator} {map place : ℕ} {table : Table} (known : KnownMap
   abbrev pub refills : RefillsPairs (heap_of old) (heap_of new) map_cell (table_cell ∷ []) []
   refills = record {
     before = before;
-    were = record { store = (sound known).store; slot = slot_there known; table = has_table known };
+    were = are_before known;
     now = after;
     are = are_after;
     counted = count_after;
@@ -259,7 +164,7 @@ module _ {old new : Mutator} {map place : ℕ} {table : Table} (known : KnownMap
     one = takes.hole;
     each_pair = λ at pair is. PairComes.kept (takes.taken.from at pair is).0
         (λ one among box same. table_is_no_box (is_table one among) box);
-    probed = probed;
+    probed = staying.probed known written after (takes.found (finds_all known));
     table_comes = inl (slot_there known);
     belong = belong;
     kinds = λ one among. absurd (none_in one among);

@@ -1,22 +1,27 @@
 -- What is told of the pair of a key is what its value stands for.
-use Rattle.std.proofs.Common.{◌≡◌, ℕ, List, None, refl, sym, ◌∙◌, ap, subst}
+use Rattle.std.proofs.Common.{◌≡◌, ℕ, List, Some, None, unwrap_or, refl, sym, ◌∙◌, ap, subst}
 use Rattle.std.proofs.lemmas.Option.{same_Some}
 use Rattle.page_space.specs.Sizes.{AreWithin}
+use Rattle.object_graph.specs.declared.value.Value.TheVariants.{Undefined as NoValue}
 use Rattle.object_graph.specs.Objects.{entry_value}
 use Rattle.object_graph.specs.Graphs.{Graph, WeakObject}
 use Rattle.handle_roots.specs.declared.held.Held.{Held}
 use Rattle.handle_roots.specs.declared.held.Held.TheVariants.{Undefined}
 use Rattle.heap_model.specs.Kinds.{Pair}
+use Rattle.heap_model.specs.Showing.{ShowsHeld}
 use Rattle.heap_model.specs.Slots.{reference_word}
 use Rattle.std.specs.Prelude.{slice_get}
 use Rattle.write_barrier.specs.Mains.{Mutator, heap_of, MainShows}
-use Rattle.ephemeron_table.specs.WeakObjects.{IsKeyAt, IsWeakAt}
+use Rattle.ephemeron_table.specs.WeakObjects.{IsKeyAt, IsShownKey, IsWeakAt}
+use Rattle.ephemeron_table.specs.EntryChanges.{TellsEntry}
 use Rattle.ephemeron_table.specs.Pairs.{HasPairsAt}
 use Rattle.ephemeron_table.specs.PairChanges.{IsPairOf, WordStandsFor, TellsPairValue}
 use Rattle.ephemeron_table.specs.Probes.{IsTableAt}
 use Rattle.ephemeron_table.specs.declared.reading.Table.{Table}
 use Rattle.ephemeron_table.proofs.KeysFound.{WeakShown, weak_shown, TellsPair}
-use Rattle.ephemeron_table.proofs.PairsByKey.{lacks_pair, one_pair_of, pairs_shown, shown_known, told_pair}
+use Rattle.ephemeron_table.proofs.KeysProbed.{LacksEntry}
+use Rattle.ephemeron_table.proofs.KnownTables.{shown_known}
+use Rattle.ephemeron_table.proofs.PairsByKey.{lacks_pair, one_pair_of, pairs_shown, told_pair}
 
 -- each pair that has the key is the one that was found
 pub tells_pair_value : {main : Mutator} {graph : Graph} {map key : ℕ} {weak : WeakObject} {number place : ℕ}
@@ -54,3 +59,24 @@ tells_no_pair {main} {graph} {map} {key} {weak} {table = table} {pairs} shows is
       there = λ place pair its. absurd (lacks_pair shown is_key same none place pair its);
       none = λ lacks. refl;
     }
+
+-- nor is anything told of the entry but that there is none
+told_undefined : (main : Mutator) (weak : WeakObject) (number : ℕ) → entry_value weak.entries number ≡ None
+    → TellsEntry main weak number Undefined
+told_undefined main weak number none =
+    subst (λ what. ShowsHeld (heap_of main) Undefined (Some what))
+    (sym (ap (λ found. unwrap_or found NoValue) none)) ShowsHeld.undefined
+
+-- so undefined is told of the entry and of the pair
+pub tells_none : {main : Mutator} {map key : ℕ} {table : Table} → IsShownKey main map key
+    → AreWithin main.seat.space.sizes main.seat.space.variables → IsTableAt (heap_of main) map table
+    → LacksEntry main map key
+    → ((graph : Graph) (weak : WeakObject) (number : ℕ) → MainShows main graph → IsWeakAt main graph map weak
+    → IsKeyAt main graph key number → TellsEntry main weak number Undefined)
+    × ((pairs : List Pair) → HasPairsAt (heap_of main) map pairs → TellsPairValue main key pairs Undefined)
+tells_none {main} asked sizes is_table none = (
+  λ graph weak number shows is is_key. told_undefined main weak number (none graph weak number shows is is_key),
+  λ pairs has.
+      tells_no_pair asked.shows asked.is asked.is_key sizes is_table
+      (none asked.graph asked.weak asked.number asked.shows asked.is asked.is_key) has,
+)

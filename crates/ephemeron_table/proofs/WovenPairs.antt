@@ -20,10 +20,11 @@ use Rattle.object_cells.specs.SlotChanges.{IsNoBoxOf}
 use Rattle.object_cells.proofs.ObjectWrites.{WritesObject}
 use Rattle.object_cells.proofs.OwnWritings.{OwnWriting, store_is_sound, came_sound}
 use Rattle.object_cells.proofs.WrittenPlaces.{object_places_stay, object_box_stays}
+use Rattle.object_cells.proofs.OwnerWrites.{weak_owns, writes_own, written_own_keeps_cells}
+use Rattle.object_cells.proofs.ObjectWrites.{owned_or_box}
 use Rattle.ephemeron_table.specs.Pairs.{IsFilledAt}
 use Rattle.ephemeron_table.specs.PairWrites.{PairComes}
 use Rattle.ephemeron_table.specs.PairLaws.{RefillsWeak}
-use Rattle.ephemeron_table.proofs.WeakWrites.{table_is_owned, writes_weak, written_weak_keeps_cells}
 use Rattle.ephemeron_table.proofs.PairWords.{IsPairWord, is_table_of, one_pairs, pair_word, table_words}
 
 -- a pair holds nothing, or something
@@ -40,11 +41,11 @@ free_or_filled pair = elim (cases_eq pair.key hole_word) [
 module _ {old new : Heap} {cell : Cell} {others made : List Cell} (refills : RefillsWeak old new cell others made) where
   -- words of one object's own cells were written
   pub weak_writes : WritesObject old new cell cell others made
-  weak_writes = writes_weak refills.whole refills.writes
+  weak_writes = writes_own weak_owns refills.whole refills.writes
 
   -- cells stand in rows again
   pub weak_cells : CellsChange old new (cell ∷ others) (cell ∷ others) made
-  weak_cells = (written_weak_keeps_cells refills.whole refills.writes).1
+  weak_cells = (written_own_keeps_cells weak_owns refills.whole refills.writes).1
 
   -- which belong to the map
   pub weak_writing : OwnWriting old new cell cell others made
@@ -53,7 +54,7 @@ module _ {old new : Heap} {cell : Cell} {others made : List Cell} (refills : Ref
     writes = weak_writes;
     cells = weak_cells;
     belong = refills.pairs.belong;
-    kinds = λ other among. table_is_owned (refills.pairs.kinds other among);
+    kinds = λ other among. owned_or_box (refills.pairs.kinds other among) tt;
   }
 
   -- the map's cell stands in the new heap
@@ -67,7 +68,7 @@ module _ {old new : Heap} {cell : Cell} {others made : List Cell} (refills : Ref
   -- the map was sound
   was_sound : IsWeakCell old (words_of_cell old cell)
   was_sound =
-      subst (λ k. IsSoundOf k old cell (words_of_cell old cell)) refills.writes.weak
+      subst (λ k. IsSoundOf k old cell (words_of_cell old cell)) refills.writes.of_kind
       (refills.whole.sound cell (words_of_cell old cell) refills.writes.stood)
 
   -- and had these pairs
@@ -181,5 +182,5 @@ module _ {old new : Heap} {cell : Cell} {others made : List Cell} (refills : Ref
   pub pairs_sound : (one : Cell) → Contains (cell ∷ (others ++ made)) one → IsSound new one (words_of_cell new one)
   pairs_sound one there =
       let sound : IsSoundOf cell.layout.kind new cell (words_of_cell new cell) =
-      subst (λ k. IsSoundOf k new cell (words_of_cell new cell)) (sym refills.writes.weak) weak_is_sound in
+      subst (λ k. IsSoundOf k new cell (words_of_cell new cell)) (sym refills.writes.of_kind) weak_is_sound in
       came_sound others made sound beside_sound one there

@@ -24,12 +24,13 @@ use Rattle.object_cells.specs.HeldValues.{IsReachedValue}
 use Rattle.object_cells.specs.Refills.{IsAtRest}
 use Rattle.object_cells.proofs.ReplacedObjects.{HasReachedLinks, ReplacesCells, replaced_shows}
 use Rattle.object_cells.proofs.WrittenPlaces.{went_object}
+use Rattle.object_cells.proofs.OwnerWrites.{weak_owns, written_own_keeps_cells}
+use Rattle.object_cells.proofs.WrittenPlaces.{box_is_no_object}
 use Rattle.ephemeron_table.specs.PairLaws.{entries_with, IsNewValue, WrittenEntriesShow}
 use Rattle.ephemeron_table.proofs.EntryLists.{EntryComes, entry_comes}
 use Rattle.ephemeron_table.proofs.PairNames.{pairs_own}
 use Rattle.ephemeron_table.proofs.ShownEntries.{Reweaving, weak_shows}
 use Rattle.ephemeron_table.proofs.WovenPairs.{weak_writes}
-use Rattle.ephemeron_table.proofs.WeakWrites.{table_is_no_object, written_weak_keeps_cells}
 
 -- what is contained stands at some place
 place_of : {X : Type 0} (xs : List X) (x : X) → Contains xs x → (k : ℕ) × (slice_get xs k ≡ Some x)
@@ -92,7 +93,7 @@ written_entries_show old new graph weak cell others made number value shows ther
     let before : Heap = heap_of old in
     let now : Heap = heap_of new in
     let entries : List Entry = entries_with weak.entries number value in
-    let law = written_weak_keeps_cells refills.whole refills.writes in
+    let law = written_own_keeps_cells weak_owns refills.whole refills.writes in
     let are = entries_are graph weak shows.is_graph there in
     let rest : IsAtRest new = record { tied = tied; quiet = quiet; sized = refills.writes.sized; rows = law.0 } in
     let weaving : Reweaving before now graph cell others made weak.entries number value =
@@ -103,7 +104,7 @@ written_entries_show old new graph weak cell others made number value shows ther
       own = pairs_own refills;
       only = λ other among object.
           ap (λ (c : Cell). c.header.object) (sym (went_object (weak_writes refills) other among object)) ∙ carries;
-      no_object = λ other among. table_is_no_object other.layout.kind (refills.pairs.kinds other among);
+      no_object = λ other among. box_is_no_object other.layout.kind (refills.pairs.kinds other among) refl;
       cell = cell;
       among = first_in cell others;
       carries = carries;

@@ -1,47 +1,22 @@
 -- A change of the entries of one weak map, pair by pair: the map's cell, its table and its boxes stay where they are,
 -- or a table and a box are made.
-use Rattle.std.specs.Prelude.{◌≡◌, ℕ, ◌+◌, ◌<◌, ◌≤◌, ◌⊎◌, List, ◌++◌, not, count_by, Contains}
+use Rattle.std.specs.Prelude.{◌≡◌, ℕ, ◌⊎◌, List, ◌++◌, not, count_by, Contains}
 use Rattle.std.specs.Prelude.{Some, slice_get}
 use Rattle.tagged_word.specs.declared.layout.Kind.TheVariants as kind
-use Rattle.tagged_word.specs.Cells.{length_offset}
-use Rattle.page_space.specs.Extents.{eden_start, layouts_start}
 use Rattle.cell_layout.specs.declared.cell.Cell.{Cell}
-use Rattle.cell_layout.specs.Cells.{IsRow}
-use Rattle.heap_model.specs.Heaps.{Heap, HasCell, words_of_cell}
+use Rattle.heap_model.specs.Heaps.{Heap, words_of_cell}
 use Rattle.heap_model.specs.Slots.{reference_word, RefersToPlace}
 use Rattle.heap_model.specs.Kinds.{HasWord, HasNoNumber, IsBoxCell, Pair, is_free_pair, IsFilledPair, IsProbed}
 use Rattle.heap_model.specs.Kinds.{count_offset}
-use Rattle.heap_model.specs.Wholeness.{HasSizes, NamesFrom}
-use Rattle.heap_model.specs.Changes.{IsNewlyUsed}
-use Rattle.object_cells.specs.CellWrites.{IsInCell}
+use Rattle.heap_model.specs.Wholeness.{NamesFrom}
+use Rattle.object_cells.specs.CellWrites.{WritesOwnCells}
 use Rattle.object_cells.specs.SlotChanges.{NamesNone, IsNoBoxOf}
 use Rattle.ephemeron_table.specs.Pairs.{HasPairs, IsFilledAt}
 
--- a table or a box of the old heap, of which neither the header nor the length changed
-pub record IsWrittenTable (old new : Heap) (other : Cell) : Type 0 where
-  pub stood : HasCell old other (words_of_cell old other)
-  pub of_kind : (other.layout.kind ≡ kind.Table) ⊎ (other.layout.kind ≡ kind.Boxed)
-  pub header : slice_get new.words other.at ≡ slice_get old.words other.at
-  pub length : other.layout.kind ≡ kind.Table
-      → slice_get new.words (other.at + length_offset) ≡ slice_get old.words (other.at + length_offset)
-
 -- Of the words before the layout words only those of the weak map's cell but its header have changed, pairs of these
 -- tables, integers of these boxes, and words that are newly used, in which cells were made.
-pub record WritesWeak (old new : Heap) (cell : Cell) (others made : List Cell) : Type 0 where
-  pub same_space : new.space ≡ old.space
-  pub same_survivors : new.survivors ≡ old.survivors
-  pub grown : old.used ≤ new.used
-  pub room : new.survivors + new.used ≤ new.space.sizes.young
-  pub paths : new.paths ≡ old.paths
-  pub sized : HasSizes new
-  pub stood : HasCell old cell (words_of_cell old cell)
-  pub weak : cell.layout.kind ≡ kind.Weak
-  pub header : slice_get new.words cell.at ≡ slice_get old.words cell.at
-  pub beside : (other : Cell) → Contains others other → IsWrittenTable old new other
-  pub made_stand : IsRow new.space new.words (eden_start old.space + old.used) (eden_start old.space + new.used) made
-  pub stay : (at : ℕ) → at < layouts_start old.space → (IsInCell at cell → ⊥)
-      → ((other : Cell) → Contains others other → IsInCell at other → ⊥) → (IsNewlyUsed old new at → ⊥)
-      → slice_get new.words at ≡ slice_get old.words at
+abbrev pub WritesWeak : Heap → Heap → Cell → List Cell → List Cell → Type 0
+WritesWeak old new cell others made = WritesOwnCells kind.Weak kind.Table old new cell others made
 
 -- Where the word of a pair's value comes from: the pair at the place `origin` held it before; or it names no store,
 -- table or box; or it refers to a box that was made.

@@ -1,74 +1,26 @@
--- What the slot of a new element comes to hold shows the value, and names nothing but a box that was made.
-use Rattle.std.proofs.Common.{◌≡◌, ℕ, Bool, true, false, List, Contains, refl, subst}
+-- What the slot of a new element comes to hold names nothing but a box that was made.
+use Rattle.std.proofs.Common.{◌≡◌, ℕ, false, inl, inr, List, Contains, refl}
 use Rattle.std.specs.Prelude.{ℤ}
-use Rattle.std.proofs.lemmas.Bool.{false≢true}
-use Rattle.tagged_word.specs.Words.{small}
 use Rattle.object_graph.specs.declared.value.Value.{Value}
 use Rattle.object_graph.specs.declared.value.Rep.{Rep}
 use Rattle.object_graph.specs.declared.value.Rep.TheVariants as rep
 use Rattle.cell_layout.specs.declared.cell.Cell.{Cell}
 use Rattle.heap_model.specs.Heaps.{Heap}
-use Rattle.heap_model.specs.Slots.{reference_word, RefersToBox}
-use Rattle.heap_model.specs.Showing.{ShowsValue}
 use Rattle.heap_model.proofs.WordsStay.{PlacesStay}
 use Rattle.object_cells.specs.declared.content.Content.{Content}
 use Rattle.object_cells.specs.declared.content.Content.TheVariants as content
 use Rattle.object_cells.specs.Made.{content_word}
 use Rattle.object_cells.specs.ElementChanges.{ElementComes}
+use Rattle.object_cells.proofs.ContentValues.{content_names}
 use Rattle.object_cells.proofs.HeldContents.{HoldsValue}
 use Rattle.object_cells.proofs.NewBoxes.{box_cell}
-use Rattle.object_cells.proofs.WrittenPlaces.{small_names_none, undefined_names_none, object_names_none}
-
--- an integer that makes a slot wide is not small
-not_small : (is_small : Bool) → (is_small ≡ true → rep.Small ≡ rep.Wide) → is_small ≡ false
-not_small true wide =
-    let same = wide refl in
-    cc
-not_small false wide = refl
-
--- the word of the slot shows the value
-pub element_value : {old new : Heap} {one : Rep} {what : Value} {holds : Content} (box : ℕ)
-    → HoldsValue old false rep.Small one what holds → PlacesStay old new
-    → ((v : ℤ) → holds ≡ content.Boxed v → RefersToBox new (reference_word box) v)
-    → ShowsValue new (content_word holds box) what
-element_value box (HoldsValue.small_integer one v is apart) places boxed = ShowsValue.small_integer v is refl
-element_value box (HoldsValue.raw v own apart) places boxed = absurd (false≢true own)
-element_value box (HoldsValue.wide_box v beside apart small_stays) places boxed =
-    ShowsValue.boxed v (not_small (small v) small_stays) (boxed v refl)
-element_value box (HoldsValue.tagged_box v wide was) places boxed = ShowsValue.boxed v wide (boxed v refl)
-element_value box HoldsValue.undefined places boxed = ShowsValue.undefined refl
-element_value box (HoldsValue.object at number place) places boxed =
-    ShowsValue.object number (record { at = at; refers = refl; place = places number at place })
 
 -- it names nothing, or the box that was made for it
 pub element_comes : {old new : Heap} {one : Rep} {what : Value} {holds : Content} (slots : List ℕ) (made : List Cell)
     (slot box : ℕ) → HoldsValue old false rep.Small one what holds → PlacesStay old new
     → ((v : ℤ) → holds ≡ content.Boxed v → Contains made (box_cell box))
     → ElementComes new slots made slot slot (content_word holds box)
-element_comes slots made slot box (HoldsValue.small_integer one v is apart) places boxed =
-    ElementComes.none (λ cell words refers owned. small_names_none v cell words refers owned)
-element_comes slots made slot box (HoldsValue.raw v own apart) places boxed = absurd (false≢true own)
-element_comes slots made slot box (HoldsValue.wide_box v beside apart small_stays) places boxed =
-    ElementComes.of_made (box_cell box) (boxed v refl) refl refl refl
-element_comes slots made slot box (HoldsValue.tagged_box v wide was) places boxed =
-    ElementComes.of_made (box_cell box) (boxed v refl) refl refl refl
-element_comes slots made slot box HoldsValue.undefined places boxed =
-    ElementComes.none (λ cell words refers owned. undefined_names_none cell words refers owned)
-element_comes slots made slot box (HoldsValue.object at number place) places boxed =
-    ElementComes.none (λ cell words refers owned.
-    object_names_none (record { at = at; refers = refl; place = places number at place }) cell words refers owned)
-
--- so does the word of a slot that refers to a box with the integer
-pub box_value : {old new : Heap} {one : Rep} {what : Value} {holds : Content} (word : ℕ) (v : ℤ)
-    → HoldsValue old false rep.Small one what holds → holds ≡ content.Boxed v → RefersToBox new word v
-    → ShowsValue new word what
-box_value word v (HoldsValue.small_integer one w is apart) boxed refers = cc
-box_value word v (HoldsValue.raw w own apart) boxed refers = cc
-box_value {new = new} word v (HoldsValue.wide_box w beside apart small_stays) boxed refers =
-    let same : v ≡ w = cc in
-    ShowsValue.boxed w (not_small (small w) small_stays) (subst (RefersToBox new word) same refers)
-box_value {new = new} word v (HoldsValue.tagged_box w wide was) boxed refers =
-    let same : v ≡ w = cc in
-    ShowsValue.boxed w wide (subst (RefersToBox new word) same refers)
-box_value word v HoldsValue.undefined boxed refers = cc
-box_value word v (HoldsValue.object at number place) boxed refers = cc
+element_comes slots made slot box holds places boxed = elim (content_names made box holds places boxed) [
+  | inl none ↦ ElementComes.none none
+  | inr is ↦ ElementComes.of_made (box_cell box) is.0 refl is.1 refl
+]

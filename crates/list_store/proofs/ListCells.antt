@@ -1,7 +1,7 @@
 -- The cells of lists, by their addresses, and the stores beside them.
 use Rattle.std.proofs.Common.{◌≡◌, ℕ, ◌+◌, ◌≤◌, ◌<◌, length, Some}
 use Rattle.std.proofs.Common.{slice_get, unwrap_or, sym, ◌∙◌, ap, subst, arith}
-use Rattle.std.proofs.lemmas.Option.{slice_get_within, same_Some}
+use Rattle.std.proofs.lemmas.Option.{same_Some}
 use Rattle.page_space.specs.Extents.{marks_start}
 use Rattle.object_graph.specs.declared.object.Object.TheVariants.{List as ListOf}
 use Rattle.object_graph.specs.Graphs.{Graph, ListObject}
@@ -10,12 +10,11 @@ use Rattle.heap_model.specs.Heaps.{Heap, HasCell, words_of_cell}
 use Rattle.heap_model.specs.Kinds.{HasWord, IsListCell, count_offset}
 use Rattle.heap_model.specs.Wholeness.{Whole}
 use Rattle.heap_model.specs.Showing.{ShowsList}
-use Rattle.heap_model.proofs.CellWords.{words_are_size}
 use Rattle.write_barrier.specs.Mains.{Mutator, heap_of, MainShows}
 use Rattle.object_cells.specs.declared.stores.Store.{Store}
 use Rattle.object_cells.specs.ListObjects.{IsListAt}
 use Rattle.object_cells.specs.Made.{HasBeside, IsStoreAt}
-use Rattle.object_cells.proofs.CellsRead.{word_stands, cell_before_marks}
+use Rattle.object_cells.proofs.CellsRead.{word_before_marks, word_stands}
 use Rattle.object_cells.proofs.ListSlots.{list_sound}
 use Rattle.object_cells.proofs.PlainFields.{shown_whole}
 use Rattle.heap_model.specs.Needs.{count_at}
@@ -24,18 +23,6 @@ use Rattle.list_store.specs.Pushes.{IsListCellAt, IsListReady}
 -- the cell of a list at an address is sound
 pub sound_at : {heap : Heap} {at : ℕ} → Whole heap → (there : IsListCellAt heap at) → IsListCell heap there.words
 sound_at whole there = list_sound whole there.has there.of_kind
-
--- a word of it is before the marks
-pub list_within : {heap : Heap} {at : ℕ} (k word : ℕ) → Whole heap → (there : IsListCellAt heap at)
-    → HasWord there.words k word → at + k < marks_start heap.space
-list_within k word whole there stands =
-    omega (
-      arith,
-      slice_get_within there.words k word stands,
-      words_are_size there.has,
-      cell_before_marks whole.sized there.has,
-      there.stands,
-    )
 
 -- what is read at its length is how many elements it has
 pub count_read : {heap : Heap} {at : ℕ} (count read : ℕ) (there : IsListCellAt heap at)
@@ -56,13 +43,13 @@ count_is {heap} count there counted =
 pub slot_within : {heap : Heap} {at : ℕ} → Whole heap → IsListCellAt heap at → at + 1 < marks_start heap.space
 slot_within whole there =
     let sound = sound_at whole there in
-    list_within 1 sound.store whole there sound.slot
+    word_before_marks 1 sound.store whole.sized there.has there.stands sound.slot
 
 -- the word of its length is before the marks
 pub count_within : {heap : Heap} {at : ℕ} → Whole heap → IsListCellAt heap at → at + 2 < marks_start heap.space
 count_within whole there =
     let sound = sound_at whole there in
-    list_within 2 sound.count whole there sound.counted
+    word_before_marks 2 sound.count whole.sized there.has there.stands sound.counted
 
 -- it has a slot for a store
 pub list_beside : {heap : Heap} {at : ℕ} → Whole heap → IsListCellAt heap at → HasBeside heap at

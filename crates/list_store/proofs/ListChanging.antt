@@ -1,11 +1,9 @@
 -- What is known where a value is written to a list that is shown, and of the words of its own cells.
 use Rattle.std.proofs.Common.{◌≡◌, ℕ, ◌+◌, ◌≤◌, ◌<◌, List, length, drop, slice_get, refl, sym, ◌∙◌}
-use Rattle.std.proofs.Common.{ap, arith}
-use Rattle.std.specs.Prelude.{ℤ}
+use Rattle.std.proofs.Common.{arith}
 use Rattle.tagged_word.specs.Cells.{store_head}
 use Rattle.tagged_word.specs.declared.layout.Kind.TheVariants as kind
 use Rattle.tagged_word.specs.declared.layout.Kind.{Kind}
-use Rattle.page_space.specs.Extents.{eden_start, segments_start}
 use Rattle.object_graph.specs.Graphs.{Graph, ListObject}
 use Rattle.object_graph.specs.Invariants.{IsValue}
 use Rattle.object_graph.specs.Meaning.{list_most}
@@ -17,18 +15,17 @@ use Rattle.heap_model.specs.Kinds.{HasWord}
 use Rattle.heap_model.proofs.CellWords.{slice_get-drop, words_by_kind, words_are_size, behind_head_few}
 use Rattle.heap_model.proofs.CellsApart.{IsOfCell}
 use Rattle.write_barrier.specs.Mains.{Mutator, heap_of, MainShows}
+use Rattle.handle_roots.specs.Roots.{FitsHeld}
 use Rattle.object_cells.specs.ElementChanges.{AreNewElements}
 use Rattle.object_cells.specs.HeldValues.{IsValueHeld}
 use Rattle.object_cells.specs.ListObjects.{IsListAt}
-use Rattle.object_cells.specs.Made.{IsStoreAt, with_content, content_need}
-use Rattle.object_cells.specs.declared.content.Content.TheVariants as content
-use Rattle.object_cells.specs.declared.content.Content.{Content}
+use Rattle.object_cells.specs.Made.{IsStoreAt}
 use Rattle.object_cells.specs.declared.stores.Store.{Store}
-use Rattle.object_cells.proofs.MadeBoxes.{BoxStands, with_content_box}
+use Rattle.object_cells.proofs.HeldNeeds.{held_is_value}
 use Rattle.object_cells.proofs.OneElement.{DiffersAt}
 use Rattle.object_cells.proofs.SlotsNow.{word_at_offset}
 use Rattle.object_cells.proofs.StoresRead.{StoredAt, stored_at}
-use Rattle.list_store.proofs.ListCells.{ListShown}
+use Rattle.list_store.proofs.ListCells.{ListShown, list_shown}
 
 -- What is known where a value is written to a list that is shown.
 pub record Changing (old : Mutator) (graph : Graph) (at : ℕ) (list : ListObject) (value : Held) (what : Value)
@@ -38,6 +35,18 @@ pub record Changing (old : Mutator) (graph : Graph) (at : ℕ) (list : ListObjec
   pub held : IsValueHeld old graph value what
   pub fits : IsValue (length graph.objects) what
   pub shown : ListShown (heap_of old) at list
+
+-- so it is where the value that is held is one of the graph
+abbrev pub changing : {old : Mutator} {graph : Graph} {at : ℕ} {list : ListObject} {what : Value} (value : Held)
+    → MainShows old graph → IsListAt old graph at list → IsValueHeld old graph value what → FitsHeld value
+    → Changing old graph at list value what
+changing {what = what} value shows is held fits = record {
+  shows = shows;
+  is = is;
+  held = held;
+  fits = held_is_value value what shows fits held.shows;
+  shown = list_shown shows is;
+}
 
 -- a store of the list that has slots is the one of its elements
 pub changing_store : {old : Mutator} {graph : Graph} {at : ℕ} {list : ListObject} {value : Held} {what : Value}
@@ -101,18 +110,3 @@ list_word k shown below = record {
     words_are_size shown.has,
   );
 }
-
--- A box that a slot comes to hold stands at an address of eden, where the words from there on were put for it.
-pub put_box : (heap : Heap) (words : List ℕ) (holds : Content) (box : ℕ) → box + content_need holds ≤ length words
-    → eden_start heap.space ≤ box → box + content_need holds ≤ segments_start heap.space
-    → ((b : ℕ) → box ≤ b → b < box + content_need holds
-    → slice_get heap.words b ≡ slice_get (with_content words holds box) b) → BoxStands heap holds box
-put_box heap words holds box within from ends stands =
-    let put = λ (v : ℤ) (is_box : holds ≡ content.Boxed v).
-    with_content_box words holds box v is_box (omega (arith, within, ap content_need is_box)) in
-    record {
-      header = λ v is_box. stands box (omega arith) (omega (arith, ap content_need is_box)) ∙ (put v is_box).header;
-      raw = λ v is_box. stands (box + 1) (omega arith) (omega (arith, ap content_need is_box)) ∙ (put v is_box).raw;
-      from = λ v is_box. from;
-      below = λ v is_box. omega (arith, ends, ap content_need is_box);
-    }

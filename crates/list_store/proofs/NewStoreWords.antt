@@ -1,7 +1,8 @@
 -- Which words are put where a value comes to a store that is made for it, and which cells these write.
 use Rattle.std.proofs.Common.{◌≡◌, ◌≢◌, ℕ, ◌+◌, ◌≤◌, ◌<◌, inl, inr, List, [], ◌∷◌, length}
-use Rattle.std.proofs.Common.{Some, slice_get, refl, ◌∙◌, ap, subst, arith, length-set}
+use Rattle.std.proofs.Common.{Some, slice_get, refl, ◌∙◌, ap, arith, length-set}
 use Rattle.std.specs.Prelude.{slice_set}
+use Rattle.tagged_word.specs.declared.layout.Kind.TheVariants as kind
 use Rattle.tagged_word.specs.Cells.{store_head, store_slot}
 use Rattle.page_space.specs.Extents.{Space, eden_start, segments_start, marks_start}
 use Rattle.page_space.proofs.Starts.{roots_start_is, layouts_start_is, marks_start_is}
@@ -9,7 +10,7 @@ use Rattle.object_graph.specs.Graphs.{Graph, ListObject}
 use Rattle.object_graph.specs.Meaning.{list_most}
 use Rattle.object_graph.specs.declared.value.Value.{Value}
 use Rattle.object_graph.proofs.Lists.{slice_get-set_same, slice_get-set_other}
-use Rattle.cell_layout.specs.Cells.{IsRow, IsCell, next}
+use Rattle.cell_layout.specs.Cells.{IsRow, IsCell}
 use Rattle.cell_layout.specs.declared.cell.Cell.{Cell}
 use Rattle.handle_roots.specs.declared.held.Held.{Held}
 use Rattle.heap_table.specs.Seats.{heap_words}
@@ -24,15 +25,15 @@ use Rattle.object_cells.specs.Contents.{next_at}
 use Rattle.object_cells.specs.ElementChanges.{WritesList}
 use Rattle.object_cells.specs.Made.{with_content, content_need, content_word, beside_content, begun_store}
 use Rattle.object_cells.specs.declared.stores.Store.{Store}
-use Rattle.object_cells.proofs.MadeBoxes.{made_boxes, BoxStands, made_row, length-with_content, with_content_stays}
+use Rattle.object_cells.proofs.MadeBoxes.{made_boxes, BoxStands, length-with_content, with_content_stays, row_with_box}
 use Rattle.object_cells.proofs.NewStores.{store_cell, store_is_cell}
 use Rattle.object_cells.proofs.OwnCells.{cell_below_layouts}
 use Rattle.object_cells.proofs.StoreWords.{MakesStore, copied_long, copied_word, begun_stays, begun_word}
 use Rattle.object_cells.proofs.StoreWords.{empty_store_hole}
 use Rattle.object_cells.proofs.UnusedWords.{next_before_segments, cell_is_used}
+use Rattle.object_cells.proofs.OwnPuts.{PutsOwn, own_sized, own_writes, box_put}
 use Rattle.list_store.specs.Pushes.{with_count, CanChange, PushesToNewStore}
-use Rattle.list_store.proofs.ListChanging.{Changing, list_word, put_box}
-use Rattle.list_store.proofs.ListWriting.{PutsList, list_sized, list_writes}
+use Rattle.list_store.proofs.ListChanging.{Changing, list_word}
 
 -- A value comes behind the elements of a list, to a store that is made for it.
 pub record StoreWriting (old new : Mutator) (graph : Graph) (at count : ℕ) (list : ListObject) (value : Held)
@@ -167,12 +168,12 @@ module _ {old new : Mutator} {graph : Graph} {at count : ℕ} {list : ListObject
       (λ from below. not_reserved_one from (omega (arith, below)))
 
   -- so words of the list's own cell were put
-  puts : PutsList old new cell [] need (with_count linked at (count + 1))
+  puts : PutsOwn kind.List old new cell [] need (with_count linked at (count + 1))
   puts = record {
     tied = known.shows.tied;
     whole = known.shows.shows.whole;
     has = known.shown.has;
-    list = known.shown.shows.of_kind;
+    of_kind = known.shown.shows.of_kind;
     stood = λ one among. absurd (none_in one among);
     room = pushes.room;
     puts = pushes.words;
@@ -242,16 +243,8 @@ module _ {old new : Mutator} {graph : Graph} {at count : ℕ} {list : ListObject
   -- the box stands there
   pub box_stands : BoxStands (heap_of new) (beside_content value) behind
   box_stands =
-      put_box (heap_of new) begun (beside_content value) behind
-      (omega (
-        arith,
-        copied_long (heap_words old.seat) at store capacity (next_at old) makes,
-        counted,
-        ends,
-        within,
-      ))
-      (omega (arith, ap (λ (s : Space). eden_start s) pushes.words.beside.space))
-      (omega (arith, ends, ap (λ (s : Space). segments_start s) pushes.words.beside.space)) box_word
+      box_put begun (beside_content value) behind puts
+      (copied_long (heap_words old.seat) at store capacity (next_at old) makes) (omega arith) (omega arith) box_word
 
   -- the cells that are made
   abbrev pub boxes : List Cell
@@ -265,7 +258,7 @@ module _ {old new : Mutator} {graph : Graph} {at count : ℕ} {list : ListObject
   store_cell_is =
       let space = pushes.words.beside.space in
       let none : next_at old ≡ next_at old + 0 = omega arith in
-      store_is_cell (heap_of new) (next_at old) capacity (list_sized puts) (omega (arith, few))
+      store_is_cell (heap_of new) (next_at old) capacity (own_sized puts) (omega (arith, few))
       (ap (slice_get (heap_words new.seat)) none ∙ head_word 0 (omega arith)) (head_word 1 (omega arith))
       (omega (arith, ap (λ (s : Space). eden_start s) space))
       (omega (arith, ends, ap (λ (s : Space). segments_start s) space))
@@ -273,17 +266,14 @@ module _ {old new : Mutator} {graph : Graph} {at count : ℕ} {list : ListObject
   -- both are the row of the words that were reserved
   new_row : IsRow new.seat.space (heap_words new.seat) (next_at old) (next_at old + need) made
   new_row =
-      let end : ℕ = behind + content_need (beside_content value) in
-      let same : end ≡ next_at old + need = omega arith in
-      let row = made_row (heap_of new) (beside_content value) behind (list_sized puts) box_stands in
-      subst (λ to. IsRow new.seat.space (heap_words new.seat) (next_at old) to made) same
-      (next other end boxes store_cell_is row)
+      row_with_box (heap_of new) other (beside_content value) (next_at old + need) store_cell_is (own_sized puts)
+      box_stands (omega arith)
 
   -- so cells were written
   pub writes : WritesList (heap_of old) (heap_of new) cell [] made
   writes =
       let first = first_of_cell known.shown.has in
-      list_writes made puts
+      own_writes made puts
       (ap (λ all. slice_get all cell.at) pushes.words.heap
       ∙ beside_list cell.at (λ same. omega (arith, same, known.shown.stands))
       (λ same. omega (arith, same, known.shown.stands))

@@ -35,11 +35,12 @@ use Rattle.object_cells.specs.ElementChanges.{WritesList, ElementComes}
 use Rattle.object_cells.specs.Made.{beside_content}
 use Rattle.object_cells.specs.declared.content.Content.TheVariants as content
 use Rattle.object_cells.specs.declared.stores.Store.{Store}
+use Rattle.object_cells.proofs.ContentValues.{content_shows}
 use Rattle.object_cells.proofs.HeldContents.{HoldsValue}
 use Rattle.object_cells.proofs.HeldNeeds.{new_value_held}
 use Rattle.object_cells.proofs.KeptCapacities.{list_capacities_grow}
-use Rattle.object_cells.proofs.ListWrites.{written_list_keeps_cells, writes_list}
-use Rattle.object_cells.proofs.MadeBoxes.{BoxStands, made_box, boxed_integer, refers_to_made, made_boxed, made_sound}
+use Rattle.object_cells.proofs.MadeBoxes.{BoxStands, made_box, boxed_integer, refers_to_made, made_boxed}
+use Rattle.object_cells.proofs.MadeBoxes.{boxes_sound, only_first}
 use Rattle.object_cells.proofs.NewBoxes.{box_cell}
 use Rattle.object_cells.proofs.NewElements.{pushed_elements_are_new}
 use Rattle.object_cells.proofs.OneElement.{PutsElement, element_refills, pushed_differs}
@@ -48,8 +49,9 @@ use Rattle.object_cells.proofs.RefilledLists.{written_elements_show}
 use Rattle.object_cells.proofs.SlotsNow.{word_at_offset}
 use Rattle.object_cells.proofs.UnusedWords.{marks_fit}
 use Rattle.object_cells.proofs.WrittenPlaces.{object_places_stay}
+use Rattle.object_cells.proofs.OwnerWrites.{written_list_keeps_cells, writes_own, list_owns}
 use Rattle.list_store.specs.Pushes.{CanChange, PushesToNewStore}
-use Rattle.list_store.proofs.ElementValues.{element_value, element_comes}
+use Rattle.list_store.proofs.ElementValues.{element_comes}
 use Rattle.list_store.proofs.ListChanging.{Changing, changing_store, store_is_no_box, slot_stands, slot_few, list_word}
 use Rattle.list_store.proofs.NewStoreWords as of_store
 use Rattle.list_store.proofs.NewStoreWords.{StoreWriting}
@@ -161,7 +163,7 @@ module _ {old new : Mutator} {graph : Graph} {at count : ℕ} {list : ListObject
 
   -- the places of objects stay
   places : PlacesStay (heap_of old) (heap_of new)
-  places = object_places_stay known.shows.shows.whole (writes_list known.shows.shows.whole writes)
+  places = object_places_stay known.shows.shows.whole (writes_own list_owns known.shows.shows.whole writes)
 
   -- the box that was made holds the integer
   refers_box : (v : ℤ) → beside_content value ≡ content.Boxed v → RefersToBox (heap_of new) (reference_word behind) v
@@ -253,20 +255,14 @@ module _ {old new : Mutator} {graph : Graph} {at count : ℕ} {list : ListObject
             (λ v is_box. rest_in other boxes (box_cell behind) (made_box (beside_content value) behind v is_box)));
         shows = λ x holds. subst (λ w. ShowsValue (heap_of new) w what)
             (holds_word x (subst (λ n. HasWord now n x) (sym is) holds))
-            (element_value behind holds_all places refers_box);
+            (content_shows behind holds_all places refers_box);
         store_comes = inr (other, first_in other boxes, refl, refl);
         belong = λ one among. absurd (none_in one among);
         kinds = made_kinds;
-        stores = λ one among is_store. elim (in_cases other boxes one among) [
-          | inl same ↦ subst (λ (c : Cell). HasNoNumber c × (reference_word (next_at old) ≡ reference_word c.at)) same
-              (refl, refl)
-          | inr is_made ↦ absurd (store_is_no_box is_store (made_boxed (beside_content value) behind one is_made))
-        ];
-        boxes = λ one among is_box. elim (in_cases other boxes one among) [
-          | inl same ↦ absurd (store_is_no_box (ap (λ (c : Cell). c.layout.kind) (sym same)) is_box)
-          | inr is_made ↦ made_sound (length graph.objects) behind one holds_all known.fits box_stands
-              (box_has one is_made) is_made
-        ];
+        stores = λ one among is. subst (λ (c : Cell). HasNoNumber c × (reference_word (next_at old) ≡ reference_word c.at))
+            (only_first (beside_content value) behind kind.Store (store_is_no_box refl) one among is)
+            (refl, refl);
+        boxes = boxes_sound (length graph.objects) behind (store_is_no_box refl) holds_all known.fits box_stands box_has;
       }
 
   -- and the graph is shown in which it is the last

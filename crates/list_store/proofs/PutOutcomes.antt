@@ -38,9 +38,10 @@ use Rattle.object_cells.proofs.UnusedWords.{cell_is_used, next_before_segments}
 use Rattle.object_cells.proofs.WordsTold.{cell_fits}
 use Rattle.heap_model.specs.Needs.{element_word, put_need_at}
 use Rattle.object_cells.proofs.FilledSlots.{FilledBy, held_put, set_there}
+use Rattle.object_cells.proofs.NothingUsed.{room_for_none}
 use Rattle.list_store.specs.ListChanges.{HasPut}
 use Rattle.list_store.specs.Pushes.{WritesSlot}
-use Rattle.list_store.proofs.BoxedElements.{box_shown, box_keeps, room_for_none, same_young}
+use Rattle.list_store.proofs.BoxedElements.{box_shown, box_keeps, same_young}
 use Rattle.list_store.proofs.ElementsRead.{SlotRead, slot_read}
 use Rattle.list_store.proofs.ListChanging.{Changing, Elements, list_is_no_store}
 use Rattle.list_store.proofs.WrittenSlots.{slot_shown, slot_keeps}
@@ -188,8 +189,7 @@ has_put {old} {new} {at = at} {list} {value} {what} store place known is_store b
     let need = sym none ∙ put_need store place known is_store below sizes in
     let becomes = put_elements place known there few in
     record {
-      room = subst (HasRoom old.young) need
-          (room_for_none w known becomes is_store below enough refl read.holds box_of boxed same);
+      room = subst (HasRoom old.young) need (room_for_none old known.shows.tied known.shows.shows.whole);
       uses = subst (UsesMore old new) need (record {
         beside = fills.beside;
         young = same_young w known becomes is_store below enough refl read.holds box_of boxed same;

@@ -1,11 +1,10 @@
 -- Which words are put where a value comes to a slot that the store of a list has, and which cells these write.
-use Rattle.std.proofs.Common.{◌≡◌, ◌≢◌, ℕ, ◌+◌, ◌≤◌, ◌<◌, ◌⊎◌, inl, inr, List, [], ◌∷◌}
-use Rattle.std.proofs.Common.{length, Contains, slice_get, sym, ◌∙◌, ap, subst, arith, length-set}
+use Rattle.std.proofs.Common.{◌≡◌, ◌≢◌, ℕ, ◌+◌, ◌≤◌, ◌<◌, ◌⊎◌, inl, inr, List, [], ◌∷◌, refl}
+use Rattle.std.proofs.Common.{length, slice_get, sym, ◌∙◌, ap, subst, arith, length-set}
 use Rattle.std.specs.Prelude.{slice_set}
+use Rattle.tagged_word.specs.declared.layout.Kind.TheVariants as kind
 use Rattle.tagged_word.specs.Cells.{store_head}
 use Rattle.tagged_word.proofs.Members.{first_in, one_in}
-use Rattle.page_space.specs.Extents.{Space, eden_start, segments_start}
-use Rattle.page_space.proofs.Starts.{roots_start_is, layouts_start_is, marks_start_is}
 use Rattle.object_graph.specs.Graphs.{Graph, ListObject}
 use Rattle.object_graph.specs.declared.value.Value.{Value}
 use Rattle.object_graph.proofs.Lists.{slice_get-set_other}
@@ -16,18 +15,16 @@ use Rattle.heap_model.specs.Heaps.{HasCell, words_of_cell}
 use Rattle.heap_model.specs.Kinds.{count_offset}
 use Rattle.heap_model.proofs.CellsApart.{IsOfCell, first_of_cell, cells_apart}
 use Rattle.write_barrier.specs.Mains.{Mutator, heap_of}
-use Rattle.object_cells.specs.CellWrites.{IsWrittenBeside}
 use Rattle.object_cells.specs.Contents.{next_at}
 use Rattle.object_cells.specs.ElementChanges.{WritesList}
 use Rattle.object_cells.specs.Made.{IsStoreAt, with_content, content_need, content_word, beside_content}
 use Rattle.object_cells.specs.declared.stores.Store.{Store}
 use Rattle.object_cells.proofs.MadeBoxes.{made_boxes, BoxStands, made_row, length-with_content, with_content_stays}
 use Rattle.object_cells.proofs.OwnPlaces.{has_own_words}
+use Rattle.object_cells.proofs.OwnPuts.{PutsOwn, not_reserved, own_sized, own_writes, one_beside, box_put}
 use Rattle.object_cells.proofs.StoresRead.{StoredAt}
-use Rattle.object_cells.proofs.UnusedWords.{next_before_segments}
 use Rattle.list_store.specs.Pushes.{WritesSlot, with_count}
-use Rattle.list_store.proofs.ListChanging.{Changing, changing_store, list_is_no_store, list_word, put_box}
-use Rattle.list_store.proofs.ListWriting.{PutsList, not_reserved, list_sized, list_writes}
+use Rattle.list_store.proofs.ListChanging.{Changing, changing_store, list_is_no_store, list_word}
 
 -- A value comes to a slot that the store of a list has.
 pub record SlotWriting (old new : Mutator) (graph : Graph) (at slot count : ℕ) (list : ListObject) (value : Held)
@@ -111,12 +108,12 @@ module _ {old new : Mutator} {graph : Graph} {at slot count : ℕ} {list : ListO
       ∙ length-with_content (heap_words old.seat) (beside_content value) (next_at old)
 
   -- so words of the list's own cells were put
-  puts : PutsList old new cell (other ∷ []) need (with_count put at count)
+  puts : PutsOwn kind.List old new cell (other ∷ []) need (with_count put at count)
   puts = record {
     tied = known.shows.tied;
     whole = known.shows.shows.whole;
     has = known.shown.has;
-    list = known.shown.shows.of_kind;
+    of_kind = known.shown.shows.of_kind;
     stood = λ one among. subst (λ (c : Cell). HasCell (heap_of old) c (words_of_cell (heap_of old) c))
         (one_in other one among) other_has;
     room = pushes.room;
@@ -154,42 +151,26 @@ module _ {old new : Mutator} {graph : Graph} {at slot count : ℕ} {list : ListO
   -- the box stands there
   pub box_stands : BoxStands (heap_of new) (beside_content value) (next_at old)
   box_stands =
-      let ends = next_before_segments old need known.shows.tied pushes.room in
-      put_box (heap_of new) (heap_words old.seat) (beside_content value) (next_at old)
-      (omega (
-        arith,
-        known.shows.shows.whole.sized.words,
-        ends,
-        roots_start_is old.seat.space,
-        layouts_start_is old.seat.space,
-        marks_start_is old.seat.space,
-      ))
-      (omega (arith, ap (λ (s : Space). eden_start s) pushes.words.beside.space))
-      (omega (arith, ends, ap (λ (s : Space). segments_start s) pushes.words.beside.space)) box_word
+      box_put (heap_words old.seat) (beside_content value) (next_at old) puts refl (omega arith) (omega arith) box_word
 
   -- the cells that are made
   abbrev pub made : List Cell
   made = made_boxes (beside_content value) (next_at old)
 
-  -- of the store neither the header nor the length changed
-  beside : (one : Cell) → Contains (other ∷ []) one → IsWrittenBeside (heap_of old) (heap_of new) one
-  beside one among =
-      let first = first_of_cell other_has in
-      let second : IsOfCell other (other.at + 1) =
-      record { from = omega arith; below = omega (arith, there.found.size) } in
-      let written : IsWrittenBeside (heap_of old) (heap_of new) other = record {
-        stood = other_has;
-        of_kind = inl there.found.of_kind;
-        header = kept other.at (inr first) (not_count other.at first) (λ same. omega (arith, same, there.found.stands));
-        length = λ of_store_kind. kept (other.at + 1) (inr second) (not_count (other.at + 1) second)
-            (λ same. omega (arith, same, there.found.stands));
-      } in
-      subst (IsWrittenBeside (heap_of old) (heap_of new)) (one_in other one among) written
+  -- the words of the store's head stay
+  head_stays : (k : ℕ) → k < 2
+      → slice_get (heap_words new.seat) (other.at + k) ≡ slice_get (heap_words old.seat) (other.at + k)
+  head_stays k less =
+      let of_other : IsOfCell other (other.at + k) =
+      record { from = omega arith; below = omega (arith, less, there.found.size) } in
+      kept (other.at + k) (inr of_other) (not_count (other.at + k) of_other)
+      (λ same. omega (arith, same, less, there.found.stands))
 
   -- so cells were written
   pub writes : WritesList (heap_of old) (heap_of new) cell (other ∷ []) made
   writes =
       let first = first_of_cell known.shown.has in
-      list_writes made puts (kept cell.at (inl first) (λ same. omega (arith, same, known.shown.stands))
-      (λ same. apart cell.at first (subst (IsOfCell other) (sym same) of_store))) beside
-      (made_row (heap_of new) (beside_content value) (next_at old) (list_sized puts) box_stands)
+      own_writes made puts (kept cell.at (inl first) (λ same. omega (arith, same, known.shown.stands))
+      (λ same. apart cell.at first (subst (IsOfCell other) (sym same) of_store)))
+      (one_beside other_has there.found.of_kind head_stays)
+      (made_row (heap_of new) (beside_content value) (next_at old) (own_sized puts) box_stands)

@@ -1,12 +1,12 @@
 -- A value that comes to a slot that the store of a list has is shown as the element of this number.
-use Rattle.std.proofs.Common.{◌≡◌, ◌≢◌, ℕ, ◌+◌, ◌≤◌, ◌<◌, inl, inr, List, [], ◌∷◌, length}
+use Rattle.std.proofs.Common.{◌≡◌, ◌≢◌, ℕ, ◌+◌, ◌≤◌, ◌<◌, inl, inr, List, [], ◌∷◌, length, refl}
 use Rattle.std.proofs.Common.{drop, Contains, Some, false, slice_get, sym, ◌∙◌, ap, subst, arith, length-set}
 use Rattle.std.proofs.Common.{length-drop}
 use Rattle.std.proofs.lemmas.Option.{same_Some}
 use Rattle.std.specs.Prelude.{ℤ}
 use Rattle.tagged_word.specs.Cells.{store_head, store_slot}
 use Rattle.tagged_word.specs.declared.layout.Kind.TheVariants as kind
-use Rattle.tagged_word.proofs.Members.{first_in, rest_in, one_in, in_cases}
+use Rattle.tagged_word.proofs.Members.{first_in, rest_in, one_in}
 use Rattle.page_space.proofs.Starts.{marks_start_is}
 use Rattle.nursery.specs.Young.{Young}
 use Rattle.object_graph.specs.Graphs.{Graph, ListObject}
@@ -37,12 +37,12 @@ use Rattle.object_cells.specs.Made.{IsStoreAt, beside_content}
 use Rattle.object_cells.specs.declared.content.Content.TheVariants as content
 use Rattle.object_cells.specs.declared.stores.Store.{Store}
 use Rattle.object_cells.proofs.CellsRead.{word_stands}
+use Rattle.object_cells.proofs.ContentValues.{content_shows}
 use Rattle.object_cells.proofs.HeldContents.{HoldsValue}
 use Rattle.object_cells.proofs.HeldNeeds.{new_value_held}
 use Rattle.object_cells.proofs.KeptCapacities.{list_capacities_stay}
-use Rattle.object_cells.proofs.ListWrites.{written_list_keeps_cells, writes_list}
-use Rattle.object_cells.proofs.MadeBoxes.{BoxStands, made_box, boxed_integer, refers_to_made, made_boxed, made_sound}
-use Rattle.object_cells.proofs.MadeBoxes.{length-with_content}
+use Rattle.object_cells.proofs.MadeBoxes.{BoxStands, made_box, boxed_integer, refers_to_made, made_boxed}
+use Rattle.object_cells.proofs.MadeBoxes.{length-with_content, boxes_sound, only_first}
 use Rattle.object_cells.proofs.NewBoxes.{box_cell}
 use Rattle.object_cells.proofs.OneElement.{PutsElement, element_refills}
 use Rattle.object_cells.proofs.OwnCells.{cell_below_layouts}
@@ -50,8 +50,9 @@ use Rattle.object_cells.proofs.RefilledLists.{written_elements_show}
 use Rattle.object_cells.proofs.SlotsNow.{word_at_offset}
 use Rattle.object_cells.proofs.StoresRead.{StoredAt}
 use Rattle.object_cells.proofs.WrittenPlaces.{object_places_stay}
+use Rattle.object_cells.proofs.OwnerWrites.{written_list_keeps_cells, writes_own, list_owns}
 use Rattle.list_store.specs.Pushes.{WritesSlot}
-use Rattle.list_store.proofs.ElementValues.{element_value, element_comes}
+use Rattle.list_store.proofs.ElementValues.{element_comes}
 use Rattle.list_store.proofs.ListChanging.{Changing, Elements, store_is_no_box, slot_stands, slot_few, list_word}
 use Rattle.list_store.proofs.SlotWords as of_slot
 use Rattle.list_store.proofs.SlotWords.{SlotWriting}
@@ -161,7 +162,7 @@ module _ {old new : Mutator} {graph : Graph} {at slot count : ℕ} {list : ListO
 
   -- the places of objects stay
   places : PlacesStay (heap_of old) (heap_of new)
-  places = object_places_stay known.shows.shows.whole (writes_list known.shows.shows.whole writes)
+  places = object_places_stay known.shows.shows.whole (writes_own list_owns known.shows.shows.whole writes)
 
   -- the box that was made holds the integer
   refers_box : (v : ℤ) → beside_content value ≡ content.Boxed v
@@ -247,7 +248,7 @@ module _ {old new : Mutator} {graph : Graph} {at slot count : ℕ} {list : ListO
             (λ v is_box. made_box (beside_content value) (next_at old) v is_box));
         shows = λ x holds. subst (λ w. ShowsValue (heap_of new) w what)
             (holds_word x holds)
-            (element_value (next_at old) holds_all places refers_box);
+            (content_shows (next_at old) holds_all places refers_box);
         store_comes = inl known.shown.shows.slot;
         belong = λ one among. (
           cell.at + store_slot,
@@ -256,18 +257,11 @@ module _ {old new : Mutator} {graph : Graph} {at slot count : ℕ} {list : ListO
               known.shown.shows.slot there.found.refers (inl there.found.of_kind)),
         );
         kinds = λ one among. inr (made_boxed (beside_content value) (next_at old) one among);
-        stores = λ one among store_kind. elim (in_cases other made one among) [
-          | inl same ↦ subst (λ (c : Cell). HasNoNumber c × (known.shown.shows.store ≡ reference_word c.at)) same
-              (store_number, there.found.refers.refers)
-          | inr is_made ↦
-              absurd (store_is_no_box store_kind (made_boxed (beside_content value) (next_at old) one is_made))
-        ];
-        boxes = λ one among is_box. elim (in_cases other made one among) [
-          | inl same ↦
-              absurd (store_is_no_box (ap (λ (c : Cell). c.layout.kind) (sym same) ∙ there.found.of_kind) is_box)
-          | inr is_made ↦ made_sound (length graph.objects) (next_at old) one holds_all known.fits box_stands
-              (made_has one is_made) is_made
-        ];
+        stores = λ one among is. subst (λ (c : Cell). HasNoNumber c × (known.shown.shows.store ≡ reference_word c.at))
+            (only_first (beside_content value) (next_at old) kind.Store (store_is_no_box refl) one among is)
+            (store_number, there.found.refers.refers);
+        boxes = boxes_sound (length graph.objects) (next_at old) (store_is_no_box there.found.of_kind) holds_all
+            known.fits box_stands made_has;
       }
 
   -- and the graph is shown in which it is the last

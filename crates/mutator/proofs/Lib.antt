@@ -11,6 +11,7 @@ pub mod SameHeld
 pub mod PutWords
 pub mod NewCells
 pub mod EmptyCells
+pub mod EmptyCounted
 pub mod EmptyLists
 pub mod PutCells
 pub mod MadeObjects

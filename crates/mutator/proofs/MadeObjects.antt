@@ -3,6 +3,7 @@ use Rattle.std.proofs.Common.{◌≡◌, ℕ, ◌+◌, ◌<◌, ◌≤◌, ◌^�
 use Rattle.std.proofs.Common.{refl, ◌∙◌, ap, subst}
 use Rattle.std.proofs.Common.{arith, inl, inr}
 use Rattle.heap_command.specs.declared.command.Command.{Command}
+use Rattle.tagged_word.specs.declared.layout.Kind.TheVariants as kind
 use Rattle.tagged_word.specs.declared.header.Header.{Header}
 use Rattle.tagged_word.specs.Headers.{IsHeader}
 use Rattle.tagged_word.specs.Shapes.{list_shape, weak_shape}
@@ -25,7 +26,6 @@ use Rattle.heap_table.specs.declared.phase.Phase.TheVariants.{Quiet}
 use Rattle.heap_table.specs.Seats.{heap_words, StaysBeside}
 use Rattle.heap_table.specs.Staying.{stays_beside_again}
 use Rattle.shape_tree.specs.Shapes.{IsShapeOf}
-use Rattle.shape_tree.specs.ShapeLayouts.{layout_word}
 use Rattle.cell_layout.specs.declared.cell.Cell.{Cell}
 use Rattle.heap_model.specs.Heaps.{Heap, HasCell, words_of_cell}
 use Rattle.heap_model.specs.Counting.{CountsEntries}
@@ -49,8 +49,9 @@ use Rattle.mutator.specs.Carries.{Carries}
 use Rattle.mutator.proofs.NewCells.{NewCell, cell_of}
 use Rattle.mutator.proofs.EmptyCells.{no_fields, plain_cell, plain_fresh, plain_laid, IsEmptyCell, empty_is_sound}
 use Rattle.mutator.proofs.EmptyCells.{empty_shows}
-use Rattle.mutator.proofs.EmptyLists.{list_cell, list_fresh, list_is_sound, list_shows}
-use Rattle.mutator.proofs.EmptyWeaks.{weak_cell, weak_fresh, weak_is_sound, weak_shows}
+use Rattle.mutator.proofs.EmptyCounted.{counted_cell, counted_fits, list_is_counted, weak_is_counted}
+use Rattle.mutator.proofs.EmptyLists.{list_is_sound, list_shows}
+use Rattle.mutator.proofs.EmptyWeaks.{weak_is_sound, weak_shows}
 use Rattle.mutator.proofs.KeptStores.{KeepsCapacities, keeps_made}
 use Rattle.mutator.proofs.PutCells.{next_at, with_cell, with_cell_words, HasRoomFor, IsSoundThere, with_cell_put}
 use Rattle.mutator.proofs.Rebinding.{HoldsAnew, heap_bound}
@@ -241,15 +242,10 @@ plain_made {heap} {header = header} {cap} x sized is_header few shaped room carr
 -- and so is that of a list without elements
 pub list_made : {heap : Heap} {graph : Graph} {header : Header} (x : ℕ) → HasSizes heap → IsHeader header
     → header.shape ≡ list_shape → heap.survivors + heap.used + 3 ≤ heap.space.sizes.young
-    → header.object ≡ length graph.objects → IsMade heap graph x (list_cell header) (ListOf [])
+    → header.object ≡ length graph.objects → IsMade heap graph x (counted_cell kind.List header) (ListOf [])
 list_made {heap} {header = header} x sized is_header shape room carries =
-    let fits : HasRoomFor heap (list_cell header) = record {
-      sized = sized;
-      fresh = list_fresh header is_header;
-      known = omega (arith, shape);
-      laid = ap (layout_word heap.paths) shape;
-      room = room;
-    } in
+    let fits : HasRoomFor heap (counted_cell kind.List header) =
+    counted_fits list_shape list_is_counted sized is_header shape (omega arith) refl room in
     let words = with_cell_words fits in
     record {
       fits = fits;
@@ -262,15 +258,10 @@ list_made {heap} {header = header} x sized is_header shape room carries =
 -- and that of a weak map without entries
 pub weak_made : {heap : Heap} {graph : Graph} {header : Header} (x : ℕ) → HasSizes heap → IsHeader header
     → header.shape ≡ weak_shape → heap.survivors + heap.used + 3 ≤ heap.space.sizes.young
-    → header.object ≡ length graph.objects → IsMade heap graph x (weak_cell header) (Weak [])
+    → header.object ≡ length graph.objects → IsMade heap graph x (counted_cell kind.Weak header) (Weak [])
 weak_made {heap} {graph} {header} x sized is_header shape room carries =
-    let fits : HasRoomFor heap (weak_cell header) = record {
-      sized = sized;
-      fresh = weak_fresh header is_header;
-      known = omega (arith, shape);
-      laid = ap (layout_word heap.paths) shape;
-      room = room;
-    } in
+    let fits : HasRoomFor heap (counted_cell kind.Weak header) =
+    counted_fits weak_shape weak_is_counted sized is_header shape (omega arith) refl room in
     let words = with_cell_words fits in
     record {
       fits = fits;

@@ -21,7 +21,7 @@ use Rattle.heap_model.specs.Slots.{is_object_kind}
 use Rattle.heap_model.specs.Wholeness.{Whole}
 use Rattle.heap_model.proofs.CellsApart.{has_is_cell}
 use Rattle.object_cells.specs.CellWrites.{reshaped, WritesCells}
-use Rattle.object_cells.proofs.ObjectWrites.{WritesObject, same_count, owned_beside}
+use Rattle.object_cells.proofs.ObjectWrites.{WritesObject, same_count, owned_of_kind}
 
 -- a plain cell has the size that another plain layout of the same cap gives
 plain_size : (layout other : LayoutWord) (long size : ℕ) → layout.kind ≡ other.kind → other.cap ≡ layout.cap
@@ -92,7 +92,7 @@ writes_object whole writes = record {
   size = refl;
   number = refl;
   is_cell = reshaped_is_cell whole writes;
-  beside = λ other among. owned_beside (writes.beside other among);
+  beside = λ other among. owned_of_kind (writes.beside other among) tt;
   made_stand = writes.made_stand;
   stay = writes.stay;
 }

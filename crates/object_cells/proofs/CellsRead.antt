@@ -1,7 +1,7 @@
 -- Cells as they are read: their words by address, their headers, and which shape is that of boxes.
 use Rattle.std.proofs.Common.{◌≡◌, ℕ, zero, suc, ◌+◌, ◌-◌, ◌≤◌, ◌<◌, List, length, map, drop, Some}
 use Rattle.std.proofs.Common.{◌%◌, Option}
-use Rattle.std.proofs.Common.{slice_get, refl, sym, ◌∙◌, ap, arith, inl, inr, length-append, unwrap_or}
+use Rattle.std.proofs.Common.{slice_get, refl, sym, ◌∙◌, ap, subst, arith, inl, inr, length-append, unwrap_or}
 use Rattle.std.proofs.lemmas.List.{length-map}
 use Rattle.std.proofs.lemmas.Bool.{cases_lt}
 use Rattle.std.proofs.lemmas.Option.{slice_get_within, slice_get_past, same_Some}
@@ -22,6 +22,7 @@ use Rattle.shape_tree.specs.ShapeLayouts.{layout_of, layout_word, layout_words}
 use Rattle.cell_layout.specs.declared.cell.Cell.{Cell}
 use Rattle.cell_layout.proofs.CellsThere.{slice_get-layouts_in}
 use Rattle.heap_model.specs.Heaps.{Heap, HasCell}
+use Rattle.heap_model.specs.Slots.{IsPlace}
 use Rattle.heap_model.specs.Kinds.{HasWord}
 use Rattle.heap_model.specs.Wholeness.{HasSizes}
 use Rattle.heap_model.proofs.CellsApart.{has_is_cell, first_of_cell}
@@ -60,6 +61,18 @@ cell_before_marks sized has = omega (arith, (has_is_cell has).reads.there, sized
 pub cell_at_before_marks : {heap : Heap} {cell : Cell} {words : List ℕ} → HasSizes heap → HasCell heap cell words
     → cell.at < marks_start heap.space
 cell_at_before_marks sized has = omega (arith, cell_before_marks sized has, (first_of_cell has).below)
+
+-- so does an object's, where it stands
+pub place_before_marks : {heap : Heap} {number at : ℕ} → HasSizes heap → IsPlace heap number at
+    → at < marks_start heap.space
+place_before_marks {heap} sized place =
+    subst (λ n. n < marks_start heap.space) place.stands (cell_at_before_marks sized place.has)
+
+-- so does each word of a cell at an address
+pub word_before_marks : {heap : Heap} {cell : Cell} {words : List ℕ} {at : ℕ} (k word : ℕ) → HasSizes heap
+    → HasCell heap cell words → cell.at ≡ at → HasWord words k word → at + k < marks_start heap.space
+word_before_marks {words = words} k word sized has stands there =
+    omega (arith, slice_get_within words k word there, words_are_size has, cell_before_marks sized has, stands)
 
 -- the word of a cell's header is its first
 pub header_stands : {heap : Heap} {cell : Cell} {words : List ℕ} (at word : ℕ) → HasCell heap cell words → cell.at ≡ at

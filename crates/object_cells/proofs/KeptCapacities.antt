@@ -30,7 +30,7 @@ use Rattle.object_cells.specs.Capacities.{ChangesObject, WritesBeside, Capacitie
 use Rattle.object_cells.specs.Capacities.{WritesListBeside, ListCapacitiesStay, ListCapacitiesGrow}
 use Rattle.object_cells.proofs.CellsRead.{word_stands}
 use Rattle.object_cells.proofs.CellWritesRead.{writes_object}
-use Rattle.object_cells.proofs.ListWrites.{writes_list}
+use Rattle.object_cells.proofs.OwnerWrites.{writes_own, list_owns}
 use Rattle.object_cells.proofs.ObjectWrites.{WritesObject, object_keeps_cells, beside_is_owned}
 use Rattle.object_cells.proofs.OwnCells.{word_stays}
 use Rattle.object_cells.proofs.WrittenPlaces.{IsBesideKind, object_places_stay}
@@ -280,7 +280,7 @@ of_elements : {old new : Heap} {cell : Cell} {others made : List Cell} → Write
 of_elements writing =
     record {
       whole = writing.whole;
-      writes = writes_list writing.whole writing.writes;
+      writes = writes_own list_owns writing.whole writing.writes;
       belong = writing.belong;
       kinds = λ other among. beside_is_owned (writing.kinds other among);
     }

@@ -2,6 +2,7 @@ pub mod CellsRead
 pub mod WordsTold
 pub mod SlotTargets
 pub mod UnusedWords
+pub mod EdenCells
 pub mod NewBoxes
 pub mod WordsBeside
 pub mod WordsPut
@@ -22,7 +23,11 @@ pub mod StoreCells
 pub mod ObjectWrites
 pub mod CellWritesRead
 pub mod CellWrites
-pub mod ListWrites
+pub mod OwnerWrites
+pub mod NothingUsed
+pub mod OwnPuts
+pub mod OwnIntegers
+pub mod ContentValues
 pub mod KeptCapacities
 pub mod NumberedSlots
 pub mod FieldWords
@@ -36,11 +41,6 @@ pub mod ListSlots
 pub mod RefilledElements
 pub mod RefilledLists
 pub mod OneElement
-pub mod ListNow
-pub mod ListPuts
-pub mod ListBoxes
-pub mod ListGrows
-pub mod PutElements
 pub mod PutRanges
 pub mod NewStores
 pub mod MadeBoxes

@@ -1,18 +1,19 @@
 -- The box that is made for what a slot comes to hold, if it needs one.
 use Rattle.std.proofs.Common.{◌≡◌, ℕ, ◌+◌, ◌≤◌, ◌<◌, length, length-set, Bool, List, [], ◌∷◌}
-use Rattle.std.proofs.Common.{Contains, Some, slice_get, refl, sym, ◌∙◌, ap, subst, arith}
+use Rattle.std.proofs.Common.{inl, inr, Contains, Some, slice_get, refl, sym, ◌∙◌, ap, subst, arith}
 use Rattle.std.specs.Prelude.{ℤ, FitsSigned, slice_set}
 use Rattle.std.specs.Int.{w64}
+use Rattle.tagged_word.specs.declared.layout.Kind.{Kind}
 use Rattle.tagged_word.specs.declared.layout.Kind.TheVariants as kind
 use Rattle.tagged_word.specs.Headers.{header_bits}
-use Rattle.tagged_word.proofs.Members.{first_in, one_in}
+use Rattle.tagged_word.proofs.Members.{first_in, one_in, in_cases}
 use Rattle.page_space.specs.Extents.{eden_start, segments_start}
 use Rattle.object_graph.specs.declared.value.Value.{Value}
 use Rattle.object_graph.specs.declared.value.Rep.{Rep}
 use Rattle.object_graph.specs.Invariants.{IsValue}
 use Rattle.object_graph.proofs.Lists.{slice_get-set_same, slice_get-set_other}
 use Rattle.cell_layout.specs.declared.cell.Cell.{Cell}
-use Rattle.cell_layout.specs.Cells.{IsRow, none}
+use Rattle.cell_layout.specs.Cells.{IsCell, IsRow, none, next}
 use Rattle.heap_model.specs.Heaps.{Heap, HasCell, words_of_cell}
 use Rattle.heap_model.specs.Slots.{raw_word, reference_word, RefersToBox}
 use Rattle.heap_model.specs.Kinds.{HasWord, IsBoxCell}
@@ -173,3 +174,49 @@ with_content_box words (content.Boxed w) box v boxed within =
           (omega (arith, within, length-set words box (header_bits box_header)))
           ∙ ap (λ (n : ℤ). Some (raw_word n)) same;
     }
+
+-- A box that a slot comes to hold stands at an address of eden, where the words from there on were put for it.
+pub put_box : (heap : Heap) (words : List ℕ) (holds : Content) (box : ℕ) → box + content_need holds ≤ length words
+    → eden_start heap.space ≤ box → box + content_need holds ≤ segments_start heap.space
+    → ((b : ℕ) → box ≤ b → b < box + content_need holds
+    → slice_get heap.words b ≡ slice_get (with_content words holds box) b) → BoxStands heap holds box
+put_box heap words holds box within from ends stands =
+    let put = λ (v : ℤ) (is_box : holds ≡ content.Boxed v).
+    with_content_box words holds box v is_box (omega (arith, within, ap content_need is_box)) in
+    record {
+      header = λ v is_box. stands box (omega arith) (omega (arith, ap content_need is_box)) ∙ (put v is_box).header;
+      raw = λ v is_box. stands (box + 1) (omega arith) (omega (arith, ap content_need is_box)) ∙ (put v is_box).raw;
+      from = λ v is_box. from;
+      below = λ v is_box. omega (arith, ends, ap content_need is_box);
+    }
+
+-- where the box stands behind another cell that was made, both are the row of their words
+pub row_with_box : (heap : Heap) (first : Cell) (holds : Content) (end : ℕ) → IsCell heap.space heap.words first
+    → HasSizes heap → BoxStands heap holds (first.at + first.size)
+    → first.at + first.size + content_need holds ≡ end
+    → IsRow heap.space heap.words first.at end (first ∷ made_boxes holds (first.at + first.size))
+row_with_box heap first holds end is sized stands ends =
+    let behind : ℕ = first.at + first.size in
+    subst (λ to. IsRow heap.space heap.words first.at to (first ∷ made_boxes holds behind)) ends
+    (next first (behind + content_need holds) (made_boxes holds behind) is (made_row heap holds behind sized stands))
+
+-- of a cell and the boxes beside it that were made only the cell is of a kind that boxes are not
+pub only_first : (holds : Content) (box : ℕ) (k : Kind) {first : Cell} → (k ≡ kind.Boxed → ⊥) → (one : Cell)
+    → Contains (first ∷ made_boxes holds box) one → one.layout.kind ≡ k → first ≡ one
+only_first holds box k {first} no_box one among is = elim (in_cases first (made_boxes holds box) one among) [
+  | inl same ↦ same
+  | inr is_made ↦ absurd (no_box (sym is ∙ made_boxed holds box one is_made))
+]
+
+-- and where the cell is no box, each that is one is sound
+pub boxes_sound : {heap old : Heap} {own : Bool} {was one : Rep} {what : Value} {holds : Content} (count box : ℕ)
+    {first : Cell} → (first.layout.kind ≡ kind.Boxed → ⊥) → HoldsValue old own was one what holds → IsValue count what
+    → BoxStands heap holds box
+    → ((other : Cell) → Contains (made_boxes holds box) other → HasCell heap other (words_of_cell heap other))
+    → (other : Cell) → Contains (first ∷ made_boxes holds box) other → other.layout.kind ≡ kind.Boxed
+    → IsBoxCell other (words_of_cell heap other)
+boxes_sound {holds = holds} count box {first} no_box value fits stands has other among is =
+    elim (in_cases first (made_boxes holds box) other among) [
+      | inl same ↦ absurd (no_box (ap (λ (c : Cell). c.layout.kind) same ∙ is))
+      | inr is_made ↦ made_sound count box other value fits stands (has other is_made) is_made
+    ]

@@ -27,7 +27,7 @@ use Rattle.heap_model.proofs.CellsApart.{has_is_cell, used_few}
 use Rattle.heap_model.proofs.LayoutsStay.{SayLayouts, layout_stays}
 use Rattle.heap_model.proofs.WordsAlike.{cell_below_roots}
 use Rattle.heap_model.proofs.Rewrites.{rewrite_by_one, rewrite_slots, rewrites_are_patches, rewrites_keep_cells}
-use Rattle.object_cells.specs.CellWrites.{IsInCell, IsWrittenBeside}
+use Rattle.object_cells.specs.CellWrites.{IsInCell, IsWrittenOfKind}
 
 -- a store, a table or a box of the old heap, of which neither the header nor the length changed
 pub record IsWrittenOwned (old new : Heap) (other : Cell) : Type 0 where
@@ -96,19 +96,24 @@ headed_stays {old} {new} {cell} sized sized_new same paths has header short =
 pub box_without : (k : Kind) → k ≡ kind.Boxed → IsTrue (has_length k) → ⊥
 box_without k boxed long = false≢true (ap has_length (sym boxed) ∙ long)
 
--- a store or a box belongs to an object
+-- a cell of a kind that is owned, or a box, belongs to an object
+pub owned_or_box : {owned k : Kind} → (k ≡ owned) ⊎ (k ≡ kind.Boxed) → IsOwnedKind owned → IsOwnedKind k
+owned_or_box (inl same) own = subst IsOwnedKind (sym same) own
+owned_or_box (inr boxed) own = subst IsOwnedKind (sym boxed) tt
+
+-- so does a store or a box
 pub beside_is_owned : {k : Kind} → (k ≡ kind.Store) ⊎ (k ≡ kind.Boxed) → IsOwnedKind k
-beside_is_owned (inl store) = subst IsOwnedKind (sym store) tt
-beside_is_owned (inr boxed) = subst IsOwnedKind (sym boxed) tt
+beside_is_owned is = owned_or_box is tt
 
 -- so one of which neither the header nor the length changed was written as what an object owns may be
-pub owned_beside : {old new : Heap} {other : Cell} → IsWrittenBeside old new other → IsWrittenOwned old new other
-owned_beside {other = other} beside = record {
+pub owned_of_kind : {owned : Kind} {old new : Heap} {other : Cell} → IsWrittenOfKind owned old new other
+    → IsOwnedKind owned → IsWrittenOwned old new other
+owned_of_kind {other = other} beside own = record {
   stood = beside.stood;
-  owned = beside_is_owned beside.of_kind;
+  owned = owned_or_box beside.of_kind own;
   header = beside.header;
   length = λ long. elim beside.of_kind [
-    | inl store ↦ beside.length store
+    | inl is ↦ beside.length is
     | inr boxed ↦ absurd (box_without other.layout.kind boxed long)
   ];
 }

@@ -89,7 +89,7 @@ module _ {old new : Heap} {cell : Cell} {others made : List Cell} {before after 
   hole_behind : (k word : ℕ) → length before ≤ k → HasWord puts.shown.slots k word → word ≡ hole_word
   hole_behind k word behind stood =
       let shown = puts.shown in
-      let sound = list_sound puts.whole puts.writes.stood puts.writes.list in
+      let sound = list_sound puts.whole puts.writes.stood puts.writes.of_kind in
       let store : sound.store ≡ shown.store = same_Some sound.store shown.store (sym sound.slot ∙ shown.slot) in
       let slots = one_beside sound.store shown.store sound.beside shown.slots store sound.stands shown.has in
       let count : sound.count ≡ length before =

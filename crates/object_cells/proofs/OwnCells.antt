@@ -10,14 +10,12 @@ use Rattle.shape_tree.specs.Shapes.{IsPathShape, shape_path}
 use Rattle.cell_layout.specs.declared.cell.Cell.{Cell}
 use Rattle.heap_model.specs.Heaps.{Heap, HasCell, words_of_cell}
 use Rattle.heap_model.specs.Slots.{is_object_kind}
-use Rattle.heap_model.specs.Kinds.{count_offset}
 use Rattle.heap_model.specs.Wholeness.{Whole}
 use Rattle.heap_model.specs.Changes.{IsNewlyUsed}
 use Rattle.heap_model.proofs.CellsApart.{IsOfCell, first_of_cell, cells_apart, used_few}
 use Rattle.heap_model.proofs.CellWords.{words_by_kind, words_are_size}
 use Rattle.heap_model.proofs.WordsAlike.{cell_below_roots}
 use Rattle.object_cells.specs.CellWrites.{IsInCell, IsWrittenBeside, WritesCells}
-use Rattle.object_cells.specs.ElementChanges.{WritesList}
 use Rattle.object_cells.proofs.WrittenPlaces.{IsBesideKind, beside_is_no_object}
 use Rattle.object_cells.proofs.UnusedWords.{cell_is_used}
 use Rattle.object_cells.proofs.OneWord.{WritesOne, WritesTwo, two_of_one}
@@ -26,11 +24,6 @@ use Rattle.object_cells.proofs.OneWord.{WritesOne, WritesTwo, two_of_one}
 pub list_size : {heap : Heap} {cell : Cell} {words : List ℕ} → HasCell heap cell words → cell.layout.kind ≡ kind.List
     → cell.size ≡ 3
 list_size has list = sym (words_are_size has) ∙ words_by_kind kind.List has list
-
--- its length is one of them
-pub count_of_cell : {heap : Heap} {cell : Cell} {words : List ℕ} → HasCell heap cell words
-    → cell.layout.kind ≡ kind.List → IsOfCell cell (cell.at + count_offset)
-count_of_cell has list = record { from = omega arith; below = omega (arith, list_size has list) }
 
 -- a store or a box stands in the heap, and the address is neither that of its header nor that of its length
 pub record IsPutBeside (heap : Heap) (at : ℕ) (other : Cell) : Type 0 where
@@ -157,27 +150,4 @@ writes_cells cell shape at word others made whole has plain is_shape cap own wri
       made_stand = writes.made_stand;
       stay = λ a below not_cell not_others not_new.
           others_stay (first_of_cell has) two own a below not_cell not_others not_new;
-    }
-
--- and where one word of a list's own cells was put, not its header, and its length, words of these cells were written
-pub writes_of_list : {old new : Heap} (cell : Cell) (count at word : ℕ) (others made : List Cell) → Whole old
-    → HasCell old cell (words_of_cell old cell) → cell.layout.kind ≡ kind.List → new.paths ≡ old.paths
-    → cell.at ≢ at
-    → IsOwnWord old cell others at → WritesTwo old new (cell.at + count_offset) count at word made
-    → WritesList old new cell others made
-writes_of_list cell count at word others made whole has list paths not_header own writes =
-    let of_own = count_of_cell has list in
-    record {
-      same_space = writes.same_space;
-      same_survivors = writes.same_survivors;
-      grown = writes.grown;
-      room = writes.room;
-      paths = paths;
-      sized = writes.sized;
-      stood = has;
-      list = list;
-      header = own_word_stays cell.at whole writes has (first_of_cell has) (λ same. omega (arith, same)) not_header;
-      beside = λ other there. written_beside whole has (ap is_object_kind list) of_own writes (own.each other there);
-      made_stand = writes.made_stand;
-      stay = λ a below not_cell not_others not_new. others_stay of_own writes own a below not_cell not_others not_new;
     }

@@ -20,7 +20,7 @@ use Rattle.object_cells.specs.SlotChanges.{ComesFrom}
 use Rattle.object_cells.specs.ElementChanges.{WritesList, ElementComes, ShowsElement, RefillsElements}
 use Rattle.object_cells.proofs.FieldWords.{value_word}
 use Rattle.object_cells.proofs.ListSlots.{list_tagged, element_of_number, element_slot}
-use Rattle.object_cells.proofs.ListWrites.{writes_list}
+use Rattle.object_cells.proofs.OwnerWrites.{writes_own, list_owns}
 use Rattle.object_cells.proofs.NumberedSlots.{is_store_of}
 use Rattle.object_cells.proofs.ObjectWrites.{beside_is_owned}
 use Rattle.object_cells.proofs.SlotPlaces.{one_beside}
@@ -41,7 +41,7 @@ pub list_writing : {old new : Heap} {cell : Cell} {others made : List Cell} {bef
     → Relisting old new cell others made before after → OwnWriting old new cell cell others made
 list_writing relisting = record {
   whole = relisting.whole;
-  writes = writes_list relisting.whole relisting.writes;
+  writes = writes_own list_owns relisting.whole relisting.writes;
   cells = relisting.cells;
   belong = relisting.slots.belong;
   kinds = λ other among. beside_is_owned (relisting.slots.kinds other among);
@@ -57,7 +57,7 @@ element_comes : {old new : Heap} {cell : Cell} {slots : List ℕ} {others made :
     → WritesList old new cell others made → ElementComes new slots made one k word
     → ComesFrom new cell slots made k one k word
 element_comes k word writes (ElementComes.stayed stood) =
-    ComesFrom.moved stood (list_tagged k writes.stood writes.list)
+    ComesFrom.moved stood (list_tagged k writes.stood writes.of_kind)
 element_comes k word writes (ElementComes.none none) = ComesFrom.none none
 element_comes k word writes (ElementComes.of_made box there of_kind is the_one) =
     ComesFrom.of_made box there of_kind is the_one
@@ -71,9 +71,9 @@ elements_refilled relisting =
     record {
       writing = list_writing relisting;
       slots = slots.slots;
-      were = λ k word there tagged. element_of_number k word writes.stood writes.list slots.were there;
+      were = λ k word there tagged. element_of_number k word writes.stood writes.of_kind slots.were there;
       now = slots.now;
-      are = λ at word slot. element_slot (list_stands relisting) writes.list slots.are slot;
+      are = λ at word slot. element_slot (list_stands relisting) writes.of_kind slots.are slot;
       origin = λ k. k;
       apart = λ k other same. same;
       one = slots.one;
@@ -99,7 +99,7 @@ slot_shown : {old new : Heap} {cell : Cell} {others made : List Cell} {before af
 slot_shown slot word value relisting slots same (ShowsElement.fresh shows) = shows
 slot_shown slot word value relisting slots same (ShowsElement.kept there stands no_box) =
     let whole = relisting.whole in
-    let writes = writes_list whole relisting.writes in
+    let writes = writes_own list_owns whole relisting.writes in
     shown_value word (object_places_stay whole writes) (object_box_stays word whole writes no_box)
     (relisting.shown.each slot value word there (ap (λ all. slice_get all slot) (sym same) ∙ stands))
 
@@ -117,7 +117,7 @@ pub list_shows : {old new : Heap} {cell : Cell} {others made : List Cell} {befor
 list_shows relisting =
     let slots = relisting.slots in
     record {
-      of_kind = relisting.writes.list;
+      of_kind = relisting.writes.of_kind;
       counted = slots.counted;
       store = slots.are.store;
       slot = slots.are.slot;
@@ -183,7 +183,7 @@ pub elements_own : {old new : Heap} {cell : Cell} {others made : List Cell} {bef
     → Relisting old new cell others made before after → IsOwnChange old new (cell ∷ others) (cell ∷ others) made
 elements_own {new = new} {cell} {others} {made} relisting =
     let sound : IsSoundOf cell.layout.kind new cell (words_of_cell new cell) =
-    subst (λ k. IsSoundOf k new cell (words_of_cell new cell)) (sym relisting.writes.list) (list_is_sound relisting) in
+    subst (λ k. IsSoundOf k new cell (words_of_cell new cell)) (sym relisting.writes.of_kind) (list_is_sound relisting) in
     refilled_own (elements_refilled relisting)
     (came_sound others made sound (beside_sound others made relisting.writes.beside relisting.slots.kinds
     (λ other among is. store_sound relisting other among is) relisting.slots.boxes))

@@ -14,7 +14,7 @@ use Rattle.write_barrier.specs.Mains.{heap_of}
 use Rattle.object_cells.specs.HeldValues.{IsReachedValue}
 use Rattle.object_cells.specs.Refills.{IsAtRest}
 use Rattle.object_cells.specs.ElementChanges.{AreNewElements, WrittenElementsShow}
-use Rattle.object_cells.proofs.ListWrites.{writes_list, written_list_keeps_cells}
+use Rattle.object_cells.proofs.OwnerWrites.{writes_own, list_owns, written_list_keeps_cells}
 use Rattle.object_cells.proofs.RefilledElements.{Relisting, list_shows, elements_own}
 use Rattle.object_cells.proofs.ReplacedObjects.{HasReachedLinks, ReplacesCells, replaced_shows}
 use Rattle.object_cells.proofs.WrittenPlaces.{beside_is_no_object, went_object}
@@ -41,7 +41,7 @@ written_elements_show old new graph list cell others made elements shows there c
       cells = law.1;
       own = elements_own relisting;
       only = λ other among object.
-          ap (λ (c : Cell). c.header.object) (sym (went_object (writes_list whole writes) other among object))
+          ap (λ (c : Cell). c.header.object) (sym (went_object (writes_own list_owns whole writes) other among object))
           ∙ carries;
       no_object = λ other among. beside_is_no_object other.layout.kind (slots.kinds other among);
       cell = cell;

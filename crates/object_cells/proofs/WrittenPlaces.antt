@@ -1,7 +1,7 @@
 -- Where words of one object's own cells were written, objects keep their places, and boxes that were not written
 -- what they hold. And which words name no store, table or box.
 use Rattle.std.proofs.Common.{◌≡◌, ℕ, false, List, ◌∷◌, Contains, IsTrue, ◌⊎◌, inl, inr, ℤ}
-use Rattle.std.proofs.Common.{sym, ◌∙◌, ap, subst}
+use Rattle.std.proofs.Common.{refl, sym, ◌∙◌, ap, subst}
 use Rattle.std.proofs.lemmas.Bool.{false≢true}
 use Rattle.tagged_word.specs.declared.layout.Kind.{Kind}
 use Rattle.tagged_word.specs.declared.layout.Kind.TheVariants as kind
@@ -24,10 +24,15 @@ use Rattle.object_cells.proofs.CellWritesRead.{writes_object}
 abbrev pub IsBesideKind : Kind → Type 0
 IsBesideKind k = (k ≡ kind.Store) ⊎ (k ≡ kind.Boxed)
 
--- no such cell is an object
+-- a box, or a cell of a kind that no object has, is no object
+pub box_is_no_object : {owned : Kind} (k : Kind) → (k ≡ owned) ⊎ (k ≡ kind.Boxed) → is_object_kind owned ≡ false
+    → is_object_kind k ≡ false
+box_is_no_object k (inl is) none = ap is_object_kind is ∙ none
+box_is_no_object k (inr is) none = ap is_object_kind is
+
+-- so a store or a box is none
 pub beside_is_no_object : (k : Kind) → IsBesideKind k → is_object_kind k ≡ false
-beside_is_no_object k (inl is) = ap is_object_kind is
-beside_is_no_object k (inr is) = ap is_object_kind is
+beside_is_no_object k is = box_is_no_object k is refl
 
 -- of the cells that went, only the object's own is an object's
 pub went_object : {old new : Heap} {cell came : Cell} {others made : List Cell}

@@ -3,7 +3,7 @@ use Rattle.std.proofs.Common.{rules}
 use Rattle.handle_roots.specs.Roots.{FitsHeld}
 use Rattle.object_cells.proofs.HeldNeeds.{held_is_value}
 use Rattle.ephemeron_table.proofs.NewEntries.{ends_free, free_key_pair, free_key_put, free_key_refused}
-use Rattle.ephemeron_table.proofs.PairsByKey.{shown_known}
+use Rattle.ephemeron_table.proofs.KnownTables.{shown_known}
 use Rattle.ephemeron_table.proofs.PutRefusals.{pair_refused}
 use Rattle.ephemeron_table.proofs.PutShown.{has_put_pair}
 use Rattle.ephemeron_table.proofs.adding.put_free.Goals as goal

@@ -6,7 +6,7 @@ use Rattle.ephemeron_table.proofs.FullTables.{put_known}
 use Rattle.ephemeron_table.proofs.GrowableMaps.{can_grow}
 use Rattle.ephemeron_table.proofs.GrownEntries.{IsGrowing}
 use Rattle.ephemeron_table.proofs.NewTableEntries.{growing_refused, grown_entry, grown_pair}
-use Rattle.ephemeron_table.proofs.PairsByKey.{shown_known}
+use Rattle.ephemeron_table.proofs.KnownTables.{shown_known}
 use Rattle.ephemeron_table.proofs.PutRefusals.{pair_refused}
 use Rattle.ephemeron_table.proofs.PutShown.{has_put_pair}
 use Rattle.ephemeron_table.proofs.adding.put_grown.Goals as goal

@@ -1,14 +1,14 @@
 -- The pair of the entry is taken out.
-use Rattle.std.proofs.Common.{◌<◌, ◌∙◌, subst, arith}
-use Rattle.page_space.specs.Extents.{marks_start}
-use Rattle.object_cells.proofs.CellsRead.{cell_at_before_marks}
+use Rattle.std.proofs.Common.{◌∙◌, arith}
+use Rattle.object_cells.proofs.CellsRead.{place_before_marks}
 use Rattle.ephemeron_table.proofs.EntryPairs.{entry_pair}
 use Rattle.ephemeron_table.proofs.KeysFound.{weak_shown, shown_there, key_told}
 use Rattle.ephemeron_table.proofs.KeysProbed.{comes_within, none_at_free, none_passed}
-use Rattle.ephemeron_table.proofs.KnownTables.{KnownMap, keys_beside, map_beside}
+use Rattle.ephemeron_table.proofs.KnownTables.{keys_beside, map_beside}
+use Rattle.ephemeron_table.proofs.KnownTables.{shown_known}
 use Rattle.ephemeron_table.proofs.TablesRead.{count_within}
-use Rattle.ephemeron_table.proofs.DeletedPairs.{deletes_no_pair, deletes_pair}
-use Rattle.ephemeron_table.proofs.DeletedEntries.{deletes_none, deletes_entry, IsDeleting, length-without_entry}
+use Rattle.ephemeron_table.proofs.DeletedPairs.{deletes_nothing, deletes_pair}
+use Rattle.ephemeron_table.proofs.DeletedEntries.{deletes_entry, IsDeleting, length-without_entry}
 use Rattle.ephemeron_table.proofs.deleting.delete.Goals as goal
 
 pub table_of-table-requires-clause-there : goal.table_of-table-requires-clause-there
@@ -16,9 +16,7 @@ table_of-table-requires-clause-there c = shown_there (weak_shown c.requires.show
 
 pub number_at-requires-clause-within : goal.number_at-requires-clause-within
 number_at-requires-clause-within c =
-    let place = c.requires.shown.is_key.place in
-    subst (λ at. at < marks_start c.args.main.now.seat.space) place.stands
-    (cell_at_before_marks c.requires.shown.shows.shows.whole.sized place.has)
+    place_before_marks c.requires.shown.shows.shows.whole.sized c.requires.shown.is_key.place
 
 pub take_out-requires-clause-place : goal.take_out-requires-clause-place
 take_out-requires-clause-place c = comes_within c.in-Key.ensures.0
@@ -26,13 +24,7 @@ take_out-requires-clause-place c = comes_within c.in-Key.ensures.0
 pub take_out-requires-clause-keys : goal.take_out-requires-clause-keys
 take_out-requires-clause-keys c =
     let shown = c.requires.shown in
-    let known : KnownMap c.args.main.now c.args.map c.table_of-table.result = record {
-      tied = shown.shows.tied;
-      whole = shown.shows.shows.whole;
-      sizes = c.regions-regions.ensures.within;
-      there = shown_there (weak_shown shown.shows shown.is);
-      is = c.table_of-table.ensures;
-    } in
+    let known = shown_known shown.shows shown.is c.regions-regions.ensures.within c.table_of-table.ensures in
     let below = comes_within c.in-Key.ensures.0 in
     keys_beside known (omega (arith, below))
 
@@ -44,13 +36,7 @@ take_out-requires-clause-map c =
 pub take_out-requires-clause-beside : goal.take_out-requires-clause-beside
 take_out-requires-clause-beside c =
     let shown = c.requires.shown in
-    let known : KnownMap c.args.main.now c.args.map c.table_of-table.result = record {
-      tied = shown.shows.tied;
-      whole = shown.shows.shows.whole;
-      sizes = c.regions-regions.ensures.within;
-      there = shown_there (weak_shown shown.shows shown.is);
-      is = c.table_of-table.ensures;
-    } in
+    let known = shown_known shown.shows shown.is c.regions-regions.ensures.within c.table_of-table.ensures in
     let below = comes_within c.in-Key.ensures.0 in
     map_beside known (omega (arith, below)) 2 (omega arith)
 
@@ -90,33 +76,13 @@ returns-in-Key c =
 pub returns-in-Free : goal.returns-in-Free
 returns-in-Free c =
     let is_table = c.table_of-table.ensures in
-    let number_read = c.number_at.ensures in
-    let key_read = c.reference.ensures in
-    let ends = c.in-Free.ensures in
-    let asked = c.requires.shown in
-    let shown = weak_shown asked.shows asked.is in
-    record {
-      entry = λ graph weak number shows is is_key.
-          deletes_none c.args.main.now graph c.args.map weak number shows is
-          (none_at_free _ _ shows (weak_shown shows is) is_key is_table number_read key_read ends);
-      pairs = λ before has.
-          deletes_no_pair asked.shows asked.is asked.is_key c.regions-regions.ensures.within is_table
-          (none_at_free _ _ asked.shows shown asked.is_key is_table number_read key_read ends) has;
-    }
+    let left = deletes_nothing c.requires.shown c.regions-regions.ensures.within is_table (λ graph weak number shows is is_key.
+    none_at_free _ _ shows (weak_shown shows is) is_key is_table c.number_at.ensures c.reference.ensures c.in-Free.ensures) in
+    record { entry = left.0; pairs = left.1 }
 
 pub returns-in-Nowhere : goal.returns-in-Nowhere
 returns-in-Nowhere c =
     let is_table = c.table_of-table.ensures in
-    let number_read = c.number_at.ensures in
-    let key_read = c.reference.ensures in
-    let ends = c.in-Nowhere.ensures in
-    let asked = c.requires.shown in
-    let shown = weak_shown asked.shows asked.is in
-    record {
-      entry = λ graph weak number shows is is_key.
-          deletes_none c.args.main.now graph c.args.map weak number shows is
-          (none_passed _ _ shows (weak_shown shows is) is_key is_table number_read key_read ends);
-      pairs = λ before has.
-          deletes_no_pair asked.shows asked.is asked.is_key c.regions-regions.ensures.within is_table
-          (none_passed _ _ asked.shows shown asked.is_key is_table number_read key_read ends) has;
-    }
+    let left = deletes_nothing c.requires.shown c.regions-regions.ensures.within is_table (λ graph weak number shows is is_key.
+    none_passed _ _ shows (weak_shown shows is) is_key is_table c.number_at.ensures c.reference.ensures c.in-Nowhere.ensures) in
+    record { entry = left.0; pairs = left.1 }

@@ -1,19 +1,15 @@
 -- The value of an entry is told by the word of its pair.
-use Rattle.std.proofs.Common.{◌≡◌, ◌<◌, ℕ, None, Some, unwrap_or, sym, ◌∙◌, ap, subst}
+use Rattle.std.proofs.Common.{◌≡◌, Some, unwrap_or, sym, ◌∙◌, ap, subst}
 use Rattle.std.proofs.lemmas.Option.{same_Some}
 use Rattle.object_graph.specs.declared.value.Value.TheVariants.{Undefined}
 use Rattle.object_graph.specs.Objects.{entry_value}
-use Rattle.object_graph.specs.Graphs.{WeakObject}
 use Rattle.handle_roots.specs.declared.held.Held.{Held}
-use Rattle.handle_roots.specs.declared.held.Held.TheVariants as held
 use Rattle.heap_model.specs.Showing.{ShowsHeld, ShowsValue}
-use Rattle.write_barrier.specs.Mains.{Mutator, heap_of}
-use Rattle.object_cells.proofs.CellsRead.{cell_at_before_marks}
-use Rattle.page_space.specs.Extents.{marks_start}
-use Rattle.ephemeron_table.specs.EntryChanges.{TellsEntry}
+use Rattle.write_barrier.specs.Mains.{heap_of}
+use Rattle.object_cells.proofs.CellsRead.{place_before_marks}
 use Rattle.ephemeron_table.proofs.KeysFound.{weak_shown, shown_there, key_told}
 use Rattle.ephemeron_table.proofs.KeysProbed.{comes_within, none_at_free, none_passed}
-use Rattle.ephemeron_table.proofs.ToldPairs.{tells_no_pair, tells_pair_value}
+use Rattle.ephemeron_table.proofs.ToldPairs.{tells_none, tells_pair_value}
 use Rattle.ephemeron_table.proofs.getting.get.Goals as goal
 
 pub table_of-table-requires-clause-there : goal.table_of-table-requires-clause-there
@@ -21,9 +17,7 @@ table_of-table-requires-clause-there c = shown_there (weak_shown c.requires.show
 
 pub number_at-requires-clause-within : goal.number_at-requires-clause-within
 number_at-requires-clause-within c =
-    let place = c.requires.shown.is_key.place in
-    subst (λ at. at < marks_start c.args.main.now.seat.space) place.stands
-    (cell_at_before_marks c.requires.shown.shows.shows.whole.sized place.has)
+    place_before_marks c.requires.shown.shows.shows.whole.sized c.requires.shown.is_key.place
 
 pub value_of_word-requires-clause-within : goal.value_of_word-requires-clause-within
 value_of_word-requires-clause-within c =
@@ -74,42 +68,16 @@ returns-in-Key c =
     }
 
 -- undefined is told where there is no entry
-told_undefined : (main : Mutator) (weak : WeakObject) (number : ℕ) → entry_value weak.entries number ≡ None
-    → TellsEntry main weak number held.Undefined
-told_undefined main weak number none =
-    subst (λ what. ShowsHeld (heap_of main) held.Undefined (Some what))
-    (sym (ap (λ found. unwrap_or found Undefined) none)) ShowsHeld.undefined
-
 pub returns-in-Free : goal.returns-in-Free
 returns-in-Free c =
     let is_table = c.table_of-table.ensures in
-    let number_read = c.number_at.ensures in
-    let key_read = c.reference.ensures in
-    let ends = c.in-Free.ensures in
-    let asked = c.requires.shown in
-    let shown = weak_shown asked.shows asked.is in
-    record {
-      entry = λ graph weak number shows is is_key.
-          told_undefined c.args.main.now weak number
-          (none_at_free _ _ shows (weak_shown shows is) is_key is_table number_read key_read ends);
-      pairs = λ pairs has.
-          tells_no_pair asked.shows asked.is asked.is_key c.regions-regions.ensures.within is_table
-          (none_at_free _ _ asked.shows shown asked.is_key is_table number_read key_read ends) has;
-    }
+    let told = tells_none c.requires.shown c.regions-regions.ensures.within is_table (λ graph weak number shows is is_key.
+    none_at_free _ _ shows (weak_shown shows is) is_key is_table c.number_at.ensures c.reference.ensures c.in-Free.ensures) in
+    record { entry = told.0; pairs = told.1 }
 
 pub returns-in-Nowhere : goal.returns-in-Nowhere
 returns-in-Nowhere c =
     let is_table = c.table_of-table.ensures in
-    let number_read = c.number_at.ensures in
-    let key_read = c.reference.ensures in
-    let ends = c.in-Nowhere.ensures in
-    let asked = c.requires.shown in
-    let shown = weak_shown asked.shows asked.is in
-    record {
-      entry = λ graph weak number shows is is_key.
-          told_undefined c.args.main.now weak number
-          (none_passed _ _ shows (weak_shown shows is) is_key is_table number_read key_read ends);
-      pairs = λ pairs has.
-          tells_no_pair asked.shows asked.is asked.is_key c.regions-regions.ensures.within is_table
-          (none_passed _ _ asked.shows shown asked.is_key is_table number_read key_read ends) has;
-    }
+    let told = tells_none c.requires.shown c.regions-regions.ensures.within is_table (λ graph weak number shows is is_key.
+    none_passed _ _ shows (weak_shown shows is) is_key is_table c.number_at.ensures c.reference.ensures c.in-Nowhere.ensures) in
+    record { entry = told.0; pairs = told.1 }

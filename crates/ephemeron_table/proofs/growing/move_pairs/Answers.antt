@@ -1,5 +1,5 @@
 -- Pair by pair comes to the other table.
-use Rattle.std.proofs.Common.{◌≡◌, ◌+◌, Some, None, unwrap_or, sym, ◌∙◌, ap, subst}
+use Rattle.std.proofs.Common.{◌+◌, unwrap_or, sym, ◌∙◌, ap, subst}
 use Rattle.tagged_word.specs.Readings.{reference_in}
 use Rattle.write_barrier.specs.Mains.{Mutator}
 use Rattle.ephemeron_table.specs.Movings.{MovesPairs}

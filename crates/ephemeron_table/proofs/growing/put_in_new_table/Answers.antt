@@ -1,5 +1,5 @@
 -- The table and the box that are made stand in the words that were reserved.
-use Rattle.std.proofs.Common.{◌≡◌, ◌+◌, ◌*◌, ap, ◌∙◌, arith, rules}
+use Rattle.std.proofs.Common.{◌≡◌, ◌+◌, ap, ◌∙◌, arith, rules}
 use Rattle.page_space.specs.Extents.{Space, marks_start}
 use Rattle.heap_table.specs.Seats.{StaysBeside}
 use Rattle.heap_table.specs.Staying.{stays_beside_again}
@@ -7,7 +7,7 @@ use Rattle.write_barrier.specs.Mains.{Mutator}
 use Rattle.object_cells.specs.Made.{content_need}
 use Rattle.object_cells.proofs.WordsBeside.{same_beside, reserved_beside, put_beside}
 use Rattle.ephemeron_table.proofs.GrowingTables.{begun_within, boxed_free, grown_apart, grown_before_marks, grown_keys}
-use Rattle.ephemeron_table.proofs.GrowingTables.{grown_more, grown_nothing}
+use Rattle.ephemeron_table.proofs.GrowingTables.{grown_nothing}
 use Rattle.ephemeron_table.proofs.growing.put_in_new_table.Goals as goal
 
 pub begin_table-requires-clause-within : goal.begin_table-requires-clause-within

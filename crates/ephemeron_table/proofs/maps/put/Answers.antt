@@ -1,7 +1,6 @@
 -- An entry is put: where the key is there, in its pair.
-use Rattle.std.proofs.Common.{◌<◌, ◌∙◌, subst}
-use Rattle.page_space.specs.Extents.{marks_start}
-use Rattle.object_cells.proofs.CellsRead.{cell_at_before_marks}
+use Rattle.std.proofs.Common.{◌∙◌}
+use Rattle.object_cells.proofs.CellsRead.{place_before_marks}
 use Rattle.ephemeron_table.proofs.KeysFound.{weak_shown, shown_there}
 use Rattle.ephemeron_table.proofs.KeysProbed.{comes_within}
 use Rattle.ephemeron_table.proofs.EntryPairs.{entry_pair}
@@ -13,9 +12,7 @@ table_of-table-requires-clause-there c = shown_there (weak_shown c.requires.show
 
 pub number_at-requires-clause-within : goal.number_at-requires-clause-within
 number_at-requires-clause-within c =
-    let place = c.requires.shown.is_key.place in
-    subst (λ at. at < marks_start c.args.main.now.seat.space) place.stands
-    (cell_at_before_marks c.requires.shown.shows.shows.whole.sized place.has)
+    place_before_marks c.requires.shown.shows.shows.whole.sized c.requires.shown.is_key.place
 
 pub put_there-requires-clause-held : goal.put_there-requires-clause-held
 put_there-requires-clause-held c =

@@ -2,21 +2,20 @@
 use Rattle.std.proofs.Common.{ℕ, ◌+◌, false, refl, sym, ◌∙◌, ap, subst, rules, arith, unwrap_or}
 use Rattle.std.specs.Prelude.{FitsSigned}
 use Rattle.std.specs.Int.{w64}
-use Rattle.page_space.specs.Extents.{Space}
-use Rattle.nursery.specs.Young.{HasRoom}
 use Rattle.handle_roots.specs.Roots.{FitsHeld}
 use Rattle.heap_model.specs.Slots.{IsSlotWord}
 use Rattle.write_barrier.specs.Mains.{heap_of}
 use Rattle.object_cells.specs.Contents.{filling_at}
 use Rattle.object_cells.specs.Made.{beside_content}
-use Rattle.object_cells.proofs.HeldNeeds.{held_is_value, new_value_held}
+use Rattle.object_cells.proofs.NothingUsed.{room_for_none}
+use Rattle.object_cells.proofs.HeldNeeds.{new_value_held}
 use Rattle.object_cells.proofs.SlotBoxes.{lacks_need}
 use Rattle.object_cells.proofs.FilledSlots.{slot_filled, held_before, no_raw}
 use Rattle.list_store.proofs.ListCells.{list_shown, shown_there, shown_beside, shown_ready, count_shown}
 use Rattle.list_store.proofs.ListCells.{store_has_room}
 use Rattle.list_store.proofs.ElementsRead.{place_below, slot_read}
 use Rattle.list_store.proofs.Places.{index_named, place_stands}
-use Rattle.list_store.proofs.ListChanging.{Changing}
+use Rattle.list_store.proofs.ListChanging.{changing}
 use Rattle.list_store.proofs.PutOutcomes.{put_need, has_put}
 use Rattle.list_store.proofs.putting.put.Goals as goal
 
@@ -65,17 +64,10 @@ returns-in-Ok c graph one what shows is holds =
     let store = c.store_of-store.result in
     let below = place_below c.count_of.result place _ (sym c.place_of.ensures ∙ c.in-Some.is) in
     let stands = place_stands store place ready c.store_of-store.ensures below in
-    let known : Changing old graph c.args.list one c.args.value what = record {
-      shows = shows;
-      is = is;
-      held = holds;
-      fits = held_is_value c.args.value what shows fits holds.shows;
-      shown = shown;
-    } in
+    let known = changing c.args.value shows is holds fits in
     let fills = c.in-Ok.ensures in
-    let young = ap (λ (space : Space). space.sizes.young) shows.tied in
-    let none : HasRoom old.young 0 = omega (arith, shows.shows.whole.rows.few, young) in
-    let by = slot_filled fills shows.tied stands.within none
+    let by = slot_filled fills shows.tied stands.within
+    (room_for_none old shows.tied shows.shows.whole)
     (λ w. no_raw w (new_value_held false c.args.value what holds.shows)) in (
       place,
       index_named c.count_of.result c.args.index c.place_of.result shown c.count_of.ensures.counted index
@@ -97,13 +89,7 @@ returns-in-Err c graph one what shows is holds =
     let store = c.store_of-store.result in
     let below = place_below c.count_of.result place _ (sym c.place_of.ensures ∙ c.in-Some.is) in
     let stands = place_stands store place ready c.store_of-store.ensures below in
-    let known : Changing old graph c.args.list one c.args.value what = record {
-      shows = shows;
-      is = is;
-      held = holds;
-      fits = held_is_value c.args.value what shows fits holds.shows;
-      shown = shown;
-    } in
+    let known = changing c.args.value shows is holds fits in
     let at : ℕ = store.at + (2 + place) in
     let lacks = lacks_need old (filling_at old at (beside_content c.args.value)) c.in-Err.no_room
     c.in-Err.ensures.0 in (

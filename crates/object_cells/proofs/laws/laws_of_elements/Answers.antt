@@ -1,5 +1,5 @@
 -- The laws, as they were proved.
-use Rattle.object_cells.proofs.ListWrites.{written_list_keeps_cells}
+use Rattle.object_cells.proofs.OwnerWrites.{written_list_keeps_cells}
 use Rattle.object_cells.proofs.RefilledLists.{written_elements_show}
 use Rattle.object_cells.proofs.KeptCapacities.{list_capacities_stay, list_capacities_grow}
 use Rattle.object_cells.proofs.NewElements.{pushed_elements_are_new, put_elements_are_new}
