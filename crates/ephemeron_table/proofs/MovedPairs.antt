@@ -23,6 +23,7 @@ count_from (first ∷ pairs) zero pair there =
     ∙ ap (λ (one : Pair). one_if (not (is_free_pair one)) + count_filled pairs) (same_Some first pair there)
 count_from (first ∷ pairs) (suc at) pair there = count_from pairs at pair there
 
+-- the filled pairs from a place on are that at the place, if it is filled, and those behind it
 count_behind : (pairs : List Pair) (at : ℕ) (pair : Pair) → slice_get pairs at ≡ Some pair
     → count_filled (drop at pairs) ≡ one_if (not (is_free_pair pair)) + count_filled (drop (at + 1) pairs)
 count_behind pairs at pair there =

@@ -33,7 +33,8 @@ list_is_sound {heap} at header are = subst (IsListCell heap) (sym are) (record {
 -- and shows a list without elements
 pub list_shows : {heap : Heap} (at : ℕ) (header : Header)
     → words_of_cell heap (cell_of at (counted_cell kind.List header)) ≡ empty_counted header
-    → ShowsList heap (cell_of at (counted_cell kind.List header)) (words_of_cell heap (cell_of at (counted_cell kind.List header))) []
+    → ShowsList heap (cell_of at (counted_cell kind.List header))
+    (words_of_cell heap (cell_of at (counted_cell kind.List header))) []
 list_shows {heap} at header are =
     subst (λ words. ShowsList heap (cell_of at (counted_cell kind.List header)) words []) (sym are) (record {
       of_kind = refl;

@@ -27,7 +27,8 @@ weak_is_sound {heap} at header are = subst (IsWeakCell heap) (sym are) (record {
 -- and shows a weak map without entries
 pub weak_shows : {heap : Heap} (marks : List Bool) (at : ℕ) (header : Header)
     → words_of_cell heap (cell_of at (counted_cell kind.Weak header)) ≡ empty_counted header
-    → ShowsWeak heap marks (cell_of at (counted_cell kind.Weak header)) (words_of_cell heap (cell_of at (counted_cell kind.Weak header))) []
+    → ShowsWeak heap marks (cell_of at (counted_cell kind.Weak header))
+    (words_of_cell heap (cell_of at (counted_cell kind.Weak header))) []
 weak_shows {heap} marks at header are =
     subst (λ words. ShowsWeak heap marks (cell_of at (counted_cell kind.Weak header)) words []) (sym are) (record {
       of_kind = refl;

@@ -161,7 +161,8 @@ extended-changed_at path front row at rep there is same =
 -- so do the path that has the changed field last and the fields behind it
 pub extended-changed_next : (path front next : Path) (row : List PathField) (at : ℕ) (rep : Rep)
     → at < length path.fields → front ≡ prefix_of path at → row ≡ path.fields
-    → next ≡ extended front (changed_field row at rep ∷ []) → extended next (fields_behind row at) ≡ changed path at rep
+    → next ≡ extended front (changed_field row at rep ∷ [])
+    → extended next (fields_behind row at) ≡ changed path at rep
 extended-changed_next path front next row at rep there is same comes =
     ap (λ (p : Path). extended p (fields_behind row at)) comes
     ∙ extended-extended front (changed_field row at rep ∷ []) (fields_behind row at)

@@ -19,7 +19,8 @@ use Rattle.write_barrier.specs.Opening.{ChangesWithin, AreZero}
 
 -- one word that is put changes no other
 pub put_changes : (old new : Mutator) (a word from to : ℕ) → new ≡ with_word old a word
-    → heap_words new.seat ≡ slice_set (heap_words old.seat) a word → from ≤ a → a < to → to ≤ marks_start old.seat.space
+    → heap_words new.seat ≡ slice_set (heap_words old.seat) a word
+    → from ≤ a → a < to → to ≤ marks_start old.seat.space
     → ChangesWithin old new from to
 put_changes old new a word from to is heap low high before = record {
   seat = subst (λ (main : Mutator). StaysBeside old.seat main.seat) (sym is)
