@@ -86,8 +86,9 @@ fn carry_out(
     ensures spare { heap.new.spare ≡ heap.old.spare }
     ensures counted { OnOk result (objects.new ≡ objects.old + objects_made command.now) }
 {
-    // A call that stands in one place alone is inlined into the loop over lines. Once there is room,
-    // the command finds it, so no third turn comes.
+    // The call stands in one place alone: with a second one it is not inlined into the loop over
+    // lines, whatever its attribute asks. Once there is room the command finds it, so no third try
+    // comes.
     'tries: loop {
         match execute(heap.main_mut(), script, objects, command, out) {
             Err(Stop::NoRoom { need }) => {

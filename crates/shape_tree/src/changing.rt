@@ -14,7 +14,8 @@ use object_graph::{PathField, Rep};
 impl ShapeTree {
     ghost use Rattle.shape_tree.specs.Walks.{RoutesTo};
 
-    /// The shape of the path with these fields more, if it is there.
+    /// The shape of the path with these fields more, if the steps to it are found. Callers go on
+    /// without an answer too, so nothing is said of none.
     fn there_along(&self, from: u32, tail: &[PathField]) -> Option<u32>
         requires { IsPathShape self.now from }
         ensures { let path = extended (shape_path self.now from) tail.now in
@@ -28,8 +29,8 @@ impl ShapeTree {
         }
     }
 
-    /// The shape of the path, one field of which has another representation, if it is there. The
-    /// fields are read where they stand: to add paths they are copied.
+    /// The shape of the path, one field of which has another representation, if the steps to it are
+    /// found. The fields are read where they stand: to add paths they are copied.
     fn there_changed(&self, shape: u32, at: u32, rep: Rep) -> Option<u32>
         requires path { IsPathShape self.now shape }
         requires there { at < length (shape_path self.now shape).fields }
@@ -42,7 +43,8 @@ impl ShapeTree {
         self.there_along(next, &row[at as usize + 1..])
     }
 
-    /// The shape of the path without one field, if it is there, as for `there_changed`.
+    /// The shape of the path without one field, if the steps to it are found, as for
+    /// `there_changed`.
     fn there_without(&self, shape: u32, at: u32) -> Option<u32>
         requires path { IsPathShape self.now shape }
         requires there { at < length (shape_path self.now shape).fields }
