@@ -32,3 +32,13 @@ pub record IsLeastFrom (recorded : Recorded) (from slot : ℕ) : Type 0 where
   pub stands : Contains recorded.slots slot
   pub not_below : from ≤ slot
   pub least : (other : ℕ) → Contains recorded.slots other → from ≤ other → slot ≤ other
+
+-- no slot of the range is recorded
+abbrev pub HasNoneBetween : Recorded → ℕ → ℕ → Type 0
+HasNoneBetween recorded from to = (slot : ℕ) → Contains recorded.slots slot → ¬ IsBetween from to slot
+
+-- the slot is the first of the range that is recorded
+pub record IsLeastBetween (recorded : Recorded) (from to slot : ℕ) : Type 0 where
+  pub stands : Contains recorded.slots slot
+  pub between : IsBetween from to slot
+  pub none_before : HasNoneBetween recorded from slot

@@ -1,16 +1,20 @@
-use Rattle.std.proofs.Common.{arith}
-use Rattle.std.proofs.lemmas.List.{with_items_is}
-use Rattle.remembered_set.proofs.Slots.{is_recorded}
-use Rattle.remembered_set.proofs.Shown.{forgotten}
+use Rattle.std.proofs.Common.{◌≡◌, ◌*◌, length, subst, sym, ap, ◌∙◌, arith}
+use Rattle.page_space.specs.Sizes.{page_words}
+use Rattle.remembered_set.specs.Recorded.{Recorded, IsRecorded}
+use Rattle.remembered_set.proofs.Turns.{forgotten_more, forgotten_all}
 use Rattle.remembered_set.proofs.Remembered.forget_range.Goals as goal
 
-pub invariant_of-self : goal.invariant_of-self
-invariant_of-self c =
-    rw (with_items_is c.self.inside.flags c.clear.new.flags (omega arith))
-    (is_recorded c.clear.new.flags (omega arith))
+pub loop-page-preserved : goal.loop-page-preserved
+loop-page-preserved c = record {
+  forgotten = forgotten_more c.args.self.now c.loop-page.self c.forget_in_page.new.self c.args.from c.args.to
+      c.loop-page.page c.loop-page.invariant.forgotten c.forget_in_page.ensures.forgotten;
+  bound = c.forget_in_page.ensures.bound ∙ c.loop-page.invariant.bound;
+}
 
 pub returns-clause-forgotten : goal.returns-clause-forgotten
 returns-clause-forgotten c =
-    rw (← c.self.view_is, with_items_is c.self.inside.flags c.clear.new.flags (omega arith))
-    (forgotten c.self.inside.flags.items c.clear.new.flags c.args.from c.args.to c.min-end.result (omega arith)
-    (rw c.deref_mut.ensures.value at c.clear.ensures))
+    let bound : c.args.self.now.bound ≡ page_words * length c.self.inside.counts.items =
+    sym (ap (λ (recorded : Recorded). recorded.bound) c.self.view_is) ∙ c.self.invariant.pages in
+    forgotten_all c.args.self.now c.loop-page.self c.args.from c.args.to (length c.self.inside.counts.items)
+    c.loop-page.page (subst IsRecorded c.self.view_is c.self.invariant.recorded) bound (omega arith)
+    c.loop-page.invariant.forgotten
