@@ -49,9 +49,13 @@ set_count_clear flags from (suc n) clear =
 -- where none of a stretch is set, its flags are clear
 pub clear_from_count : (flags : List Bool) (from n : ℕ) → set_count flags from n ≡ 0 → AreClear flags from (from + n)
 unfolding set_count
-clear_from_count flags from zero none = λ place between. absurd (let begins = between.begins in let ends = between.ends in omega arith)
+clear_from_count flags from zero none = λ place between.
+    let begins = between.begins in
+    let ends = between.ends in
+    absurd (omega arith)
 clear_from_count flags from (suc n) none = λ place between.
-    let begins = between.begins in let ends = between.ends in
+    let begins = between.begins in
+    let ends = between.ends in
     elim (cases_lt place (from + n)) [
       | inl below ↦ clear_from_count flags from n (omega arith) place (record { begins = begins; ends = below })
       | inr behind ↦

@@ -22,7 +22,8 @@ all_kept p (x ∷ xs) =
     (λ y kept passes. kept_behind (p x) x (filter p xs) y (kept passes)) xs (all_kept p xs))
 
 -- an element that passes is kept
-pub Contains-filter : {X : Type 0} (p : X → Bool) (xs : List X) (x : X) → Contains xs x → p x ≡ true → Contains (filter p xs) x
+pub Contains-filter : {X : Type 0} (p : X → Bool) (xs : List X) (x : X) → Contains xs x → p x ≡ true
+    → Contains (filter p xs) x
 Contains-filter p xs x there = All-contains (λ y. p y ≡ true → Contains (filter p xs) y) xs x (all_kept p xs) there
 
 -- an element that is kept passes

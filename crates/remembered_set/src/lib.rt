@@ -2,7 +2,8 @@
 //!
 //! Model: a `Recorded` of `specs/Recorded.antt`: the addresses of the recorded slots in ascending
 //! order, and the bound that all addresses of pages are below. It reads no word of the heap.
-//! Invariant: the slots ascend, and each is below the bound.
+//! Invariant: the slots ascend, and each is below the bound. Inside, there is a count for each page
+//! of its recorded slots.
 //! Below: `page_space`, for the words of a page. Above: no crate so far.
 #![tactic(auto)]
 

@@ -19,7 +19,8 @@ loop-place-preserved c =
     elim c.if-flags-place.branch [
       | then-flags-place w ↦ record {
         clears = rw w.flags-is
-            (clears_more c.args.flags.now c.loop-place.flags c.args.from c.loop-place.place inside (omega arith) clears);
+            (clears_more c.args.flags.now c.loop-place.flags c.args.from c.loop-place.place
+            inside (omega arith) clears);
         counts = λ start n begins ends.
             let before = c.loop-place.invariant.counts start n begins ends in
             let now = set_count_cleared c.loop-place.flags start n c.loop-place.place (omega arith) (omega arith) inside
@@ -30,7 +31,8 @@ loop-place-preserved c =
       }
       | else-flags-place w ↦ record {
         clears = rw w.flags-is
-            (clears_same c.args.flags.now c.loop-place.flags c.args.from c.loop-place.place w.if-flags-place.false clears);
+            (clears_same c.args.flags.now c.loop-place.flags c.args.from c.loop-place.place
+            w.if-flags-place.false clears);
         counts = λ start n begins ends. rw (w.flags-is, w.count-is) (c.loop-place.invariant.counts start n begins ends);
         few = omega arith;
         within = omega arith;
