@@ -1,0 +1,54 @@
+-- Flags that are cleared one behind another.
+use Rattle.std.proofs.Common.{◌≡◌, ℕ, ◌+◌, ◌<◌, ◌≤◌, ◌≢◌, Bool, true, false, List, length, get_or, set, arith, inl, inr, sym, ◌∙◌}
+use Rattle.std.proofs.lemmas.Bool.{cases_lt, cases_eq}
+use Rattle.std.proofs.lemmas.List.{length-set, get_or-set_same, get_or-set_other}
+use Rattle.remembered_set.specs.Flags.{ClearsBetween, set_count}
+use Rattle.remembered_set.proofs.Counts.{set_count_raised}
+
+-- a flag that is clear already
+pub clears_same : (old now : List Bool) (from place : ℕ) → get_or now place false ≡ false
+    → ClearsBetween old now from place → ClearsBetween old now from (place + 1)
+clears_same old now from place is clears = record {
+  as_many = clears.as_many;
+  cleared = λ other between.
+      let begins = between.begins in
+      let ends = between.ends in
+      elim (cases_lt other place) [
+        | inl below ↦ clears.cleared other (record { begins = begins; ends = below })
+        | inr behind ↦ let at : other ≡ place = omega arith in rw at is
+      ];
+  others = λ other outside. clears.others other (λ between.
+      let begins = between.begins in
+      let ends = between.ends in
+      outside (record { begins = begins; ends = omega arith }));
+}
+
+-- a flag that is cleared
+pub clears_more : (old now : List Bool) (from place : ℕ) → place < length now → from ≤ place
+    → ClearsBetween old now from place → ClearsBetween old (set now place false) from (place + 1)
+clears_more old now from place within behind clears = record {
+  as_many = length-set now place false ∙ clears.as_many;
+  cleared = λ other between.
+      let begins = between.begins in
+      let ends = between.ends in
+      elim (cases_eq other place) [
+        | inl at ↦ rw at (get_or-set_same now place false false within)
+        | inr beside ↦ get_or-set_other now place other false false beside
+            ∙ clears.cleared other (record { begins = begins; ends = omega arith })
+      ];
+  others = λ other outside.
+      let beside : other ≢ place = λ at. outside (record { begins = omega arith; ends = omega arith }) in
+      get_or-set_other now place other false false beside
+      ∙ clears.others other (λ between.
+      let begins = between.begins in
+      let ends = between.ends in
+      outside (record { begins = begins; ends = omega arith }));
+}
+
+-- a stretch has one fewer flag that is set where one of it is cleared
+pub set_count_cleared : (flags : List Bool) (from n place : ℕ) → from ≤ place → place < from + n → place < length flags
+    → get_or flags place false ≡ true → set_count (set flags place false) from n + 1 ≡ set_count flags from n
+set_count_cleared flags from n place behind within inside is =
+    set_count_raised (set flags place false) flags from n place behind within
+    (get_or-set_same flags place false false inside) is
+    (λ other beside. sym (get_or-set_other flags place other false false beside))

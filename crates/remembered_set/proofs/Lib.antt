@@ -1,0 +1,7 @@
+pub mod Filtered
+pub mod Slots
+pub mod Shown
+pub mod Counts
+pub mod Clears
+pub mod Pages
+pub mod Turns

@@ -1,0 +1,20 @@
+use Rattle.std.proofs.Common.{◌≡◌, ◌*◌, length, subst, sym, ap, ◌∙◌, arith}
+use Rattle.page_space.specs.Sizes.{page_words}
+use Rattle.remembered_set.specs.Recorded.{Recorded, IsRecorded}
+use Rattle.remembered_set.proofs.Turns.{forgotten_more, forgotten_all}
+use Rattle.remembered_set.proofs.Remembered.forget_range.Goals as goal
+
+pub loop-page-preserved : goal.loop-page-preserved
+loop-page-preserved c = record {
+  forgotten = forgotten_more c.args.self.now c.loop-page.self c.forget_in_page.new.self c.args.from c.args.to
+      c.loop-page.page c.loop-page.invariant.forgotten c.forget_in_page.ensures.forgotten;
+  bound = c.forget_in_page.ensures.bound ∙ c.loop-page.invariant.bound;
+}
+
+pub returns-clause-forgotten : goal.returns-clause-forgotten
+returns-clause-forgotten c =
+    let bound : c.args.self.now.bound ≡ page_words * length c.self.inside.counts.items =
+    sym (ap (λ (recorded : Recorded). recorded.bound) c.self.view_is) ∙ c.self.invariant.pages in
+    forgotten_all c.args.self.now c.loop-page.self c.args.from c.args.to (length c.self.inside.counts.items)
+    c.loop-page.page (subst IsRecorded c.self.view_is c.self.invariant.recorded) bound (omega arith)
+    c.loop-page.invariant.forgotten

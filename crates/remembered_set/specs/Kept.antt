@@ -1,0 +1,26 @@
+-- What a remembered set keeps in its fields.
+use Rattle.std.specs.Prelude.{◌≡◌, ◌*◌, ℕ, Bool, false, List, length, slice_index_or}
+use Rattle.std.specs.List.{filter, range_with_len}
+use Rattle.remembered_set.specs.declared.Remembered.TheInside.{Inside}
+use Rattle.page_space.specs.Sizes.{page_words}
+use Rattle.remembered_set.specs.Flags.{AreCounted}
+use Rattle.remembered_set.specs.Recorded.{Recorded, IsRecorded}
+
+-- the places of the flags that are set
+unfoldable pub slots_of : List Bool → List ℕ
+slots_of flags = filter (λ place. slice_index_or flags place false) (range_with_len 0 (length flags))
+
+-- the slots that flags show: a flag for each word of the pages, set where the slot is recorded
+abbrev pub shown : List Bool → Recorded
+shown flags = record { bound = length flags; slots = slots_of flags }
+
+-- what the flags show
+abbrev pub recorded_of : Inside → Recorded
+recorded_of set = shown set.flags.items
+
+-- the recorded slots ascend below their bound, the flags are those of the pages, and each page's count is that of its
+-- flags
+pub record IsKept (set : Inside) : Type 0 where
+  pub recorded : IsRecorded (recorded_of set)
+  pub pages : length set.flags.items ≡ page_words * length set.counts.items
+  pub counted : AreCounted set.flags.items set.counts.items

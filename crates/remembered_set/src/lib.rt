@@ -1,0 +1,130 @@
+//! The remembered set: which slots of pages may refer to young cells.
+//!
+//! Model: a `Recorded` of `specs/Recorded.antt`: the addresses of the recorded slots in ascending
+//! order, and the bound that all addresses of pages are below. It reads no word of the heap.
+//! Invariant: the slots ascend, and each is below the bound. Inside, there is a count for each page
+//! of its recorded slots.
+//! Below: `page_space`, for the words of a page. Above: no crate so far.
+#![tactic(auto)]
+
+ghost use Rattle.std.specs.Prelude.{◌≡◌, ◌+◌, ◌*◌, ◌<◌, ◌≤◌, ◌↔◌, ◌⊎◌, ℕ, min, max, [], Contains, IfOk, MatchOption};
+ghost use Rattle.page_space.specs.Sizes.{page_words, pages_most};
+ghost use Rattle.remembered_set.specs.Recorded.{IsAscending, IsBetween, HasNoneFrom, IsLeastFrom, HasNoneBetween, IsLeastBetween};
+
+mod flags;
+#[cfg(test)]
+mod tests;
+
+use crate::flags::{clear, first_set};
+use std::alloc::Global;
+use std::marker::Model;
+use tagged_word::NoMemory;
+
+const PAGE_WORDS: u32 = 2_048;
+
+/// Which slots of pages may refer to young cells.
+#[derive(Debug, Drop)]
+pub struct Remembered {
+    // A flag for each word of the pages.
+    flags: Vec<bool>,
+    // For each page the number of its flags that are set: most pages have none, and are passed
+    // over at once.
+    counts: Vec<u32>,
+}
+
+impl Model for Remembered {
+    ghost use Rattle.remembered_set.specs.Recorded.{Recorded};
+
+    ghost Value = { Recorded };
+
+    ghost use Rattle.remembered_set.specs.Kept.{recorded_of, IsKept};
+
+    ghost view = { recorded_of };
+
+    ghost invariant = { IsKept };
+}
+
+impl Remembered {
+    /// Nothing of so many pages is recorded. It takes all the memory that it needs: later calls
+    /// take none.
+    pub fn new(alloc: Global, pages: u32) -> Result<Remembered, NoMemory>
+        requires { pages ≤ pages_most }
+        ensures { IfOk result (λ set. set ≡ record { bound = page_words * pages; slots = [] }) }
+    {
+        let flags = vec![in alloc; false; (PAGE_WORDS * pages) as usize]?;
+        let counts = vec![in alloc; 0u32; pages as usize]?;
+        Ok(Remembered { flags, counts })
+    }
+
+    /// Records a slot, which may be recorded already.
+    pub fn note(&mut self, slot: u32)
+        requires { slot < self.old.bound }
+        ensures recorded { (other : ℕ)
+            → Contains self.new.slots other ↔ ((other ≡ slot) ⊎ Contains self.old.slots other) }
+        ensures bound { self.new.bound ≡ self.old.bound }
+    {
+        if self.flags[slot as usize] {
+            return;
+        }
+        self.flags[slot as usize] = true;
+        self.counts[(slot / PAGE_WORDS) as usize] += 1;
+    }
+
+    /// Forgets the slots from `from` up to, not including, `to`.
+    pub fn forget_range(&mut self, from: u32, to: u32)
+        ensures forgotten { (other : ℕ)
+            → Contains self.new.slots other
+            ↔ (Contains self.old.slots other × (¬ IsBetween from to other)) }
+        ensures bound { self.new.bound ≡ self.old.bound }
+    {
+        let end = (to / PAGE_WORDS + 1).min(self.counts.len() as u32);
+        for page in from / PAGE_WORDS..end {
+            self.forget_in_page(page, from, to);
+        }
+    }
+
+    /// The first recorded slot that is not below `from`: none where each is below it.
+    pub fn next(&self, from: u32) -> Option<u32>
+        ensures next { MatchOption result
+            (HasNoneFrom self.now from) (λ slot. IsLeastFrom self.now from slot) }
+        ensures ascending { IsAscending self.now.slots }
+    {
+        for page in from / PAGE_WORDS..self.counts.len() as u32 {
+            if let Some(slot) = self.next_in_page(page, from) {
+                return Some(slot);
+            }
+        }
+        None
+    }
+
+    /// Forgets the slots of a page from `from` up to, not including, `to`.
+    fn forget_in_page(&mut self, page: u32, from: u32, to: u32)
+        requires { page_words * page < self.old.bound }
+        ensures forgotten { let start = page_words * page in (other : ℕ)
+            → Contains self.new.slots other
+            ↔ (Contains self.old.slots other
+            × (¬ IsBetween (max from start) (min to (start + page_words)) other)) }
+        ensures bound { self.new.bound ≡ self.old.bound }
+    {
+        if self.counts[page as usize] == 0 {
+            return;
+        }
+        let start = page * PAGE_WORDS;
+        let count = clear(&mut self.flags, from.max(start), to.min(start + PAGE_WORDS));
+        self.counts[page as usize] -= count;
+    }
+
+    /// The first recorded slot of a page that is not below `from`.
+    fn next_in_page(&self, page: u32, from: u32) -> Option<u32>
+        requires { page_words * page < self.now.bound }
+        ensures { let start = page_words * page in MatchOption result
+            (HasNoneBetween self.now (max from start) (start + page_words))
+            (λ slot. IsLeastBetween self.now (max from start) (start + page_words) slot) }
+    {
+        if self.counts[page as usize] == 0 {
+            return None;
+        }
+        let start = page * PAGE_WORDS;
+        first_set(&self.flags, from.max(start), start + PAGE_WORDS)
+    }
+}
