@@ -1,5 +1,6 @@
 -- What the order of the runs of a page comes to, and that it stays when words are taken.
-use Rattle.std.proofs.Common.{inl, inr, ℕ, zero, suc, ◌+◌, ◌-◌, ◌*◌, ◌<◌, ◌≤◌, max, List, [], ◌∷◌, ◌++◌, length, get_or, arith}
+use Rattle.std.proofs.Common.{inl, inr, ℕ, zero, suc, ◌+◌, ◌-◌, ◌*◌, ◌<◌, ◌≤◌, max, List, [], ◌∷◌, ◌++◌}
+use Rattle.std.proofs.Common.{length, get_or, arith}
 use Rattle.page_space.specs.declared.run.Run.{Run}
 use Rattle.page_space.specs.Sizes.{page_words}
 use Rattle.free_runs.specs.FreeRuns.{LiesIn, AscendIn, IsRowOf, left_of, runs_most}
@@ -17,8 +18,8 @@ pub row_is_few : (page : ℕ) (runs : List Run) → IsRowOf page runs → length
 row_is_few page runs row = omega (arith, two_words (page_words * page) (page_words * (page + 1)) runs row)
 
 -- each run ends at the end or before it
-pub ends_within : (start end : ℕ) (runs : List Run) (place : ℕ) (d : Run) → AscendIn start end runs → place < length runs
-    → (get_or runs place d).at + (get_or runs place d).words ≤ end
+pub ends_within : (start end : ℕ) (runs : List Run) (place : ℕ) (d : Run) → AscendIn start end runs
+    → place < length runs → (get_or runs place d).at + (get_or runs place d).words ≤ end
 ends_within start end [] place d ascend below = absurd (omega (arith, below))
 ends_within start end (run ∷ more) zero d ascend below = ascend.0.below
 ends_within start end (run ∷ more) (suc place) d ascend below =

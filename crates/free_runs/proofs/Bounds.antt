@@ -6,7 +6,8 @@ use Rattle.page_space.specs.declared.run.Run.{Run}
 use Rattle.free_runs.specs.FreeRuns.{AreShort, longest_in, longest_of}
 
 -- no run is longer than the longest
-pub bounds : (runs : List Run) (place : ℕ) (d : Run) → place < length runs → (get_or runs place d).words ≤ longest_in runs
+pub bounds : (runs : List Run) (place : ℕ) (d : Run) → place < length runs
+    → (get_or runs place d).words ≤ longest_in runs
 bounds = max_bounds longest_in (λ run. run.words) refl (λ _ _. refl)
 
 -- no row's longest run is longer than the longest of all

@@ -1,6 +1,8 @@
 -- The rows of all pages: when the page of one changes, and when no page has a run of n words.
-use Rattle.std.proofs.Common.{◌≡◌, inl, inr, ℕ, ◌+◌, ◌*◌, ◌<◌, ◌≤◌, ◌^◌, List, [], ◌∷◌, ◌++◌, length, set, All, subst, arith}
-use Rattle.std.proofs.lemmas.Bool.{cases_eq}
+use Rattle.std.proofs.Common.{◌≡◌, inl, inr, ℕ, ◌+◌, ◌*◌, ◌<◌, ◌≤◌, ◌^◌, List, [], ◌∷◌, ◌++◌, length, set}
+use Rattle.std.proofs.Common.{All, subst, arith}
+use Rattle.std.proofs.Common.{Option, Some, None, MatchOption}
+use Rattle.std.proofs.lemmas.Bool.{cases_eq, cases_lt}
 use Rattle.std.proofs.lemmas.List.{get_or-set_same, get_or-set_other, get_or_default, length-set}
 use Rattle.std.proofs.lemmas.List.FromFn.{length-map-range_with_len, map-range_with_len_more, get_or-map-range_with_len}
 use Rattle.page_space.specs.declared.run.Run.{Run}
@@ -38,6 +40,18 @@ ends_fit page row below is place d there =
 pub fits_nowhere : (rows : List (List Run)) (n : ℕ) → FitsInNone rows n 0 (length rows) → FitsNowhere rows n
 fits_nowhere rows n none page d there =
     rw (get_or_default rows page d [] there) (each_fewer (row_of rows page) n (none page (omega arith) there))
+
+-- where no page from the cursor on has a run of n words, one before it has, or there is none
+pub else_before : (rows : List (List Run)) (n cursor : ℕ) (found : Option ℕ) → FitsInNone rows n cursor (length rows)
+    → MatchOption found (FitsInNone rows n 0 cursor) (λ page. FitsIn rows n page)
+    → MatchOption found (FitsNowhere rows n) (λ page. FitsIn rows n page)
+else_before rows n cursor None behind before =
+    fits_nowhere rows n
+    (λ page from below. elim (cases_lt page cursor) [
+      | inl sooner ↦ before page from sooner
+      | inr later ↦ behind page later below
+    ])
+else_before rows n cursor (Some page) behind before = before
 
 -- where n words fit nowhere, no page has a run of so many
 pub fits_in_none : (rows : List (List Run)) (n page : ℕ) → 1 ≤ n → FitsNowhere rows n → FitsIn rows n page → ⊥

@@ -28,6 +28,8 @@ use tagged_word::NoMemory;
 #[derive(Debug, Drop)]
 pub struct FreeRuns {
     rows: Vec<Row>,
+    // The page of the last take, where the next one looks first.
+    cursor: usize,
 }
 
 impl Model for FreeRuns {
@@ -44,7 +46,7 @@ impl Model for FreeRuns {
 }
 
 /// The first page from one on, and before another, that has a run of so many words.
-fn page_for(rows: &[Row], n: u32, from: usize, to: usize) -> Option<usize>
+fn page_among(rows: &[Row], n: u32, from: usize, to: usize) -> Option<usize>
     requires { to ≤ length rows.now }
     ensures { MatchOption result (FitsInNone rows.now n from to) (λ page. FitsIn rows.now n page) }
 {
@@ -88,7 +90,18 @@ impl FreeRuns {
         ensures { IfOk result (λ free. free ≡ whole_rows pages) }
     {
         let rows = rows_of(alloc, pages)?;
-        Ok(FreeRuns { rows })
+        Ok(FreeRuns { rows, cursor: 0 })
+    }
+
+    /// A page that has a run of so many words: the first from the cursor on, and else the first of
+    /// those before it.
+    fn page_for(&self, n: u32) -> Option<usize>
+        ensures { MatchOption result (FitsNowhere self.now n) (λ page. FitsIn self.now n page) }
+    {
+        if let Some(page) = page_among(&self.rows, n, self.cursor, self.rows.len()) {
+            return Some(page);
+        }
+        page_among(&self.rows, n, 0, self.cursor)
     }
 
     /// The first words of a run that has so many. They are taken from it, and what is left of it
@@ -100,9 +113,10 @@ impl FreeRuns {
         ensures none { IsNone result ↔ FitsNowhere self.old n }
         ensures unchanged { IfNone result (self.new ≡ self.old) }
     {
-        let Some(page) = page_for(&self.rows, n, 0, self.rows.len()) else {
+        let Some(page) = self.page_for(n) else {
             return None;
         };
+        self.cursor = page;
         Some(self.rows[page].take(n))
     }
 

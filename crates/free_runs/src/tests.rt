@@ -44,3 +44,14 @@ fn a_run_that_is_used_up_goes_and_the_others_of_its_page_stay(rt: HostRuntime) {
     );
     assert_eq!(rt; free.runs(1).len(), 0);
 }
+
+#[test]
+fn a_take_looks_first_where_the_last_one_was_and_then_from_the_first_page_on(rt: HostRuntime) {
+    let mut free = FreeRuns::new(rt.alloc(), 2).expect(&rt, "memory");
+    assert_eq!(rt; free.take(2_000), run(0, 2_000));
+    assert_eq!(rt; free.take(50), run(2_048, 50));
+    assert_eq!(rt; free.take(48), run(2_098, 48));
+    free.put_page(1, &[]);
+    assert_eq!(rt; free.take(48), run(2_000, 48));
+    assert_eq!(rt; free.take(1), None);
+}

@@ -7,4 +7,5 @@ pub invariant_of-result : goal.invariant_of-result
 invariant_of-result c = record {
   few = omega (arith, c.requires, ap length c.in_ok-rows.ensures, whole_count c.args.pages);
   free = subst AreFree (sym c.in_ok-rows.ensures) (whole_free c.args.pages);
+  cursor = omega arith;
 }

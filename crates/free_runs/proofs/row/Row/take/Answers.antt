@@ -15,14 +15,13 @@ unreachable-requires c =
 
 pub returns : goal.returns
 returns c =
-    let stands : StandsAt c.self.inside.runs.items c.args.n c.in-Some.place =
-    rw (← c.deref.ensures.value) c.in-Some.ensures
-    in
+    let runs = c.self.inside.runs.items in
+    let place = c.in-Some.place in
+    let run = c.index-run.result.now in
+    let stands : StandsAt runs c.args.n place = rw (← c.deref.ensures.value) c.in-Some.ensures in
     elim c.if-run-n.branch [
       | then-run-n w ↦ rw (← c.self.view_is, w.self-inside-is, w.remove.ensures.by_index.2)
-          (taken_whole c.self.inside.runs.items c.args.n c.in-Some.place c.index-run.result.now stands c.index-run.ensures
-          w.if-run-n.true)
+          (taken_whole runs c.args.n place run stands c.index-run.ensures w.if-run-n.true)
       | else-run-n w ↦ rw (← c.self.view_is, w.self-inside-is)
-          (taken_front c.self.inside.runs.items c.args.n c.in-Some.place c.index-run.result.now stands c.index-run.ensures
-          w.if-run-n.false)
+          (taken_front runs c.args.n place run stands c.index-run.ensures w.if-run-n.false)
     ]
