@@ -1,0 +1,4 @@
+pub mod Bounds
+pub mod Ascents
+pub mod Cuts
+pub mod Pages
