@@ -103,14 +103,14 @@ Runs-cut sizes bytes script image need line n old new faults_old faults_new is k
     let kept = kept_by image (SinkFault need) line n in
     let kept_is = keeps (SinkFault need) line n keepable f.reached f.spent in
     elim at [
-      | inl (none, nothing, fills) ↦
+      | inl (none, nothing, due) ↦
           let (some, count) = front-longer told [] cut.some in
           let near : length told ≤ some.count + OUTPUT_BYTES = omega (arith, count, cut.near) in
           record {
             answer = record { told = told; last = None; kept = Some kept };
             kept = refl;
             comes = λ words input asks reads.
-                Comes.cut_short sizes bytes script kept asks reads is kept_is none nothing fills;
+                Comes.cut_short sizes bytes script kept asks reads is kept_is none nothing due;
             taken = Taken.front (record { told = told; last = None; kept = Some kept }) some near rose;
           }
       | inr (came, comes, same) ↦

@@ -14,7 +14,7 @@ use Rattle.byte_ends.specs.Sink.{Appends, AppendsSome}
 use Rattle.heap_script.specs.declared.finished.How.{How}
 use Rattle.heap_script.specs.declared.finished.How.TheVariants as how
 use Rattle.mutator.specs.declared.output.TheConstants.{OUTPUT_BYTES}
-use Rattle.heap_script.specs.Runs.{Reached, HasSpent, ComesTo, need_at, FillsOutput}
+use Rattle.heap_script.specs.Runs.{Reached, HasSpent, ComesTo, need_at, IsDue}
 use Rattle.heap_model.specs.Images.{image_heap}
 use Rattle.heap_model.specs.Wholeness.{Blank}
 use Rattle.heap_run.specs.declared.ended.Kept.{Kept}
@@ -131,10 +131,10 @@ pub data Comes (words : List (List ℕ)) (input : Input) : Answer → Type 0 whe
         last = Some (last_line_of came kept.line);
         kept = Some kept;
       })
-  -- the source is a script, and the sink failed between two of its lines, where an output was due
+  -- the source is a script, and the sink failed between two of its lines, just where an output was due
   cut_short : (sizes : Sizes) (bytes : List ℕ) (script : ScriptText) (kept : Kept)
       → AsksToRun words sizes → ReadsAll input bytes → reading bytes ≡ Ok script
-      → (keeps : Keeps sizes script kept) → kept.line ≡ 0 → kept.need ≡ 0 → FillsOutput keeps.reached.so_far.bytes
+      → (keeps : Keeps sizes script kept) → kept.line ≡ 0 → kept.need ≡ 0 → IsDue script kept.executed
       → Comes words input (record { told = keeps.reached.so_far.bytes; last = None; kept = Some kept })
 
 -- the bytes of a last line, if there is one

@@ -6,7 +6,7 @@ use Rattle.std.proofs.Math.Seq.{take-append-add}
 use Rattle.mutator.specs.declared.output.TheConstants.{OUTPUT_BYTES}
 use Rattle.byte_ends.specs.Sink.{Appends, AppendsSome}
 use Rattle.byte_ends.proofs.Appending.{Appends-along, Appends-none, Appends-append}
-use Rattle.heap_script.specs.Runs.{FillsOutput, CutsOff}
+use Rattle.heap_script.specs.Runs.{CutsOff}
 use Rattle.heap_script.specs.Progress.{Handed}
 
 -- nothing was handed on, and nothing waits
@@ -78,10 +78,3 @@ CutsOff-handed {old = old} {new = new} {waiting = waiting} h c =
     let near : length (h.handed ++ waiting) ≤ some.count + OUTPUT_BYTES =
     omega (arith, length-append h.handed waiting, c.near, count) in
     subst P h.bytes (record { some = some; near = near })
-
--- where what waits fills an output, all that was told does
-pub fills-handed : {old mid : List ℕ → Type 0} {waiting all : List ℕ}
-    → Handed old mid waiting all → FillsOutput waiting → FillsOutput all
-fills-handed {waiting = waiting} h fills =
-    let whole : FillsOutput (h.handed ++ waiting) = omega (arith, length-append h.handed waiting, fills) in
-    subst FillsOutput h.bytes whole

@@ -15,6 +15,7 @@ use Rattle.script_text.specs.Left.{IsLeft, Goes}
 use Rattle.script_text.proofs.Left.{begins}
 use Rattle.object_graph.specs.Limits.{ideal_limits}
 use Rattle.page_space.specs.Extents.{Space, marks_start}
+use Rattle.heap_model.specs.Heaps.{Heap}
 use Rattle.heap_model.specs.Needs.{need_of}
 use Rattle.nursery.specs.Young.{Young, HasRoom}
 use Rattle.write_barrier.specs.Mains.{Mutator, heap_of, MainShows, IsTied, IsOpened}
@@ -22,7 +23,7 @@ use Rattle.object_cells.specs.Uses.{UsesMore}
 use Rattle.collector.specs.States.{HeapState, HeapShows, Spare, IsReady}
 use Rattle.mutator.specs.Capacities.{KeepsStores}
 use Rattle.mutator.specs.Carries.{Carries}
-use Rattle.heap_script.specs.Runs.{left_after, Reached, Spends, Allocates}
+use Rattle.heap_script.specs.Runs.{left_after, Reached, Spends, Allocates, TellsAt}
 use Rattle.heap_script.specs.Progress.{objects_made, made_by, CarriesLine, Handed}
 use Rattle.heap_script.proofs.Counts.{length-does, makes_one}
 use Rattle.heap_script.proofs.Lacking.{not_lacking}
@@ -251,3 +252,32 @@ Running-line script heap after objects waiting old new at at' ts ts' n number (S
     carries =
     Running-carried script heap after objects waiting old new at at' ts ts' n number command text r below goes
     spare carries
+
+-- and it told its text
+pub TellsAt-line : (script : ScriptText) (heap : Heap) (old new : Mutator) (at' : ℕ) (ts' : List ℕ) (n number : ℕ)
+    (command : Option Command) (text : List ℕ) → (r : Reached script heap n)
+    → Goes script.lines at' ts' (left_after script n) (executed number command)
+    → CarriesLine script.fields old new r.so_far.graph command text (Ok tt) → TellsAt script n text
+TellsAt-line script heap old new at' ts' n number None text r goes (same, nothing, is) =
+    let line = executed number None in
+    let next = next-drop (executed_lines script.lines) n line goes.rest goes.is in
+    rw nothing
+    (record {
+      before = r.so_far;
+      said_before = r.said;
+      after = r.so_far;
+      said_after = said-next script n r.so_far r.so_far line goes.rest next r.said refl;
+      adds = sym (append-nil r.so_far.bytes);
+    })
+TellsAt-line script heap old new at' ts' n number (Some command) text r goes
+    (graph, does-is, shown, room, uses, stores) =
+    let line = executed number (Some command) in
+    let next = next-drop (executed_lines script.lines) n line goes.rest goes.is in
+    let later : Told = record { graph = graph; bytes = r.so_far.bytes ++ text } in
+    record {
+      before = r.so_far;
+      said_before = r.said;
+      after = later;
+      said_after = said-next script n r.so_far later line goes.rest next r.said (ap (told_with r.so_far) does-is);
+      adds = refl;
+    }

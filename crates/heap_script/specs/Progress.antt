@@ -18,7 +18,7 @@ use Rattle.byte_ends.specs.Sink.{Appends}
 use Rattle.heap_script.specs.declared.finished.How.{How}
 use Rattle.heap_script.specs.declared.finished.How.TheVariants.{Fault, HeapFull, SinkFault}
 use Rattle.heap_script.specs.declared.finished.Finished.{Finished}
-use Rattle.heap_script.specs.Runs.{Reached, Spends, ComesTo, FillsOutput, CutsOff}
+use Rattle.heap_script.specs.Runs.{Reached, Spends, ComesTo, IsDue, CutsOff}
 
 -- how many objects a command makes
 abbrev pub objects_made : Command → ℕ
@@ -61,12 +61,12 @@ pub record Handed (old new : List ℕ → Type 0) (waiting all : List ℕ) : Typ
   pub taken : Appends old new handed
   pub bytes : handed ++ waiting ≡ all
 
--- The run came to this, and what it told was handed on or waits. Or the sink failed between two lines, and a front of
--- what was told was written.
+-- The run came to this, and what it told was handed on or waits. Or the sink failed between two lines, where an output
+-- was due, and a front of what was told was written.
 abbrev pub Halts : ScriptText → Heap → List ℕ → Finished → Told → (List ℕ → Type 0) → (List ℕ → Type 0)
     → ℕ → ℕ → How → Type 0
 Halts script heap waiting finished so_far old new faults_old faults_new (SinkFault need) =
-    ((finished.line ≡ 0) × (need ≡ 0) × FillsOutput so_far.bytes)
+    ((finished.line ≡ 0) × (need ≡ 0) × IsDue script finished.executed)
     × CutsOff old new so_far.bytes × Rose faults_old faults_new
 Halts script heap waiting finished so_far old new faults_old faults_new came =
     ComesTo script heap finished.executed so_far came finished.line

@@ -1,7 +1,7 @@
 -- How far a script was run on a heap, and how the run ended.
 use Rattle.std.specs.Prelude.{◌≡◌, ◌⊎◌, ℕ, ◌+◌, ◌<◌, ◌≤◌, List, ◌∷◌}
-use Rattle.std.specs.Prelude.{length, take, drop, All, Option, Some, None, IsTrue}
-use Rattle.std.specs.Prelude.{false, slice_get}
+use Rattle.std.specs.Prelude.{[], ◌++◌, length, take, drop, All, Option, Some, None, IsTrue}
+use Rattle.std.specs.Prelude.{false, slice_get, nat_lt, if◌then◌else◌}
 use Rattle.heap_command.specs.declared.command.Command.{Command}
 use Rattle.heap_command.specs.Executed.{Executed}
 use Rattle.object_graph.specs.Graphs.{Graph}
@@ -115,9 +115,37 @@ need_at (how.HeapFull need) = need
 need_at (how.SinkFault need) = need
 need_at _ = 0
 
--- so much was told that what waits has to be handed on
+-- these bytes fill the output: with them it may lack room for what one more command writes
 abbrev pub FillsOutput : List ℕ → Type 0
 FillsOutput bytes = OUTPUT_BYTES < length bytes + ROOM
+
+-- of the bytes that the output holds before a line, those that wait on while it is executed: none where they fill the
+-- output, since they are handed on, and else all
+abbrev pub waiting_of : List ℕ → List ℕ
+waiting_of held = if nat_lt OUTPUT_BYTES (length held + ROOM) then [] else held
+
+-- the line behind the first so many tells these bytes
+pub record TellsAt (script : ScriptText) (executed : ℕ) (text : List ℕ) : Type 0 where
+  pub before : Told
+  pub said_before : told ideal_limits script.fields (take executed (executed_lines script.lines)) ≡ Some before
+  pub after : Told
+  pub said_after : told ideal_limits script.fields (take (executed + 1) (executed_lines script.lines)) ≡ Some after
+  pub adds : after.bytes ≡ before.bytes ++ text
+
+-- What the output holds after so many lines: nothing before the first one, and then what each line tells, behind what
+-- waited while it was executed.
+pub data Holds (script : ScriptText) : ℕ → List ℕ → Type 0 where
+  nothing : Holds script 0 []
+  one_more : (executed : ℕ) (held text : List ℕ) → Holds script executed held → TellsAt script executed text
+      → Holds script (executed + 1) (waiting_of held ++ text)
+
+-- After so many lines an output is due: what it holds fills it, and one line more is to be executed, which may be.
+pub record IsDue (script : ScriptText) (executed : ℕ) : Type 0 where
+  pub held : List ℕ
+  pub holds : Holds script executed held
+  pub fills : FillsOutput held
+  pub next : executed < length (executed_lines script.lines)
+  pub few : executed < lines_most
 
 -- The sink failed while what waited was handed on. It took a front of what was told, not all of it; no more is missing
 -- than one output holds.
@@ -130,11 +158,11 @@ abbrev pub IsCut : How → Type 0
 IsCut (how.SinkFault need) = Unit {0}
 IsCut _ = ⊥
 
--- Where the sink failed: between two lines, which is the line 0 and the need 0, once so much was told that an output
--- was to be handed on. Or at an end with this line and this need.
+-- Where the sink failed: between two lines, which is the line 0 and the need 0, where an output is due just there. Or
+-- at an end with this line and this need.
 abbrev pub FailedAt : ScriptText → Heap → ℕ → Told → ℕ → ℕ → Type 0
 FailedAt script heap executed so_far line need =
-    ((line ≡ 0) × (need ≡ 0) × FillsOutput so_far.bytes)
+    ((line ≡ 0) × (need ≡ 0) × IsDue script executed)
     ⊎ ((came : How) × ComesTo script heap executed so_far came line × (need ≡ need_at came))
 
 -- What was told was written, and the run came to this. Or the sink failed, and a front of what was told was written.

@@ -6,7 +6,7 @@ ghost use Rattle.write_barrier.specs.Mains.{heap_of, IsOpened};
 ghost use Rattle.collector.specs.States.{HeapShows};
 ghost use Rattle.byte_ends.specs.Faults.{Rose};
 ghost use Rattle.script_text.specs.Sound.{AreShort};
-ghost use Rattle.heap_script.specs.Runs.{AreBuilt, Finishes, CutsOff, FillsOutput, IsCut};
+ghost use Rattle.heap_script.specs.Runs.{AreBuilt, Finishes, CutsOff, FillsOutput, waiting_of, IsCut};
 ghost use Rattle.heap_script.specs.Progress.{Handed, Pauses, how_of};
 
 use crate::execute::execute_line;
@@ -66,6 +66,7 @@ pub fn run_script<K: Sink, G: Gate, R: Threads + Sync>(
 }
 
 /// Executes lines from the first on. What they write waits in the output or was handed to the sink.
+/// Before each line, and nowhere else, an output that is full is handed on.
 fn run_lines<K: Sink>(
     heap: &mut Heap,
     script: &Script<'_>,
@@ -96,11 +97,6 @@ fn run_lines<K: Sink>(
                 executed,
             };
         }
-        match execute_line(heap, script, &mut objects, &mut turns, at, &line.what, out) {
-            Ok(next) => at = next,
-            Err(stop) => return stopped(stop, line.number, executed),
-        }
-        executed += 1;
         let Ok(()) = make_room(sink, out) else {
             return Finished {
                 how: How::SinkFault { need: 0 },
@@ -108,6 +104,11 @@ fn run_lines<K: Sink>(
                 executed,
             };
         };
+        match execute_line(heap, script, &mut objects, &mut turns, at, &line.what, out) {
+            Ok(next) => at = next,
+            Err(stop) => return stopped(stop, line.number, executed),
+        }
+        executed += 1;
     }
     Finished {
         how: How::End,
@@ -137,6 +138,7 @@ fn stopped(stop: Stop, line: u32, executed: u64) -> Finished
 fn make_room<K: Sink>(sink: &mut K, out: &mut Output) -> Result<(), Failed>
     ensures room { OnOk result (length out.new + ROOM ≤ OUTPUT_BYTES) }
     ensures handed { OnOk result (Handed (K.HasTaken sink.old) (K.HasTaken sink.new) out.new out.old) }
+    ensures waits { OnOk result (out.new ≡ waiting_of out.old) }
     ensures due { OnErr result (FillsOutput out.old) }
     ensures stopped { OnErr result (CutsOff (K.HasTaken sink.old) (K.HasTaken sink.new) out.old) }
     ensures failed { OnErr result (Rose (K.faults sink.old) (K.faults sink.new)) }

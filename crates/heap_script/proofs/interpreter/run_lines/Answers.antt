@@ -1,12 +1,15 @@
-use Rattle.std.proofs.Common.{◌≡◌, ◌∙◌, ◌<◌, refl, get_or, arith}
+use Rattle.std.proofs.Common.{◌≡◌, ◌∙◌, ℕ, ◌+◌, ◌<◌, List, ◌++◌, refl, sym, subst, get_or, arith}
 use Rattle.std.proofs.lemmas.Option.{slice_get_past}
 use Rattle.std.specs.Prelude.{slice_get, None}
 use Rattle.object_graph.specs.Run.{lines_most}
+use Rattle.script_text.specs.Unrolled.{executed_lines}
 use Rattle.script_text.proofs.Left.{at_most_four}
 use Rattle.write_barrier.specs.Mains.{heap_of}
 use Rattle.heap_script.proofs.Ways.{goes_on, past_end}
-use Rattle.heap_script.proofs.Handing.{CutsOff-handed, fills-handed}
-use Rattle.heap_script.proofs.Running.{same_heap, same_space, Running-start, Running-handed, Running-line}
+use Rattle.heap_script.specs.Runs.{Holds, IsDue}
+use Rattle.heap_script.proofs.Handing.{CutsOff-handed}
+use Rattle.heap_script.proofs.Running.{next-drop, same_heap, same_space, Running-start, Running-handed}
+use Rattle.heap_script.proofs.Running.{Running-line, TellsAt-line}
 use Rattle.heap_script.proofs.Ending.{ComesTo-end, ComesTo-limit, ComesTo-line, Pauses-stopped, same-line}
 use Rattle.heap_script.proofs.interpreter.run_lines.Goals as goal
 
@@ -18,7 +21,7 @@ loop-at-init g c =
       running = rw (c.requires.empty, c.new-turns.ensures)
           (Running-start c.args.script.now c.args.heap.now taken (rw lines.all at lines.placed) c.requires.shown
           c.requires.opened c.requires.variables);
-      room = rw c.requires.empty (omega arith);
+      holds = rw c.requires.empty Holds.nothing;
       space = refl;
       steady = refl;
     }
@@ -76,18 +79,49 @@ returns-clause-pauses g c =
       );
     }
 
-pub returns-in-Err : goal.returns-in-Err
-returns-in-Err g c =
+pub returns-in_default : goal.returns-in_default
+returns-in_default g c =
     let script = c.args.script.now in
     let r = c.loop-at.invariant.running in
-    let n = c.loop-at.executed in
     let lines = c.lines-lines.result.now in
     let line = get_or lines c.loop-at.at past_end in
     let goes = goes_on lines script.lines c.loop-at.at c.loop-at.turns _ c.lines-lines.ensures.all c.loop-at-test.true
     r.left in
+    let next = next-drop (executed_lines script.lines) c.loop-at.executed _ goes.rest goes.is in
+    let due : IsDue script c.loop-at.executed = record {
+      held = c.loop-at.out;
+      holds = c.loop-at.invariant.holds;
+      fills = c.in_default.ensures.due;
+      next = next.within;
+      few = omega (arith, r.reached.few);
+    } in
+    record {
+      pauses = record {
+        reached = r.reached;
+        spends = r.spends;
+        halts = (
+          (refl, refl, due),
+          CutsOff-handed r.handed c.in_default.ensures.stopped,
+          rw c.loop-at.invariant.steady at c.in_default.ensures.failed,
+        );
+      };
+      shows = (r.reached.so_far.graph, r.shown);
+      space = c.loop-at.invariant.space;
+    }
+
+pub returns-in-Err : goal.returns-in-Err
+returns-in-Err g c =
+    let script = c.args.script.now in
+    let before = c.loop-at.invariant.running in
+    let n = c.loop-at.executed in
+    let lines = c.lines-lines.result.now in
+    let line = get_or lines c.loop-at.at past_end in
+    let heap = c.loop-at.heap in
+    let r = Running-handed script heap _ _ c.make_room.new.out _ _ _ _ _ _ before c.in-Ok.ensures.handed in
+    let goes = goes_on lines script.lines c.loop-at.at c.loop-at.turns _ c.lines-lines.ensures.all c.loop-at-test.true
+    r.left in
     let below : n < lines_most = omega (arith, r.reached.few) in
     let graph = r.reached.so_far.graph in
-    let heap = c.loop-at.heap in
     let after = c.execute_line.new.heap in
     let (text, carries, out-is) = c.in-Err.ensures.carried graph r.shown r.made in
     let same = same_heap heap after (same-line script.fields heap.main after.main graph _ text c.in-Err.stop carries)
@@ -97,9 +131,9 @@ returns-in-Err g c =
     below goes carries in
     record {
       pauses = rw (same, out-is, c.stopped.ensures)
-          (Pauses-stopped script (heap_of heap.main) c.loop-at.out n line.number c.in-Err.stop _ _ _ _ r.reached
+          (Pauses-stopped script (heap_of heap.main) c.make_room.new.out n line.number c.in-Err.stop _ _ _ _ r.reached
           r.spends comes
-          r.handed c.loop-at.invariant.steady);
+          r.handed (c.in-Ok.ensures.steady ∙ c.loop-at.invariant.steady));
       shows = rw same (graph, r.shown);
       space = rw same c.loop-at.invariant.space;
     }
@@ -107,50 +141,26 @@ returns-in-Err g c =
 pub loop-at-preserved : goal.loop-at-preserved
 loop-at-preserved g c =
     let script = c.args.script.now in
-    let r = c.loop-at.invariant.running in
+    let before = c.loop-at.invariant.running in
     let n = c.loop-at.executed in
     let lines = c.lines-lines.result.now in
     let line = get_or lines c.loop-at.at past_end in
+    let heap = c.loop-at.heap in
+    let r = Running-handed script heap _ _ c.make_room.new.out _ _ _ _ _ _ before c.in-Ok.ensures.handed in
     let goes = goes_on lines script.lines c.loop-at.at c.loop-at.turns _ c.lines-lines.ensures.all c.loop-at-test.true
     r.left in
     let below : n < lines_most = omega (arith, r.reached.few) in
-    let (text, carries, out-is) = c.in-Ok.ensures.carried r.reached.so_far.graph r.shown r.made in
-    let ran = Running-line script c.loop-at.heap c.execute_line.new.heap c.loop-at.objects c.loop-at.out _ _
-    c.loop-at.at _ c.loop-at.turns _ n line.number _ text r below goes c.in-Ok.ensures.spare carries in
+    let ran = c.in-Ok-execute_line.ensures in
+    let (text, carries, out-is) = ran.carried r.reached.so_far.graph r.shown r.made in
+    let tells = TellsAt-line script (heap_of heap.main) _ _ _ _ n line.number _ text r.reached goes carries in
+    let holds : Holds script (n + 1) (c.make_room.new.out ++ text) =
+    subst (λ (waiting : List ℕ). Holds script (n + 1) (waiting ++ text)) (sym c.in-Ok.ensures.waits)
+    (Holds.one_more n c.loop-at.out text c.loop-at.invariant.holds tells) in
     record {
-      running = rw (c.in-Ok.ensures.place, c.in-Ok.ensures.turned, c.in-Ok.ensures.counted)
-          (Running-handed script c.execute_line.new.heap _ _ c.make_room.new.out _ _ _ _ _ _
-          ran (rw out-is at c.in-Ok-make_room.ensures.handed));
-      room = c.in-Ok-make_room.ensures.room;
-      space = same_space c.loop-at.heap c.execute_line.new.heap _ _ script.fields text carries
-          ∙ c.loop-at.invariant.space;
-      steady = c.in-Ok-make_room.ensures.steady ∙ c.loop-at.invariant.steady;
-    }
-
-pub returns-in_default : goal.returns-in_default
-returns-in_default g c =
-    let script = c.args.script.now in
-    let r = c.loop-at.invariant.running in
-    let n = c.loop-at.executed in
-    let lines = c.lines-lines.result.now in
-    let line = get_or lines c.loop-at.at past_end in
-    let goes = goes_on lines script.lines c.loop-at.at c.loop-at.turns _ c.lines-lines.ensures.all c.loop-at-test.true
-    r.left in
-    let below : n < lines_most = omega (arith, r.reached.few) in
-    let (text, carries, out-is) = c.in-Ok.ensures.carried r.reached.so_far.graph r.shown r.made in
-    let ran = Running-line script c.loop-at.heap c.execute_line.new.heap c.loop-at.objects c.loop-at.out _ _
-    c.loop-at.at _ c.loop-at.turns _ n line.number _ text r below goes c.in-Ok.ensures.spare carries in
-    record {
-      pauses = record {
-        reached = ran.reached;
-        spends = ran.spends;
-        halts = (
-          (refl, refl, fills-handed ran.handed (rw out-is at c.in_default.ensures.due)),
-          CutsOff-handed ran.handed (rw out-is at c.in_default.ensures.stopped),
-          rw c.loop-at.invariant.steady at c.in_default.ensures.failed,
-        );
-      };
-      shows = (ran.reached.so_far.graph, ran.shown);
-      space = same_space c.loop-at.heap c.execute_line.new.heap _ _ script.fields text carries
-          ∙ c.loop-at.invariant.space;
+      running = rw (ran.place, ran.turned, ran.counted, out-is)
+          (Running-line script heap c.execute_line.new.heap c.loop-at.objects c.make_room.new.out _ _
+          c.loop-at.at _ c.loop-at.turns _ n line.number _ text r below goes ran.spare carries);
+      holds = rw out-is holds;
+      space = same_space heap c.execute_line.new.heap _ _ script.fields text carries ∙ c.loop-at.invariant.space;
+      steady = c.in-Ok.ensures.steady ∙ c.loop-at.invariant.steady;
     }
