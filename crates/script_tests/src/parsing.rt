@@ -6,14 +6,27 @@ use std::test::Fail;
 
 #[test]
 fn a_source_is_read_as_its_lines_and_names(rt: HostRuntime) -> Result<(), Fail> {
-    let source = b"new x 2\n# two\nset x a 5\nrepeat 3\n  repeat 0\n\tget y x a\r\n  end\nend\nprint y # y";
+    let source =
+        b"new x 2\n# two\nset x a 5\nrepeat 3\n  repeat 0\n\tget y x a\r\n  end\nend\nprint y # y";
     let script = parse(rt.alloc(), source).expect(&rt, "the source is a script");
     let v = Operand::Int(5);
     let expected = [
         (1, What::Run(Command::New { x: 0, cap: 2 })),
         (3, What::Run(Command::Set { x: 0, f: 0, v })),
-        (4, What::Repeat { times: 3, end_at: 6 }),
-        (5, What::Repeat { times: 0, end_at: 5 }),
+        (
+            4,
+            What::Repeat {
+                times: 3,
+                end_at: 6,
+            },
+        ),
+        (
+            5,
+            What::Repeat {
+                times: 0,
+                end_at: 5,
+            },
+        ),
         (6, What::Run(Command::Get { y: 1, x: 0, f: 0 })),
         (7, What::End { repeat_at: 3 }),
         (8, What::End { repeat_at: 2 }),

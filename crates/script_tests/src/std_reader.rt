@@ -64,7 +64,11 @@ fn each_error_of_a_reader_is_a_fault_and_nothing_else_is(rt: HostRuntime) -> Res
             at: 0,
         };
         let trace = trace_of_reads(rt.alloc(), &mut StdSource::new(reader), room)?;
-        assert_eq!(rt; trace.as_slice(), wanted.as_bytes(), "{room} {most} {interruptions}");
+        assert_eq!(rt;
+            trace.as_slice(),
+            wanted.as_bytes(),
+            "{room} {most} {interruptions}"
+        );
     }
     Ok(())
 }

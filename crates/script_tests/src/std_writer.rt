@@ -59,6 +59,7 @@ impl<'p> Write for Planned<'p> {
 }
 
 const SOON: &[u8] = b"~~~~~~~~~~~~~~~~~~~~~~~~~~~~~~~~~~~~~~~~~~~~~~~~~~~~~~~~~~~~~~~";
+
 const LATE: &[u8] = b"~~~~~~~~~~~~~~~~~~~~~~~~~~~~~~~~~~~~~~~~~~~~~~~~~~~~~~~~~~~~~~~~";
 
 // The plans of the writer, what the sink says, and the writer's log. The front of the log up to the first error is

@@ -9,7 +9,10 @@ fn words_are_read_as_the_run_that_they_ask_for(rt: HostRuntime) -> Result<(), Fa
     let lines = [
         ("run", Some((64, 8192, 2))),
         ("run --young=64 --pages 1 --helpers 0", Some((1, 64, 0))),
-        ("run --helpers=7 --pages 512 --young 65536 --", Some((512, 65536, 7))),
+        (
+            "run --helpers=7 --pages 512 --young 65536 --",
+            Some((512, 65536, 7)),
+        ),
         ("run --pages 513", None),
         ("check", None),
     ];
