@@ -13,8 +13,6 @@ mod memory;
 mod settling;
 mod standard;
 mod sure;
-#[cfg(test)]
-mod tests;
 mod writing;
 
 pub use ends::{Failed, Sink, Source};

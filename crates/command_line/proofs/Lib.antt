@@ -10,5 +10,4 @@ mod Agreement
 mod AwaitedAgreement
 mod ParsedRows
 mod ParserCalls
-mod RunWords
 pub mod AskedSizes

@@ -18,6 +18,3 @@ pub use laws::laws_of_sizes;
 pub use page_space::Sizes;
 pub use reading::read_words;
 pub use rows::{refused_number_rows, refused_word_rows, run_rows, unbuilt_rows};
-
-#[cfg(test)]
-mod tests;

@@ -2,6 +2,7 @@
 ghost use Rattle.std.specs.Prelude.{◌≡◌, false, Err, Some, None, IfOk, drop, map};
 ghost use Rattle.std.specs.Prelude.{option_and_then, string_bytes};
 ghost use Rattle.clap.specs.Words.{app_of, first_value, found_of, rows_of, rule_of};
+ghost use Rattle.clap.specs.Simple.{with_rule};
 ghost use Rattle.command_line.specs.Given.{given_of};
 ghost use Rattle.command_line.specs.Sizes.{sizes_alone, sizes_by, sizes_from};
 ghost use Rattle.command_line.specs.Parser.{option_rule, parsed_rows, parser};
@@ -85,11 +86,22 @@ fn matches_of<'a>(alloc: Global, words: &'a [String]) -> Result<ArgMatches<'a>, 
 fn parser<'a>(alloc: Global) -> Result<Command<'a>, AllocError>
     ensures { IfOk result (λ command. app_of command ≡ parser) }
 {
-    Command::new(alloc, "heaprun")
-        .disable_help_flag(true)
-        .arg(option(alloc, "pages"))?
-        .arg(option(alloc, "young"))?
-        .arg(option(alloc, "helpers"))
+    let plain = Command::new(alloc, "heaprun").disable_help_flag(true);
+    let pages = with_option(alloc, plain, "pages")?;
+    let young = with_option(alloc, pages, "young")?;
+    with_option(alloc, young, "helpers")
+}
+
+/// A parser with one option more.
+fn with_option<'a>(
+    alloc: Global,
+    parser: Command<'a>,
+    name: &'a str,
+) -> Result<Command<'a>, AllocError>
+    ensures { IfOk result (λ more.
+        app_of more ≡ with_rule (app_of parser.entry) (option_rule name.entry.now)) }
+{
+    parser.arg(option(alloc, name))
 }
 
 /// An option with one value.

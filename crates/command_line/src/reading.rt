@@ -1,6 +1,6 @@
 //! Reading words as an invocation.
-ghost use Rattle.std.specs.Prelude.{◌≡◌, Err, Some, None, IfOk, map, string_bytes};
-ghost use Rattle.command_line.specs.Invocations.{BeginsBuilt, built_invocation_of, unbuilt_today};
+ghost use Rattle.std.specs.Prelude.{◌≡◌, [], ◌∷◌, Err, Some, None, IfOk, map, string_bytes};
+ghost use Rattle.command_line.specs.Invocations.{BeginsBuilt, begins_with_any, built_invocation_of, run, unbuilt_today};
 
 use crate::invocation::{Invocation, WordsStop};
 use crate::options::sizes_of;
@@ -18,8 +18,17 @@ pub fn read_words(alloc: Global, words: &[String]) -> Result<Invocation, WordsSt
         BeginsBuilt (map string_bytes words.now) }
 {
     // The first word is judged before the parser allocates, so that no other command wants memory.
+    if !begins_with_run(words) {
+        return Err(WordsStop::BadWords);
+    }
+    Ok(Invocation::Run(sizes_of(alloc, words)?))
+}
+
+fn begins_with_run(words: &[String]) -> bool
+    ensures { result ≡ begins_with_any (run ∷ []) (map string_bytes words.now) }
+{
     match words {
-        [first, ..] if first.as_str() == "run" => Ok(Invocation::Run(sizes_of(alloc, words)?)),
-        _ => Err(WordsStop::BadWords),
+        [first, ..] => first.as_str() == "run",
+        [] => false,
     }
 }

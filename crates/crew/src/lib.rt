@@ -31,26 +31,3 @@ pub struct OpenGate;
 impl Gate for OpenGate {
     fn pass(&self, _point: Point) {}
 }
-
-#[cfg(test)]
-mod tests {
-    use super::*;
-
-    fn pass_all<G: Gate>(gate: &G, points: &[Point]) {
-        for point in points {
-            gate.pass(*point);
-        }
-    }
-
-    #[test]
-    fn an_open_gate_holds_nobody() {
-        let points = [
-            Point::HelperLoaded,
-            Point::HelperExchanged,
-            Point::WorkerLoaded,
-            Point::WorkerExchanged,
-            Point::CommandDone,
-        ];
-        pass_all(&OpenGate, &points);
-    }
-}

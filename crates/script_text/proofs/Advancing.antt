@@ -11,11 +11,11 @@ use Rattle.script_text.specs.declared.speech.Spoken.{Spoken as SpokenSlices}
 use Rattle.script_text.specs.Limits.{variables_most, fields_most}
 use Rattle.script_text.specs.Phrases.{Phrase}
 use Rattle.script_text.specs.Names.{with_name, first_uses, variables_of, fields_of}
-use Rattle.script_text.specs.Scripts.{Spoken, argument_of, what_in}
+use Rattle.script_text.specs.Scripts.{Spoken, line, argument_of, what_in}
 use Rattle.script_text.specs.Grammar.{past_limit, lines_from, open_after, script_of}
 use Rattle.script_text.specs.Blocks.{ends_from}
 use Rattle.script_text.specs.Shown.{phrase_shown, spoken_shown, are_too_many}
-use Rattle.script_text.proofs.Lining.{line, lines_from-read, lines-more}
+use Rattle.script_text.proofs.Lining.{lines_from-read, lines-more}
 use Rattle.script_text.proofs.Within.{AreIn, what_at_places}
 use Rattle.script_text.proofs.Staying.{arguments-fold, AreIn-fold}
 

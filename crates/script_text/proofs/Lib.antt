@@ -4,7 +4,6 @@ mod Depths
 mod Digits
 mod Ending
 pub mod Fits
-mod Gathered
 mod Holding
 pub mod Left
 mod Lining
@@ -18,6 +17,7 @@ mod Positions
 mod Pushing
 mod ShortNames
 pub mod Reading
+mod Refusing
 pub mod Scanning
 pub mod Speaking
 mod Staying

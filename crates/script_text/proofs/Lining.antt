@@ -2,17 +2,12 @@
 use Rattle.std.proofs.Common.{◌≡◌, ℕ, suc, ◌+◌, ◌<◌, List, [], ◌∷◌, ◌++◌, length, map, drop, get_or}
 use Rattle.std.proofs.Common.{slice_get, unwrap_or, add-one, append_assoc, drop-cons, refl, sym, ap, ◌∙◌, arith}
 use Rattle.script_text.specs.declared.script.Line.{Line}
-use Rattle.script_text.specs.declared.script.What.{What}
 use Rattle.script_text.specs.declared.speech.Spoken.{Spoken as SpokenSlices}
-use Rattle.script_text.specs.Scripts.{what_in, end_after}
+use Rattle.script_text.specs.Scripts.{line, what_in, end_after}
 use Rattle.script_text.specs.Grammar.{lines_from, open_after, innermost_of}
 use Rattle.script_text.specs.Blocks.{ends_from}
 use Rattle.script_text.specs.Shown.{phrase_shown, spoken_shown}
 use Rattle.script_text.proofs.Ending.{get_or-ends_from}
-
--- a line with this number
-abbrev pub line : ℕ → What → Line
-line number what = record { number = number; what = what }
 
 -- the top of a stack, or the first place
 unwrap_or-innermost : (open' : List ℕ) → unwrap_or (slice_get open' 0) 0 ≡ innermost_of open'

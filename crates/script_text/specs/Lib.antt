@@ -7,6 +7,7 @@ pub mod Names
 pub mod Scripts
 pub mod Blocks
 pub mod Grammar
+pub mod Gathered
 pub mod Unrolled
 pub mod Pieces
 pub mod Shown

@@ -19,6 +19,10 @@ pub record ScriptText : Type 0 where
   pub variables : List (List ℕ)
   pub fields : List (List ℕ)
 
+-- a line with this number
+abbrev pub line : ℕ → What → Line
+line number what = record { number = number; what = what }
+
 -- a phrase and the number of its line
 pub record Spoken : Type 0 where
   pub number : ℕ

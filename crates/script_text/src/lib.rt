@@ -26,6 +26,3 @@ pub use commands::Argument;
 pub use parsing::parse;
 pub use script::{BadScript, Line, Script, What, Why};
 pub use table::{Keyword, Place};
-
-#[cfg(test)]
-mod tests;

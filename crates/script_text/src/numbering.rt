@@ -1,11 +1,11 @@
 //! The phrases of a script as lines: names get numbers in the order in which they first appear, and
 //! each `repeat` and its `end` the place of the other.
-ghost use Rattle.std.specs.Prelude.{◌≡◌, ◌<◌, ◌≤◌, ◌+◌, ◌^◌, [], None, IfOk, IfErr, OnOk, fold, length};
-ghost use Rattle.std.specs.Prelude.{map, slice_get};
+ghost use Rattle.std.specs.Prelude.{◌≡◌, ◌<◌, ◌≤◌, ◌+◌, ◌^◌, List, [], ◌∷◌, ◌++◌, None, false, IfOk, IfErr, OnOk};
+ghost use Rattle.std.specs.Prelude.{fold, length, map, slice_get, unwrap_or};
 ghost use Rattle.script_text.specs.Limits.{variables_most, fields_most};
 ghost use Rattle.script_text.specs.Names.{with_name, names_at, variable_in, field_in, variables_of, fields_of};
-ghost use Rattle.script_text.specs.Scripts.{argument_of, argument_at, what_in};
-ghost use Rattle.script_text.specs.Grammar.{past_limit, script_of};
+ghost use Rattle.script_text.specs.Scripts.{Spoken as SpokenText, line, argument_of, argument_at, what_in};
+ghost use Rattle.script_text.specs.Grammar.{open_after, past_limit, script_of};
 ghost use Rattle.script_text.specs.Shown.{shown, phrase_shown, spoken_shown, IsPast, are_too_many};
 ghost use Rattle.script_text.specs.Sound.{script_text};
 
@@ -25,6 +25,8 @@ use std::alloc::{AllocError, Global};
 pub(crate) struct Numbered<'s> {
     pub(crate) lines: Vec<Line>,
     pub(crate) names: Numbering<'s>,
+    /// The places of the `repeat`s that are open.
+    opened: Stack,
 }
 
 /// The phrases as lines, or the first line with too many names.
@@ -43,23 +45,60 @@ pub(crate) fn with_numbers<'s>(
         IsPast (past_limit [] [] (map spoken_shown spoken.now)) stop) }
 {
     let ends = ends(alloc, spoken)?;
-    let mut names = Numbering::new(alloc);
-    let mut open = Stack::new(alloc);
-    let mut lines = Vec::with_capacity(alloc, spoken.len())?;
-    for (i, Spoken { number, phrase }) in spoken.iter().enumerate() {
+    let mut all = Numbered::start(alloc, spoken.len())?;
+    for (i, one) in spoken.iter().enumerate() {
+        all.add(ends[i], i as u32, one)?;
+    }
+    Ok(all)
+}
+
+impl<'s> Numbered<'s> {
+    /// No line so far, with room for so many.
+    fn start(alloc: Global, count: usize) -> Result<Self, AllocError>
+        ensures lines { IfOk result (λ all. all.lines.items ≡ []) }
+        ensures variables { IfOk result (λ all. all.names.variables ≡ []) }
+        ensures fields { IfOk result (λ all. all.names.fields ≡ []) }
+        ensures opened { IfOk result (λ all. all.opened ≡ []) }
+    {
+        Ok(Numbered {
+            lines: Vec::with_capacity(alloc, count)?,
+            names: Numbering::new(alloc),
+            opened: Stack::new(alloc),
+        })
+    }
+
+    /// Adds the line of a phrase at this place, whose `repeat` ends at the first.
+    fn add(&mut self, end_at: u32, at: u32, spoken: &Spoken<'s>) -> Result<(), BadScript>
+        requires few_variables { length self.old.names.variables ≤ variables_most }
+        requires few_fields { length self.old.names.fields ≤ fields_most }
+        ensures variables { OnOk result (self.new.names.variables
+            ≡ fold with_name self.old.names.variables (variables_of (phrase_shown spoken.now.phrase))) }
+        ensures fields { OnOk result (self.new.names.fields
+            ≡ fold with_name self.old.names.fields (fields_of (phrase_shown spoken.now.phrase))) }
+        ensures few { OnOk result (are_too_many self.new.names.variables self.new.names.fields ≡ false) }
+        ensures line { OnOk result (self.new.lines.items ≡ self.old.lines.items
+            ++ (line spoken.now.number (what_in self.new.names.variables self.new.names.fields
+            end_at (unwrap_or (slice_get self.old.opened 0) 0) (phrase_shown spoken.now.phrase)) ∷ [])) }
+        ensures opened { OnOk result (self.new.opened
+            ≡ open_after at self.old.opened spoken.now.phrase.keyword) }
+        ensures refused { IfErr result (λ stop. (more : List SpokenText) → IsPast (past_limit
+            self.old.names.variables self.old.names.fields (spoken_shown spoken.now ∷ more)) stop) }
+    {
         // Read before the block is closed: an `end` belongs to the `repeat` that is open before it.
-        let repeat_at = open.top().unwrap_or(0);
-        let what = names.what(ends[i], repeat_at, phrase)?;
-        if names.are_too_many() {
-            return Err(BadScript::TooManyNames { line: *number });
+        let repeat_at = self.opened.top().unwrap_or(0);
+        let what = self.names.what(end_at, repeat_at, &spoken.phrase)?;
+        if self.names.are_too_many() {
+            return Err(BadScript::TooManyNames {
+                line: spoken.number,
+            });
         }
-        lines.push(Line {
-            number: *number,
+        self.lines.push(Line {
+            number: spoken.number,
             what,
         })?;
-        open_after(&mut open, i as u32, phrase.keyword)?;
+        open_after(&mut self.opened, at, spoken.phrase.keyword)?;
+        Ok(())
     }
-    Ok(Numbered { lines, names })
 }
 
 /// The names of the variables and of the fields, each by number.

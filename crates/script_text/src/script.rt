@@ -101,7 +101,7 @@ pub enum What {
 }
 
 /// A line, with its number in the source, counted from 1.
-#[derive(Clone, Copy, Debug, PartialEq, Eq)]
+#[derive(Clone, Copy)]
 pub struct Line {
     pub number: u32,
     pub what: What,

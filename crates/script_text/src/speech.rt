@@ -1,6 +1,8 @@
 //! The phrases of a source, each with the number of its line.
-ghost use Rattle.std.specs.Prelude.{◌≡◌, ℕ, ◌<◌, ◌^◌, [], IfOk, IfErr, IfSome, None, Ok, Err, length, map};
-ghost use Rattle.script_text.specs.Grammar.{nest, open_after, spoken_from};
+ghost use Rattle.std.specs.Prelude.{◌≡◌, ℕ, ◌<◌, ◌+◌, ◌^◌, List, [], ◌∷◌, IfOk, IfErr, IfSome, OnOk, None, Ok, Err};
+ghost use Rattle.std.specs.Prelude.{length, map};
+ghost use Rattle.script_text.specs.Gathered.{gathered};
+ghost use Rattle.script_text.specs.Grammar.{closed, nest, open_after, spoken_from};
 ghost use Rattle.script_text.specs.Shown.{spoken_shown, IsBad};
 
 use crate::blocks::open_after;
@@ -31,27 +33,61 @@ pub(crate) fn phrases_of<'s>(
     ensures refused { IfErr result (λ stop.
         IsBad (spoken_from unbuilt.now 1 [] (map (λ line. line.now) lines.now)) stop) }
 {
-    let mut spoken = Vec::new(alloc);
-    let mut open = Stack::new(alloc);
+    let mut speech = Speech {
+        spoken: Vec::new(alloc),
+        open: Stack::new(alloc),
+    };
     for (i, line) in lines.iter().enumerate() {
-        let number = i as u32 + 1;
+        speech.hear(unbuilt, i as u32 + 1, line)?;
+    }
+    speech.close()
+}
+
+/// The phrases of the lines so far, and the lines whose `repeat` is open.
+#[derive(Drop)]
+struct Speech<'s> {
+    spoken: Vec<Spoken<'s>>,
+    open: Stack,
+}
+
+impl<'s> Speech<'s> {
+    /// Reads the line with this number behind the others.
+    fn hear(&mut self, unbuilt: &[Keyword], number: u32, line: &'s [u8]) -> Result<(), BadScript>
+        ensures said { OnOk result ((rest : List (List ℕ)) →
+            gathered (map spoken_shown self.new.spoken.items)
+            (spoken_from unbuilt.now (number + 1) self.new.open rest)
+            ≡ gathered (map spoken_shown self.old.spoken.items)
+            (spoken_from unbuilt.now number self.old.open (line.now ∷ rest))) }
+        ensures refused { IfErr result (λ stop. (rest : List (List ℕ)) → IsBad
+            (gathered (map spoken_shown self.old.spoken.items)
+            (spoken_from unbuilt.now number self.old.open (line.now ∷ rest))) stop) }
+    {
         let phrase = match phrase_of_line(unbuilt, line) {
             Ok(Some(phrase)) => phrase,
-            Ok(None) => continue,
+            Ok(None) => return Ok(()),
             Err(why) => return Err(BadScript::BadLine { line: number, why }),
         };
-        if let Some(why) = why_misplaced(&open, phrase.keyword) {
+        if let Some(why) = why_misplaced(&self.open, phrase.keyword) {
             return Err(BadScript::BadLine { line: number, why });
         }
-        open_after(&mut open, number, phrase.keyword)?;
-        spoken.push(Spoken { number, phrase })?;
+        open_after(&mut self.open, number, phrase.keyword)?;
+        self.spoken.push(Spoken { number, phrase })?;
+        Ok(())
     }
-    match open.top() {
-        Some(line) => Err(BadScript::BadLine {
-            line,
-            why: Why::Open,
-        }),
-        None => Ok(spoken),
+
+    /// The phrases, where no `repeat` is open.
+    fn close(self) -> Result<Vec<Spoken<'s>>, BadScript>
+        ensures spoken { IfOk result (λ spoken.
+            closed self.entry.open ≡ Ok [] × (spoken.items ≡ self.entry.spoken.items)) }
+        ensures refused { IfErr result (λ stop. IsBad (closed self.entry.open) stop) }
+    {
+        match self.open.top() {
+            Some(line) => Err(BadScript::BadLine {
+                line,
+                why: Why::Open,
+            }),
+            None => Ok(self.spoken),
+        }
     }
 }
 

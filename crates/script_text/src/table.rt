@@ -6,7 +6,7 @@ ghost use Rattle.script_text.specs.Table.{keyword_text, keywords, keyword_among,
 use crate::limits::{CAP_MOST, TURNS_MOST};
 
 /// The first word of a line.
-#[derive(Clone, Copy, Debug, PartialEq, Eq)]
+#[derive(Clone, Copy, PartialEq, Eq)]
 pub enum Keyword {
     New,
     List,
@@ -39,7 +39,7 @@ pub enum Keyword {
 }
 
 /// What an operand has to be.
-#[derive(Clone, Copy, Debug, PartialEq, Eq)]
+#[derive(Clone, Copy)]
 pub enum Place {
     /// The name of a variable.
     Variable,

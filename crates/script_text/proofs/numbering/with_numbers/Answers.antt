@@ -1,13 +1,26 @@
-use Rattle.std.proofs.Common.{◌≡◌, ◌<◌, length, get_or, unwrap_or, sym, ap, ◌∙◌, arith}
+use Rattle.std.proofs.Common.{◌≡◌, ◌<◌, ◌+◌, length, get_or, map, drop, refl, sym, ap, ◌∙◌, arith, subst}
 use Rattle.std.proofs.lemmas.List.{get_or_read}
+use Rattle.script_text.specs.Grammar.{past_limit}
+use Rattle.script_text.specs.Shown.{spoken_shown, IsPast}
 use Rattle.script_text.proofs.Ending.{no_spoken, length-ends_from}
 use Rattle.script_text.proofs.Lining.{drop-index}
+use Rattle.script_text.proofs.Refusing.{handed_on}
 use Rattle.script_text.proofs.Advancing.{IsNext, AreLines-more}
 use Rattle.script_text.proofs.numbering.with_numbers.Goals as goal
 
 pub index-requires : goal.index-requires
 index-requires c = omega
     (arith, ap length c.in_ok-ends.ensures, length-ends_from c.args.spoken.now 0, c.in_ok-ends.ends.ok)
+
+pub returns-in_err-add-clause-refused : goal.returns-in_err-add-clause-refused
+returns-in_err-add-clause-refused c =
+    let xs = c.args.spoken.now in
+    let names = c.loop-i.all.names in
+    let here = ap (λ all. past_limit names.variables names.fields (map spoken_shown all))
+    (drop-index xs c.loop-i.i no_spoken c.loop-i-test.true) in
+    handed_on (IsPast _) _ c.from_residual-in_err-add.result c.from_residual-in_err-add.ensures.1
+    (subst (λ past. IsPast past c.in_err-add.field-0.0) (sym here ∙ c.loop-i.invariant.within)
+    (c.in_err-add.ensures.refused (map spoken_shown (drop (c.loop-i.i + 1) xs))))
 
 pub loop-i-preserved : goal.loop-i-preserved
 loop-i-preserved c =
@@ -16,15 +29,14 @@ loop-i-preserved c =
     let x = get_or xs c.loop-i.i no_spoken in
     let lt : c.loop-i.i < length ends = omega (arith, ap length c.in_ok-ends.ensures, length-ends_from xs 0) in
     let found : c.index.result.now ≡ get_or ends c.loop-i.i 0 = get_or_read ends _ _ lt c.index.ensures 0 in
-    let repeats = c.unwrap_or-repeat_at.ensures ∙ ap (λ o. unwrap_or o 0) c.top.ensures in
-    let names = c.loop-i.names in
-    let new = c.what.new.self in
-    let next : IsNext xs c.loop-i.i x names.variables names.fields new.variables new.fields = record {
+    let old = c.loop-i.all in
+    let new = c.add.new.self in
+    let next : IsNext xs c.loop-i.i x old.names.variables old.names.fields new.names.variables new.names.fields =
+    record {
       here = drop-index xs c.loop-i.i no_spoken c.loop-i-test.true;
-      variables_are = c.in_ok-what.ensures.variables;
-      fields_are = c.in_ok-what.ensures.fields;
+      variables_are = c.in_ok-add.ensures.variables;
+      fields_are = c.in_ok-add.ensures.fields;
     } in
-    AreLines-more xs c.loop-i.i x _ _ _ _ c.loop-i.open c.open_after.new.opened c.loop-i.lines.items
-    c.push.new.self.items ends _ _ c.in_ok-what.what
-    c.loop-i-test.true c.loop-i.invariant next (sym c.if-are_too_many.ensures) c.in_ok-ends.ensures found repeats
-    c.in_ok-open_after.ensures c.in_ok-what.ensures.what c.in_ok-push.ensures.items
+    AreLines-more xs c.loop-i.i x _ _ _ _ old.opened new.opened old.lines.items new.lines.items ends _ _ _
+    c.loop-i-test.true c.loop-i.invariant next c.in_ok-add.ensures.few c.in_ok-ends.ensures found refl
+    c.in_ok-add.ensures.opened refl c.in_ok-add.ensures.line

@@ -1,5 +1,5 @@
 -- The phrases of lines, one line after another.
-use Rattle.std.proofs.Common.{List, ◌++◌, Result, Ok, Err}
+use Rattle.std.specs.Prelude.{List, ◌++◌, Result, Ok, Err}
 use Rattle.script_text.specs.declared.script.BadScript.{BadScript}
 use Rattle.script_text.specs.Scripts.{Spoken}
 

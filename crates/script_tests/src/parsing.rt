@@ -1,0 +1,60 @@
+//! Sources with what they are read as.
+
+use heap_command::{Command, Operand};
+use script_text::{BadScript, What, Why, parse};
+use std::test::Fail;
+
+#[test]
+fn a_source_is_read_as_its_lines_and_names(rt: HostRuntime) -> Result<(), Fail> {
+    let source =
+        b"new x 2\n# two\nset x a 5\nrepeat 3\n  repeat 0\n\tget y x a\r\n  end\nend\nprint y # y";
+    let script = parse(rt.alloc(), source).expect(&rt, "the source is a script");
+    let v = Operand::Int(5);
+    let expected = [
+        (1, What::Run(Command::New { x: 0, cap: 2 })),
+        (3, What::Run(Command::Set { x: 0, f: 0, v })),
+        (
+            4,
+            What::Repeat {
+                times: 3,
+                end_at: 6,
+            },
+        ),
+        (
+            5,
+            What::Repeat {
+                times: 0,
+                end_at: 5,
+            },
+        ),
+        (6, What::Run(Command::Get { y: 1, x: 0, f: 0 })),
+        (7, What::End { repeat_at: 3 }),
+        (8, What::End { repeat_at: 2 }),
+        (9, What::Run(Command::Print { v: Operand::Var(1) })),
+    ];
+    let lines = script.lines();
+    assert_eq!(rt; lines.len(), expected.len());
+    for (line, (number, what)) in lines.iter().zip(&expected) {
+        assert_eq!(rt; (line.number, line.what), (*number, *what));
+    }
+    assert_eq!(rt; (script.variables(), script.fields()), (2, 1));
+    assert_eq!(rt; script.variable(0), b"x".as_slice());
+    assert_eq!(rt; script.variable(1), b"y".as_slice());
+    assert_eq!(rt; script.field(0), b"a".as_slice());
+    Ok(())
+}
+
+#[test]
+fn another_source_is_refused_with_its_line_and_reason(rt: HostRuntime) {
+    let rows: [(&[u8], u32, Why); 3] = [
+        (b"print 1\nmake x", 2, Why::Command),
+        (b"gc", 1, Why::NotBuilt),
+        (b"repeat 2", 1, Why::Open),
+    ];
+    for (source, line, why) in rows {
+        match parse(rt.alloc(), source) {
+            Ok(_) => assert!(rt; false, "the source is refused"),
+            Err(stop) => assert_eq!(rt; stop, BadScript::BadLine { line, why }),
+        }
+    }
+}
