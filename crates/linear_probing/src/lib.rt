@@ -13,8 +13,6 @@
 mod closing;
 mod probing;
 mod table;
-#[cfg(test)]
-mod tests;
 
 pub use closing::laws_of_closing;
 pub use probing::laws_of_probing;

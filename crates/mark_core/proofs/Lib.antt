@@ -1,5 +1,4 @@
 pub mod FreeStarts
 pub mod JoinedLists
 pub mod SlotWalks
-pub mod Walks
 pub mod Passing

@@ -7,15 +7,6 @@
 
 mod cells;
 mod conditions;
-mod judging;
-mod judging_board;
-mod judging_cells;
-mod judging_cover;
-mod judging_free;
-mod judging_grey;
-mod judging_slots;
-mod judging_snaps;
-mod judging_views;
 mod learning;
 mod learning_helper;
 mod lists;
@@ -25,11 +16,7 @@ mod runs;
 mod safety;
 mod spots;
 mod steps;
-#[cfg(test)]
-mod tests;
 
-pub use judging::{is_fresh, is_sound};
-pub use judging_slots::is_settled;
 pub use possible::is_possible;
 pub use runs::replay;
 pub use steps::apply;

@@ -2,7 +2,7 @@
 
 /// One step of the mutator or of a helper. An address is that of a word of the heap; a word is its
 /// bits.
-#[derive(Clone, Copy, Debug, PartialEq, Eq)]
+#[derive(Clone, Copy)]
 pub enum Event {
     /// A word is read, and nothing is learned of it.
     Look {},

@@ -6,7 +6,7 @@ use std::alloc::Global;
 use tagged_word::NoMemory;
 
 /// A slot of a cell, by its offset, and the word that was read there.
-#[derive(Clone, Copy, Debug, PartialEq, Eq)]
+#[derive(Clone, Copy)]
 pub struct SnapSlot {
     pub offset: u32,
     pub word: u64,
@@ -14,7 +14,7 @@ pub struct SnapSlot {
 
 /// A slot snapshot: what was read of the cell at an address, each word by a load of its own, and
 /// each maybe at another moment.
-#[derive(Debug, Drop)]
+#[derive(Drop)]
 pub struct Snap {
     /// The address of the cell.
     pub cell: u32,

@@ -2,7 +2,7 @@
 //! then, is said in `specs/Steps.antt`.
 
 /// Whose step an event is.
-#[derive(Clone, Copy, Debug, PartialEq, Eq)]
+#[derive(Clone, Copy)]
 pub enum Actor {
     /// The mutator's.
     Mutator,
@@ -15,7 +15,7 @@ pub enum Actor {
 }
 
 /// A word that an event may touch.
-#[derive(Clone, Copy, Debug, PartialEq, Eq)]
+#[derive(Clone, Copy)]
 pub enum Spot {
     /// The word of the heap at this address.
     Heap(u64),

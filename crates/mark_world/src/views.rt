@@ -10,7 +10,7 @@ use std::marker::Model;
 use tagged_word::NoMemory;
 
 /// What the mutator's seat knows. Each list is of addresses.
-#[derive(Debug, Drop)]
+#[derive(Drop)]
 pub struct MainView {
     /// The old cells that are published or were.
     pub starts: Items<u32>,
@@ -29,7 +29,7 @@ pub struct MainView {
 }
 
 /// What a helper's seat knows.
-#[derive(Debug, Drop)]
+#[derive(Drop)]
 pub struct HelperView {
     /// Whether the seat is lent to a helper.
     pub out: bool,
@@ -117,7 +117,7 @@ fn copied_snap(snap: &Option<Snap>, alloc: Global) -> Result<Option<Snap>, NoMem
 }
 
 /// The views of all helpers, by their numbers.
-#[derive(Debug, Drop)]
+#[derive(Drop)]
 pub struct Views {
     list: Vec<HelperView>,
 }

@@ -8,7 +8,7 @@ use std::alloc::Global;
 use tagged_word::NoMemory;
 
 /// The words of the heap's table at one moment of marking, and what each seat knows.
-#[derive(Debug, Drop)]
+#[derive(Drop)]
 pub struct World {
     /// How many words the pages have: a smaller address is that of an old cell's word.
     pub old: u32,

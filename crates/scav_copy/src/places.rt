@@ -1,7 +1,7 @@
 //! Where copies may be put, and where they were.
 
 /// Words that copies may fill.
-#[derive(Clone, Copy, Debug, PartialEq, Eq)]
+#[derive(Clone, Copy)]
 pub struct Room {
     /// The worker that may store here, by its number.
     pub worker: u32,
@@ -12,7 +12,7 @@ pub struct Room {
 }
 
 /// The copy of a cell that counts. All other copies of the cell are just words of a room.
-#[derive(Clone, Copy, Debug, PartialEq, Eq)]
+#[derive(Clone, Copy)]
 pub struct Home {
     /// The address of the cell.
     pub from: u32,

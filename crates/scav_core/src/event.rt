@@ -1,7 +1,7 @@
 //! What a worker or the main side does in one step.
 
 /// One step. Each that names a worker is a step of that worker, but for `Return`.
-#[derive(Clone, Copy, Debug, PartialEq, Eq)]
+#[derive(Clone, Copy)]
 pub enum Event {
     /// Nothing is changed: a word was read that says nothing.
     Look {},

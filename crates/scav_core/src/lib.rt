@@ -16,10 +16,6 @@ mod places;
 mod possible;
 mod run;
 mod step;
-#[cfg(test)]
-mod stop_tests;
-#[cfg(test)]
-mod tests;
 mod touching;
 mod view;
 mod workers;

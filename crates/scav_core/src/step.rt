@@ -14,7 +14,7 @@ use std::alloc::Global;
 use tagged_word::NoMemory;
 
 /// The word that an event reads and stores.
-#[derive(Clone, Copy, Debug, PartialEq, Eq)]
+#[derive(Clone, Copy)]
 pub enum Touch {
     /// None.
     Nothing,

@@ -12,7 +12,7 @@ use std::marker::Model;
 use tagged_word::NoMemory;
 
 /// A slot that a worker is at, and what it read of the cell that the slot refers to.
-#[derive(Debug, Drop)]
+#[derive(Drop)]
 pub struct Job {
     /// The slot that was read.
     pub slot: u32,
@@ -25,7 +25,7 @@ pub struct Job {
 }
 
 /// What a worker knows, and what it has to do.
-#[derive(Debug, Drop)]
+#[derive(Drop)]
 pub struct WorkerView {
     /// Whether the worker is at work.
     pub out: bool,
@@ -38,7 +38,7 @@ pub struct WorkerView {
 }
 
 /// The views of all workers, which contracts see as a list. The number of a worker is its place.
-#[derive(Debug, Drop)]
+#[derive(Drop)]
 pub struct Workers {
     list: Vec<WorkerView>,
 }

@@ -5,7 +5,7 @@ use scav_copy::{Home, Room};
 use seat_steps::Items;
 
 /// All that the workers of a scavenge read and change.
-#[derive(Debug, Drop)]
+#[derive(Drop)]
 pub struct World {
     /// The words as they stood when the first worker began.
     pub before: Items<u64>,

@@ -1,6 +1,6 @@
 //! The cell at an address of bare words.
 ghost use Rattle.std.specs.Prelude.{◌≡◌};
-ghost use Rattle.tagged_word.specs.Readings.{is_within, shape_layout, length_at, read_cell};
+ghost use Rattle.tagged_word.specs.Readings.{is_within, shape_layout, length_at, header_at, laid_cell, read_cell};
 
 use tagged_word::{Header, LayoutWord, Reading, Word, shape};
 
@@ -12,8 +12,28 @@ const LENGTH_OFFSET: u64 = 1;
 pub fn read_cell(words: &[u64], layouts: &[u64], at: u32, bound: u32) -> Option<Reading>
     ensures { result ≡ read_cell words.now layouts.now at bound }
 {
-    let header = Header::parse(Word(*words.get(at as usize)?))?;
+    let header = header_at(words, at)?;
     let layout = layout_of(layouts, header.shape)?;
+    laid_cell(words, at, bound, header, layout)
+}
+
+// The header at an address.
+fn header_at(words: &[u64], at: u32) -> Option<Header>
+    ensures { result ≡ header_at words.now at }
+{
+    Header::parse(Word(*words.get(at as usize)?))
+}
+
+// The cell of a header and a layout.
+fn laid_cell(
+    words: &[u64],
+    at: u32,
+    bound: u32,
+    header: Header,
+    layout: LayoutWord,
+) -> Option<Reading>
+    ensures { result ≡ laid_cell words.now at bound header layout }
+{
     let length = length_of(words, at, layout)?;
     let size = layout.size(length)?;
     if is_within(words, at, bound, size) {
@@ -55,60 +75,5 @@ fn length_of(words: &[u64], at: u32, layout: LayoutWord) -> Option<u64>
         words.get((at as u64 + LENGTH_OFFSET) as usize).copied()
     } else {
         Some(0)
-    }
-}
-
-#[cfg(test)]
-mod tests {
-    use super::*;
-    use tagged_word::Kind;
-
-    // The layout words of shapes 0 to 3: none, a plain cell of 2 slots, a store, a gap.
-    const LAYOUTS: [u64; 4] = [0, 0x221, 4, 8];
-
-    // A plain cell at 0, a store of 1 slot at 4, a gap of 2 words at 7, and a word of no header.
-    const WORDS: [u64; 10] = [0x0000_0009_0000_0006, 0, 0, 0, 0x0a, 1, 0, 0x0e, 2, 0x03];
-
-    #[test]
-    fn a_cell_is_read_from_its_first_word(rt: HostRuntime) {
-        let starts = [
-            (0u32, Kind::Plain, 0u64, 4u32),
-            (4, Kind::Store, 1, 3),
-            (7, Kind::Gap, 2, 2),
-        ];
-        for (at, kind, length, size) in starts {
-            let cell = read_cell(&WORDS, &LAYOUTS, at, at + size);
-            assert_eq!(rt; cell.map(|cell| cell.layout.kind), Some(kind), "{at}");
-            assert_eq!(rt; cell.map(|cell| cell.length), Some(length), "{at}");
-            assert_eq!(rt; cell.map(|cell| cell.size), Some(size), "{at}");
-            assert_eq!(rt;
-                read_cell(&WORDS, &LAYOUTS, at, at + size - 1),
-                None,
-                "{at}"
-            );
-        }
-    }
-
-    #[test]
-    fn where_no_cell_stands_none_is_read(rt: HostRuntime) {
-        assert_eq!(rt; read_cell(&WORDS, &LAYOUTS, 9, 99), None, "no header");
-        assert_eq!(rt;
-            read_cell(&WORDS, &LAYOUTS, 10, 99),
-            None,
-            "behind the last word"
-        );
-        assert_eq!(rt;
-            read_cell(&WORDS, &LAYOUTS[..1], 0, 99),
-            None,
-            "no such shape"
-        );
-        assert_eq!(rt; read_cell(&WORDS, &[0, 0], 0, 99), None, "no layout");
-        assert_eq!(rt;
-            read_cell(&WORDS[..3], &LAYOUTS, 0, 99),
-            None,
-            "past the last word"
-        );
-        assert_eq!(rt; read_cell(&WORDS[..5], &LAYOUTS, 4, 99), None, "no length");
-        assert_eq!(rt; read_cell(&[], &[], u32::MAX, u32::MAX), None);
     }
 }

@@ -44,30 +44,3 @@ pub fn laws_of_lists()
     ensures leaving_of_none { LeavingOfNoneChangesNothing }
     ensures leaving_makes_no_repeats { LeavingMakesNoRepeats }
 {}
-
-#[cfg(test)]
-mod tests {
-    use super::*;
-    use std::test::Fail;
-
-    #[test]
-    fn an_address_joins_once(rt: HostRuntime) -> Result<(), Fail> {
-        let mut list = Items::new(rt.alloc());
-        let joins = [(5u32, false), (3, false), (5, true), (8, false), (3, true)];
-        for (address, stood) in joins {
-            assert_eq!(rt; join(&mut list, address)?, stood, "{address}");
-        }
-        assert_eq!(rt; list.as_slice(), [5, 3, 8].as_slice());
-        Ok(())
-    }
-
-    #[test]
-    fn an_address_leaves_wherever_it_stands(rt: HostRuntime) -> Result<(), Fail> {
-        let mut list = Items::from_vec([5u32, 3, 5, 8].to_vec(rt.alloc())?);
-        leave(&mut list, 4);
-        assert_eq!(rt; list.as_slice(), [5, 3, 5, 8].as_slice());
-        leave(&mut list, 5);
-        assert_eq!(rt; list.as_slice(), [3, 8].as_slice());
-        Ok(())
-    }
-}
