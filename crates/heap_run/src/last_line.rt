@@ -16,7 +16,7 @@ use script_text::Why;
 pub(crate) const SINK_FAULT: u8 = 5;
 
 /// What a run writes behind what its script tells.
-#[derive(Clone, Copy, Debug, PartialEq, Eq)]
+#[derive(Clone, Copy)]
 pub enum LastLine {
     /// The script came to its end.
     Nothing,

@@ -10,8 +10,6 @@ mod ended;
 mod last_line;
 mod program;
 mod reading;
-#[cfg(test)]
-mod tests;
 
 pub use byte_ends::{
     Failed, MemSink, MemSource, Sink, Source, StdSink, StdSource, SureSource, Tally,

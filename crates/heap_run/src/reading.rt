@@ -14,7 +14,7 @@ pub(crate) const SOURCE_BYTES: usize = 1_048_576;
 const PIECE_BYTES: usize = 4096;
 
 /// Why a source was not read to its end.
-#[derive(Clone, Copy, Debug, PartialEq, Eq)]
+#[derive(Clone, Copy)]
 pub(crate) enum ReadStop {
     /// A read failed.
     Fault,

@@ -5,7 +5,7 @@ ghost use Rattle.heap_script.specs.Runs.{need_at};
 use heap_command::FaultWord;
 
 /// Why a run went no further.
-#[derive(Clone, Copy, Debug, PartialEq, Eq)]
+#[derive(Clone, Copy)]
 pub enum How {
     /// Every line was executed.
     End,
@@ -33,7 +33,7 @@ impl How {
 }
 
 /// How a run ended, and how far it came.
-#[derive(Clone, Copy, Debug, PartialEq, Eq)]
+#[derive(Clone, Copy)]
 pub struct Finished {
     pub how: How,
     /// The number of the line that stopped the script, or 0 where none did.

@@ -12,8 +12,6 @@ mod execute;
 mod finished;
 mod handing_on;
 mod interpreter;
-#[cfg(test)]
-mod tests;
 mod turns;
 
 pub use finished::{Finished, How};

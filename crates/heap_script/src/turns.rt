@@ -10,7 +10,7 @@ use std::marker::Model;
 pub(crate) const DEEPEST: usize = 4;
 
 /// For each open block, the innermost first, how many turns are left after the present one.
-#[derive(Debug, Drop)]
+#[derive(Drop)]
 pub(crate) struct Turns {
     left: [u32; DEEPEST],
     open: usize,

@@ -24,7 +24,6 @@ pub mod GivenValues
 pub mod FieldsTaken
 pub mod SameShapes
 pub mod ShapeTexts
-pub mod Leaves
 pub mod ListsAt
 pub mod ListMeanings
 pub mod IndexedLists

@@ -14,8 +14,6 @@ mod output;
 mod reading;
 mod shapes;
 mod stop;
-#[cfg(test)]
-mod tests;
 mod trims;
 mod variables;
 mod weaks;

@@ -16,7 +16,7 @@ use tagged_word::shape;
 use write_barrier::Main;
 
 /// A plain object: where its cell stands, and its shape.
-#[derive(Clone, Copy, Debug)]
+#[derive(Clone, Copy)]
 pub(crate) struct Found {
     pub(crate) at: u32,
     pub(crate) shape: u32,

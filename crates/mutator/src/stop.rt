@@ -8,7 +8,7 @@ use shape_change::FieldStop;
 use shape_tree::ShapesFull;
 
 /// Why a command was not carried out. The heap and the output are as they were.
-#[derive(Clone, Copy, Debug, PartialEq, Eq)]
+#[derive(Clone, Copy)]
 pub enum Stop {
     /// The command's meaning is this fault.
     Fault(FaultWord),

@@ -1,0 +1,123 @@
+//! Sources and sinks that fail, and other ends than those of memory.
+
+use crate::runs::{Pace, SURE, came, counts_of};
+use heap_run::{MemSink, OpenGate, StdSink, StdSource, SureSource, Tally, run, run_without_words};
+use std::process::Abort;
+use std::test::Fail;
+use std::thread::Threads;
+
+// It has 35 bytes: in pieces of 8 the fifth read gives the last ones, and the sixth finds the end.
+const FIRST: &str = "new x 2; set x a 5; get y x a; print y";
+
+#[test]
+fn each_read_that_fails_is_a_read_fault(rt: HostRuntime) -> Result<(), Fail> {
+    for failing_read in 1..=7 {
+        let ends = Pace {
+            most: 8,
+            failing_read,
+            ..SURE
+        };
+        let came = came(&rt, "run", FIRST, ends)?;
+        let counts = counts_of(rt.alloc(), &came.ended)?;
+        let (text, seen) = if failing_read < 7 {
+            ("read fault\n", "none")
+        } else {
+            ("5\n", "4 0 0")
+        };
+        assert_eq!(rt;
+            came.written.as_slice(),
+            text.as_bytes(),
+            "call {failing_read}"
+        );
+        assert_eq!(rt; counts.as_str(), seen, "call {failing_read}");
+    }
+    Ok(())
+}
+
+/// Checks that a sink, which takes so many bytes a call and fails at the call of this number, has a front
+/// of so many bytes, and what its kept heap counts.
+fn check_front<R: Abort + Threads + Sync + AllocGlobal>(
+    rt: &R,
+    script: &str,
+    most: usize,
+    failing_write: u64,
+    wanted: (usize, &str),
+) -> Result<(), Fail> {
+    assert!(rt; most > 0);
+    let whole = came(rt, "run", script, SURE)?.written;
+    let ends = Pace {
+        most,
+        failing_write,
+        ..SURE
+    };
+    let came = came(rt, "run", script, ends)?;
+    let (front, counts) = wanted;
+    assert_eq!(rt; came.ended.status, 5, "{script} {failing_write}");
+    assert_eq!(rt;
+        Some(came.written.as_slice()),
+        whole.get(..front),
+        "{script} {failing_write}"
+    );
+    let seen = counts_of(rt.alloc(), &came.ended)?;
+    assert_eq!(rt; seen.as_str(), counts, "{script} {failing_write}");
+    Ok(())
+}
+
+#[test]
+fn each_write_that_fails_leaves_the_front_of_the_output(rt: HostRuntime) -> Result<(), Fail> {
+    let fronts = [0usize, 4, 8, 10, 11, 12, 16, 19];
+    for (before, front) in fronts.iter().enumerate() {
+        let call = before as u64 + 1;
+        check_front(
+            &rt,
+            "print 1; print 2; get y q f",
+            4,
+            call,
+            (*front, "2 3 0"),
+        )?;
+    }
+    check_front(&rt, "print 5; print 6", 2, 2, (2, "2 0 0"))?;
+    check_front(&rt, "repeat 6000; new x 8; end", 4096, 1, (0, "1639 2 10"))?;
+    // At the fourth call the last bytes are handed on, behind the fault.
+    let long = "repeat 20000; print 123456789; end; get y q f";
+    let fronts = [
+        (0, "12290 0 0"),
+        (61_450, "24580 0 0"),
+        (122_900, "36870 0 0"),
+        (184_350, "40001 4 0"),
+    ];
+    for (before, wanted) in fronts.iter().enumerate() {
+        check_front(&rt, long, 1 << 20, before as u64 + 1, *wanted)?;
+    }
+    let ends = Pace {
+        failing_write: 1,
+        ..SURE
+    };
+    let came = came(&rt, "walk", FIRST, ends)?;
+    assert_eq!(rt; (came.ended.status, came.written.len()), (5, 0));
+    assert!(rt; came.ended.kept.is_none());
+    Ok(())
+}
+
+#[test]
+fn other_ends_serve(rt: HostRuntime) -> Result<(), Fail> {
+    let alloc = rt.alloc();
+    let words = vec![in alloc; String::from_str(alloc, "run")?]?;
+    let mut written = Vec::new(alloc);
+    let mut source = StdSource::new(b"new x 2\nset x a 5\nget y x a\nprint y\n".as_slice());
+    let mut sink = StdSink::new(&mut written);
+    let ended = run(&rt, alloc, &words, &mut source, &mut sink, &OpenGate);
+    drop(sink);
+    assert_eq!(rt; ended.status, 0);
+    assert_eq!(rt; written.as_slice(), b"5\n".as_slice());
+    let mut source = SureSource::new(b"print 5\nprint 6".to_vec(alloc)?);
+    let mut tally = Tally::new();
+    let ended = run(&rt, alloc, &words, &mut source, &mut tally, &OpenGate);
+    assert_eq!(rt; ended.status, 0);
+    // The bytes are those of `5`, `6` and two line feeds.
+    assert_eq!(rt; (tally.bytes(), tally.sum()), (4, 53 + 54 + 20));
+    let mut sink = MemSink::new(alloc, 64, 64, Vec::new(alloc))?;
+    assert_eq!(rt; run_without_words(&mut sink).status, 7);
+    assert_eq!(rt; sink.bytes(), b"no memory\n".as_slice());
+    Ok(())
+}
