@@ -38,9 +38,8 @@ fn a_source_is_read_as_its_lines_and_names(rt: HostRuntime) -> Result<(), Fail> 
         assert_eq!(rt; (line.number, line.what), (*number, *what));
     }
     assert_eq!(rt; (script.variables(), script.fields()), (2, 1));
-    assert_eq!(rt; script.variable(0), b"x".as_slice());
-    assert_eq!(rt; script.variable(1), b"y".as_slice());
-    assert_eq!(rt; script.field(0), b"a".as_slice());
+    let names = (script.variable(0), script.variable(1), script.field(0));
+    assert_eq!(rt; names, (b"x".as_slice(), b"y".as_slice(), b"a".as_slice()));
     Ok(())
 }
 

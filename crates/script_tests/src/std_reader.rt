@@ -1,6 +1,6 @@
 //! A reader of std as a source: what each of its answers comes to.
 
-use crate::traces::{LETTERS, trace_of_reads};
+use crate::traces::{LETTERS, check_reads};
 use byte_ends::StdSource;
 use std::io;
 use std::io::{ErrorKind, Read};
@@ -63,12 +63,7 @@ fn each_error_of_a_reader_is_a_fault_and_nothing_else_is(rt: HostRuntime) -> Res
             calls: 0,
             at: 0,
         };
-        let trace = trace_of_reads(rt.alloc(), &mut StdSource::new(reader), room)?;
-        assert_eq!(rt;
-            trace.as_slice(),
-            wanted.as_bytes(),
-            "{room} {most} {interruptions}"
-        );
+        check_reads(&rt, rt.alloc(), &mut StdSource::new(reader), room, wanted)?;
     }
     Ok(())
 }

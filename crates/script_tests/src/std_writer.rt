@@ -1,6 +1,6 @@
 //! A writer of std as a sink: what each of its answers comes to, and in which order it is asked.
 
-use crate::traces::{LETTERS, trace_of_writes};
+use crate::traces::{LETTERS, check_writes};
 use byte_ends::{StdSink, write_all};
 use std::io;
 use std::io::{ErrorKind, Write};
@@ -89,8 +89,7 @@ fn each_error_of_a_writer_is_a_fault_and_what_it_took_is_handed_on(
             flushes,
             log: Vec::new(alloc),
         };
-        let trace = trace_of_writes(alloc, &mut StdSink::new(&mut writer))?;
-        assert_eq!(rt; trace.as_slice(), wanted.as_bytes());
+        check_writes(&rt, alloc, &mut StdSink::new(&mut writer), wanted)?;
         assert_eq!(rt; writer.log.as_slice(), log.as_bytes());
     }
     Ok(())

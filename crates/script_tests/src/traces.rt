@@ -3,15 +3,19 @@
 
 use byte_ends::{Failed, Sink, Source};
 use std::alloc::{AllocError, Global};
+use std::process::Abort;
 
 pub(crate) const LETTERS: &[u8] = b"abcdefgh";
 
-/// What a source gives into a buffer of so many bytes, at most 8, until it ends. It is asked again after a failure.
-pub(crate) fn trace_of_reads<S: Source>(
+/// Checks what a source gives into a buffer of so many bytes, at most 8, until it ends. It is asked again after a
+/// failure.
+pub(crate) fn check_reads<S: Source>(
+    rt: &impl Abort,
     alloc: Global,
     source: &mut S,
     room: usize,
-) -> Result<Vec<u8>, AllocError> {
+    wanted: &str,
+) -> Result<(), AllocError> {
     let mut trace = Vec::new(alloc);
     let mut buffer = [0; 8];
     for _turn in 0..20 {
@@ -24,11 +28,17 @@ pub(crate) fn trace_of_reads<S: Source>(
             Err(Failed) => trace.push(b'!')?,
         }
     }
-    Ok(trace)
+    assert_eq!(rt; trace.as_slice(), wanted.as_bytes(), "{wanted}");
+    Ok(())
 }
 
-/// What a sink says that it takes of the letters. What is left is given to it again after a failure.
-pub(crate) fn trace_of_writes<K: Sink>(alloc: Global, sink: &mut K) -> Result<Vec<u8>, AllocError> {
+/// Checks what a sink says that it takes of the letters. What is left is given to it again after a failure.
+pub(crate) fn check_writes<K: Sink>(
+    rt: &impl Abort,
+    alloc: Global,
+    sink: &mut K,
+    wanted: &str,
+) -> Result<(), AllocError> {
     let mut trace = Vec::new(alloc);
     let mut at = 0;
     for _turn in 0..20 {
@@ -44,5 +54,6 @@ pub(crate) fn trace_of_writes<K: Sink>(alloc: Global, sink: &mut K) -> Result<Ve
             Err(Failed) => trace.push(b'!')?,
         }
     }
-    Ok(trace)
+    assert_eq!(rt; trace.as_slice(), wanted.as_bytes(), "{wanted}");
+    Ok(())
 }

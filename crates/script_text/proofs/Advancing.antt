@@ -1,9 +1,10 @@
 -- One phrase after another becomes a line, and its names get numbers.
 use Rattle.std.proofs.Common.{◌≡◌, ℕ, ◌+◌, ◌<◌, ◌≤◌, Bool, true, false, cond, ◌||◌, nat_lt, List, []}
-use Rattle.std.proofs.Common.{◌∷◌, ◌++◌, length, map, fold, drop, get_or, slice_get, Some, unwrap_or, refl, sym, ap}
+use Rattle.std.proofs.Common.{◌∷◌, ◌++◌, length, map, fold, drop, get_or, slice_get, Some, None, unwrap_or, append-nil, refl, sym, ap}
 use Rattle.std.proofs.Common.{◌∙◌, subst, arith}
 use Rattle.std.specs.List.{flat_map}
 use Rattle.std.proofs.lemmas.Bool.Decides.{nat_tests}
+use Rattle.std.proofs.lemmas.List.{drop_all}
 use Rattle.std.proofs.lemmas.List.Sums.{fold-append}
 use Rattle.script_text.specs.declared.script.Line.{Line}
 use Rattle.script_text.specs.declared.script.What.{What}
@@ -15,6 +16,7 @@ use Rattle.script_text.specs.Scripts.{Spoken, line, argument_of, what_in}
 use Rattle.script_text.specs.Grammar.{past_limit, lines_from, open_after, script_of}
 use Rattle.script_text.specs.Blocks.{ends_from}
 use Rattle.script_text.specs.Shown.{phrase_shown, spoken_shown, are_too_many}
+use Rattle.script_text.specs.Sound.{script_text}
 use Rattle.script_text.proofs.Lining.{lines_from-read, lines-more}
 use Rattle.script_text.proofs.Within.{AreIn, what_at_places}
 use Rattle.script_text.proofs.Staying.{arguments-fold, AreIn-fold}
@@ -140,4 +142,31 @@ AreLines-more spoken i x variables fields variables' fields' open' inner lines p
           ∙ ap (λ past. cond past (Some x.number) later) few)
           ∙ h.within;
       all = lines-more lines pushed _ _ _ _ (pushed_is ∙ ap (λ w. lines ++ line x.number w ∷ []) same) read h.all;
+    }
+
+-- All phrases are lines.
+pub record AreAll (spoken : List SpokenSlices) (variables fields : List (List ℕ)) (lines : List Line) : Type 0 where
+  pub script : script_of (map spoken_shown spoken) ≡ script_text lines variables fields
+  pub within : past_limit [] [] (map spoken_shown spoken) ≡ None
+
+-- past the last phrase, all are
+pub AreLines-all : (spoken : List SpokenSlices) (i : ℕ) (variables fields : List (List ℕ)) (open' : List ℕ)
+    (lines : List Line) → length spoken ≤ i → AreLines spoken i variables fields open' lines
+    → AreAll spoken variables fields lines
+AreLines-all spoken i variables fields open' lines past h =
+    let end = drop_all i spoken past in
+    let all = script_of (map spoken_shown spoken) in
+    let vs : variables ≡ all.variables =
+    sym (ap (λ rest. fold with_name variables (variables_in (map spoken_shown rest))) end) ∙ h.variables_are in
+    let fs : fields ≡ all.fields =
+    sym (ap (λ rest. fold with_name fields (fields_in (map spoken_shown rest))) end) ∙ h.fields_are in
+    let ls : lines ≡ all.lines =
+    sym (append-nil lines)
+    ∙ sym (ap (λ rest. lines ++ lines_from all.variables all.fields i open' (map spoken_shown rest)) end) ∙ h.all in
+    record {
+      script =
+          sym (ap (λ some. script_text some variables fields) ls
+          ∙ ap (λ names. script_text all.lines names fields) vs ∙ ap (script_text all.lines all.variables) fs);
+      within =
+          sym h.within ∙ ap (λ rest. past_limit variables fields (map spoken_shown rest)) end;
     }

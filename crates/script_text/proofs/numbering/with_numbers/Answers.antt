@@ -5,7 +5,7 @@ use Rattle.script_text.specs.Shown.{spoken_shown, IsPast}
 use Rattle.script_text.proofs.Ending.{no_spoken, length-ends_from}
 use Rattle.script_text.proofs.Lining.{drop-index}
 use Rattle.script_text.proofs.Refusing.{handed_on}
-use Rattle.script_text.proofs.Advancing.{IsNext, AreLines-more}
+use Rattle.script_text.proofs.Advancing.{IsNext, AreLines-more, AreLines-all}
 use Rattle.script_text.proofs.numbering.with_numbers.Goals as goal
 
 pub index-requires : goal.index-requires
@@ -40,3 +40,17 @@ loop-i-preserved c =
     AreLines-more xs c.loop-i.i x _ _ _ _ old.opened new.opened old.lines.items new.lines.items ends _ _ _
     c.loop-i-test.true c.loop-i.invariant next c.in_ok-add.ensures.few c.in_ok-ends.ensures found refl
     c.in_ok-add.ensures.opened refl c.in_ok-add.ensures.line
+
+pub returns-clause-script : goal.returns-clause-script
+returns-clause-script c =
+    (AreLines-all c.args.spoken.now c.loop-i.i _ _ _ _ c.loop-i-test.false c.loop-i.invariant).script
+
+pub returns-clause-few_variables : goal.returns-clause-few_variables
+returns-clause-few_variables c = c.loop-i.invariant.few_variables
+
+pub returns-clause-few_fields : goal.returns-clause-few_fields
+returns-clause-few_fields c = c.loop-i.invariant.few_fields
+
+pub returns-clause-within : goal.returns-clause-within
+returns-clause-within c =
+    (AreLines-all c.args.spoken.now c.loop-i.i _ _ _ _ c.loop-i-test.false c.loop-i.invariant).within
