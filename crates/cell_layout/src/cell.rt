@@ -3,7 +3,7 @@
 use tagged_word::{Header, LayoutWord};
 
 /// A cell: where it stands, and what its words say of it.
-#[derive(Clone, Copy, Debug, PartialEq, Eq)]
+#[derive(Clone, Copy)]
 pub struct Cell {
     /// The address of its first word.
     pub at: u32,
@@ -18,7 +18,7 @@ pub struct Cell {
 }
 
 /// There is no cell at an address.
-#[derive(Clone, Copy, Debug, PartialEq, Eq)]
+#[derive(Clone, Copy)]
 pub struct NotACell {
     /// The address.
     pub at: u32,

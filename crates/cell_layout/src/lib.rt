@@ -6,17 +6,9 @@
 #![tactic(auto)]
 
 mod cell;
-#[cfg(test)]
-mod heaps;
 mod laws;
-#[cfg(test)]
-mod phased;
 mod reading;
-#[cfg(test)]
-mod slot_tests;
 mod slots;
-#[cfg(test)]
-mod tests;
 
 pub use cell::{Cell, NotACell};
 pub use laws::{laws_of_cells, laws_of_rows};

@@ -15,8 +15,6 @@ ghost use Rattle.free_runs.specs.FreeRuns.{longest_of, row_of, whole_rows};
 ghost use Rattle.free_runs.specs.Standing.{FitsIn, FitsInNone};
 
 mod row;
-#[cfg(test)]
-mod tests;
 
 use crate::row::Row;
 use page_space::Run;
@@ -25,7 +23,7 @@ use std::marker::Model;
 use tagged_word::NoMemory;
 
 /// The runs of words that no live cell has, page by page.
-#[derive(Debug, Drop)]
+#[derive(Drop)]
 pub struct FreeRuns {
     rows: Vec<Row>,
     // The page of the last take, where the next one looks first.

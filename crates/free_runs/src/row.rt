@@ -17,7 +17,7 @@ const RUNS_MOST: usize = 1_024;
 
 /// The runs of a page. There is room for as many as there may be, so that later calls take no
 /// memory.
-#[derive(Debug, Drop)]
+#[derive(Drop)]
 pub(crate) struct Row {
     runs: Vec<Run>,
     // The words of the longest run, since each page is asked for them until one has enough.

@@ -8,8 +8,6 @@
 mod held;
 mod laws;
 mod roots;
-#[cfg(test)]
-mod tests;
 
 pub use held::Held;
 pub use laws::laws_of_roots;

@@ -8,8 +8,6 @@
 mod main_seat;
 mod paused;
 mod phase;
-#[cfg(test)]
-mod tests;
 
 pub use main_seat::{HeapTable, MainSeat};
 pub use paused::Paused;

@@ -2,7 +2,7 @@
 
 /// The phase of a heap. The helpers of a phase all start after it is entered and have returned
 /// before it is left.
-#[derive(Clone, Copy, Debug, PartialEq, Eq)]
+#[derive(Clone, Copy)]
 pub enum Phase {
     /// Only the mutator runs.
     Quiet,

@@ -10,14 +10,11 @@ ghost use Rattle.std.specs.Prelude.{◌≡◌, ◌+◌, ◌≤◌, ◌↔◌, Is
 ghost use Rattle.page_space.specs.Extents.{eden_start};
 ghost use Rattle.nursery.specs.Young.{IsYoung, HasRoom, new_young, bumped, turned};
 
-#[cfg(test)]
-mod tests;
-
 use page_space::{Region, Regions};
 use std::marker::Model;
 
 /// How far eden is used, and how many words have survived in which half.
-#[derive(Debug, Drop)]
+#[derive(Drop)]
 pub struct Nursery {
     regions: Regions,
     // The first address of eden. It is computed once, since each birth asks for it.

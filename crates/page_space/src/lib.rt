@@ -12,8 +12,6 @@ mod region;
 mod regions;
 mod run;
 mod sizes;
-#[cfg(test)]
-mod tests;
 
 pub use laws::laws_of_regions;
 pub use region::Region;

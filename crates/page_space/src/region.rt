@@ -1,7 +1,7 @@
 //! The regions that the words of a heap are cut into.
 
 /// A region of the words of a heap.
-#[derive(Clone, Copy, Debug, PartialEq, Eq)]
+#[derive(Clone, Copy)]
 pub enum Region {
     /// A page of the old generation, by its number.
     Page(u32),

@@ -28,7 +28,7 @@ const SHAPES: u32 = 8_200;
 const BOARD_WORDS: u32 = 64;
 
 /// Where the regions of a heap stand, and how many words there are.
-#[derive(Clone, Copy, Debug)]
+#[derive(Clone, Copy)]
 pub struct Regions {
     sizes: Sizes,
     variables: u32,

@@ -1,7 +1,7 @@
 //! Runs of words.
 
 /// Words one behind another.
-#[derive(Clone, Copy, Debug, PartialEq, Eq)]
+#[derive(Clone, Copy, PartialEq, Eq)]
 pub struct Run {
     /// The address of the first word.
     pub at: u32,

@@ -12,8 +12,6 @@ ghost use Rattle.page_space.specs.Sizes.{page_words, pages_most};
 ghost use Rattle.remembered_set.specs.Recorded.{IsAscending, IsBetween, HasNoneFrom, IsLeastFrom, HasNoneBetween, IsLeastBetween};
 
 mod flags;
-#[cfg(test)]
-mod tests;
 
 use crate::flags::{clear, first_set};
 use std::alloc::Global;
@@ -23,7 +21,7 @@ use tagged_word::NoMemory;
 const PAGE_WORDS: u32 = 2_048;
 
 /// Which slots of pages may refer to young cells.
-#[derive(Debug, Drop)]
+#[derive(Drop)]
 pub struct Remembered {
     // A flag for each word of the pages.
     flags: Vec<bool>,

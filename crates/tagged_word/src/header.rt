@@ -45,25 +45,3 @@ impl Header {
         }
     }
 }
-
-#[cfg(test)]
-mod tests {
-    use super::*;
-
-    #[test]
-    fn a_header_and_its_word_stand_for_one_another(rt: HostRuntime) {
-        let header = Header {
-            shape: 9,
-            object: 3,
-        };
-        assert_eq!(rt; header.word(), Word(0x0000_0003_0000_0026));
-        assert_eq!(rt; Header::parse(Word(0x0000_0003_0000_0026)), Some(header));
-    }
-
-    #[test]
-    fn bits_that_are_no_headers_are_refused(rt: HostRuntime) {
-        assert_eq!(rt; Header::parse(Word(0x0000_0003_0000_0024)), None);
-        assert_eq!(rt; Header::parse(Word(0x0000_0003_0004_0026)), None);
-        assert_eq!(rt; Header::parse(Word(0x0000_0003_8000_0026)), None);
-    }
-}

@@ -75,23 +75,3 @@ pub fn fixed_layout(shape: u32) -> Option<LayoutWord>
         _ => None,
     }
 }
-
-#[cfg(test)]
-mod tests {
-    use super::*;
-
-    #[test]
-    fn the_layouts_of_the_fixed_shapes_are_the_words_2_to_8(rt: HostRuntime) {
-        for shape in 1..8u32 {
-            let word = fixed_layout(shape).map(|layout| layout.word());
-            assert_eq!(rt; word, Some(shape as u64 + 1), "shape {shape}");
-        }
-    }
-
-    #[test]
-    fn other_shapes_have_no_fixed_layout(rt: HostRuntime) {
-        assert_eq!(rt; fixed_layout(0), None);
-        assert_eq!(rt; fixed_layout(PATHS), None);
-        assert_eq!(rt; fixed_layout(COUNT), None);
-    }
-}

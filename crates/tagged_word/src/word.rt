@@ -9,7 +9,7 @@ ghost use Rattle.tagged_word.specs.Readings.{reference_in};
 pub struct Word(pub u64);
 
 /// What the bits of a word stand for.
-#[derive(Clone, Copy, Debug, PartialEq, Eq)]
+#[derive(Clone, Copy, PartialEq, Eq)]
 pub enum Class {
     /// An integer from -1073741824 to 1073741823.
     Small(i32),
@@ -129,73 +129,5 @@ fn small_class(bits: u64) -> Option<Class>
         Some(Class::Small(v as i32))
     } else {
         None
-    }
-}
-
-#[cfg(test)]
-mod tests {
-    use super::*;
-    use crate::odd;
-
-    #[test]
-    fn small_integers_have_the_bits_of_the_table(rt: HostRuntime) {
-        assert_eq!(rt; Word::small(1), Some(Word(2)));
-        assert_eq!(rt; Word::small(-1), Some(Word(0xffff_ffff_ffff_fffe)));
-        assert_eq!(rt; Word::small(1_073_741_823), Some(Word(0x7fff_fffe)));
-        assert_eq!(rt;
-            Word::small(-1_073_741_824),
-            Some(Word(0xffff_ffff_8000_0000))
-        );
-    }
-
-    #[test]
-    fn an_integer_outside_the_range_has_no_word(rt: HostRuntime) {
-        assert_eq!(rt; Word::small(1_073_741_824), None);
-        assert_eq!(rt; Word::small(-1_073_741_825), None);
-    }
-
-    #[test]
-    fn references_and_odd_values_have_the_bits_of_the_table(rt: HostRuntime) {
-        assert_eq!(rt; Word::reference(5), Word(0x15));
-        assert_eq!(rt; Word::odd(odd::UNDEFINED), Word(0x3));
-        assert_eq!(rt; Word::odd(odd::HOLE), Word(0x7));
-        assert_eq!(rt; Word::odd(odd::UNBOUND), Word(0xb));
-        assert_eq!(rt; Word::odd(odd::WIDE), Word(0xf));
-    }
-
-    #[test]
-    fn a_reference_alone_has_an_address(rt: HostRuntime) {
-        assert_eq!(rt; Word(0x15).address(), Some(5));
-        assert_eq!(rt; Word(0x3_ffff_fffd).address(), Some(u32::MAX));
-        assert_eq!(rt; Word(0x4_0000_0001).address(), None, "bit 34");
-        assert_eq!(rt; Word(0).address(), None);
-        assert_eq!(rt; Word(0xf).address(), None);
-    }
-
-    #[test]
-    fn a_word_says_its_class(rt: HostRuntime) {
-        assert_eq!(rt;
-            Word(0xffff_ffff_8000_0000).class(),
-            Some(Class::Small(-1_073_741_824))
-        );
-        assert_eq!(rt; Word(0x15).class(), Some(Class::Ref(5)));
-        assert_eq!(rt; Word(0xf).class(), Some(Class::Odd(3)));
-        assert_eq!(rt; Word(1 << 40).class(), None);
-    }
-
-    /// Whether the class that is told of a word is the one that it is known to have.
-    fn tells_its_class(word: Word) -> bool {
-        match word.class() {
-            Some(class) => word.known_class() == class,
-            None => false,
-        }
-    }
-
-    #[test]
-    fn a_word_of_a_class_tells_it_by_its_lowest_bits(rt: HostRuntime) {
-        let words = [0xffff_ffff_8000_0000, 0x7fff_fffe, 0x3_ffff_fffd, 0xf];
-        for bits in words {
-            assert!(rt; tells_its_class(Word(bits)), "{bits}");
-        }
     }
 }

@@ -8,8 +8,6 @@
 
 mod copying;
 mod slice_words;
-#[cfg(test)]
-mod tests;
 mod vec_words;
 mod words;
 

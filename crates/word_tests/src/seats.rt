@@ -1,0 +1,105 @@
+//! A table of one page and a nursery of 64 words, with one variable: the heap words are 2,048, 64,
+//! twice 64, 2 and 8,200 (`heap_table`).
+ghost use Rattle.std.specs.Prelude.{◌≡◌, ◌≢◌};
+ghost use Rattle.heap_table.specs.declared.phase.Phase.TheVariants.{Quiet, Scavenge};
+
+use cell_layout::cell_at;
+use heap_table::{HeapTable, MainSeat, Phase};
+use page_space::{Regions, Sizes};
+use std::test::Fail;
+use word_store::{Reads, copy};
+
+/// How many words stand before the marks.
+const HEAP_WORDS: u32 = 10_442;
+
+fn one_page() -> Regions {
+    let sizes = Sizes {
+        pages: 1,
+        young: 64,
+        helpers: 0,
+    };
+    Regions::new(sizes, 1)
+}
+
+/// Puts a word of the heap, if it stands before the marks.
+fn put_at(seat: &mut MainSeat, a: u32, word: u64)
+    requires { seat.old.phase ≡ Quiet }
+    ensures { seat.new.phase ≡ Quiet }
+{
+    let _regions = seat.regions();
+    if a < seat.count() {
+        seat.put(a, word);
+    }
+}
+
+/// The word at an address, as commands read it; none from the marks on.
+fn word_at(seat: &MainSeat, a: u32) -> Option<u64>
+    requires { seat.now.phase ≢ Scavenge }
+{
+    let _regions = seat.regions();
+    if a < seat.count() {
+        Some(seat.word(a))
+    } else {
+        None
+    }
+}
+
+/// Copies the three words at 3 to 1,000 while no other thread runs. Answers how many words the
+/// whole table has, and the size of the cell at 1,000.
+fn while_paused(seat: &mut MainSeat) -> (u32, u32)
+    requires { seat.old.phase ≡ Quiet }
+    ensures { seat.new.phase ≡ Quiet }
+{
+    let mut paused = seat.paused();
+    let count = paused.count();
+    if count < 1_003 {
+        return (count, 0);
+    }
+    copy(&mut paused, 3, 1_000, 3);
+    match cell_at(&mut paused, &one_page(), 1_000) {
+        Ok(cell) => (count, cell.size),
+        Err(_) => (count, 0),
+    }
+}
+
+fn may_be_shared_and_sent<T: Sync, S: Send>() {}
+
+#[test]
+fn a_new_table_is_0_and_what_is_put_and_copied_is_read_again(rt: HostRuntime) -> Result<(), Fail> {
+    may_be_shared_and_sent::<HeapTable, MainSeat>();
+    let mut seat = HeapTable::open(rt.alloc(), one_page())?;
+    assert!(rt; matches!(seat.phase(), Phase::Quiet));
+    assert!(rt; seat.count() == HEAP_WORDS);
+    for a in 0..HEAP_WORDS {
+        assert!(rt; word_at(&seat, a) == Some(0), "address {a}");
+    }
+    put_at(&mut seat, 0, 5);
+    // A gap of 3 words at 3, and the layout word of gaps.
+    put_at(&mut seat, 3, 30);
+    put_at(&mut seat, 4, 3);
+    put_at(&mut seat, 2_249, 8);
+    put_at(&mut seat, HEAP_WORDS - 1, u64::MAX);
+    assert!(rt; while_paused(&mut seat) == (HEAP_WORDS + 2_048 + 64, 3));
+    match cell_at(&mut seat, &one_page(), 1_000) {
+        Ok(cell) => assert!(rt; cell.size == 3 && cell.length == 3),
+        Err(_) => return Err(Fail::from("no cell")),
+    }
+    for (a, word) in [
+        (0, 5),
+        (1, 0),
+        (3, 30),
+        (4, 3),
+        (999, 0),
+        (1_000, 30),
+        (1_001, 3),
+        (1_002, 0),
+        (1_003, 0),
+        (2_249, 8),
+        (HEAP_WORDS - 2, 0),
+        (HEAP_WORDS - 1, u64::MAX),
+    ] {
+        assert!(rt; word_at(&seat, a) == Some(word), "address {a}");
+    }
+    assert!(rt; word_at(&seat, HEAP_WORDS).is_none());
+    Ok(())
+}
