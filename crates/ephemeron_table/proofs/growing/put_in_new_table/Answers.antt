@@ -7,7 +7,7 @@ use Rattle.write_barrier.specs.Mains.{Mutator}
 use Rattle.object_cells.specs.Made.{content_need}
 use Rattle.object_cells.proofs.WordsBeside.{same_beside, reserved_beside, put_beside}
 use Rattle.ephemeron_table.proofs.GrowingTables.{begun_within, boxed_free, grown_apart, grown_before_marks, grown_keys}
-use Rattle.ephemeron_table.proofs.GrowingTables.{grown_nothing}
+use Rattle.ephemeron_table.proofs.GrowingTables.{grown_more, grown_nothing}
 use Rattle.ephemeron_table.proofs.growing.put_in_new_table.Goals as goal
 
 pub begin_table-requires-clause-within : goal.begin_table-requires-clause-within
@@ -24,6 +24,27 @@ move_pairs-requires-clause-to c =
     begun_within c.requires.can counted c.in_ok-at.at c.grown-capacity.result c.need_of.result c.in_ok-at.ensures.room
     (c.in_ok-at.ensures.at (omega arith)) c.grown-capacity.ensures c.in_ok-at.ensures.reserved
     c.begin_table.ensures
+
+pub begin_table-requires-clause-quiet : goal.begin_table-requires-clause-quiet
+begin_table-requires-clause-quiet c =
+    ap (λ (main : Mutator). main.seat.phase) c.in_ok-at.ensures.reserved ∙ c.requires.can.quiet
+
+pub move_pairs-requires-clause-quiet : goal.move_pairs-requires-clause-quiet
+move_pairs-requires-clause-quiet c =
+    c.begin_table.ensures.beside.phase ∙ ap (λ (main : Mutator). main.seat.phase) c.in_ok-at.ensures.reserved
+    ∙ c.requires.can.quiet
+
+pub move_pairs-requires-clause-from : goal.move_pairs-requires-clause-from
+move_pairs-requires-clause-from c =
+    let space = c.begin_table.ensures.beside.space
+    ∙ ap (λ (main : Mutator). main.seat.space) c.in_ok-at.ensures.reserved in
+    omega (arith, c.requires.can.within, ap (λ (s : Space). marks_start s) space)
+
+pub move_pairs-requires-clause-more : goal.move_pairs-requires-clause-more
+move_pairs-requires-clause-more c =
+    let counted = c.regions-regions.ensures.heap_counted in
+    grown_more c.requires.can counted c.in_ok-at.at c.grown-capacity.result c.need_of.result c.in_ok-at.ensures.room
+    (c.in_ok-at.ensures.at (omega arith)) c.grown-capacity.ensures
 
 pub move_pairs-requires-clause-apart : goal.move_pairs-requires-clause-apart
 move_pairs-requires-clause-apart c =
@@ -54,6 +75,78 @@ boxed_word-word-requires-clause-within c v boxed =
     let before = grown_before_marks c.requires.can counted c.in_ok-at.at c.grown-capacity.result c.need_of.result
     c.in_ok-at.ensures.room (c.in_ok-at.ensures.at (omega arith)) c.grown-capacity.ensures in
     omega (arith, before, two, ap (λ (s : Space). marks_start s) space)
+
+pub boxed_word-word-requires-clause-quiet : goal.boxed_word-word-requires-clause-quiet
+boxed_word-word-requires-clause-quiet c =
+    c.move_pairs.ensures.changes.rest.phase ∙ c.begin_table.ensures.beside.phase
+    ∙ ap (λ (main : Mutator). main.seat.phase) c.in_ok-at.ensures.reserved ∙ c.requires.can.quiet
+
+pub settle-requires-clause-quiet : goal.settle-requires-clause-quiet
+settle-requires-clause-quiet c =
+    c.boxed_word-word.ensures.made.beside.phase ∙ c.move_pairs.ensures.changes.rest.phase
+    ∙ c.begin_table.ensures.beside.phase ∙ ap (λ (main : Mutator). main.seat.phase) c.in_ok-at.ensures.reserved
+    ∙ c.requires.can.quiet
+
+pub settle-requires-clause-within : goal.settle-requires-clause-within
+settle-requires-clause-within c =
+    let counted = c.regions-regions.ensures.heap_counted in
+    let before = grown_before_marks c.requires.can counted c.in_ok-at.at c.grown-capacity.result c.need_of.result c.in_ok-at.ensures.room
+    (c.in_ok-at.ensures.at (omega arith)) c.grown-capacity.ensures in
+    let space = c.boxed_word-word.ensures.made.beside.space ∙ c.move_pairs.ensures.changes.rest.space
+    ∙ c.begin_table.ensures.beside.space ∙ ap (λ (main : Mutator). main.seat.space) c.in_ok-at.ensures.reserved in
+    omega (arith, before, ap (λ (s : Space). marks_start s) space)
+
+pub settle-requires-clause-key : goal.settle-requires-clause-key
+settle-requires-clause-key c =
+    let space = c.boxed_word-word.ensures.made.beside.space ∙ c.move_pairs.ensures.changes.rest.space
+    ∙ c.begin_table.ensures.beside.space ∙ ap (λ (main : Mutator). main.seat.space) c.in_ok-at.ensures.reserved in
+    omega (arith, c.requires.can.key_within, ap (λ (s : Space). marks_start s) space)
+
+pub made-requires-clause-quiet : goal.made-requires-clause-quiet
+made-requires-clause-quiet c =
+    c.settle.ensures.words.beside.phase ∙ c.boxed_word-word.ensures.made.beside.phase
+    ∙ c.move_pairs.ensures.changes.rest.phase ∙ c.begin_table.ensures.beside.phase
+    ∙ ap (λ (main : Mutator). main.seat.phase) c.in_ok-at.ensures.reserved ∙ c.requires.can.quiet
+
+pub made-requires-clause-within : goal.made-requires-clause-within
+made-requires-clause-within c =
+    let counted = c.regions-regions.ensures.heap_counted in
+    let before = grown_before_marks c.requires.can counted c.in_ok-at.at c.grown-capacity.result c.need_of.result c.in_ok-at.ensures.room
+    (c.in_ok-at.ensures.at (omega arith)) c.grown-capacity.ensures in
+    let space = c.settle.ensures.words.beside.space ∙ c.boxed_word-word.ensures.made.beside.space
+    ∙ c.move_pairs.ensures.changes.rest.space ∙ c.begin_table.ensures.beside.space
+    ∙ ap (λ (main : Mutator). main.seat.space) c.in_ok-at.ensures.reserved in
+    omega (arith, before, ap (λ (s : Space). marks_start s) space)
+
+pub store-requires-clause-quiet : goal.store-requires-clause-quiet
+store-requires-clause-quiet c =
+    ap (λ (main : Mutator). main.seat.phase) c.made.ensures.same ∙ c.settle.ensures.words.beside.phase
+    ∙ c.boxed_word-word.ensures.made.beside.phase ∙ c.move_pairs.ensures.changes.rest.phase
+    ∙ c.begin_table.ensures.beside.phase ∙ ap (λ (main : Mutator). main.seat.phase) c.in_ok-at.ensures.reserved
+    ∙ c.requires.can.quiet
+
+pub store-requires-clause-within : goal.store-requires-clause-within
+store-requires-clause-within c =
+    let space = ap (λ (main : Mutator). main.seat.space) c.made.ensures.same ∙ c.settle.ensures.words.beside.space
+    ∙ c.boxed_word-word.ensures.made.beside.space ∙ c.move_pairs.ensures.changes.rest.space
+    ∙ c.begin_table.ensures.beside.space ∙ ap (λ (main : Mutator). main.seat.space) c.in_ok-at.ensures.reserved in
+    omega (arith, c.requires.can.map_within, ap (λ (s : Space). marks_start s) space)
+
+pub write-requires-clause-quiet : goal.write-requires-clause-quiet
+write-requires-clause-quiet c =
+    ap (λ (main : Mutator). main.seat.phase) c.store.ensures.stored
+    ∙ ap (λ (main : Mutator). main.seat.phase) c.made.ensures.same ∙ c.settle.ensures.words.beside.phase
+    ∙ c.boxed_word-word.ensures.made.beside.phase ∙ c.move_pairs.ensures.changes.rest.phase
+    ∙ c.begin_table.ensures.beside.phase ∙ ap (λ (main : Mutator). main.seat.phase) c.in_ok-at.ensures.reserved
+    ∙ c.requires.can.quiet
+
+pub write-requires-clause-within : goal.write-requires-clause-within
+write-requires-clause-within c =
+    let space = ap (λ (main : Mutator). main.seat.space) c.store.ensures.stored
+    ∙ ap (λ (main : Mutator). main.seat.space) c.made.ensures.same ∙ c.settle.ensures.words.beside.space
+    ∙ c.boxed_word-word.ensures.made.beside.space ∙ c.move_pairs.ensures.changes.rest.space
+    ∙ c.begin_table.ensures.beside.space ∙ ap (λ (main : Mutator). main.seat.space) c.in_ok-at.ensures.reserved in
+    omega (arith, c.requires.can.map_within, ap (λ (s : Space). marks_start s) space)
 
 pub settle-requires-clause-free : goal.settle-requires-clause-free
 settle-requires-clause-free c =

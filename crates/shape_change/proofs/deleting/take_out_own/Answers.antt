@@ -1,11 +1,28 @@
 -- Fields that stand in the object close the gap.
-use Rattle.std.proofs.Common.{sym, ap, subst, arith}
+use Rattle.std.proofs.Common.{sym, ap, subst, arith, List}
 use Rattle.std.specs.Prelude.{Ok}
 use Rattle.page_space.specs.Extents.{Space, marks_start}
+use Rattle.object_graph.specs.declared.path.Path.{Path}
+use Rattle.shape_tree.specs.Shapes.{IsPathShape}
 use Rattle.write_barrier.specs.Mains.{Mutator}
 use Rattle.shape_change.specs.Deletions.{FindsWithout}
+use Rattle.shape_change.proofs.StoresFound.{field_shape}
 use Rattle.shape_change.proofs.TakenFields.{one_fewer, own_before_marks, own_taken}
 use Rattle.shape_change.proofs.deleting.take_out_own.Goals as goal
+
+pub shape_without-requires-clause-path : goal.shape_without-requires-clause-path
+shape_without-requires-clause-path c = field_shape c.requires.whole.whole c.requires.there
+
+pub close_own-requires-clause-path : goal.close_own-requires-clause-path
+close_own-requires-clause-path c =
+    subst (λ (main : Mutator). IsPathShape main.paths c.in_ok-next.next) (sym c.blacken.ensures.same)
+    c.in_ok-next.ensures.0.shape_is.is_shape
+
+pub put_shape-requires-clause-path : goal.put_shape-requires-clause-path
+put_shape-requires-clause-path c =
+    subst (λ (paths : List Path). IsPathShape paths c.in_ok-next.next) (sym c.close_own.ensures.rest.paths)
+    (subst (λ (main : Mutator). IsPathShape main.paths c.in_ok-next.next) (sym c.blacken.ensures.same)
+    c.in_ok-next.ensures.0.shape_is.is_shape)
 
 pub blacken-requires-clause-within : goal.blacken-requires-clause-within
 blacken-requires-clause-within c =
