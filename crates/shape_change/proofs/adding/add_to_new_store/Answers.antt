@@ -6,7 +6,20 @@ use Rattle.write_barrier.specs.Mains.{Mutator}
 use Rattle.object_cells.specs.Made.{content_need}
 use Rattle.object_cells.proofs.WordsBeside.{put_beside}
 use Rattle.object_cells.proofs.UnusedWords.{run_before_marks, run_apart, marks_fit}
+use Rattle.shape_change.proofs.NewNeeds.{content_need_few}
 use Rattle.shape_change.proofs.adding.add_to_new_store.Goals as goal
+
+pub room_for-requires-clause-few : goal.room_for-requires-clause-few
+room_for-requires-clause-few c =
+    omega (
+      arith,
+      c.grown-capacity.ensures,
+      c.requires.full,
+      c.requires.can.few,
+      c.requires.is.small,
+      content_need_few c.content_of-content.result,
+      c.need_of.ensures,
+    )
 
 pub make_store-requires-clause-within : goal.make_store-requires-clause-within
 make_store-requires-clause-within c =

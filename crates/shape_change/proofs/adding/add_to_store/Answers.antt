@@ -6,7 +6,16 @@ use Rattle.write_barrier.specs.Mains.{Mutator}
 use Rattle.object_cells.specs.Made.{content_need}
 use Rattle.object_cells.proofs.UnusedWords.{run_before_marks}
 use Rattle.object_cells.proofs.WordsBeside.{put_beside}
+use Rattle.shape_change.proofs.NewNeeds.{content_need_few}
 use Rattle.shape_change.proofs.adding.add_to_store.Goals as goal
+
+pub room_for-requires-clause-few : goal.room_for-requires-clause-few
+room_for-requires-clause-few c =
+    omega (
+      arith,
+      content_need_few c.content_of-content.result,
+      c.need_of.ensures,
+    )
 
 pub step_to-next-requires-clause-quiet : goal.step_to-next-requires-clause-quiet
 step_to-next-requires-clause-quiet c =

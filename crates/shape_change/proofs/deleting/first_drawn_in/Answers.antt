@@ -1,16 +1,58 @@
 -- The word of a wide field in the store refers to a box; what is read is what is drawn in.
-use Rattle.std.proofs.Common.{◌≡◌, sym, ◌∙◌, ap, subst, refl, Some, slice_get, ℤ}
+use Rattle.std.proofs.Common.{◌≡◌, ◌+◌, ◌<◌, length, sym, ◌∙◌, ap, subst, refl, arith, Some, slice_get, ℤ}
 use Rattle.std.specs.Prelude.{List}
-use Rattle.std.proofs.lemmas.Option.{same_Some}
+use Rattle.std.proofs.lemmas.Option.{same_Some, slice_get_within}
+use Rattle.page_space.specs.Extents.{marks_start}
 use Rattle.object_graph.specs.declared.path.Path.{Path}
 use Rattle.object_graph.specs.declared.path.PathField.{PathField}
 use Rattle.object_graph.specs.declared.value.Rep.{Rep}
-use Rattle.shape_tree.specs.Shapes.{shape_path}
+use Rattle.shape_tree.specs.Shapes.{IsPathShape, shape_path}
+use Rattle.heap_table.specs.Seats.{heap_words}
 use Rattle.heap_model.specs.Slots.{RefersToBox}
 use Rattle.write_barrier.specs.Mains.{heap_of}
+use Rattle.object_cells.proofs.CellsRead.{fits_address}
 use Rattle.shape_change.specs.Deletions.{IsDrawnIn}
 use Rattle.shape_change.proofs.StoresFound.{field_boxed, draws_first}
 use Rattle.shape_change.proofs.deleting.first_drawn_in.Goals as goal
+
+pub overflow_add-store : goal.overflow_add-store
+overflow_add-store c =
+    let there = c.requires.there in
+    let words = heap_words c.args.main.now.seat in
+    let below : c.args.store + 2 < marks_start c.args.main.now.seat.space =
+    omega (
+      arith,
+      slice_get_within words (c.args.store + 2) there.word there.stands,
+      c.regions-regions.ensures.heap_counted,
+    ) in
+    fits_address below c.regions-regions.ensures.within
+
+pub word-word-requires-clause-within : goal.word-word-requires-clause-within
+word-word-requires-clause-within c =
+    let there = c.requires.there in
+    let words = heap_words c.args.main.now.seat in
+    omega (
+      arith,
+      slice_get_within words (c.args.store + 2) there.word there.stands,
+      c.regions-regions.ensures.heap_counted,
+    )
+
+pub cap-requires : goal.cap-requires
+cap-requires c =
+    subst (λ (all : List Path). IsPathShape all c.args.shape) (sym c.shapes-shapes.ensures) c.requires.there.is_shape
+
+pub field-requires-clause-path : goal.field-requires-clause-path
+field-requires-clause-path c =
+    subst (λ (all : List Path). IsPathShape all c.args.shape) (sym c.shapes-shapes.ensures) c.requires.there.is_shape
+
+pub field-requires-clause-there : goal.field-requires-clause-there
+field-requires-clause-there c =
+    let there = c.requires.there in
+    let paths = c.shapes-shapes.ensures in
+    let path : Path = shape_path c.args.main.now.paths c.args.shape in
+    let cap = c.cap.ensures.cap ∙ ap (λ (all : List Path). (shape_path all c.args.shape).cap) paths in
+    let fields = ap (λ (all : List Path). length (shape_path all c.args.shape).fields) paths in
+    omega (arith, slice_get_within path.fields path.cap there.field there.among, cap, fields)
 
 pub raw_in_box-requires-clause-boxed : goal.raw_in_box-requires-clause-boxed
 raw_in_box-requires-clause-boxed c =
