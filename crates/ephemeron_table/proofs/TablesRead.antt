@@ -182,6 +182,10 @@ table_is_none {heap} map word whole within there stands none = record {
   pairs = λ pairs has.
       let empty : pairs ≡ [] = no_pairs map word pairs whole within has stands none in
       subst (ArePairsIn heap.words (record { at = 0; capacity = 0 })) (sym empty)
-      (record { long = refl; keys = λ place pair there. cc; values = λ place pair there. cc });
+      (record {
+        long = refl;
+        keys = λ place pair there. absurd (none-some pair there);
+        values = λ place pair there. absurd (none-some pair there);
+      });
   refers = λ pairs has some. absurd (omega (arith, some));
 }

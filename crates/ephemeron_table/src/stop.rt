@@ -3,7 +3,7 @@
 use write_barrier::NoRoom;
 
 /// Why an entry is not put. Nothing has changed.
-#[derive(Clone, Copy, Debug, PartialEq, Eq)]
+#[derive(Clone, Copy)]
 pub enum TableStop {
     /// The key is new, and the map has 256 entries or more: how many.
     TableFull { entries: u32 },

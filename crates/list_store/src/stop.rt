@@ -3,7 +3,7 @@
 use write_barrier::NoRoom;
 
 /// Why an element is not pushed. Nothing has changed.
-#[derive(Clone, Copy, Debug, PartialEq, Eq)]
+#[derive(Clone, Copy)]
 pub enum PushStop {
     /// The list has 1,000 elements.
     ListFull,
@@ -12,7 +12,7 @@ pub enum PushStop {
 }
 
 /// Why an element is not put. Nothing has changed.
-#[derive(Clone, Copy, Debug, PartialEq, Eq)]
+#[derive(Clone, Copy)]
 pub enum PutStop {
     /// The index is below 0, or not below the length.
     Range,
@@ -22,5 +22,5 @@ pub enum PutStop {
 
 /// An integer is below 0 or too large: an index that is not below the length, or a number of elements
 /// that is over it.
-#[derive(Clone, Copy, Debug, PartialEq, Eq)]
+#[derive(Clone, Copy)]
 pub struct Range;

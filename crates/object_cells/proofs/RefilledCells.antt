@@ -1,8 +1,7 @@
 -- Each cell that came or was made where the fields of a plain object became others is sound.
 use Rattle.std.proofs.Common.{◌≡◌, ℕ, ◌+◌, ◌-◌, false, List, ◌∷◌, ◌++◌, length, drop, Contains}
 use Rattle.std.proofs.Common.{slice_get, nat_lt, inl, inr, refl, sym, ◌∙◌, ap, subst, arith}
-use Rattle.std.proofs.lemmas.Bool.{false≢true}
-use Rattle.std.proofs.lemmas.Bool.Decides.{nat_tests}
+use Rattle.std.proofs.lemmas.Bool.{false≢true, le-ltb}
 use Rattle.std.proofs.lemmas.List.{length-map}
 use Rattle.std.proofs.lemmas.Option.{slice_get_cases}
 use Rattle.tagged_word.specs.declared.layout.Kind.TheVariants as kind
@@ -66,6 +65,13 @@ slot_word {new = new} {cell} {after = after} k word refilling stands behind = el
   | inr past ↦ subst (IsSlotWord new) (sym (refilling.slots.rest k word past.0 stands)) IsSlotWord.hole
 ]
 
+-- a number that is so much more than another is so far behind it, and not below it
+behind_by : (cap k : ℕ) → cap + k - cap ≡ k
+behind_by cap k = omega arith
+
+not_below : (cap k : ℕ) → nat_lt (cap + k) cap ≡ false
+not_below cap k = le-ltb (cap + k) cap (omega arith)
+
 -- so does each word of the object's store
 store_word : {old new : Heap} {cell other : Cell} {shape : ℕ} {others made : List Cell} {before after : List Field}
     {words : List ℕ} (k word : ℕ) (refilling : Refilling old new cell shape others made before after)
@@ -77,12 +83,11 @@ store_word {new = new} {cell} {shape = shape} {words = words} k word refilling r
     let has = refilling.cells.comes one (first_in one _) in
     let is = store_of slots.store slots.are slots.has_store refers in
     let number : ℕ = cap + k in
-    let back : number - cap ≡ k = omega arith in
+    let back : number - cap ≡ k = behind_by cap k in
     let here : HasWord slots.now number word =
     sym (behind_cap number cap has refl slots.are refilling.writes.cap (omega arith))
     ∙ ap (slice_get slots.are.beside) back ∙ ap (λ all. slice_get all k) is.are ∙ stands in
-    let behind : nat_lt number cap ≡ false = grind (arith, nat_tests) in
-    slot_word number word refilling here behind
+    slot_word number word refilling here (not_below cap k)
 
 -- each store that came or was made is sound
 store_sound : {old new : Heap} {cell : Cell} {shape : ℕ} {others made : List Cell} {before after : List Field}

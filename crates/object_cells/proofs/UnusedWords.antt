@@ -18,8 +18,12 @@ use Rattle.heap_model.specs.Heaps.{Heap, Row, EndsUsed, IsUsedRow, HasCell}
 use Rattle.heap_model.specs.Wholeness.{HasRows}
 use Rattle.heap_model.proofs.CellsApart.{IsOfCell, has_is_cell, first_of_cell, cell_extent_stands}
 use Rattle.heap_model.proofs.Patches.{row_holds}
-use Rattle.write_barrier.specs.Mains.{Mutator, IsTied}
+use Rattle.write_barrier.specs.Mains.{Mutator, heap_of, IsTied}
+use Rattle.word_store.specs.Copies.{AreApart}
+use Rattle.tagged_word.specs.Cells.{store_head}
+use Rattle.object_cells.specs.declared.stores.Store.{Store}
 use Rattle.object_cells.specs.Contents.{next_at}
+use Rattle.object_cells.specs.Made.{IsStoreAt}
 
 -- words that eden has room for end before the segments
 pub next_before_segments : (main : Mutator) (need : ℕ) → IsTied main → HasRoom main.young need
@@ -45,6 +49,17 @@ pub run_before_marks : (main : Mutator) (need at : ℕ) (space : Space) → IsTi
     → at ≡ next_at main → space ≡ main.seat.space → at + need ≤ marks_start space
 run_before_marks main need at space tied room is same =
     omega (arith, next_before_marks main need tied room, is, ap (λ (one : Space). marks_start one) same)
+
+-- so a store that is made of them has no slot at the address of one of the store that stands beside an object
+pub run_apart : (main : Mutator) (object need at : ℕ) (store : Store) → IsTied main → IsStoreAt (heap_of main) object store
+    → HasRoom main.young need → at ≡ next_at main → store_head + store.capacity ≤ need
+    → AreApart (store.at + store_head) (at + store_head) store.capacity
+run_apart main object need at store tied is room stands fits =
+    let run = next_before_segments main need tied room in
+    elim is.used [
+      | inl before ↦ inl (omega (arith, before, stands))
+      | inr behind ↦ inr (omega (arith, behind, stands, run, fits))
+    ]
 
 -- the address behind the last word before the marks has 32 bits
 pub marks_fit : (space : Space) → AreWithin space.sizes space.variables → marks_start space < 4294967296

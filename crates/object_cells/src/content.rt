@@ -8,7 +8,7 @@ use object_graph::Rep;
 use tagged_word::{Word, is_small, odd};
 
 /// What the slot of a field holds for a value.
-#[derive(Clone, Copy, Debug, PartialEq, Eq)]
+#[derive(Clone, Copy)]
 pub enum Content {
     /// A tagged word.
     Tagged(Word),
@@ -19,7 +19,7 @@ pub enum Content {
 }
 
 /// How a slot comes to hold it.
-#[derive(Clone, Copy, Debug, PartialEq, Eq)]
+#[derive(Clone, Copy)]
 pub enum Filling {
     /// A tagged word is put.
     Tagged(Word),

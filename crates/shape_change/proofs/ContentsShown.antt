@@ -62,6 +62,10 @@ pub record ShowsByBox (heap : Heap) (own : Bool) (was one : Rep) (what : Value) 
   pub was_not_raw : own ≡ true → was ≡ rep.Wide → ⊥
   pub fits : (count : ℕ) → IsValue count what → FitsSigned w64 v
 
+-- no field is both
+tagged_is_not_wide : rep.Tagged ≡ rep.Wide → ⊥
+tagged_is_not_wide same = cc
+
 -- so it shows it
 pub box_shows : {old new : Heap} {own : Bool} {was one : Rep} {what : Value} (v : ℤ)
     → HoldsValue old own was one what (content.Boxed v) → ShowsByBox new own was one what v
@@ -72,8 +76,6 @@ box_shows {own = own} v (HoldsValue.wide_box of beside apart small_stays) = reco
 }
 box_shows v (HoldsValue.tagged_box of wide tagged) = record {
   shows = λ word box. ShowsField.tagged (value.Int v) (ShowsValue.boxed v wide box);
-  was_not_raw = λ is was_wide.
-      let same : rep.Tagged ≡ rep.Wide = sym tagged ∙ was_wide in
-      cc;
+  was_not_raw = λ is was_wide. tagged_is_not_wide (sym tagged ∙ was_wide);
   fits = λ count is. is;
 }

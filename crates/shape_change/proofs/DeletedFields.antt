@@ -2,7 +2,7 @@
 -- named from which it moved.
 use Rattle.std.proofs.Common.{◌≡◌, ℕ, ◌<◌, ◌≤◌, true, List, []}
 use Rattle.std.proofs.Common.{length, Some, slice_get, get_or, nat_lt, ltb-true, refl, sym, ◌∙◌, ap, subst, arith}
-use Rattle.std.proofs.lemmas.Bool.Decides.{nat_tests}
+use Rattle.std.proofs.lemmas.Bool.{lt-ltb}
 use Rattle.std.proofs.lemmas.Option.{same_Some, slice_get-get_or, slice_get_within}
 use Rattle.object_graph.specs.declared.value.Value.TheVariants.{Undefined}
 use Rattle.object_graph.specs.declared.value.Rep.TheVariants as rep
@@ -125,7 +125,7 @@ slot_shows {old} {new} {cell} {slot} {fields} name one word field deleting less 
           let box = written_box_stays drawn.word deleting.whole writes (no_box drawn.word deleting) in
           let shown = drawn_shown drawn.word deleting.taken.first field.rep field.value places box drawn.drawn
           drawn.shows in
-          let test : nat_lt one cell.layout.cap ≡ true = grind (arith, nat_tests) in
+          let test : nat_lt one cell.layout.cap ≡ true = lt-ltb one cell.layout.cap (omega (arith, caps)) in
           ShowsSlot.fresh (subst (λ own. ShowsField (heap_of new) own word field.rep field.value) (sym test)
           (subst (λ w. ShowsField (heap_of new) true w field.rep field.value) (sym is) shown))
       | NowHolds.hole from is ↦

@@ -1,7 +1,8 @@
 -- What filling a slot leaves of the mutator.
-use Rattle.std.proofs.Common.{◌≡◌, ℕ, refl, ap, ◌∙◌}
+use Rattle.std.proofs.Common.{◌≡◌, ℕ, refl, sym, ap, subst, ◌∙◌}
 use Rattle.heap_table.specs.Seats.{Seat}
-use Rattle.write_barrier.specs.Mains.{Mutator}
+use Rattle.heap_model.specs.Wholeness.{HasSizes}
+use Rattle.write_barrier.specs.Mains.{Mutator, heap_of}
 use Rattle.write_barrier.specs.Opening.{ChangesWithin}
 use Rattle.object_cells.specs.declared.content.Filling.{Filling}
 use Rattle.object_cells.specs.declared.content.Filling.TheVariants as filling
@@ -28,3 +29,16 @@ pub laid_space : (old between laid : Mutator) (filling : Filling) (from to : ℕ
     → ChangesWithin (with_paths between laid.paths) laid from to → laid.seat.space ≡ old.seat.space
 laid_space old between laid filling from to allocates changes =
     changes.seat.space ∙ ap (λ (seat : Seat). seat.space) (allocates_seat old between filling allocates)
+
+-- where words were used, there are as many words and paths as before, and the layout words are the same
+pub allocates_sized : (old new : Mutator) (filling : Filling) → Allocates old new filling → HasSizes (heap_of old)
+    → HasSizes (heap_of new)
+allocates_sized old new (filling.Tagged word) same sized =
+    subst (λ (main : Mutator). HasSizes (heap_of main)) (sym same) sized
+allocates_sized old new (filling.Raw word) same sized =
+    subst (λ (main : Mutator). HasSizes (heap_of main)) (sym same) sized
+allocates_sized old new (filling.NewBox at v) more sized =
+    subst (λ (main : Mutator). HasSizes (heap_of main)) (sym more.1)
+    (record { words = sized.words; shapes = sized.shapes; layouts = sized.layouts })
+allocates_sized old new (filling.OldBox at v) same sized =
+    subst (λ (main : Mutator). HasSizes (heap_of main)) (sym same) sized

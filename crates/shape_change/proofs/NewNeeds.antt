@@ -24,6 +24,8 @@ use Rattle.write_barrier.specs.Mains.{heap_of, Mutator}
 use Rattle.object_cells.specs.Capacities.{set_capacity_at, set_capacity_by, new_field_capacity, stored_capacity}
 use Rattle.object_cells.specs.declared.stores.Store.{Store}
 use Rattle.shape_change.specs.Additions.{CanAdd, count_of}
+use Rattle.object_cells.specs.declared.content.Content.{Content}
+use Rattle.object_cells.specs.declared.content.Content.TheVariants as content
 use Rattle.object_cells.proofs.HeldNeeds.{content_need_is}
 use Rattle.object_cells.specs.Made.{IsStoreAt, is_wide_held, content_need, beside_content}
 use Rattle.shape_change.specs.Additions.{behind_cap}
@@ -169,3 +171,9 @@ capacity_to_new_store main object header name value store can behind is full =
     let test : nat_lt (behind_cap main.paths header.shape) kept ≡ false = grind (arith, nat_tests, is.capacity) in
     capacity_beside main object header name value can behind ∙ ap (λ t. cond t kept (grown kept)) test
     ∙ ap grown is.capacity
+
+-- a box has two words
+pub content_need_few : (holds : Content) → content_need holds ≤ 2
+content_need_few (content.Tagged word) = omega arith
+content_need_few (content.Raw word) = omega arith
+content_need_few (content.Boxed v) = omega arith

@@ -1,7 +1,7 @@
 -- A field that comes to an in-object slot is shown.
 use Rattle.std.proofs.Common.{◌≡◌, ℕ, ◌+◌, ◌<◌, true, [], length, refl, sym, ◌∙◌, ap, subst, arith, nat_lt}
 use Rattle.std.specs.Prelude.{slice_set}
-use Rattle.std.proofs.lemmas.Bool.Decides.{nat_tests}
+use Rattle.std.proofs.lemmas.Bool.{lt-ltb}
 use Rattle.tagged_word.specs.declared.header.Header.{Header}
 use Rattle.tagged_word.specs.Cells.{plain_head, store_slot}
 use Rattle.object_graph.specs.declared.value.Value.{Value}
@@ -137,7 +137,7 @@ own_shown {old} {new} {graph} {plain} {object} {header} {name} {value} {what} kn
     let places = written_places_stay known.shows.shows.whole one.writes in
     let holds = new_value_held true value what known.held.shows in
     let below : slot < known.cell.layout.cap = omega (arith, known.count, known.cap, own) in
-    let test : nat_lt slot known.cell.layout.cap ≡ true = grind (arith, nat_tests) in
+    let test : nat_lt slot known.cell.layout.cap ≡ true = lt-ltb slot known.cell.layout.cap below in
     let shows : ShowsField (heap_of new) true word (rep_of what) what =
     content_shows (length graph.objects) 0 holds places known.fits
     (λ v boxed. absurd (own_holds_no_box v holds boxed)) in

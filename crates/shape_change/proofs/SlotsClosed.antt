@@ -60,6 +60,24 @@ moved_more {old} {mid} {new} from to word ordered moves is heap read below withi
       ];
     }
 
+-- the gap is closed once a word is put in the last slot
+pub gap_closed : {old mid new : Mutator} (from last word : ℕ) → from ≤ last → MovesDown old mid from last
+    → new ≡ with_word mid last word → heap_words new.seat ≡ slice_set (heap_words mid.seat) last word
+    → last < marks_start mid.seat.space → last < length (heap_words mid.seat) → ClosesGap old new from last word
+gap_closed {old} {mid} {new} from last word ordered moves is heap below within =
+    let words = heap_words mid.seat in
+    let other : (a : ℕ) → a ≢ last → slice_get (heap_words new.seat) a ≡ slice_get words a = λ a apart.
+    ap (λ all. slice_get all a) heap ∙ slice_get-set_other words last a word apart in
+    record {
+      rest = rest_then old mid new moves.rest (rest_put mid new last word is heap below);
+      moved = λ a low high. other a (λ same. omega (arith, same, high)) ∙ moves.moved a low high;
+      filled = ap (λ all. slice_get all last) heap ∙ slice_get-set_same words last word within;
+      beside = λ a out. elim out [
+        | inl before ↦ other a (λ same. omega (arith, same, before, ordered)) ∙ moves.beside a (inl before)
+        | inr behind ↦ other a (λ same. omega (arith, same, behind)) ∙ moves.beside a (inr (omega (arith, behind)))
+      ];
+    }
+
 -- what is none of so many addresses is before or behind them
 outside : (at base first last : ℕ) → ((k : ℕ) → first ≤ k → k ≤ last → base + k ≢ at)
     → (at < base + first) ⊎ (base + last + 1 ≤ at)

@@ -13,7 +13,7 @@ use object_graph::Rep;
 use write_barrier::Main;
 
 /// How the slot of a field is set.
-#[derive(Clone, Copy, Debug, PartialEq, Eq)]
+#[derive(Clone, Copy)]
 pub(crate) struct SlotSetting {
     /// Where it stands.
     pub(crate) place: Place,

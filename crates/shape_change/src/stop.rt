@@ -4,7 +4,7 @@ use shape_tree::ShapesFull;
 use write_barrier::NoRoom;
 
 /// Why a field is not set. Nothing has changed.
-#[derive(Clone, Copy, Debug, PartialEq, Eq)]
+#[derive(Clone, Copy)]
 pub enum FieldStop {
     /// The name is new, and the object has 64 fields.
     FieldsFull,

@@ -1,5 +1,6 @@
 -- The table and the box that are made stand in the words that were reserved.
-use Rattle.std.proofs.Common.{◌≡◌, ◌+◌, ap, ◌∙◌, arith, rules}
+use Rattle.std.proofs.Common.{◌≡◌, ℕ, ◌+◌, ◌*◌, ◌<◌, ◌≤◌, sym, ap, subst, ◌∙◌, arith, rules}
+use Rattle.tagged_word.specs.Cells.{store_head}
 use Rattle.page_space.specs.Extents.{Space, marks_start}
 use Rattle.heap_table.specs.Seats.{StaysBeside}
 use Rattle.heap_table.specs.Staying.{stays_beside_again}
@@ -7,42 +8,82 @@ use Rattle.write_barrier.specs.Mains.{Mutator}
 use Rattle.object_cells.specs.Made.{content_need}
 use Rattle.object_cells.proofs.WordsBeside.{same_beside, reserved_beside, put_beside}
 use Rattle.ephemeron_table.proofs.GrowingTables.{begun_within, boxed_free, grown_apart, grown_before_marks, grown_keys}
-use Rattle.ephemeron_table.proofs.GrowingTables.{grown_nothing}
+use Rattle.ephemeron_table.proofs.GrowingTables.{grown_more, grown_nothing}
 use Rattle.ephemeron_table.proofs.growing.put_in_new_table.Goals as goal
+
+-- some words are asked for
+some_words : (capacity box : ℕ) → 0 < store_head + 2 * capacity + box
+some_words capacity box = omega arith
+
+-- a table begins before it ends, and a map's slot stands before its count
+begins_before : (at more marks : ℕ) → at + (store_head + more) ≤ marks → at < marks
+begins_before at more marks within = omega arith
+
+slot_before : (map marks : ℕ) → map + 2 < marks → map + 1 < marks
+slot_before map marks within = omega arith
 
 pub begin_table-requires-clause-within : goal.begin_table-requires-clause-within
 begin_table-requires-clause-within c =
     let counted = c.regions-regions.ensures.heap_counted in
     let space = ap (λ (main : Mutator). marks_start main.seat.space) c.in_ok-at.ensures.reserved in
     let before = grown_before_marks c.requires.can counted c.in_ok-at.at c.grown-capacity.result c.need_of.result
-    c.in_ok-at.ensures.room (c.in_ok-at.ensures.at (omega arith)) c.grown-capacity.ensures in
+    c.in_ok-at.ensures.room
+    (c.in_ok-at.ensures.at (some_words c.grown-capacity.result c.need_of.result))
+    c.grown-capacity.ensures in
     omega (arith, before, space)
 
 pub move_pairs-requires-clause-to : goal.move_pairs-requires-clause-to
 move_pairs-requires-clause-to c =
     let counted = c.regions-regions.ensures.heap_counted in
     begun_within c.requires.can counted c.in_ok-at.at c.grown-capacity.result c.need_of.result c.in_ok-at.ensures.room
-    (c.in_ok-at.ensures.at (omega arith)) c.grown-capacity.ensures c.in_ok-at.ensures.reserved
+    (c.in_ok-at.ensures.at (some_words c.grown-capacity.result c.need_of.result))
+    c.grown-capacity.ensures c.in_ok-at.ensures.reserved
     c.begin_table.ensures
+
+pub begin_table-requires-clause-quiet : goal.begin_table-requires-clause-quiet
+begin_table-requires-clause-quiet c =
+    ap (λ (main : Mutator). main.seat.phase) c.in_ok-at.ensures.reserved ∙ c.requires.can.quiet
+
+pub move_pairs-requires-clause-quiet : goal.move_pairs-requires-clause-quiet
+move_pairs-requires-clause-quiet c =
+    c.begin_table.ensures.beside.phase ∙ ap (λ (main : Mutator). main.seat.phase) c.in_ok-at.ensures.reserved
+    ∙ c.requires.can.quiet
+
+pub move_pairs-requires-clause-from : goal.move_pairs-requires-clause-from
+move_pairs-requires-clause-from c =
+    let space = c.begin_table.ensures.beside.space
+    ∙ ap (λ (main : Mutator). main.seat.space) c.in_ok-at.ensures.reserved in
+    subst (λ (s : Space). c.args.table.at + (store_head + 2 * c.args.table.capacity) ≤ marks_start s) (sym space)
+    c.requires.can.within
+
+pub move_pairs-requires-clause-more : goal.move_pairs-requires-clause-more
+move_pairs-requires-clause-more c =
+    let counted = c.regions-regions.ensures.heap_counted in
+    grown_more c.requires.can counted c.in_ok-at.at c.grown-capacity.result c.need_of.result c.in_ok-at.ensures.room
+    (c.in_ok-at.ensures.at (some_words c.grown-capacity.result c.need_of.result))
+    c.grown-capacity.ensures
 
 pub move_pairs-requires-clause-apart : goal.move_pairs-requires-clause-apart
 move_pairs-requires-clause-apart c =
     let counted = c.regions-regions.ensures.heap_counted in
     grown_apart c.requires.can counted c.in_ok-at.at c.grown-capacity.result c.need_of.result c.in_ok-at.ensures.room
-    (c.in_ok-at.ensures.at (omega arith)) c.grown-capacity.ensures
+    (c.in_ok-at.ensures.at (some_words c.grown-capacity.result c.need_of.result))
+    c.grown-capacity.ensures
 
 pub move_pairs-requires-clause-keys : goal.move_pairs-requires-clause-keys
 move_pairs-requires-clause-keys c =
     let counted = c.regions-regions.ensures.heap_counted in
     grown_keys c.requires.can counted c.in_ok-at.at c.grown-capacity.result c.need_of.result c.in_ok-at.ensures.room
-    (c.in_ok-at.ensures.at (omega arith)) c.grown-capacity.ensures c.in_ok-at.ensures.reserved
+    (c.in_ok-at.ensures.at (some_words c.grown-capacity.result c.need_of.result))
+    c.grown-capacity.ensures c.in_ok-at.ensures.reserved
     c.begin_table.ensures
 
 pub move_pairs-requires-clause-empty : goal.move_pairs-requires-clause-empty
 move_pairs-requires-clause-empty c =
     let counted = c.regions-regions.ensures.heap_counted in
     grown_nothing c.requires.can counted c.in_ok-at.at c.grown-capacity.result c.need_of.result c.in_ok-at.ensures.room
-    (c.in_ok-at.ensures.at (omega arith)) c.grown-capacity.ensures c.in_ok-at.ensures.reserved
+    (c.in_ok-at.ensures.at (some_words c.grown-capacity.result c.need_of.result))
+    c.grown-capacity.ensures c.in_ok-at.ensures.reserved
     c.begin_table.ensures
 
 pub boxed_word-word-requires-clause-within : goal.boxed_word-word-requires-clause-within
@@ -52,14 +93,93 @@ boxed_word-word-requires-clause-within c v boxed =
     let space = c.move_pairs.ensures.changes.rest.space ∙ c.begin_table.ensures.beside.space
     ∙ ap (λ (main : Mutator). main.seat.space) c.in_ok-at.ensures.reserved in
     let before = grown_before_marks c.requires.can counted c.in_ok-at.at c.grown-capacity.result c.need_of.result
-    c.in_ok-at.ensures.room (c.in_ok-at.ensures.at (omega arith)) c.grown-capacity.ensures in
+    c.in_ok-at.ensures.room
+    (c.in_ok-at.ensures.at (some_words c.grown-capacity.result c.need_of.result))
+    c.grown-capacity.ensures in
     omega (arith, before, two, ap (λ (s : Space). marks_start s) space)
+
+pub boxed_word-word-requires-clause-quiet : goal.boxed_word-word-requires-clause-quiet
+boxed_word-word-requires-clause-quiet c =
+    c.move_pairs.ensures.changes.rest.phase ∙ c.begin_table.ensures.beside.phase
+    ∙ ap (λ (main : Mutator). main.seat.phase) c.in_ok-at.ensures.reserved ∙ c.requires.can.quiet
+
+pub settle-requires-clause-quiet : goal.settle-requires-clause-quiet
+settle-requires-clause-quiet c =
+    c.boxed_word-word.ensures.made.beside.phase ∙ c.move_pairs.ensures.changes.rest.phase
+    ∙ c.begin_table.ensures.beside.phase ∙ ap (λ (main : Mutator). main.seat.phase) c.in_ok-at.ensures.reserved
+    ∙ c.requires.can.quiet
+
+pub settle-requires-clause-within : goal.settle-requires-clause-within
+settle-requires-clause-within c =
+    let counted = c.regions-regions.ensures.heap_counted in
+    let within = begun_within c.requires.can counted c.in_ok-at.at c.grown-capacity.result c.need_of.result
+    c.in_ok-at.ensures.room
+    (c.in_ok-at.ensures.at (some_words c.grown-capacity.result c.need_of.result))
+    c.grown-capacity.ensures c.in_ok-at.ensures.reserved
+    c.begin_table.ensures in
+    subst (λ (s : Space). c.in_ok-at.at + (store_head + 2 * c.grown-capacity.result) ≤ marks_start s)
+    (sym (c.boxed_word-word.ensures.made.beside.space ∙ c.move_pairs.ensures.changes.rest.space)) within
+
+pub settle-requires-clause-key : goal.settle-requires-clause-key
+settle-requires-clause-key c =
+    let space = c.boxed_word-word.ensures.made.beside.space ∙ c.move_pairs.ensures.changes.rest.space
+    ∙ c.begin_table.ensures.beside.space ∙ ap (λ (main : Mutator). main.seat.space) c.in_ok-at.ensures.reserved in
+    subst (λ (s : Space). c.args.key < marks_start s) (sym space) c.requires.can.key_within
+
+pub made-requires-clause-quiet : goal.made-requires-clause-quiet
+made-requires-clause-quiet c =
+    c.settle.ensures.words.beside.phase ∙ c.boxed_word-word.ensures.made.beside.phase
+    ∙ c.move_pairs.ensures.changes.rest.phase ∙ c.begin_table.ensures.beside.phase
+    ∙ ap (λ (main : Mutator). main.seat.phase) c.in_ok-at.ensures.reserved ∙ c.requires.can.quiet
+
+pub made-requires-clause-within : goal.made-requires-clause-within
+made-requires-clause-within c =
+    let counted = c.regions-regions.ensures.heap_counted in
+    let within = begun_within c.requires.can counted c.in_ok-at.at c.grown-capacity.result c.need_of.result
+    c.in_ok-at.ensures.room
+    (c.in_ok-at.ensures.at (some_words c.grown-capacity.result c.need_of.result))
+    c.grown-capacity.ensures c.in_ok-at.ensures.reserved
+    c.begin_table.ensures in
+    let space = c.settle.ensures.words.beside.space ∙ c.boxed_word-word.ensures.made.beside.space
+    ∙ c.move_pairs.ensures.changes.rest.space in
+    subst (λ (s : Space). c.in_ok-at.at < marks_start s) (sym space) (begins_before _ _ _ within)
+
+pub store-requires-clause-quiet : goal.store-requires-clause-quiet
+store-requires-clause-quiet c =
+    ap (λ (main : Mutator). main.seat.phase) c.made.ensures.same ∙ c.settle.ensures.words.beside.phase
+    ∙ c.boxed_word-word.ensures.made.beside.phase ∙ c.move_pairs.ensures.changes.rest.phase
+    ∙ c.begin_table.ensures.beside.phase ∙ ap (λ (main : Mutator). main.seat.phase) c.in_ok-at.ensures.reserved
+    ∙ c.requires.can.quiet
+
+pub store-requires-clause-within : goal.store-requires-clause-within
+store-requires-clause-within c =
+    let space = ap (λ (main : Mutator). main.seat.space) c.made.ensures.same ∙ c.settle.ensures.words.beside.space
+    ∙ c.boxed_word-word.ensures.made.beside.space ∙ c.move_pairs.ensures.changes.rest.space
+    ∙ c.begin_table.ensures.beside.space ∙ ap (λ (main : Mutator). main.seat.space) c.in_ok-at.ensures.reserved in
+    subst (λ (s : Space). c.args.map + 1 < marks_start s) (sym space) (slot_before _ _ c.requires.can.map_within)
+
+pub write-requires-clause-quiet : goal.write-requires-clause-quiet
+write-requires-clause-quiet c =
+    ap (λ (main : Mutator). main.seat.phase) c.store.ensures.stored
+    ∙ ap (λ (main : Mutator). main.seat.phase) c.made.ensures.same ∙ c.settle.ensures.words.beside.phase
+    ∙ c.boxed_word-word.ensures.made.beside.phase ∙ c.move_pairs.ensures.changes.rest.phase
+    ∙ c.begin_table.ensures.beside.phase ∙ ap (λ (main : Mutator). main.seat.phase) c.in_ok-at.ensures.reserved
+    ∙ c.requires.can.quiet
+
+pub write-requires-clause-within : goal.write-requires-clause-within
+write-requires-clause-within c =
+    let space = ap (λ (main : Mutator). main.seat.space) c.store.ensures.stored
+    ∙ ap (λ (main : Mutator). main.seat.space) c.made.ensures.same ∙ c.settle.ensures.words.beside.space
+    ∙ c.boxed_word-word.ensures.made.beside.space ∙ c.move_pairs.ensures.changes.rest.space
+    ∙ c.begin_table.ensures.beside.space ∙ ap (λ (main : Mutator). main.seat.space) c.in_ok-at.ensures.reserved in
+    subst (λ (s : Space). c.args.map + 2 < marks_start s) (sym space) c.requires.can.map_within
 
 pub settle-requires-clause-free : goal.settle-requires-clause-free
 settle-requires-clause-free c =
     let counted = c.regions-regions.ensures.heap_counted in
     boxed_free c.requires.can counted c.in_ok-at.at c.grown-capacity.result c.need_of.result c.in_ok-at.ensures.room
-    (c.in_ok-at.ensures.at (omega arith)) c.grown-capacity.ensures c.in_ok-at.ensures.reserved
+    (c.in_ok-at.ensures.at (some_words c.grown-capacity.result c.need_of.result))
+    c.grown-capacity.ensures c.in_ok-at.ensures.reserved
     c.begin_table.ensures c.content_for-content.result
     c.move_pairs.ensures c.boxed_word-word.ensures.made
 

@@ -7,7 +7,7 @@ use Rattle.write_barrier.specs.Mains.{Mutator}
 use Rattle.object_cells.specs.Made.{content_need}
 use Rattle.object_cells.proofs.CellsRead.{fits_address}
 use Rattle.object_cells.proofs.WordsBeside.{same_beside, put_beside, reserved_beside}
-use Rattle.object_cells.proofs.UnusedWords.{run_before_marks, marks_fit}
+use Rattle.object_cells.proofs.UnusedWords.{run_before_marks, run_apart, marks_fit}
 use Rattle.list_store.proofs.ListCells.{count_within, slot_within}
 use Rattle.list_store.proofs.pushing.push_to_new_store.Goals as goal
 
@@ -18,6 +18,47 @@ begin_store-requires-clause-within c =
     let before = run_before_marks c.args.main.now need c.in_ok-at.at c.room_for.new.main.seat.space
     c.requires.can.ready.tied c.in_ok-at.ensures.room (c.in_ok-at.ensures.at (omega arith)) space in
     omega (arith, before)
+
+pub begin_store-requires-clause-other : goal.begin_store-requires-clause-other
+begin_store-requires-clause-other c =
+    let space = ap (λ (main : Mutator). main.seat.space) c.in_ok-at.ensures.reserved in
+    omega (arith, ap (λ (s : Space). marks_start s) space, c.requires.can.is.within)
+
+pub begin_store-requires-clause-apart : goal.begin_store-requires-clause-apart
+begin_store-requires-clause-apart c =
+    let need = 2 + c.grown-capacity.result + c.need_of.result in
+    run_apart c.args.main.now c.args.list need c.in_ok-at.at c.args.store c.requires.can.ready.tied c.requires.can.is
+    c.in_ok-at.ensures.room (c.in_ok-at.ensures.at (omega arith))
+    (omega (arith, c.grown-capacity.ensures, c.requires.few))
+
+pub begin_store-requires-clause-quiet : goal.begin_store-requires-clause-quiet
+begin_store-requires-clause-quiet c =
+    ap (λ (main : Mutator). main.seat.phase) c.in_ok-at.ensures.reserved ∙ c.requires.can.ready.whole.quiet
+
+pub boxed_word-word-requires-clause-quiet : goal.boxed_word-word-requires-clause-quiet
+boxed_word-word-requires-clause-quiet c =
+    c.begin_store.ensures.beside.phase
+    ∙ ap (λ (main : Mutator). main.seat.phase) c.in_ok-at.ensures.reserved ∙ c.requires.can.ready.whole.quiet
+
+pub store-requires-clause-quiet : goal.store-requires-clause-quiet
+store-requires-clause-quiet c =
+    c.boxed_word-word.ensures.made.beside.phase ∙ c.begin_store.ensures.beside.phase
+    ∙ ap (λ (main : Mutator). main.seat.phase) c.in_ok-at.ensures.reserved ∙ c.requires.can.ready.whole.quiet
+
+pub store-requires-2-clause-quiet : goal.store-requires-2-clause-quiet
+store-requires-2-clause-quiet c =
+    ap (λ (main : Mutator). main.seat.phase) c.made.ensures.same
+    ∙ ap (λ (main : Mutator). main.seat.phase) c.store.ensures.stored
+    ∙ c.boxed_word-word.ensures.made.beside.phase ∙ c.begin_store.ensures.beside.phase
+    ∙ ap (λ (main : Mutator). main.seat.phase) c.in_ok-at.ensures.reserved ∙ c.requires.can.ready.whole.quiet
+
+pub write-requires-clause-quiet : goal.write-requires-clause-quiet
+write-requires-clause-quiet c =
+    ap (λ (main : Mutator). main.seat.phase) c.store-2.ensures.stored
+    ∙ ap (λ (main : Mutator). main.seat.phase) c.made.ensures.same
+    ∙ ap (λ (main : Mutator). main.seat.phase) c.store.ensures.stored
+    ∙ c.boxed_word-word.ensures.made.beside.phase ∙ c.begin_store.ensures.beside.phase
+    ∙ ap (λ (main : Mutator). main.seat.phase) c.in_ok-at.ensures.reserved ∙ c.requires.can.ready.whole.quiet
 
 pub boxed_word-word-requires-clause-within : goal.boxed_word-word-requires-clause-within
 boxed_word-word-requires-clause-within c v boxed =

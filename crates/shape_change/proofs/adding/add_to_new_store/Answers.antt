@@ -1,12 +1,25 @@
 -- The store and the box that are made stand in the words that were reserved.
 use Rattle.std.proofs.Common.{◌≡◌, ◌+◌, ◌<◌, refl, ap, ◌∙◌, arith, rules}
-use Rattle.page_space.specs.Extents.{marks_start}
+use Rattle.page_space.specs.Extents.{Space, marks_start}
 use Rattle.heap_table.specs.Staying.{stays_beside_again}
 use Rattle.write_barrier.specs.Mains.{Mutator}
 use Rattle.object_cells.specs.Made.{content_need}
 use Rattle.object_cells.proofs.WordsBeside.{put_beside}
-use Rattle.object_cells.proofs.UnusedWords.{run_before_marks, marks_fit}
+use Rattle.object_cells.proofs.UnusedWords.{run_before_marks, run_apart, marks_fit}
+use Rattle.shape_change.proofs.NewNeeds.{content_need_few}
 use Rattle.shape_change.proofs.adding.add_to_new_store.Goals as goal
+
+pub room_for-requires-clause-few : goal.room_for-requires-clause-few
+room_for-requires-clause-few c =
+    omega (
+      arith,
+      c.grown-capacity.ensures,
+      c.requires.full,
+      c.requires.can.few,
+      c.requires.is.small,
+      content_need_few c.content_of-content.result,
+      c.need_of.ensures,
+    )
 
 pub make_store-requires-clause-within : goal.make_store-requires-clause-within
 make_store-requires-clause-within c =
@@ -17,6 +30,55 @@ make_store-requires-clause-within c =
     c.requires.can.tied
     c.in_ok-at.ensures.room (c.in_ok-at.ensures.at (omega arith)) space in
     omega (arith, before, c.grown-capacity.ensures)
+
+pub make_store-requires-clause-other : goal.make_store-requires-clause-other
+make_store-requires-clause-other c =
+    let space = c.step_to-next.ensures.beside.space
+    ∙ ap (λ (main : Mutator). main.seat.space) c.in_ok-at.ensures.reserved in
+    omega (arith, ap (λ (s : Space). marks_start s) space, c.requires.is.within)
+
+pub make_store-requires-clause-named : goal.make_store-requires-clause-named
+make_store-requires-clause-named c =
+    let space = c.step_to-next.ensures.beside.space
+    ∙ ap (λ (main : Mutator). main.seat.space) c.in_ok-at.ensures.reserved in
+    omega (arith, ap (λ (s : Space). marks_start s) space, c.requires.can.within)
+
+pub make_store-requires-clause-apart : goal.make_store-requires-clause-apart
+make_store-requires-clause-apart c =
+    let need = 2 + c.grown-capacity.result + c.need_of.result in
+    run_apart c.args.main.now c.args.object need c.in_ok-at.at c.args.store c.requires.can.tied c.requires.is
+    c.in_ok-at.ensures.room (c.in_ok-at.ensures.at (omega arith)) (omega (arith, c.grown-capacity.ensures))
+
+pub make_store-requires-clause-quiet : goal.make_store-requires-clause-quiet
+make_store-requires-clause-quiet c =
+    c.step_to-next.ensures.beside.phase
+    ∙ ap (λ (main : Mutator). main.seat.phase) c.in_ok-at.ensures.reserved ∙ c.requires.can.whole.quiet
+
+pub boxed_word-word-requires-clause-quiet : goal.boxed_word-word-requires-clause-quiet
+boxed_word-word-requires-clause-quiet c =
+    c.make_store.ensures.beside.phase ∙ c.step_to-next.ensures.beside.phase
+    ∙ ap (λ (main : Mutator). main.seat.phase) c.in_ok-at.ensures.reserved ∙ c.requires.can.whole.quiet
+
+pub store-requires-clause-quiet : goal.store-requires-clause-quiet
+store-requires-clause-quiet c =
+    c.boxed_word-word.ensures.made.beside.phase ∙ c.make_store.ensures.beside.phase
+    ∙ c.step_to-next.ensures.beside.phase
+    ∙ ap (λ (main : Mutator). main.seat.phase) c.in_ok-at.ensures.reserved ∙ c.requires.can.whole.quiet
+
+pub set_shape-requires-clause-quiet : goal.set_shape-requires-clause-quiet
+set_shape-requires-clause-quiet c =
+    ap (λ (main : Mutator). main.seat.phase) c.store.ensures.stored
+    ∙ c.boxed_word-word.ensures.made.beside.phase ∙ c.make_store.ensures.beside.phase
+    ∙ c.step_to-next.ensures.beside.phase
+    ∙ ap (λ (main : Mutator). main.seat.phase) c.in_ok-at.ensures.reserved ∙ c.requires.can.whole.quiet
+
+pub set_shape-requires-clause-within : goal.set_shape-requires-clause-within
+set_shape-requires-clause-within c =
+    let space = ap (λ (main : Mutator). main.seat.space) c.store.ensures.stored
+    ∙ c.boxed_word-word.ensures.made.beside.space ∙ c.make_store.ensures.beside.space
+    ∙ c.step_to-next.ensures.beside.space
+    ∙ ap (λ (main : Mutator). main.seat.space) c.in_ok-at.ensures.reserved in
+    omega (arith, ap (λ (s : Space). marks_start s) space, c.requires.can.within)
 
 pub overflow_add-at : goal.overflow_add-at
 overflow_add-at c =

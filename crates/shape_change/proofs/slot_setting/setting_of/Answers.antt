@@ -1,5 +1,5 @@
 -- How a slot is set.
-use Rattle.std.proofs.Common.{◌≡◌, List, slice_get, nat_lt, sym, ◌∙◌, ap, subst, rules}
+use Rattle.std.proofs.Common.{◌≡◌, List, slice_get, get_or, nat_lt, sym, ◌∙◌, ap, subst, rules}
 use Rattle.std.specs.Prelude.{option_map}
 use Rattle.object_graph.specs.declared.path.Path.{Path}
 use Rattle.object_graph.specs.declared.path.PathField.{PathField}
@@ -45,5 +45,5 @@ returns c =
           ∙ c.field-was.ensures);
       joins = joins;
       content = c.content_of.ensures ∙ ap (λ o. content_of o c.join-rep.result c.args.value) own;
-      held = held_there place s fills;
+      held = held_there {word = get_or s.shown.slots c.args.slot 0} place s fills;
     }

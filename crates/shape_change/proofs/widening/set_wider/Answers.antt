@@ -1,14 +1,32 @@
 -- The regions stay, and so what is before the marks.
 use Rattle.std.proofs.Common.{◌≡◌, ◌<◌, ℕ, sym, ◌∙◌, ap, subst, rules}
 use Rattle.page_space.specs.Extents.{Space, marks_start}
-use Rattle.heap_table.specs.Seats.{StaysBeside}
+use Rattle.heap_table.specs.Seats.{Seat, StaysBeside}
 use Rattle.write_barrier.specs.Mains.{Mutator}
 use Rattle.shape_change.specs.Places.{place_at}
 use Rattle.object_cells.specs.Contents.{IsBeforeMarks, filled}
 use Rattle.object_cells.proofs.CellsRead.{cell_at_before_marks}
-use Rattle.object_cells.proofs.WordsBeside.{put_beside, filled_still}
-use Rattle.shape_change.proofs.Filled.{laid_space, filled_space}
+use Rattle.object_cells.proofs.WordsBeside.{put_beside, filled_still, allocates_seat}
+use Rattle.shape_change.proofs.Filled.{allocates_sized, laid_space, filled_space}
 use Rattle.shape_change.proofs.widening.set_wider.Goals as goal
+
+pub changed_shape-shape-requires-clause-quiet : goal.changed_shape-shape-requires-clause-quiet
+changed_shape-shape-requires-clause-quiet c =
+    ap (λ (seat : Seat). seat.phase)
+    (allocates_seat c.args.main.now c.filling_of.new.main c.in-Ok.filling c.in-Ok.ensures.allocates)
+    ∙ c.requires.whole.quiet
+
+pub changed_shape-shape-requires-clause-sized : goal.changed_shape-shape-requires-clause-sized
+changed_shape-shape-requires-clause-sized c =
+    allocates_sized c.args.main.now c.filling_of.new.main c.in-Ok.filling c.in-Ok.ensures.allocates
+    c.requires.whole.whole.sized
+
+pub blacken_for-requires-clause-quiet : goal.blacken_for-requires-clause-quiet
+blacken_for-requires-clause-quiet c =
+    c.changed_shape-shape.ensures.changes.seat.phase
+    ∙ ap (λ (seat : Seat). seat.phase)
+    (allocates_seat c.args.main.now c.filling_of.new.main c.in-Ok.filling c.in-Ok.ensures.allocates)
+    ∙ c.requires.whole.quiet
 
 pub blacken_for-requires-clause-within : goal.blacken_for-requires-clause-within
 blacken_for-requires-clause-within c =
@@ -18,6 +36,22 @@ blacken_for-requires-clause-within c =
     subst (λ (space : Space). c.args.object < marks_start space) (sym same)
     (subst (λ at. at < marks_start c.args.main.now.seat.space) there.stands
     (cell_at_before_marks c.requires.whole.whole.sized there.has))
+
+pub fill-requires-clause-quiet : goal.fill-requires-clause-quiet
+fill-requires-clause-quiet c =
+    ap (λ (main : Mutator). main.seat.phase) c.blacken_for.ensures
+    ∙ c.changed_shape-shape.ensures.changes.seat.phase
+    ∙ ap (λ (seat : Seat). seat.phase)
+    (allocates_seat c.args.main.now c.filling_of.new.main c.in-Ok.filling c.in-Ok.ensures.allocates)
+    ∙ c.requires.whole.quiet
+
+pub fill-requires-clause-within : goal.fill-requires-clause-within
+fill-requires-clause-within c =
+    let same = ap (λ (main : Mutator). main.seat.space) c.blacken_for.ensures
+    ∙ laid_space c.args.main.now c.filling_of.new.main c.changed_shape-shape.new.main c.in-Ok.filling _ _
+    c.in-Ok.ensures.allocates c.changed_shape-shape.ensures.changes in
+    subst (λ (space : Space). place_at c.args.object c.args.setting.place < marks_start space) (sym same)
+    c.requires.within
 
 pub fill-requires-clause-room : goal.fill-requires-clause-room
 fill-requires-clause-room c =
