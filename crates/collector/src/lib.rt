@@ -13,8 +13,6 @@ mod laws;
 mod room;
 mod row_ends;
 mod script_heap;
-#[cfg(test)]
-mod tests;
 
 pub use laws::laws_of_images;
 pub use room::Full;

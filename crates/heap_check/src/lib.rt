@@ -14,8 +14,6 @@ mod frame;
 mod lists;
 mod naming;
 mod onward;
-#[cfg(test)]
-mod owner_tests;
 mod owners;
 mod plain;
 mod reads;
@@ -26,13 +24,9 @@ mod rows;
 mod sizes;
 mod slots;
 mod sound;
-#[cfg(test)]
-mod sound_tests;
 mod spans;
 mod stores;
 mod tables;
-#[cfg(test)]
-mod tests;
 mod weak;
 mod whole;
 

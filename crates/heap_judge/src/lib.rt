@@ -15,8 +15,6 @@ mod pairs;
 mod paths;
 mod places;
 mod shown;
-#[cfg(test)]
-mod tests;
 mod values;
 mod weak;
 mod whole;

@@ -22,6 +22,3 @@ mod walking;
 pub use full::ShapesFull;
 pub use object_graph::{PathField, Rep};
 pub use tree::ShapeTree;
-
-#[cfg(test)]
-mod tests;

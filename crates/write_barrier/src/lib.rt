@@ -13,8 +13,6 @@ mod opening;
 mod room;
 mod roots;
 mod stores;
-#[cfg(test)]
-mod tests;
 mod values;
 
 pub use laws::laws_of_values;

@@ -1,0 +1,16 @@
+//! Tests of heaps: of shapes, of a heap's words, and of the judges of images.
+//!
+//! Model: none, since nothing stands here but tests. Each is a table, with values that are written
+//! out by hand, over the public calls of the crates below.
+#![tactic(auto)]
+
+#[cfg(test)]
+mod images;
+#[cfg(test)]
+mod opened_heaps;
+#[cfg(test)]
+mod path_shapes;
+#[cfg(test)]
+mod shown_graphs;
+#[cfg(test)]
+mod whole_heaps;

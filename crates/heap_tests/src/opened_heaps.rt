@@ -1,0 +1,406 @@
+//! Opened heaps: their words, the room in eden, and what calls of the mutator's side write. The
+//! words and addresses are written out by hand.
+ghost use Rattle.std.specs.Prelude.{◌≡◌, ◌<◌, ◌≤◌, IfOk, IfErr, false, length};
+ghost use Rattle.object_graph.specs.Invariants.{fields_most};
+ghost use Rattle.object_graph.specs.Graphs.{start};
+ghost use Rattle.cell_layout.specs.Cells.{IsCell};
+ghost use Rattle.heap_table.specs.declared.phase.Phase.TheVariants.{Quiet};
+ghost use Rattle.heap_table.specs.Seats.{heap_words};
+ghost use Rattle.shape_tree.specs.Shapes.{IsPathShape, IsFullFor, Leads, has_name, shape_path};
+ghost use Rattle.shape_tree.specs.Shapes.{stepped};
+ghost use Rattle.write_barrier.specs.Mains.{IsOpened};
+ghost use Rattle.collector.specs.States.{HeapShows};
+
+use cell_layout::{Cell, NotACell, cell_at};
+use collector::{Full, Heap};
+use handle_roots::Held;
+use heap_table::HeapTable;
+use page_space::{Regions, Run, Sizes};
+use shape_tree::{Rep, ShapesFull};
+use std::alloc::Global;
+use std::process::Abort;
+use std::test::Fail;
+use tagged_word::{Header, Word};
+use word_store::Reads;
+use write_barrier::{Main, NoRoom, slot_word};
+
+/// The usual sizes with one variable: eden begins at 131,072, the segments at 139,264, the roots at
+/// 188,416, and the layout words at 188,418; the marks begin at 196,618.
+const USUAL: Sizes = Sizes {
+    pages: 64,
+    young: 8_192,
+    helpers: 2,
+};
+
+/// The smallest sizes with one variable: eden begins at 2,048, the two segments at 2,112 and 2,176,
+/// the roots at 2,240, and the layout words at 2,242; the marks begin at 10,442.
+const SMALL: Sizes = Sizes {
+    pages: 1,
+    young: 64,
+    helpers: 0,
+};
+
+const EDEN: u32 = 2_048;
+
+const ROOTS: u32 = 2_240;
+
+/// The words of an opened heap of the usual sizes, at some addresses.
+const USUAL_WORDS: [(u32, u64); 11] = [
+    (0, 30),
+    (1, 2_048),
+    (2, 0),
+    (2_048, 30),
+    (131_071, 0),
+    (131_072, 0),
+    (188_415, 0),
+    (188_416, 0xb),
+    (188_417, 0),
+    (188_419, 2),
+    (196_617, 0),
+];
+
+/// The words of an opened heap of the smallest sizes: gap, eden, segments, roots and layouts.
+const SMALL_WORDS: [(u32, u64); 28] = [
+    (0, 30),
+    (1, 2_048),
+    (2, 0),
+    (2_047, 0),
+    (2_048, 0),
+    (2_112, 0),
+    (2_176, 0),
+    (2_240, 0xb),
+    (2_241, 0),
+    (2_242, 0),
+    (2_243, 2),
+    (2_244, 3),
+    (2_245, 4),
+    (2_246, 5),
+    (2_247, 6),
+    (2_248, 7),
+    (2_249, 8),
+    (2_250, 0x01),
+    (2_251, 0x11),
+    (2_252, 0x21),
+    (2_253, 0x31),
+    (2_254, 0x41),
+    (2_255, 0x51),
+    (2_256, 0x61),
+    (2_257, 0x71),
+    (2_258, 0x81),
+    (2_259, 0),
+    (10_441, 0),
+];
+
+/// A call of the mutator's side, by what it is given.
+#[derive(Clone, Copy)]
+enum Act {
+    /// A word at an address.
+    Write(u32, u64),
+    /// A word at an offset of a cell.
+    Store(u32, u32, u64),
+    /// The header of a box.
+    BoxHeader(u32),
+    /// A box of an integer.
+    MakeBox(u32, i64),
+    /// A store of so many slots.
+    FillStore(u32, u32),
+    /// A copy of so many words, from an address to one before it.
+    CopySlots(u32, u32, u32),
+    /// A value of the variable.
+    Hold(Held),
+}
+
+use Act::*;
+
+/// An act, and the words that stand from an address on behind it.
+type Turn = (Act, u32, &'static [u64]);
+
+/// A box, and behind it a store of three slots: the first comes to refer to the box, and both others
+/// are copied from behind the store. Then the header of a box, a second box, and a variable.
+const TURNS: [Turn; 12] = [
+    (MakeBox(EDEN, 1 << 40), EDEN, &[22, 1 << 40, 0]),
+    (Write(EDEN + 7, 10), EDEN + 6, &[0, 10, 0]),
+    (Write(EDEN + 8, 12), EDEN + 6, &[0, 10, 12, 0]),
+    (
+        FillStore(EDEN + 2, 3),
+        EDEN,
+        &[22, 1 << 40, 14, 3, 7, 7, 7, 10],
+    ),
+    (
+        Store(EDEN + 2, 2, 0x2001),
+        EDEN + 2,
+        &[14, 3, 0x2001, 7, 7, 10],
+    ),
+    (
+        CopySlots(EDEN + 7, EDEN + 5, 2),
+        EDEN + 4,
+        &[0x2001, 10, 12, 10, 12],
+    ),
+    (BoxHeader(EDEN + 12), EDEN + 11, &[0, 22, 0]),
+    (
+        MakeBox(EDEN + 14, -1),
+        EDEN + 13,
+        &[0, 22, 0xffff_ffff_ffff_ffff, 0],
+    ),
+    (Hold(Held::Int(1 << 40)), ROOTS, &[0xf, 1 << 40]),
+    (Hold(Held::Int(-5)), ROOTS, &[0xffff_ffff_ffff_fff6, 0]),
+    (Hold(Held::Ref(5)), ROOTS, &[0x15, 0]),
+    (Hold(Held::Undefined), ROOTS, &[3, 0]),
+];
+
+/// Words, whether they refer to boxes, and what they stand for.
+const VALUES: [(Word, Option<(bool, Held)>); 5] = [
+    (Word(10), Some((false, Held::Int(5)))),
+    (Word(3), Some((false, Held::Undefined))),
+    (Word(0x2001), Some((true, Held::Int(1 << 40)))),
+    (Word(0x2039), Some((true, Held::Int(-1)))),
+    (Word(0x15), Some((false, Held::Ref(5)))),
+];
+
+/// Values, and their words in a slot: none where a value needs a box, or is none.
+const SLOTS: [(Held, Option<Word>); 4] = [
+    (Held::Int(5), Some(Word(10))),
+    (Held::Int(1 << 40), None),
+    (Held::Ref(EDEN), Some(Word(0x2001))),
+    (Held::Unbound, None),
+];
+
+/// Words that are asked for of eden, and where they stand; nowhere where eden has no room.
+const RUNS: [(u32, Option<u32>); 5] = [
+    (65, None),
+    (40, Some(EDEN)),
+    (25, None),
+    (24, Some(EDEN + 40)),
+    (1, None),
+];
+
+fn opened(rt: &impl Abort, alloc: Global, sizes: Sizes) -> Result<Heap, Fail>
+    ensures { IfOk result (λ heap. HeapShows heap start × IsOpened heap.main) }
+{
+    assert!(rt; sizes.are_within(1));
+    let regions = Regions::new(sizes, 1);
+    let Ok(seat) = HeapTable::open(alloc, regions) else {
+        return Err(Fail::from("memory was refused"));
+    };
+    match Heap::open_new(alloc, seat, regions) {
+        Ok(heap) => Ok(heap),
+        Err(_) => Err(Fail::from("memory was refused")),
+    }
+}
+
+/// Adds a field to the path of a shape: all else stays.
+fn step(main: &mut Main, shape: u32, name: u32, rep: Rep) -> Result<u32, ShapesFull>
+    requires path { IsPathShape main.old.paths shape }
+    requires is_new { has_name (shape_path main.old.paths shape) name ≡ false }
+    requires room { length (shape_path main.old.paths shape).fields < fields_most }
+    ensures stepped { let path = stepped (shape_path main.old.paths shape) name rep in
+        IfOk result (λ next. Leads main.old.paths main.new.paths path next) }
+    ensures full { let path = stepped (shape_path main.old.paths shape) name rep in
+        IfErr result (λ full. IsFullFor main.old.paths main.new.paths path full) }
+    ensures rest { main.new ≡ record main.old { paths = main.new.paths } }
+{
+    main.shapes_mut().step(shape, name, rep)
+}
+
+/// The cell at an address: nothing changes.
+fn cell_of(main: &mut Main, a: u32) -> Result<Cell, NotACell>
+    requires { main.old.seat.phase ≡ Quiet }
+    ensures cell { IfOk result (λ cell.
+        IsCell main.old.seat.space (heap_words main.old.seat) cell) }
+    ensures same { main.new ≡ main.old }
+{
+    let regions = main.regions();
+    cell_at(main, &regions, a)
+}
+
+/// The words from an address before the marks on are these.
+fn has_words(rt: &impl Abort, main: &Main, from: u32, words: &[u64])
+    requires { main.now.seat.phase ≡ Quiet }
+{
+    // There are as many words as addresses before the marks.
+    let _regions = main.regions();
+    let mut a = from;
+    for word in words {
+        assert!(rt; a < main.count());
+        assert_eq!(rt; main.word(a), *word, "at {a}");
+        a += 1;
+    }
+}
+
+/// What a word stands for; nothing where it refers to no address before the marks.
+fn value_of(main: &Main, word: Word) -> Option<(bool, Held)>
+    requires { main.now.seat.phase ≡ Quiet }
+{
+    // There are as many words as addresses before the marks.
+    let _regions = main.regions();
+    match word.address() {
+        Some(at) => {
+            if main.count() > 1 && at < main.count() - 1 {
+                Some((main.is_box(word), main.value_of_word(word)))
+            } else {
+                None
+            }
+        }
+        None => Some((main.is_box(word), main.value_of_word(word))),
+    }
+}
+
+/// The heap that is opened has these words, and so has its image.
+fn opens(
+    rt: &impl Abort,
+    alloc: Global,
+    sizes: Sizes,
+    count: usize,
+    words: &[(u32, u64)],
+) -> Result<(), Fail> {
+    let heap = opened(rt, alloc, sizes)?;
+    for (at, word) in words {
+        has_words(rt, heap.main(), *at, &[*word]);
+    }
+    let image = heap.into_image();
+    let stored = image.words.as_slice();
+    assert_eq!(rt; stored.len(), count);
+    for (at, word) in words {
+        assert_eq!(rt; stored.get(*at as usize), Some(word), "at {at}");
+    }
+    assert_eq!(rt;
+        (image.used, image.survivors, image.shapes.paths()),
+        (0, 0, 9)
+    );
+    Ok(())
+}
+
+#[test]
+fn an_opened_heap_and_its_image_have_their_words(rt: HostRuntime) -> Result<(), Fail> {
+    opens(&rt, rt.alloc(), USUAL, 196_618, &USUAL_WORDS)?;
+    opens(&rt, rt.alloc(), SMALL, 10_442, &SMALL_WORDS)
+}
+
+/// Eden has room for so many words at this address, or for fewer.
+fn reserves(rt: &impl Abort, heap: &mut Heap, need: u32, at: Option<u32>) {
+    assert!(rt; need >= 1);
+    assert!(rt; need <= 2_048);
+    assert_eq!(rt; heap.main().can_reserve(need), at.is_some());
+    match at {
+        Some(at) => {
+            assert_eq!(rt; heap.ensure(need), Ok(()));
+            assert_eq!(rt; heap.main_mut().reserve(need), Ok(Run { at, words: need }));
+        }
+        None => {
+            assert_eq!(rt; heap.ensure(need), Err(Full { need }));
+            assert_eq!(rt; heap.main_mut().reserve(need), Err(NoRoom { need }));
+        }
+    }
+}
+
+#[test]
+fn eden_gives_its_words_one_behind_another_to_its_end(rt: HostRuntime) -> Result<(), Fail> {
+    let mut heap = opened(&rt, rt.alloc(), SMALL)?;
+    assert_eq!(rt; heap.image().words.as_slice().len(), 10_442);
+    for (need, at) in &RUNS {
+        reserves(&rt, &mut heap, *need, *at);
+    }
+    assert_eq!(rt; heap.main().used(), 64);
+    Ok(())
+}
+
+/// Carries an act out, at addresses before the marks.
+fn carry_out(rt: &impl Abort, main: &mut Main, act: Act)
+    requires { main.old.seat.phase ≡ Quiet }
+    ensures { main.new.seat.phase ≡ Quiet }
+{
+    let regions = main.regions();
+    let end = main.count();
+    match act {
+        Write(a, word) => {
+            assert!(rt; a < end);
+            main.write(a, word);
+        }
+        Store(cell, offset, word) => {
+            assert!(rt; cell < end);
+            assert!(rt; offset < end - cell);
+            main.store(cell, offset, Word(word));
+        }
+        BoxHeader(a) => {
+            assert!(rt; a < end);
+            main.set_header(
+                a,
+                Header {
+                    shape: 5,
+                    object: 0,
+                },
+            );
+        }
+        MakeBox(a, v) => {
+            assert!(rt; a < end);
+            assert!(rt; end - a > 1);
+            main.make_box(a, v);
+        }
+        FillStore(a, capacity) => {
+            assert!(rt; a < end);
+            assert!(rt; end - a > 2);
+            assert!(rt; capacity <= end - a - 2);
+            main.fill_store(a, capacity);
+        }
+        CopySlots(from, to, count) => {
+            assert!(rt; from < end);
+            assert!(rt; count <= end - from);
+            assert!(rt; to <= from);
+            assert!(rt; count <= from - to);
+            main.copy_slots(from, to, count);
+        }
+        Hold(value) => {
+            assert!(rt; regions.variables() == 1);
+            main.hold(0, value);
+            assert_eq!(rt; main.held(0), value);
+        }
+    }
+}
+
+/// Carries each act out, and looks at the words behind it.
+fn carry_out_each(rt: &impl Abort, main: &mut Main, turns: &[Turn])
+    requires { main.old.seat.phase ≡ Quiet }
+    ensures { main.new.seat.phase ≡ Quiet }
+{
+    for turn in turns {
+        let (act, from, words) = *turn;
+        carry_out(rt, main, act);
+        has_words(rt, main, from, words);
+    }
+}
+
+/// The words of the cell at an address; 0 where none stands.
+fn size_of(main: &mut Main, a: u32) -> u32
+    requires { main.old.seat.phase ≡ Quiet }
+    ensures { main.new ≡ main.old }
+{
+    match cell_of(main, a) {
+        Ok(cell) => cell.size,
+        Err(_) => 0,
+    }
+}
+
+#[test]
+fn calls_write_their_words_alone(rt: HostRuntime) -> Result<(), Fail> {
+    let mut heap = opened(&rt, rt.alloc(), SMALL)?;
+    let main = heap.main_mut();
+    carry_out_each(&rt, main, &TURNS);
+    let sizes = (
+        size_of(main, 0),
+        size_of(main, EDEN + 12),
+        size_of(main, EDEN + 13),
+    );
+    assert_eq!(rt; sizes, (2_048, 2, 0));
+    for (word, value) in &VALUES {
+        assert_eq!(rt; value_of(main, *word), *value);
+    }
+    for (value, word) in &SLOTS {
+        assert_eq!(rt; slot_word(*value), *word);
+    }
+    let shape = main.shapes().root(2);
+    assert!(rt; main.shapes().find(shape, 3).is_none());
+    assert!(rt; main.shapes().fields(shape) < 64);
+    assert_eq!(rt; step(main, shape, 3, Rep::Wide), Ok(17));
+    assert_eq!(rt; main.shapes().paths(), 10);
+    Ok(())
+}
