@@ -2,9 +2,6 @@
 ghost use Rattle.std.specs.Prelude.{◌≡◌};
 ghost use Rattle.heap_command.specs.Commands.{fault_text};
 
-#[cfg(test)]
-mod tests;
-
 /// What a command is given: an integer, `undefined`, or what a variable is bound to.
 #[derive(Clone, Copy, Debug, PartialEq, Eq)]
 pub enum Operand {

@@ -1,4 +1,3 @@
 pub mod Steps
 pub mod Codes
 pub mod Lookups
-pub mod Keyings

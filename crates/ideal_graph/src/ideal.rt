@@ -1,5 +1,5 @@
 //! The plain, slow program whose contract is the meaning of the commands.
-ghost use Rattle.std.specs.Prelude.{◌≡◌, map, IfOk, IfErr};
+ghost use Rattle.std.specs.Prelude.{◌≡◌, [], map, IfOk, IfErr};
 ghost use Rattle.object_graph.specs.Graphs.{start};
 ghost use Rattle.ideal_graph.specs.Steps.{Steps};
 
@@ -9,16 +9,11 @@ mod lists;
 mod lookups;
 mod printing;
 mod reach;
-#[cfg(test)]
-mod reach_tests;
 mod shapes;
-#[cfg(test)]
-mod tests;
-mod texts;
 mod weak;
 
-use crate::paths::empty_paths;
 use heap_command::{Command, FaultWord};
+use ideal_parts::empty_paths;
 use object_graph::{Object, Path, Value};
 pub use reach::Census;
 use std::alloc::{AllocError, AllocFailed, Global};
@@ -74,6 +69,17 @@ impl Model for Said {
     ghost Value = { List ℕ };
 
     ghost view = { λ said. said.text.items };
+}
+
+impl Said {
+    /// The text of a command that writes nothing.
+    pub(crate) fn nothing(alloc: Global) -> Said
+        ensures { result ≡ [] }
+    {
+        Said {
+            text: Vec::new(alloc),
+        }
+    }
 }
 
 /// The graph of a script, and the names of its fields by number.

@@ -7,13 +7,10 @@
 #![tactic(auto)]
 
 mod ideal;
-mod keyed;
-mod marks;
-mod paths;
 
 pub use heap_command::{Command, FaultWord, Operand};
 pub use ideal::{Census, Ideal, IdealStop, Said};
-pub use marks::is_marked;
+pub use ideal_parts::is_marked;
 pub use object_graph::{
     Elements, Entries, Entry, Field, Fields, Object, Path, PathField, PathFields, Rep, Value,
 };

@@ -1,18 +1,14 @@
 //! The commands that bind variables, to new objects or to values.
-ghost use Rattle.std.specs.Prelude.{◌≡◌, [], OnOk, OnErr};
-ghost use Rattle.std.specs.Ordering.{nat_cmp};
-ghost use Rattle.std.specs.FinMap.{insert, remove, from_entries};
+ghost use Rattle.std.specs.Prelude.{[]};
 ghost use Rattle.heap_command.specs.declared.command.Command.{Command};
 ghost use Rattle.object_graph.specs.Graphs.{make};
 ghost use Rattle.object_graph.specs.Meaning.{done};
 ghost use Rattle.ideal_graph.specs.Steps.{ComesTo, Steps};
 
-use super::lookups::integer;
 use super::{Ideal, IdealStop, Said};
 use heap_command::{FaultWord, Operand};
+use ideal_parts::{bind, integer, unbind};
 use object_graph::{Elements, Entries, Fields, Object, Value};
-use std::alloc::AllocError;
-use std::collections::BTreeMap;
 
 impl Ideal {
     /// Binds `x` to a new plain object.
@@ -85,25 +81,4 @@ impl Ideal {
         bind(&mut self.bindings, x, Value::Int(sum))?;
         Ok(Said::nothing(self.alloc))
     }
-}
-
-/// Binds the variable to the value.
-pub(crate) fn bind(
-    bindings: &mut BTreeMap<u32, Value>,
-    x: u32,
-    value: Value,
-) -> Result<(), AllocError>
-    ensures ok { OnOk result
-        (from_entries {R = nat_cmp} bindings.new.entries ≡ insert (from_entries bindings.old.entries) x value) }
-    ensures err { OnErr result (bindings.new.entries ≡ bindings.old.entries) }
-{
-    bindings.insert(x, value)?;
-    Ok(())
-}
-
-/// Unbinds the variable.
-fn unbind(bindings: &mut BTreeMap<u32, Value>, x: u32)
-    ensures { from_entries {R = nat_cmp} bindings.new.entries ≡ remove (from_entries bindings.old.entries) x }
-{
-    bindings.remove(&x);
 }

@@ -1,13 +1,12 @@
 //! What a graph lends to a judge: its objects, its paths, what its variables are bound to, and which
 //! objects can be reached.
 ghost use Rattle.std.specs.Prelude.{◌≡◌, ◌≤◌, ◌↔◌, ℕ, IsTrue, IfOk, IfErr};
-ghost use Rattle.std.specs.Ordering.{nat_cmp};
-ghost use Rattle.std.specs.FinMap.{get, from_entries};
+ghost use Rattle.std.specs.FinMap.{get};
 ghost use Rattle.object_graph.specs.Reach.{reach};
 
 use super::{Ideal, IdealStop};
+use ideal_parts::has_none_from;
 use object_graph::{Object, Path, Value};
-use std::collections::BTreeMap;
 
 impl Ideal {
     /// All objects ever made, by their numbers.
@@ -49,17 +48,4 @@ impl Ideal {
     {
         self.reached()
     }
-}
-
-/// Whether no variable from this number on is bound.
-fn has_none_from(bindings: &BTreeMap<u32, Value>, least: u32) -> bool
-    ensures { IsTrue result
-        ↔ ((x : ℕ) → least ≤ x → get (from_entries {R = nat_cmp} bindings.now.entries) x ≡ None) }
-{
-    for x in bindings.keys() {
-        if *x >= least {
-            return false;
-        }
-    }
-    true
 }

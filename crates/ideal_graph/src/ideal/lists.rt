@@ -1,16 +1,14 @@
 //! The commands on lists. A list is changed in a copy, so that want of memory leaves it as it was.
-ghost use Rattle.std.specs.Prelude.{◌<◌, ◌≤◌, [], suc, IfOk, length, slice_get, option_and_then};
+ghost use Rattle.std.specs.Prelude.{◌<◌, [], length};
 ghost use Rattle.heap_command.specs.declared.command.Command.{Command};
 ghost use Rattle.object_graph.specs.declared.object.Object.{Object};
 ghost use Rattle.object_graph.specs.Graphs.{replace};
-ghost use Rattle.object_graph.specs.Meaning.{below, done};
+ghost use Rattle.object_graph.specs.Meaning.{done};
 ghost use Rattle.ideal_graph.specs.Steps.{ComesTo, Steps};
-ghost use Rattle.ideal_graph.specs.Lookups.{Finds};
 
-use super::bindings::bind;
-use super::lookups::integer;
 use super::{Ideal, IdealStop, Said};
 use heap_command::{FaultWord, Operand};
+use ideal_parts::{bind, count_of, element_at, integer, place_in};
 use object_graph::{Elements, Object, Value};
 
 /// So many elements a list may have.
@@ -99,36 +97,5 @@ impl Ideal {
         let elements = Elements::from_vec(elements);
         self.objects[number as usize] = Object::List { elements };
         Ok(Said::nothing(self.alloc))
-    }
-}
-
-/// The place that an index names: one of an element.
-fn place_in(elements: &[Value], index: i64) -> Result<usize, FaultWord>
-    ensures found { Finds FaultWord.Range (below (length elements.now) index) result }
-    ensures within { IfOk result (λ place. place < length elements.now) }
-{
-    match usize::try_from(index) {
-        Ok(place) if place < elements.len() => Ok(place),
-        _ => Err(FaultWord::Range),
-    }
-}
-
-/// The element that an index names.
-fn element_at(elements: &[Value], index: i64) -> Result<Value, FaultWord>
-    ensures { Finds FaultWord.Range
-        (option_and_then (slice_get elements.now) (below (length elements.now) index)) result }
-{
-    let place = place_in(elements, index)?;
-    Ok(elements[place])
-}
-
-/// The count of elements that an integer names: none up to all.
-fn count_of(elements: &[Value], count: i64) -> Result<usize, FaultWord>
-    ensures found { Finds FaultWord.Range (below (suc (length elements.now)) count) result }
-    ensures within { IfOk result (λ count. count ≤ length elements.now) }
-{
-    match usize::try_from(count) {
-        Ok(count) if count <= elements.len() => Ok(count),
-        _ => Err(FaultWord::Range),
     }
 }

@@ -5,9 +5,9 @@ ghost use Rattle.object_graph.specs.Meaning.{done, same_value};
 ghost use Rattle.object_graph.specs.Texts.{line, truth_text};
 ghost use Rattle.ideal_graph.specs.Steps.{ComesTo, Steps};
 
-use super::texts::census_text;
 use super::{Ideal, IdealStop, Said};
 use heap_command::Operand;
+use ideal_parts::{census_text, value_text};
 use object_graph::Value;
 
 impl Ideal {
@@ -16,7 +16,7 @@ impl Ideal {
         ensures { Steps self.old self.new (Command.Print v) result }
     {
         let value = self.value(v)?;
-        let mut text = self.text_of(value)?;
+        let mut text = value_text(self.alloc, &self.objects, value)?;
         text.push(b'\n')?;
         Ok(Said { text })
     }

@@ -8,7 +8,7 @@ ghost use Rattle.object_graph.specs.Reach.{entries_if, reached_objects, reached_
 ghost use Rattle.object_graph.specs.Marks.{MarksAlso};
 
 use super::{Ideal, IdealStop};
-use crate::marks::{count_marked, mark, mark_links, marked_entries};
+use ideal_parts::{count_marked, mark, mark_links, marked_entries};
 use object_graph::{Object, Value};
 use std::collections::BTreeMap;
 

@@ -6,11 +6,12 @@ ghost use Rattle.object_graph.specs.Limits.{ideal_limits};
 ghost use Rattle.ideal_graph.specs.Steps.{ComesTo, Steps};
 ghost use Rattle.ideal_graph.specs.Lookups.{AddsPath};
 
-use super::bindings::bind;
 use super::{Ideal, IdealStop, Said};
-use crate::keyed::{value_under, with_value, without_key};
-use crate::paths::{missing, path_of, same_path};
 use heap_command::{FaultWord, Operand};
+use ideal_parts::{
+    bind, has_no_room, missing, path_of, same_path, shape_text, value_under, with_value,
+    without_key,
+};
 use object_graph::{Field, Fields, Object, Path, Value};
 use std::alloc::Global;
 
@@ -25,7 +26,7 @@ impl Ideal {
         let target = self.bound(x)?;
         let value = self.value(v)?;
         let plain = self.plain(target)?;
-        if plain.is_full_for(f) {
+        if has_no_room(&plain, f) {
             return Err(IdealStop::ScriptFault(FaultWord::FieldsFull));
         }
         let fields = with_value(self.alloc, plain.fields, f, value)?;
@@ -92,7 +93,7 @@ impl Ideal {
     {
         let target = self.bound(x)?;
         let plain = self.plain(target)?;
-        let mut text = self.shape_of(plain.cap, plain.fields)?;
+        let mut text = shape_text(self.alloc, &self.names, plain.cap, plain.fields)?;
         text.push(b'\n')?;
         Ok(Said { text })
     }

@@ -7,15 +7,10 @@ ghost use Rattle.object_graph.specs.declared.object.Object.{Object};
 ghost use Rattle.object_graph.specs.Graphs.{replace};
 ghost use Rattle.object_graph.specs.Meaning.{no_entry_for, done};
 
-use super::bindings::bind;
-use super::lookups::key;
 use super::{Ideal, IdealStop, Said};
-use crate::keyed::{value_under, with_value, without_key};
 use heap_command::{FaultWord, Operand};
+use ideal_parts::{bind, is_full_for, key, value_under, with_value, without_key};
 use object_graph::{Entries, Entry, Object, Value};
-
-/// So many entries a weak map may have.
-const MOST_ENTRIES: usize = 256;
 
 impl Ideal {
     /// Gives the key `k` of the weak map `m` the value.
@@ -71,12 +66,4 @@ impl Ideal {
         self.objects[number as usize] = Object::Weak { entries };
         Ok(Said::nothing(self.alloc))
     }
-}
-
-/// Whether the key is new to the weak map, which has as many entries as it may have.
-fn is_full_for(entries: &[Entry], key: u32) -> bool
-    ensures { result ≡ no_entry_for ideal_limits [] entries.now key }
-{
-    let is_new = value_under(entries, key).is_none();
-    is_new && entries.len() >= MOST_ENTRIES
 }

@@ -1,5 +1,5 @@
 use Rattle.std.proofs.Common.{◌∙◌, sym}
-use Rattle.ideal_graph.proofs.Bindings.{get-entries}
+use Rattle.ideal_parts.proofs.BindingTrees.{get-entries}
 use Rattle.ideal_graph.proofs.ideal.Ideal.binding.Goals as goal
 
 pub returns : goal.returns

@@ -1,7 +1,7 @@
 use Rattle.std.proofs.Common.{◌∙◌, sym, ap}
 use Rattle.std.specs.Option.{ok_or}
 use Rattle.heap_command.specs.declared.command.FaultWord.TheVariants.{Unbound}
-use Rattle.ideal_graph.proofs.Bindings.{Finds-ok_or, get-entries}
+use Rattle.ideal_parts.proofs.BindingTrees.{Finds-ok_or, get-entries}
 use Rattle.ideal_graph.proofs.ideal.Ideal.bound.Goals as goal
 
 pub returns : goal.returns

@@ -1,6 +1,0 @@
-use Rattle.std.proofs.Common.{◌≡◌}
-use Rattle.ideal_graph.proofs.PathLists.{missing_below}
-use Rattle.ideal_graph.proofs.paths.missing.Given as goal
-
-abbrev pub invariant-loop-count : goal.invariant-loop-count
-invariant-loop-count l = l.more.items ≡ missing_below l.paths l.path l.count

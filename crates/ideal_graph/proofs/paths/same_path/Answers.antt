@@ -1,6 +1,0 @@
-use Rattle.std.proofs.Common.{rules}
-use Rattle.ideal_graph.proofs.SamePaths.{pointwise-same_fields}
-use Rattle.ideal_graph.proofs.paths.same_path.Goals as goal
-
-pub returns-then-path-other : goal.returns-then-path-other
-returns-then-path-other c = search (rules, pointwise-same_fields)

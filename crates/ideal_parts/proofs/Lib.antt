@@ -1,0 +1,5 @@
+mod KeyedLists
+mod SamePaths
+mod PathLists
+pub mod BindingTrees
+mod BoundFrom
