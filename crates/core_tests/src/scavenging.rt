@@ -1,5 +1,5 @@
-//! Lists of events of a scavenge by workers, each from a fresh world. A row has events that come
-//! behind others, and what of its end is compared.
+//! Lists of events of a scavenge by workers, each from a fresh world. A row is a line: events that
+//! come behind others, and what of their end is compared.
 
 use crate::text::{Step, addresses, compare, padded, step_of};
 use scav_copy::Room;
@@ -10,119 +10,118 @@ use std::fmt::Write;
 use std::process::Abort;
 use std::test::Fail;
 
-// The words of a list with object number 5 and nothing in it, and two slots that refer to it.
-const WORDS: &str = "21474836486 3 0 0 1 1";
+// What a scavenge begins with: its words and layouts, its only cell, the slots that may refer to it,
+// and rooms, each with its worker, its first word and the word behind its last.
+#[derive(Clone, Copy)]
+struct Start<'t> {
+    words: &'t str,
+    layouts: &'t str,
+    cells: &'t str,
+    slots: &'t str,
+    rooms: &'t str,
+}
 
-// A room for each of two workers.
-const ROOMS: [Room; 2] = [
-    Room {
-        worker: 0,
-        from: 8,
-        to: 14,
-    },
-    Room {
-        worker: 1,
-        from: 16,
-        to: 20,
-    },
-];
+// A list with object number 5 and nothing in it, two slots that refer to it, and two rooms.
+const WORKED: Start<'static> = Start {
+    words: "21474836486 3 0 0 1 1 0 0 0 0 0 0 0 0 0 0 0 0 0 0 0 0 0 0",
+    layouts: "0 2",
+    cells: "0",
+    slots: "4 5",
+    rooms: "room 0 8 14; room 1 16 20",
+};
+
+// A plain cell whose first in-object slot is raw has the bits of a reference there.
+const RAW: Start<'static> = Start {
+    words: "9 0 6 3 9 9 0 0 0 0 0 0",
+    layouts: "0 4641",
+    cells: "2",
+    slots: "0",
+    rooms: "room 0 7 11",
+};
+
+// A slot, and words of a room, are no places of the words.
+const PAST: Start<'static> = Start {
+    words: "6 0 0 0",
+    layouts: "0 2",
+    cells: "0",
+    slots: "9",
+    rooms: "room 0 2 6",
+};
 
 // Both workers read the slots and the cell, and copy it.
 const COPIES: &str =
     "lend; lend; load 0 4; load 1 5; header 0; header 1; body 0; body 0; body 1; body 1; \
-     copy 0 8 21474836486; copy 0 9 3; copy 0 10 0; copy 1 16 21474836486; copy 1 17 3; copy 1 18 0; ";
+    copy 0 8 21474836486; copy 0 9 3; copy 0 10 0; copy 1 16 21474836486; copy 1 17 3; copy 1 18 0; ";
 
 // The copy of the first counts, and both slots refer to it: 20 events in all.
-const EXCHANGES: &str = "forward 0 8; forward 1 16; redirect 0; redirect 1; ";
+const BOTH: &str =
+    "lend; lend; load 0 4; load 1 5; header 0; header 1; body 0; body 0; body 1; body 1; \
+    copy 0 8 21474836486; copy 0 9 3; copy 0 10 0; copy 1 16 21474836486; copy 1 17 3; copy 1 18 0; \
+    forward 0 8; forward 1 16; redirect 0; redirect 1; ";
 
-const ROWS: [(&str, &str); 21] = [
-    (
-        "look",
-        "words [33, 3, 0, 0, 33, 33, 0, 0, 21474836486, 3, 0, 0, 0, 0, 0, 0, 21474836486, 3, 0, 0, 0, 0, 0, 0]; \
-         home 0 8; homes 1; todo 0 [8]; todo 1 []; workers 2",
-    ),
-    (
-        "give 0 3 8; take 1 3; load 1 9; return 0; return 1",
-        "todo 0 []; todo 1 [8]; log 0 [Loaded { at: 4 }, Gave { place: 3, found: 0 }]; \
-         log 1 [Loaded { at: 5 }, Took { place: 3, found: 33 }, Loaded { at: 9 }]; out 0",
-    ),
-    ("load 0 10", "stops at 20"),
-    ("load 1 17", "stops at 20"),
-    ("copy 0 8 1", "stops at 20"),
-    ("copy 1 11 1", "stops at 20"),
-    ("give 0 63 8", "todo 0 []"),
-    ("give 0 64 8", "stops at 20"),
-    ("take 1 63", "todo 1 []"),
-    ("take 1 64", "stops at 20"),
-    ("give 0 3 16", "stops at 20"),
-    ("give 0 3 8; give 0 4 8", "stops at 21"),
-    ("give 1 3 8", "stops at 20"),
-    ("load 0 9; load 0 9", "out 2"),
-    ("load 2 4", "stops at 20"),
-    ("lend; load 2 4", "out 3"),
-    ("return 0; load 0 9", "stops at 21"),
-    ("return 0; load 1 9", "out 1"),
-    ("return 0; return 0", "stops at 21"),
-    ("return 2", "stops at 20"),
-    ("return 0; lend; load 0 9", "stops at 22"),
-];
+// The loser of two takes the copy of the winner. A copy goes over the board. What comes behind a
+// copy, which worker 0 has to do, is possible or stops.
+const BEHIND: &str = "\
+look -> \
+    words [33, 3, 0, 0, 33, 33, 0, 0, 21474836486, 3, 0, 0, 0, 0, 0, 0, 21474836486, 3, 0, 0, 0, 0, 0, 0]; \
+    home 0 8; homes 1; todo 0 [8]; todo 1 []; workers 2
+give 0 3 8; take 1 3; load 1 9; return 0; return 1 -> \
+    todo 0 []; todo 1 [8]; log 0 [Loaded { at: 4 }, Gave { place: 3, found: 0 }]; \
+    log 1 [Loaded { at: 5 }, Took { place: 3, found: 33 }, Loaded { at: 9 }]; out 0
+load 0 10 -> stops at 20
+load 1 17 -> stops at 20
+copy 0 8 1 -> stops at 20
+copy 1 11 1 -> stops at 20
+give 0 63 8 -> todo 0 []
+give 0 64 8 -> stops at 20
+take 1 63 -> todo 1 []
+take 1 64 -> stops at 20
+give 0 3 16 -> stops at 20
+give 0 3 8; give 0 4 8 -> stops at 21
+give 1 3 8 -> stops at 20
+load 0 9 -> out 2
+load 0 9; load 0 9 -> out 2
+load 2 4 -> stops at 20
+lend; load 2 4 -> out 3
+return 0; load 0 9 -> stops at 21
+return 0; load 1 9 -> out 1
+return 0; return 0 -> stops at 21
+return 2 -> stops at 20
+return 0; lend; load 0 9 -> stops at 22";
 
-// Rows with nothing before them.
-const EARLY_ROWS: [(&str, &str); 18] = [
-    (
-        "look",
-        "words [21474836486, 3, 0, 0, 1, 1, 0, 0, 0, 0, 0, 0, 0, 0, 0, 0, 0, 0, 0, 0, 0, 0, 0, 0]; homes 0; workers 0",
-    ),
-    (
-        "lend; load 0 4; header 0; body 0; body 0; copy 0 8 21474836486; copy 0 9 3; copy 0 10 0; forward 0 8; \
-         copy 0 11 33; copy 0 12 3; copy 0 13 0; forward 0 11",
-        "stops at 12",
-    ),
-    ("lend; lend; lend; lend; lend; lend; lend", "out 7"),
-    (
-        "lend; lend; lend; lend; lend; lend; lend; lend",
-        "stops at 7",
-    ),
-    (
-        "lend; lend; lend; lend; lend; lend; lend; return 3; lend",
-        "out 7; workers 8",
-    ),
-    (
-        "lend; lend; lend; lend; lend; lend; lend; return 3; lend; lend",
-        "stops at 9",
-    ),
-    (
-        "lend; lend; lend; lend; lend; lend; lend; return 3; return 3",
-        "stops at 8",
-    ),
-    ("lend; lend; load 0 4", "out 2"),
-    ("lend; lend; load 0 4; load 1 4", "out 2"),
-    ("lend; lend; load 0 4; load 0 5", "stops at 3"),
-    ("lend; lend; load 0 4; load 0 4", "stops at 3"),
-    ("lend; lend; header 0", "stops at 2"),
-    ("lend; lend; load 0 4; body 0", "stops at 3"),
-    ("lend; lend; load 0 4; header 0; body 0; body 0", "out 2"),
-    ("lend; lend; load 0 4; header 0; header 0", "stops at 4"),
-    (
-        "lend; lend; load 0 4; header 0; body 0; body 0; body 0",
-        "stops at 6",
-    ),
-    ("lend; lend; load 0 4; header 0; redirect 0", "stops at 4"),
-    ("lend; load 1 4", "stops at 1"),
-];
+// Of no event that changes it, the start is left. A forwarding word is not forwarded. The eighth
+// worker at a time stops the run. A worker at a slot reads no other.
+const EARLY: &str = "\
+look -> words [21474836486, 3, 0, 0, 1, 1, 0, 0, 0, 0, 0, 0, 0, 0, 0, 0, 0, 0, 0, 0, 0, 0, 0, 0]; homes 0; workers 0
+lend; load 0 4; header 0; body 0; body 0; copy 0 8 21474836486; copy 0 9 3; copy 0 10 0; forward 0 8; \
+    copy 0 11 33; copy 0 12 3; copy 0 13 0; forward 0 11 -> stops at 12
+lend; lend; lend; lend; lend; lend; lend -> out 7
+lend; lend; lend; lend; lend; lend; lend; lend -> stops at 7
+lend; lend; lend; lend; lend; lend; lend; return 3; lend -> out 7; workers 8
+lend; lend; lend; lend; lend; lend; lend; return 3; lend; lend -> stops at 9
+lend; lend; lend; lend; lend; lend; lend; return 3; return 3 -> stops at 8
+lend; lend; load 0 4 -> out 2
+lend; lend; load 0 4; load 1 4 -> out 2
+lend; lend; load 0 4; load 0 5 -> stops at 3
+lend; lend; load 0 4; load 0 4 -> stops at 3
+lend; lend; header 0 -> stops at 2
+lend; lend; load 0 4; body 0 -> stops at 3
+lend; lend; load 0 4; header 0; body 0; body 0 -> out 2
+lend; lend; load 0 4; header 0; header 0 -> stops at 4
+lend; lend; load 0 4; header 0; body 0; body 0; body 0 -> stops at 6
+lend; lend; load 0 4; header 0; redirect 0 -> stops at 4
+lend; load 1 4 -> stops at 1";
 
-// A plain cell whose first in-object slot is raw has the bits of a reference there.
-const RAW: [(&str, &str); 1] = [(
-    "lend; load 0 0; header 0; body 0; body 0; body 0; copy 0 7 6; copy 0 8 3; copy 0 9 9; copy 0 10 9; \
-     forward 0 7; redirect 0; load 0 8; load 0 10; header 0; redirect 0",
-    "words [29, 0, 29, 3, 9, 9, 0, 6, 3, 9, 29, 0]",
-)];
+// A raw slot keeps its bits, and the slots beside it are renamed.
+const KEPT: &str = "\
+lend; load 0 0; header 0; body 0; body 0; body 0; copy 0 7 6; copy 0 8 3; copy 0 9 9; copy 0 10 9; \
+    forward 0 7; redirect 0; load 0 8; load 0 10; header 0; redirect 0 -> \
+    words [29, 0, 29, 3, 9, 9, 0, 6, 3, 9, 29, 0]";
 
-// A slot, and a word of a room, that are no places of the words.
-const PAST: [(&str, &str); 2] = [
-    ("lend; load 0 9", "stops at 1"),
-    ("lend; copy 0 5 1", "stops at 1"),
-];
+// What is no place is not touched.
+const PLACES: &str = "\
+lend; load 0 9 -> stops at 1
+lend; copy 0 5 1 -> stops at 1";
 
 // The event that a step says.
 fn event(step: Step<'_>) -> Option<Event> {
@@ -167,23 +166,29 @@ fn events_of(alloc: Global, text: &str) -> Result<Vec<Event>, Fail> {
     Ok(events)
 }
 
-// A fresh world of so many words whose only cell is at one address.
-fn world(
-    alloc: Global,
-    words: &str,
-    count: usize,
-    layouts: &str,
-    cell: u32,
-    slots: &str,
-    rooms: &[Room],
-) -> Result<World, Fail> {
+// The rooms of a text.
+fn rooms_of(alloc: Global, text: &str) -> Result<Items<Room>, Fail> {
+    let mut rooms = Items::new(alloc);
+    for part in text.split("; ") {
+        let room = step_of(part)?;
+        rooms.push(Room {
+            worker: room.first,
+            from: room.second,
+            to: room.third,
+        })?;
+    }
+    Ok(rooms)
+}
+
+// The fresh world of a start.
+fn world(alloc: Global, start: Start<'_>) -> Result<World, Fail> {
     Ok(World {
-        before: Items::from_vec(padded(alloc, words, count)?),
-        words: Items::from_vec(padded(alloc, words, count)?),
-        layouts: Items::from_vec(padded(alloc, layouts, 2)?),
-        cells: Items::from_vec([cell].to_vec(alloc)?),
-        slots: Items::from_vec(addresses(alloc, slots)?),
-        rooms: Items::from_vec(rooms.to_vec(alloc)?),
+        before: Items::from_vec(padded(alloc, start.words, 0)?),
+        words: Items::from_vec(padded(alloc, start.words, 0)?),
+        layouts: Items::from_vec(padded(alloc, start.layouts, 0)?),
+        cells: Items::from_vec(addresses(alloc, start.cells)?),
+        slots: Items::from_vec(addresses(alloc, start.slots)?),
+        rooms: rooms_of(alloc, start.rooms)?,
         homes: Items::new(alloc),
         board: empty_board(alloc)?,
         workers: Workers::new(alloc),
@@ -192,7 +197,7 @@ fn world(
 
 // What is seen of a world.
 fn show(text: &mut String, world: &World) -> Result<(), Fail> {
-    for home in world.homes.as_slice() {
+    if let Some(home) = world.homes.get(0) {
         write!(text, "home {} {}; ", home.from, home.to)?;
     }
     for (i, view) in world.workers.as_slice().iter().enumerate() {
@@ -218,59 +223,74 @@ fn show(text: &mut String, world: &World) -> Result<(), Fail> {
     Ok(())
 }
 
-// What is seen of the end of events. The end is copied, with the views of its workers, by no events.
-fn end_of(alloc: Global, start: &World, events: &[Event]) -> Result<String, Fail> {
-    let mut text = String::new(alloc);
-    match replay(alloc, start, events) {
-        Ok(world) => show(&mut text, &replay(alloc, &world, &[])?)?,
-        Err(StepStop::NotEnabled { at }) => write!(text, "stops at {at}")?,
-        Err(StepStop::NoMemory(refusal)) => return Err(Fail::from(refusal)),
-    }
-    Ok(text)
+// The world after events. No clause says which, so that proofs of tests need not read it.
+fn carried(alloc: Global, start: &World, events: &[Event]) -> Result<World, StepStop> {
+    replay(alloc, start, events)
 }
 
-// Each row ends as it says, behind these events.
-fn walk(
+// What is seen of a world. It is copied for it, with the views of its workers, by no events.
+fn show_copy(text: &mut String, alloc: Global, world: &World) -> Result<(), Fail> {
+    let copy = carried(alloc, world, &[])?;
+    show(text, &copy)
+}
+
+// What is seen of the end of events.
+fn show_end(text: &mut String, alloc: Global, start: &World, events: &[Event]) -> Result<(), Fail> {
+    match carried(alloc, start, events) {
+        Ok(world) => show_copy(text, alloc, &world),
+        Err(StepStop::NotEnabled { at }) => Ok(write!(text, "stops at {at}")?),
+        Err(StepStop::NoMemory(refusal)) => Err(Fail::from(refusal)),
+    }
+}
+
+// The row ends as it says, behind these events.
+fn hold(
     rt: &impl Abort,
     alloc: Global,
     start: &World,
     before: &str,
-    rows: &[(&str, &str)],
+    row: &str,
 ) -> Result<(), Fail> {
-    for (more, wanted) in rows {
-        let text = format!(in alloc; "{before}{more}")?;
-        let end = end_of(alloc, start, events_of(alloc, text.as_str())?.as_slice())?;
-        compare(rt, more, end.as_str(), wanted);
+    let (more, wanted) = row.split_once(" -> ").ok_or("a row says no end")?;
+    let text = format!(in alloc; "{before}{more}")?;
+    let events = events_of(alloc, text.as_str())?;
+    let mut end = String::new(alloc);
+    show_end(&mut end, alloc, start, events.as_slice())?;
+    compare(rt, row, end.as_str(), wanted);
+    Ok(())
+}
+
+// Each row ends as it says, behind these events.
+fn hold_all(
+    rt: &impl Abort,
+    alloc: Global,
+    start: &World,
+    before: &str,
+    rows: &str,
+) -> Result<(), Fail> {
+    for row in rows.lines() {
+        hold(rt, alloc, start, before, row)?;
     }
     Ok(())
 }
 
+// Each row ends as it says, behind these events, from a world of this start.
+fn walk(
+    rt: &impl Abort,
+    alloc: Global,
+    start: Start<'_>,
+    before: &str,
+    rows: &str,
+) -> Result<(), Fail> {
+    let start = world(alloc, start)?;
+    hold_all(rt, alloc, &start, before, rows)
+}
+
 #[test]
 fn lists_of_events_end_as_worked_out(rt: HostRuntime) -> Result<(), Fail> {
-    let alloc = rt.alloc();
-    let worked = world(alloc, WORDS, 24, "0 2", 0, "4 5", &ROOMS)?;
-    let before = format!(in alloc; "{COPIES}{EXCHANGES}")?;
-    walk(&rt, alloc, &worked, before.as_str(), &ROWS)?;
-    walk(
-        &rt,
-        alloc,
-        &worked,
-        COPIES,
-        &[("redirect 0", "stops at 16")],
-    )?;
-    walk(&rt, alloc, &worked, "", &EARLY_ROWS)?;
-    let room = [Room {
-        worker: 0,
-        from: 7,
-        to: 11,
-    }];
-    let raw = world(alloc, "9 0 6 3 9 9", 12, "0 4641", 2, "0", &room)?;
-    walk(&rt, alloc, &raw, "", &RAW)?;
-    let room = [Room {
-        worker: 0,
-        from: 2,
-        to: 6,
-    }];
-    let past = world(alloc, "6", 4, "0 2", 0, "9", &room)?;
-    walk(&rt, alloc, &past, "", &PAST)
+    walk(&rt, rt.alloc(), WORKED, BOTH, BEHIND)?;
+    walk(&rt, rt.alloc(), WORKED, COPIES, "redirect 0 -> stops at 16")?;
+    walk(&rt, rt.alloc(), WORKED, "", EARLY)?;
+    walk(&rt, rt.alloc(), RAW, "", KEPT)?;
+    walk(&rt, rt.alloc(), PAST, "", PLACES)
 }

@@ -45,8 +45,8 @@ pub(crate) fn is_slot(cell: Reading, offset: u32) -> bool
     cell.layout.is_tagged(cell.length, offset)
 }
 
-/// Whether a word lies in the cell that begins at an address.
-pub(crate) fn is_inside(start: u32, cell: Option<Reading>, at: u32) -> bool
+// Whether a word lies in the cell that begins at an address.
+fn is_inside(start: u32, cell: Option<Reading>, at: u32) -> bool
     ensures { result ≡ is_inside start cell at }
 {
     match cell {
@@ -62,9 +62,9 @@ fn is_head(cell: Reading, offset: u32) -> bool
     offset == 0 || (cell.layout.kind.has_length() && offset == LENGTH_OFFSET)
 }
 
-/// Whether a word is the header of the cell that begins at an address, or a length that its size is
-/// read from.
-pub(crate) fn is_head_of(start: u32, cell: Option<Reading>, at: u32) -> bool
+// Whether a word is the header of the cell that begins at an address, or a length that its size is
+// read from.
+fn is_head_of(start: u32, cell: Option<Reading>, at: u32) -> bool
     ensures { result ≡ is_head_of start cell at }
 {
     match cell {
@@ -80,8 +80,8 @@ fn is_quiet(cell: Reading, offset: u32) -> bool
     !is_head(cell, offset) && !is_slot(cell, offset)
 }
 
-/// Whether a store into a word leaves the cell that begins at an address alone.
-pub(crate) fn leaves_alone(start: u32, cell: Option<Reading>, at: u32) -> bool
+// Whether a store into a word leaves the cell that begins at an address alone.
+fn leaves_alone(start: u32, cell: Option<Reading>, at: u32) -> bool
     ensures { result ≡ leaves_alone start cell at }
 {
     match cell {

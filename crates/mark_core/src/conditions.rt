@@ -23,8 +23,8 @@ use tagged_word::{Header, Kind, LayoutWord, Word};
 // How many words the board has.
 const BOARD_WORDS: u32 = 64;
 
-/// Whether a word has no target, or one that a list has.
-pub(crate) fn has_target_in(old: u32, word: u64, list: &[u32]) -> bool
+// Whether a word has no target, or one that a list has.
+fn has_target_in(old: u32, word: u64, list: &[u32]) -> bool
     ensures { IsTrue result ↔ OfTarget old word (λ to. Contains list.now to) }
 {
     match target(old, word) {

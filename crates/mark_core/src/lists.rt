@@ -1,5 +1,5 @@
 //! Lists of addresses that others join.
-ghost use Rattle.std.specs.Prelude.{◌≡◌, ◌↔◌, [], OnOk, IsTrue, Contains};
+ghost use Rattle.std.specs.Prelude.{◌≡◌, ◌↔◌, OnOk, IsTrue, Contains};
 ghost use Rattle.seat_steps.specs.Lists.{is_in, joined};
 ghost use Rattle.seat_steps.specs.Boards.{joined_by};
 ghost use Rattle.mark_world.specs.Pages.{target, targets_joined};
@@ -22,13 +22,6 @@ pub(crate) fn has(list: &[u32], at: u32) -> bool
     ensures { IsTrue result ↔ Contains list.now at }
 {
     is_in(list, at)
-}
-
-/// Whether a list is empty.
-pub(crate) fn is_empty<T: Copy>(list: &Items<T>) -> bool
-    ensures { IsTrue result ↔ (list.now ≡ []) }
-{
-    list.count() == 0
 }
 
 /// The old address that a word refers to.

@@ -137,8 +137,8 @@ fn name_headed(snap: &Snap, header: Header) -> Name
     }
 }
 
-/// What a snap names.
-pub(crate) fn name_of(snap: &Snap) -> Name
+// What a snap names.
+fn name_of(snap: &Snap) -> Name
     ensures name { named_by result ≡ named snap.now }
     ensures fits { IsShort result }
 {
@@ -148,8 +148,8 @@ pub(crate) fn name_of(snap: &Snap) -> Name
     }
 }
 
-/// Whether the slot at an offset was read.
-pub(crate) fn was_read(snap: &Snap, offset: u32) -> bool
+// Whether the slot at an offset was read.
+fn was_read(snap: &Snap, offset: u32) -> bool
     ensures { IsTrue result ↔ Contains (read_offsets snap.now) offset }
 {
     has_slot(snap.slots.as_slice(), offset)

@@ -45,8 +45,8 @@ fn is_out(world: &World, helper: u32) -> bool
     }
 }
 
-/// Whether a cell is published and not white.
-pub(crate) fn is_reached(world: &World, at: u32) -> bool
+// Whether a cell is published and not white.
+fn is_reached(world: &World, at: u32) -> bool
     ensures { IsTrue result ↔ IsReached world.now at }
 {
     has(world.main.starts.as_slice(), at) && is_coloured(world, at)
