@@ -10,11 +10,11 @@ use Rattle.ideal_graph.proofs.ideal.Ideal.list.Goals as goal
 pub returns-clause-found : goal.returns-clause-found
 returns-clause-found c =
     let objects = c.deref.ensures.value ∙ ap (λ (v : NamedGraph). v.graph.objects) c.self.view_is in
-    let found = c.list_at.ensures.found in
-    subst (λ (all : List Object). FindsAs seen_list NotList (list_at all c.args.value) c.list_at.result) objects found
+    let finds = λ (all : List Object). FindsAs seen_list NotList (list_at all c.args.value) c.list_at.result in
+    subst finds objects c.list_at.ensures.found
 
 pub returns-clause-within : goal.returns-clause-within
 returns-clause-within c =
     let objects = c.deref.ensures.value ∙ ap (λ (v : NamedGraph). v.graph.objects) c.self.view_is in
-    let within = c.list_at.ensures.within in
-    subst (λ (all : List Object). IfOk c.list_at.result (λ list. list.number < length all)) objects within
+    let within = λ (all : List Object). IfOk c.list_at.result (λ list. list.number < length all) in
+    subst within objects c.list_at.ensures.within

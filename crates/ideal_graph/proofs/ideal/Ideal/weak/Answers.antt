@@ -10,11 +10,11 @@ use Rattle.ideal_graph.proofs.ideal.Ideal.weak.Goals as goal
 pub returns-clause-found : goal.returns-clause-found
 returns-clause-found c =
     let objects = c.deref.ensures.value ∙ ap (λ (v : NamedGraph). v.graph.objects) c.self.view_is in
-    let found = c.weak_at.ensures.found in
-    subst (λ (all : List Object). FindsAs seen_weak NotWeak (weak_at all c.args.value) c.weak_at.result) objects found
+    let finds = λ (all : List Object). FindsAs seen_weak NotWeak (weak_at all c.args.value) c.weak_at.result in
+    subst finds objects c.weak_at.ensures.found
 
 pub returns-clause-within : goal.returns-clause-within
 returns-clause-within c =
     let objects = c.deref.ensures.value ∙ ap (λ (v : NamedGraph). v.graph.objects) c.self.view_is in
-    let within = c.weak_at.ensures.within in
-    subst (λ (all : List Object). IfOk c.weak_at.result (λ weak. weak.number < length all)) objects within
+    let within = λ (all : List Object). IfOk c.weak_at.result (λ weak. weak.number < length all) in
+    subst within objects c.weak_at.ensures.within
