@@ -8,7 +8,7 @@ use crate::header::Header;
 use crate::layout::LayoutWord;
 
 /// What the words at an address read as: the cell there, but for its address.
-#[derive(Clone, Copy)]
+#[derive(Clone, Copy, Debug, PartialEq, Eq)]
 pub struct Reading {
     /// The first word of the cell.
     pub header: Header,

@@ -2,6 +2,20 @@
 
 use tagged_word::{Class, Header, Kind, LayoutWord, Word, odd};
 
+/// Bits, what they stand for, and the address where that is a reference.
+const CLASSES: [(u64, Class, Option<u32>); 10] = [
+    (0x2, Class::Small(1), None),
+    (0xffff_ffff_ffff_fffe, Class::Small(-1), None),
+    (0x7fff_fffe, Class::Small(1_073_741_823), None),
+    (0xffff_ffff_8000_0000, Class::Small(-1_073_741_824), None),
+    (0x15, Class::Ref(5), Some(5)),
+    (0x3_ffff_fffd, Class::Ref(u32::MAX), Some(u32::MAX)),
+    (0x3, Class::Odd(odd::UNDEFINED), None),
+    (0x7, Class::Odd(odd::HOLE), None),
+    (0xb, Class::Odd(odd::UNBOUND), None),
+    (0xf, Class::Odd(odd::WIDE), None),
+];
+
 /// The word that is made of what a word stands for.
 fn word_of(class: Class) -> Option<Word> {
     match class {
@@ -21,19 +35,7 @@ fn stands_for(word: Word, class: Class) -> bool {
 
 #[test]
 fn words_and_their_classes_have_the_bits_of_the_table(rt: HostRuntime) {
-    // Bits, what they stand for, the address where that is a reference.
-    for (bits, class, address) in [
-        (0x2, Class::Small(1), None),
-        (0xffff_ffff_ffff_fffe, Class::Small(-1), None),
-        (0x7fff_fffe, Class::Small(1_073_741_823), None),
-        (0xffff_ffff_8000_0000, Class::Small(-1_073_741_824), None),
-        (0x15, Class::Ref(5), Some(5)),
-        (0x3_ffff_fffd, Class::Ref(u32::MAX), Some(u32::MAX)),
-        (0x3, Class::Odd(odd::UNDEFINED), None),
-        (0x7, Class::Odd(odd::HOLE), None),
-        (0xb, Class::Odd(odd::UNBOUND), None),
-        (0xf, Class::Odd(odd::WIDE), None),
-    ] {
+    for (bits, class, address) in CLASSES {
         assert!(rt; stands_for(Word(bits), class), "bits {bits}");
         assert!(rt; Word(bits).address() == address, "address of {bits}");
     }
@@ -46,14 +48,38 @@ fn words_and_their_classes_have_the_bits_of_the_table(rt: HostRuntime) {
     assert!(rt; Word::small(-1_073_741_825).is_none());
 }
 
-fn plain(cap: u32, used: u32, raw: u32) -> LayoutWord {
-    LayoutWord {
-        kind: Kind::Plain,
-        cap,
-        used,
-        raw,
-    }
-}
+/// A word, and the kind, the cap, the used slots and the raw ones of the layout that it stands for.
+const LAYOUTS: [(u64, Kind, u32, u32, u32); 10] = [
+    (0x2221, Kind::Plain, 2, 2, 0b10),
+    (0xf_f881, Kind::Plain, 8, 8, 0xff),
+    (1, Kind::Plain, 0, 0, 0),
+    (2, Kind::List, 0, 0, 0),
+    (3, Kind::Weak, 0, 0, 0),
+    (4, Kind::Store, 0, 0, 0),
+    (5, Kind::Table, 0, 0, 0),
+    (6, Kind::Boxed, 0, 0, 0),
+    (7, Kind::Filler, 0, 0, 0),
+    (8, Kind::Gap, 0, 0, 0),
+];
+
+/// Words of no layout: no kind; a cap of 9; 3 slots used of 2; a raw bit for slot 2 of 2; a store
+/// with a cap; bits 20 and 63.
+const NO_LAYOUTS: [u64; 14] = [
+    0,
+    9,
+    10,
+    11,
+    12,
+    13,
+    14,
+    15,
+    0x91,
+    0x321,
+    0x4221,
+    0x14,
+    0x10_2221,
+    0x8000_0000_0000_2221,
+];
 
 /// Whether a word is read as the layout, and made of it.
 fn lays_out(word: u64, layout: LayoutWord) -> bool {
@@ -74,38 +100,16 @@ fn headers_and_layouts_have_the_bits_of_the_formats(rt: HostRuntime) {
     for bits in [0x3_0000_0024, 0x3_0004_0026, 0x3_8000_0026] {
         assert!(rt; Header::parse(Word(bits)).is_none(), "bits {bits}");
     }
-    for (word, layout) in [
-        (0x2221, plain(2, 2, 0b10)),
-        (0xf_f881, plain(8, 8, 0xff)),
-        (1, LayoutWord::bare(Kind::Plain)),
-        (2, LayoutWord::bare(Kind::List)),
-        (3, LayoutWord::bare(Kind::Weak)),
-        (4, LayoutWord::bare(Kind::Store)),
-        (5, LayoutWord::bare(Kind::Table)),
-        (6, LayoutWord::bare(Kind::Boxed)),
-        (7, LayoutWord::bare(Kind::Filler)),
-        (8, LayoutWord::bare(Kind::Gap)),
-    ] {
+    for (word, kind, cap, used, raw) in LAYOUTS {
+        let layout = LayoutWord {
+            kind,
+            cap,
+            used,
+            raw,
+        };
         assert!(rt; lays_out(word, layout), "word {word}");
     }
-    // No kind; a cap of 9; 3 slots used of 2; a raw bit for slot 2 of 2; a store with a cap; bits 20
-    // and 63.
-    for word in [
-        0,
-        9,
-        10,
-        11,
-        12,
-        13,
-        14,
-        15,
-        0x91,
-        0x321,
-        0x4221,
-        0x14,
-        0x10_2221,
-        0x8000_0000_0000_2221,
-    ] {
+    for word in NO_LAYOUTS {
         assert!(rt; LayoutWord::parse(word).is_none(), "word {word}");
     }
 }

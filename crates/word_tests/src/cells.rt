@@ -11,6 +11,48 @@ use std::test::Fail;
 use tagged_word::Kind;
 use word_store::{Reads, SliceWords};
 
+/// Row, address, the first words there, the cell's kind, length and size, and how many words are
+/// loaded.
+const CELLS: [(u32, u32, [u64; 2], Option<(Kind, u64, u32)>, u32); 34] = [
+    (1, 0, [6, 13], Some((Kind::List, 0, 3)), 2),
+    (2, 0, [10, 13], Some((Kind::Weak, 0, 3)), 2),
+    (3, 0, [14, 5], Some((Kind::Store, 5, 7)), 3),
+    (4, 0, [18, 5], Some((Kind::Table, 5, 12)), 3),
+    (5, 0, [22, 5], Some((Kind::Boxed, 0, 2)), 2),
+    (6, 0, [26, 5], Some((Kind::Filler, 0, 1)), 2),
+    (7, 0, [30, 5], Some((Kind::Gap, 5, 5)), 3),
+    (8, 0, [30, 1], None, 3),
+    (9, 0, [13, 0], None, 1),
+    // Shapes of field paths; 18 has no layout word, and 8,200 would have the first mark word.
+    (10, 0, [34, 0], Some((Kind::Plain, 0, 10)), 2),
+    (11, EDEN, [70, 3], Some((Kind::Plain, 0, 4)), 2),
+    (12, EDEN, [74, 3], None, 2),
+    (13, EDEN, [32_798, 0], Some((Kind::Filler, 0, 1)), 2),
+    (14, EDEN, [32_802, 0], None, 1),
+    // A cell ends with its page, eden or segment, or before.
+    (15, 0, [14, 2_046], Some((Kind::Store, 2_046, 2_048)), 3),
+    (16, 1, [14, 2_045], Some((Kind::Store, 2_045, 2_047)), 3),
+    (17, 1, [14, 2_046], None, 3),
+    (18, 0, [30, 2_048], Some((Kind::Gap, 2_048, 2_048)), 3),
+    (19, 0, [30, 2_049], None, 3),
+    (20, 2_043, [30, 5], Some((Kind::Gap, 5, 5)), 3),
+    (21, 2_043, [30, 6], None, 3),
+    (22, 2_047, [26, 0], Some((Kind::Filler, 0, 1)), 2),
+    (23, 2_047, [22, 0], None, 2),
+    (24, EDEN + 8_190, [22, 0], Some((Kind::Boxed, 0, 2)), 2),
+    (25, EDEN + 8_191, [22, 0], None, 2),
+    (26, ROOTS - 2, [22, 0], Some((Kind::Boxed, 0, 2)), 2),
+    (27, ROOTS - 1, [22, 0], None, 2),
+    // No cell stands behind the segments.
+    (28, ROOTS, [26, 0], None, 1),
+    (29, ROOTS + 1, [26, 0], None, 1),
+    (30, LAYOUTS + 20, [26, 0], None, 1),
+    (31, MARKS, [26, 0], None, 1),
+    (32, BOARD - 1, [26, 0], None, 1),
+    (33, BOARD, [26, 0], None, 1),
+    (34, BOARD + 63, [26, 0], None, 1),
+];
+
 /// The kind, the length and the size of the cell at an address of a heap with these words there,
 /// and how many words were loaded for it.
 fn read_at(
@@ -36,47 +78,7 @@ fn told_at(words: &mut SliceWords, at: u32) -> Option<(u32, u64)> {
 
 #[test]
 fn a_cell_is_read_by_three_words_at_most_where_it_may_stand(rt: HostRuntime) -> Result<(), Fail> {
-    // Row, address, the first words there, the cell's kind, length and size, and how many words are
-    // loaded.
-    for (row, at, stretch, cell, loads) in [
-        (1, 0, [6, 13], Some((Kind::List, 0, 3)), 2),
-        (2, 0, [10, 13], Some((Kind::Weak, 0, 3)), 2),
-        (3, 0, [14, 5], Some((Kind::Store, 5, 7)), 3),
-        (4, 0, [18, 5], Some((Kind::Table, 5, 12)), 3),
-        (5, 0, [22, 5], Some((Kind::Boxed, 0, 2)), 2),
-        (6, 0, [26, 5], Some((Kind::Filler, 0, 1)), 2),
-        (7, 0, [30, 5], Some((Kind::Gap, 5, 5)), 3),
-        (8, 0, [30, 1], None, 3),
-        (9, 0, [13, 0], None, 1),
-        // Shapes of field paths; 18 has no layout word, and 8,200 would have the first mark word.
-        (10, 0, [34, 0], Some((Kind::Plain, 0, 10)), 2),
-        (11, EDEN, [70, 3], Some((Kind::Plain, 0, 4)), 2),
-        (12, EDEN, [74, 3], None, 2),
-        (13, EDEN, [32_798, 0], Some((Kind::Filler, 0, 1)), 2),
-        (14, EDEN, [32_802, 0], None, 1),
-        // A cell ends with its page, eden or segment, or before.
-        (15, 0, [14, 2_046], Some((Kind::Store, 2_046, 2_048)), 3),
-        (16, 1, [14, 2_045], Some((Kind::Store, 2_045, 2_047)), 3),
-        (17, 1, [14, 2_046], None, 3),
-        (18, 0, [30, 2_048], Some((Kind::Gap, 2_048, 2_048)), 3),
-        (19, 0, [30, 2_049], None, 3),
-        (20, 2_043, [30, 5], Some((Kind::Gap, 5, 5)), 3),
-        (21, 2_043, [30, 6], None, 3),
-        (22, 2_047, [26, 0], Some((Kind::Filler, 0, 1)), 2),
-        (23, 2_047, [22, 0], None, 2),
-        (24, EDEN + 8_190, [22, 0], Some((Kind::Boxed, 0, 2)), 2),
-        (25, EDEN + 8_191, [22, 0], None, 2),
-        (26, ROOTS - 2, [22, 0], Some((Kind::Boxed, 0, 2)), 2),
-        (27, ROOTS - 1, [22, 0], None, 2),
-        // No cell stands behind the segments.
-        (28, ROOTS, [26, 0], None, 1),
-        (29, ROOTS + 1, [26, 0], None, 1),
-        (30, LAYOUTS + 20, [26, 0], None, 1),
-        (31, MARKS, [26, 0], None, 1),
-        (32, BOARD - 1, [26, 0], None, 1),
-        (33, BOARD, [26, 0], None, 1),
-        (34, BOARD + 63, [26, 0], None, 1),
-    ] {
+    for (row, at, stretch, cell, loads) in CELLS {
         let read = read_at(rt.alloc(), at, stretch)?;
         assert!(rt; read == (cell, loads), "row {row} at {at}");
     }
@@ -145,6 +147,33 @@ fn a_page_is_walked_from_cell_to_cell(rt: HostRuntime) -> Result<(), Fail> {
     Ok(())
 }
 
+/// Row, the cell's words, an offset, and the first slot from it on that marking visits, and that a
+/// scavenge does.
+const SLOTS: [(u32, [u64; 2], u32, Option<u32>, Option<u32>); 19] = [
+    // A plain cell has the slots that it uses.
+    (1, [70, 3], 0, Some(1), Some(1)),
+    (2, [70, 3], 1, Some(1), Some(1)),
+    (3, [70, 3], 2, Some(2), Some(2)),
+    (4, [70, 3], 3, None, None),
+    (5, [70, 3], 9, None, None),
+    // Raw slots are passed by.
+    (6, [34, 0], 0, Some(1), Some(1)),
+    (7, [34, 0], 2, Some(3), Some(3)),
+    (8, [34, 0], 3, Some(3), Some(3)),
+    (9, [34, 0], 4, Some(5), Some(5)),
+    (10, [34, 0], 6, Some(7), Some(7)),
+    (11, [34, 0], 8, Some(9), Some(9)),
+    (12, [34, 0], 10, None, None),
+    // Stores and tables have all their slots.
+    (13, [14, 2], 0, Some(2), Some(2)),
+    (14, [14, 2], 3, Some(3), Some(3)),
+    (15, [14, 2], 4, None, None),
+    (16, [18, 1], 0, None, Some(2)),
+    (17, [18, 1], 3, None, Some(3)),
+    (18, [18, 1], 4, None, None),
+    (19, [26, 0], 0, None, None),
+];
+
 /// The first slot from an offset on that marking visits, and the first that a scavenge does, of the
 /// cell that two words begin.
 fn slots_from(
@@ -161,32 +190,7 @@ fn slots_from(
 
 #[test]
 fn a_cell_has_its_slots_one_after_another(rt: HostRuntime) -> Result<(), Fail> {
-    // Row, the cell's words, an offset, and the first slot from it on that marking visits, and that a
-    // scavenge does.
-    for (row, stretch, from, tagged, visited) in [
-        // A plain cell has the slots that it uses.
-        (1, [70, 3], 0, Some(1), Some(1)),
-        (2, [70, 3], 1, Some(1), Some(1)),
-        (3, [70, 3], 2, Some(2), Some(2)),
-        (4, [70, 3], 3, None, None),
-        (5, [70, 3], 9, None, None),
-        // Raw slots are passed by.
-        (6, [34, 0], 0, Some(1), Some(1)),
-        (7, [34, 0], 2, Some(3), Some(3)),
-        (8, [34, 0], 3, Some(3), Some(3)),
-        (9, [34, 0], 4, Some(5), Some(5)),
-        (10, [34, 0], 6, Some(7), Some(7)),
-        (11, [34, 0], 8, Some(9), Some(9)),
-        (12, [34, 0], 10, None, None),
-        // Stores and tables have all their slots.
-        (13, [14, 2], 0, Some(2), Some(2)),
-        (14, [14, 2], 3, Some(3), Some(3)),
-        (15, [14, 2], 4, None, None),
-        (16, [18, 1], 0, None, Some(2)),
-        (17, [18, 1], 3, None, Some(3)),
-        (18, [18, 1], 4, None, None),
-        (19, [26, 0], 0, None, None),
-    ] {
+    for (row, stretch, from, tagged, visited) in SLOTS {
         let slots = slots_from(rt.alloc(), stretch, from)?;
         assert!(rt; slots == (tagged, visited), "row {row} from {from}");
     }

@@ -4,7 +4,7 @@ use std::test::Fail;
 use word_store::{Reads, SliceWords, VecWords, Words, copy};
 
 /// The word at an address, as generic code reads it; none behind the last.
-fn loaded<R: Reads>(words: &mut R, a: u32) -> Option<u64>
+pub(crate) fn loaded<R: Reads>(words: &mut R, a: u32) -> Option<u64>
     requires steady { R.IsSteady words.old }
 {
     if a < words.count() {

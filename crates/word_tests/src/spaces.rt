@@ -33,7 +33,6 @@ fn eden_fills_to_its_last_word_and_survivors_change_halves(rt: HostRuntime) {
     assert!(rt; nursery.bump(1).is_none());
 }
 
-/// Notes slots of two pages, forgets ranges, and finds the first slot from an address on.
 #[test]
 fn slots_are_found_in_order_until_they_are_forgotten(rt: HostRuntime) -> Result<(), Fail> {
     let mut set = Remembered::new(rt.alloc(), 2)?;
@@ -68,39 +67,54 @@ fn slots_are_found_in_order_until_they_are_forgotten(rt: HostRuntime) -> Result<
     Ok(())
 }
 
-fn run(at: u32, words: u32) -> Option<Run> {
-    Some(Run { at, words })
+/// From two whole pages: how many words are taken, the address and the words of the run that is got,
+/// and the words of the longest run that is left. A take looks first at the page of the one before,
+/// and then from the first page on.
+const TAKEN: [(u32, u32, u32); 5] = [
+    (2_000, 0, 2_048),
+    (50, 2_048, 1_998),
+    (48, 2_098, 1_950),
+    (1_950, 2_146, 48),
+    (48, 2_000, 0),
+];
+
+/// The same from runs of 1, 5 and 3 words at 7, 20 and 40. A run that is used up goes.
+const TAKEN_OF_RUNS: [(u32, u32, u32); 4] = [(3, 20, 3), (1, 7, 3), (2, 23, 3), (3, 40, 0)];
+
+/// Takes 1 to 2,048 words. Answers where they begin, and the words of the longest run that is left;
+/// none where no run has so many.
+fn take(free: &mut FreeRuns, n: u32) -> Option<(u32, u32)> {
+    if n < 1 || n > 2_048 {
+        return None;
+    }
+    match free.take(n) {
+        Some(run) if run.words == n => Some((run.at, free.longest())),
+        _ => None,
+    }
 }
 
 #[test]
 fn words_are_taken_from_the_front_of_runs(rt: HostRuntime) -> Result<(), Fail> {
     let mut free = FreeRuns::new(rt.alloc(), 2)?;
-    assert!(rt; free.take(2_000) == run(0, 2_000));
-    // A take looks first at the page of the one before, and then from the first page on.
-    assert!(rt; free.take(50) == run(2_048, 50));
-    assert!(rt; free.take(48) == run(2_098, 48));
-    assert!(rt; free.longest() == 1_950);
-    free.put_page(1, &[]);
-    assert!(rt; free.longest() == 48);
-    assert!(rt; free.take(49).is_none());
-    assert!(rt; free.take(48) == run(2_000, 48));
-    assert!(rt; free.runs(0).len() == 0);
-    assert!(rt; free.longest() == 0);
-    // A run that is used up goes, and the others of its page stay.
+    for (n, at, longest) in TAKEN {
+        assert!(rt; take(&mut free, n) == Some((at, longest)), "{n} words");
+    }
+    assert!(rt; take(&mut free, 1).is_none());
+    let mut free = FreeRuns::new(rt.alloc(), 2)?;
     let runs = [
         Run { at: 7, words: 1 },
         Run { at: 20, words: 5 },
         Run { at: 40, words: 3 },
     ];
+    free.put_page(1, &[]);
     free.put_page(0, &runs);
-    assert!(rt; free.longest() == 5);
-    assert!(rt; free.take(3) == run(20, 3));
-    assert!(rt; free.longest() == 3);
-    assert!(rt; free.take(1) == run(7, 1));
-    assert!(rt; free.take(4).is_none());
-    let left = free.runs(0);
-    assert!(rt; left.len() == 2);
-    assert!(rt; Some(left[0]) == run(23, 2));
-    assert!(rt; Some(left[1]) == run(40, 3));
+    assert!(rt; free.runs(0).len() == 3 && free.longest() == 5);
+    for (n, at, longest) in TAKEN_OF_RUNS {
+        assert!(rt;
+            take(&mut free, n) == Some((at, longest)),
+            "{n} words of runs"
+        );
+    }
+    assert!(rt; take(&mut free, 1).is_none());
     Ok(())
 }

@@ -1,9 +1,43 @@
 //! Values that variables hold, each with the two root words that it makes (`handle_roots`).
 
+use crate::places::loaded;
 use handle_roots::{Held, copy, held_by, hold, is_bound};
 use page_space::{Regions, Sizes};
 use std::test::Fail;
 use word_store::{Reads, VecWords, Words};
+
+/// Row, a value, its first word and its second, and whether a variable that holds it is bound.
+const VALUES: [(u32, Held, u64, u64, bool); 11] = [
+    (1, Held::Undefined, 0x3, 0, true),
+    (2, Held::Unbound, 0xb, 0, false),
+    (3, Held::Int(1), 2, 0, true),
+    (4, Held::Int(-1), 0xffff_ffff_ffff_fffe, 0, true),
+    (5, Held::Int(1_073_741_823), 0x7fff_fffe, 0, true),
+    (6, Held::Int(-1_073_741_824), 0xffff_ffff_8000_0000, 0, true),
+    (7, Held::Int(1_073_741_824), 0xf, 0x4000_0000, true),
+    (
+        8,
+        Held::Int(-1_073_741_825),
+        0xf,
+        0xffff_ffff_bfff_ffff,
+        true,
+    ),
+    (9, Held::Int(i64::MIN), 0xf, 0x8000_0000_0000_0000, true),
+    (10, Held::Int(i64::MAX), 0xf, 0x7fff_ffff_ffff_ffff, true),
+    (11, Held::Ref(131_072), 524_289, 0, true),
+];
+
+/// The words of all three variables, which begin at 2,240.
+fn root_words(words: &mut VecWords) -> [Option<u64>; 6] {
+    [
+        loaded(words, 2_240),
+        loaded(words, 2_241),
+        loaded(words, 2_242),
+        loaded(words, 2_243),
+        loaded(words, 2_244),
+        loaded(words, 2_245),
+    ]
+}
 
 #[test]
 fn a_variable_holds_each_value_by_its_two_words(rt: HostRuntime) -> Result<(), Fail> {
@@ -14,26 +48,7 @@ fn a_variable_holds_each_value_by_its_two_words(rt: HostRuntime) -> Result<(), F
         helpers: 0,
     };
     let regions = Regions::new(sizes, 3);
-    // Row, a value, its first word and its second, and whether a variable that holds it is bound.
-    for (row, value, first, second, bound) in [
-        (1, Held::Undefined, 0x3, 0, true),
-        (2, Held::Unbound, 0xb, 0, false),
-        (3, Held::Int(1), 2, 0, true),
-        (4, Held::Int(-1), 0xffff_ffff_ffff_fffe, 0, true),
-        (5, Held::Int(1_073_741_823), 0x7fff_fffe, 0, true),
-        (6, Held::Int(-1_073_741_824), 0xffff_ffff_8000_0000, 0, true),
-        (7, Held::Int(1_073_741_824), 0xf, 0x4000_0000, true),
-        (
-            8,
-            Held::Int(-1_073_741_825),
-            0xf,
-            0xffff_ffff_bfff_ffff,
-            true,
-        ),
-        (9, Held::Int(i64::MIN), 0xf, 0x8000_0000_0000_0000, true),
-        (10, Held::Int(i64::MAX), 0xf, 0x7fff_ffff_ffff_ffff, true),
-        (11, Held::Ref(131_072), 524_289, 0, true),
-    ] {
+    for (row, value, first, second, bound) in VALUES {
         let mut words = VecWords::new(rt.alloc(), regions.layout_at(0))?;
         assert!(rt; words.count() == 2_246);
         // What stood in the second words of two variables is gone afterwards.
@@ -44,19 +59,9 @@ fn a_variable_holds_each_value_by_its_two_words(rt: HostRuntime) -> Result<(), F
         assert!(rt; is_bound(&mut words, &regions, 1) == bound, "row {row}");
         copy(&mut words, &regions, 1, 2);
         assert!(rt; held_by(&mut words, &regions, 2) == value, "row {row}");
-        assert!(rt; is_bound(&mut words, &regions, 2) == bound, "row {row}");
-        for (a, word) in [
-            (2_239, 0),
-            (2_240, 0),
-            (2_241, 0),
-            (2_242, first),
-            (2_243, second),
-            (2_244, first),
-            (2_245, second),
-        ] {
-            assert!(rt; a < words.count());
-            assert!(rt; words.load(a) == word, "row {row} at {a}");
-        }
+        let (first, second) = (Some(first), Some(second));
+        let roots = [Some(0), Some(0), first, second, first, second];
+        assert!(rt; root_words(&mut words) == roots, "words of row {row}");
     }
     Ok(())
 }
