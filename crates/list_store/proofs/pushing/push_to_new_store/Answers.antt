@@ -1,6 +1,8 @@
 -- The store and the box that are made stand in the words that were reserved.
-use Rattle.std.proofs.Common.{◌≡◌, ◌+◌, refl, ap, ◌∙◌, arith, rules}
+use Rattle.std.proofs.Common.{◌≡◌, ℕ, ◌+◌, ◌<◌, ◌≤◌, refl, ap, ◌∙◌, arith, rules}
 use Rattle.page_space.specs.Extents.{Space, marks_start}
+use Rattle.object_graph.specs.Meaning.{list_most}
+use Rattle.heap_model.specs.Needs.{grown_list}
 use Rattle.heap_table.specs.Seats.{StaysBeside}
 use Rattle.heap_table.specs.Staying.{stays_beside_again}
 use Rattle.write_barrier.specs.Mains.{Mutator}
@@ -10,6 +12,33 @@ use Rattle.object_cells.proofs.WordsBeside.{same_beside, put_beside, reserved_be
 use Rattle.object_cells.proofs.UnusedWords.{run_before_marks, run_apart, marks_fit}
 use Rattle.list_store.proofs.ListCells.{count_within, slot_within}
 use Rattle.list_store.proofs.pushing.push_to_new_store.Goals as goal
+
+-- the store that is made has as many slots as the one before, or more
+more_slots : (count capacity slots : ℕ) → count ≡ capacity → count < list_most → slots ≡ grown_list count
+    → capacity ≤ slots
+more_slots count capacity slots full few grown = omega arith
+
+-- words that end before the marks begin there
+begins_before : (at slots box marks : ℕ) → at + (2 + slots + box) ≤ marks → at < marks
+begins_before at slots box marks within = omega arith
+
+pub begin_store-requires-clause-more : goal.begin_store-requires-clause-more
+begin_store-requires-clause-more c =
+    more_slots c.args.count c.args.store.capacity c.grown-capacity.result c.requires.full c.requires.few
+    c.grown-capacity.ensures
+
+pub begin_store-requires-clause-few : goal.begin_store-requires-clause-few
+begin_store-requires-clause-few c = c.requires.can.is.small
+
+pub made-requires-clause-within : goal.made-requires-clause-within
+made-requires-clause-within c =
+    let need = 2 + c.grown-capacity.result + c.need_of.result in
+    let space = ap (λ (main : Mutator). main.seat.space) c.store.ensures.stored
+    ∙ c.boxed_word-word.ensures.made.beside.space ∙ c.begin_store.ensures.beside.space
+    ∙ ap (λ (main : Mutator). main.seat.space) c.in_ok-at.ensures.reserved in
+    let before = run_before_marks c.args.main.now need c.in_ok-at.at c.store.new.self.seat.space
+    c.requires.can.ready.tied c.in_ok-at.ensures.room (c.in_ok-at.ensures.at (omega arith)) space in
+    begins_before c.in_ok-at.at c.grown-capacity.result c.need_of.result _ before
 
 pub begin_store-requires-clause-within : goal.begin_store-requires-clause-within
 begin_store-requires-clause-within c =
