@@ -35,7 +35,7 @@ pub(crate) fn phrases_of<'s>(
 {
     let mut speech = Speech {
         spoken: Vec::new(alloc),
-        open: Stack::new(alloc),
+        opened: Stack::new(alloc),
     };
     for (i, line) in lines.iter().enumerate() {
         speech.hear(unbuilt, i as u32 + 1, line)?;
@@ -47,7 +47,7 @@ pub(crate) fn phrases_of<'s>(
 #[derive(Drop)]
 struct Speech<'s> {
     spoken: Vec<Spoken<'s>>,
-    open: Stack,
+    opened: Stack,
 }
 
 impl<'s> Speech<'s> {
@@ -55,22 +55,22 @@ impl<'s> Speech<'s> {
     fn hear(&mut self, unbuilt: &[Keyword], number: u32, line: &'s [u8]) -> Result<(), BadScript>
         ensures said { OnOk result ((rest : List (List ℕ)) →
             gathered (map spoken_shown self.new.spoken.items)
-            (spoken_from unbuilt.now (number + 1) self.new.open rest)
+            (spoken_from unbuilt.now (number + 1) self.new.opened rest)
             ≡ gathered (map spoken_shown self.old.spoken.items)
-            (spoken_from unbuilt.now number self.old.open (line.now ∷ rest))) }
+            (spoken_from unbuilt.now number self.old.opened (line.now ∷ rest))) }
         ensures refused { IfErr result (λ stop. (rest : List (List ℕ)) → IsBad
             (gathered (map spoken_shown self.old.spoken.items)
-            (spoken_from unbuilt.now number self.old.open (line.now ∷ rest))) stop) }
+            (spoken_from unbuilt.now number self.old.opened (line.now ∷ rest))) stop) }
     {
         let phrase = match phrase_of_line(unbuilt, line) {
             Ok(Some(phrase)) => phrase,
             Ok(None) => return Ok(()),
             Err(why) => return Err(BadScript::BadLine { line: number, why }),
         };
-        if let Some(why) = why_misplaced(&self.open, phrase.keyword) {
+        if let Some(why) = why_misplaced(&self.opened, phrase.keyword) {
             return Err(BadScript::BadLine { line: number, why });
         }
-        open_after(&mut self.open, number, phrase.keyword)?;
+        open_after(&mut self.opened, number, phrase.keyword)?;
         self.spoken.push(Spoken { number, phrase })?;
         Ok(())
     }
@@ -78,10 +78,10 @@ impl<'s> Speech<'s> {
     /// The phrases, where no `repeat` is open.
     fn close(self) -> Result<Vec<Spoken<'s>>, BadScript>
         ensures spoken { IfOk result (λ spoken.
-            closed self.entry.open ≡ Ok [] × (spoken.items ≡ self.entry.spoken.items)) }
-        ensures refused { IfErr result (λ stop. IsBad (closed self.entry.open) stop) }
+            closed self.entry.opened ≡ Ok [] × (spoken.items ≡ self.entry.spoken.items)) }
+        ensures refused { IfErr result (λ stop. IsBad (closed self.entry.opened) stop) }
     {
-        match self.open.top() {
+        match self.opened.top() {
             Some(line) => Err(BadScript::BadLine {
                 line,
                 why: Why::Open,

@@ -24,4 +24,4 @@ pub returns-in_err-hear-clause-refused : goal.returns-in_err-hear-clause-refused
 returns-in_err-hear-clause-refused c =
     handed_on (IsBad _) _ c.from_residual.result c.from_residual.ensures.1
     (refused-here c.args.unbuilt.now c.args.lines.now c.loop-i.i (record { ref_ptr = (0, 0); now = [] })
-    c.loop-i.speech.open _ _ _ c.loop-i-test.true c.loop-i.invariant c.in_err-hear.ensures.refused)
+    c.loop-i.speech.opened _ _ _ c.loop-i-test.true c.loop-i.invariant c.in_err-hear.ensures.refused)

@@ -7,5 +7,5 @@ use Rattle.script_text.proofs.speech.phrases_of.Given as goal
 abbrev pub invariant-loop-i : goal.invariant-loop-i
 invariant-loop-i l =
     gathered (map spoken_shown l.speech.spoken.items)
-    (spoken_from l.unbuilt (l.i + 1) l.speech.open (map (λ line. line.now) (drop l.i l.lines)))
+    (spoken_from l.unbuilt (l.i + 1) l.speech.opened (map (λ line. line.now) (drop l.i l.lines)))
     ≡ spoken_from l.unbuilt 1 [] (map (λ line. line.now) l.lines)
