@@ -1,9 +1,9 @@
 //! How many lines a kept heap counts as executed, which line stopped its run, and what that line needed.
 
-use crate::runs::{SURE, came, counts_of};
+use crate::runs::{SURE, came};
 use std::test::Fail;
 
-// The words, the script, and executed lines, line and need. A list has 3 words, its stores 2 and their
+// The words, the script, and executed lines, line and need, or nothing where no heap is kept. A list has 3 words, its stores 2 and their
 // slots: 4, twice as many whenever one is full, and 1,000 in the end. A weak map has 3, its tables 2 and
 // two for each pair: 4, and twice as many whenever twice the entries are more. A box has 2.
 const COUNTS: &str = "\
@@ -15,8 +15,8 @@ run | repeat 2; print 1; end; print 2 | 6 0 0
 run | let i 0; repeat 2; repeat 3; add i 1; end; print i; end | 20 0 0
 run | repeat 2; repeat 0; print 1; end; end; print 3 | 6 0 0
 run | print 1; repeat 3; get y q f; end | 2 3 0
-run | scavenge | none
-run x | print 5 | none
+run | scavenge | 
+run x | print 5 | 
 run | repeat 6000; new x 8; end | 1639 2 10
 run --young 64 | repeat 100; new x 2; end | 33 2 4
 run --young 64 | new x 1; set x a x; repeat 100; set x a 1; set x a 5000000000; end | 94 5 2
@@ -40,8 +40,7 @@ fn a_kept_heap_counts_executed_lines(rt: HostRuntime) -> Result<(), Fail> {
         let mut fields = row.split(" | ");
         let words = fields.next().unwrap_or("");
         let script = fields.next().unwrap_or("");
-        let came = came(&rt, words, script, SURE)?;
-        let counts = counts_of(rt.alloc(), &came.ended)?;
+        let counts = came(&rt, words, script, SURE)?.counts;
         assert_eq!(rt; Some(counts.as_str()), fields.next(), "{row}");
     }
     Ok(())

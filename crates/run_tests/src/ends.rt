@@ -1,7 +1,8 @@
 //! Sources and sinks that fail, and other ends than those of memory.
 
-use crate::runs::{Pace, SURE, came, counts_of};
+use crate::runs::{Pace, SURE, came};
 use heap_run::{MemSink, OpenGate, StdSink, StdSource, SureSource, Tally, run, run_without_words};
+use std::alloc::Global;
 use std::process::Abort;
 use std::test::Fail;
 use std::thread::Threads;
@@ -17,31 +18,29 @@ fn each_read_that_fails_is_a_read_fault(rt: HostRuntime) -> Result<(), Fail> {
             failing_read,
             ..SURE
         };
-        let came = came(&rt, "run", FIRST, ends)?;
-        let counts = counts_of(rt.alloc(), &came.ended)?;
-        let (text, seen) = if failing_read < 7 {
-            ("read fault\n", "none")
+        let seen = came(&rt, "run", FIRST, ends)?;
+        let (text, counts) = if failing_read < 7 {
+            ("read fault\n", "")
         } else {
             ("5\n", "4 0 0")
         };
         assert_eq!(rt;
-            came.written.as_slice(),
+            seen.written.as_slice(),
             text.as_bytes(),
             "call {failing_read}"
         );
-        assert_eq!(rt; counts.as_str(), seen, "call {failing_read}");
+        assert_eq!(rt; seen.counts.as_str(), counts, "call {failing_read}");
     }
     Ok(())
 }
 
 /// Checks that a sink, which takes so many bytes a call and fails at the call of this number, has a front
-/// of so many bytes, and what its kept heap counts.
+/// of so many bytes, and what the kept heap counts.
 fn check_front<R: Abort + Threads + Sync + AllocGlobal>(
     rt: &R,
     script: &str,
-    most: usize,
-    failing_write: u64,
-    wanted: (usize, &str),
+    (most, failing_write): (usize, u64),
+    (front, counts): (usize, &str),
 ) -> Result<(), Fail> {
     assert!(rt; most > 0);
     let whole = came(rt, "run", script, SURE)?.written;
@@ -50,16 +49,14 @@ fn check_front<R: Abort + Threads + Sync + AllocGlobal>(
         failing_write,
         ..SURE
     };
-    let came = came(rt, "run", script, ends)?;
-    let (front, counts) = wanted;
-    assert_eq!(rt; came.ended.status, 5, "{script} {failing_write}");
+    let seen = came(rt, "run", script, ends)?;
+    assert_eq!(rt; seen.status, 5, "{script} {failing_write}");
     assert_eq!(rt;
-        Some(came.written.as_slice()),
+        Some(seen.written.as_slice()),
         whole.get(..front),
         "{script} {failing_write}"
     );
-    let seen = counts_of(rt.alloc(), &came.ended)?;
-    assert_eq!(rt; seen.as_str(), counts, "{script} {failing_write}");
+    assert_eq!(rt; seen.counts.as_str(), counts, "{script} {failing_write}");
     Ok(())
 }
 
@@ -67,17 +64,16 @@ fn check_front<R: Abort + Threads + Sync + AllocGlobal>(
 fn each_write_that_fails_leaves_the_front_of_the_output(rt: HostRuntime) -> Result<(), Fail> {
     let fronts = [0usize, 4, 8, 10, 11, 12, 16, 19];
     for (before, front) in fronts.iter().enumerate() {
-        let call = before as u64 + 1;
-        check_front(
-            &rt,
-            "print 1; print 2; get y q f",
-            4,
-            call,
-            (*front, "2 3 0"),
-        )?;
+        let call = (4, before as u64 + 1);
+        check_front(&rt, "print 1; print 2; get y q f", call, (*front, "2 3 0"))?;
     }
-    check_front(&rt, "print 5; print 6", 2, 2, (2, "2 0 0"))?;
-    check_front(&rt, "repeat 6000; new x 8; end", 4096, 1, (0, "1639 2 10"))?;
+    check_front(&rt, "print 5; print 6", (2, 2), (2, "2 0 0"))?;
+    check_front(
+        &rt,
+        "repeat 6000; new x 8; end",
+        (4096, 1),
+        (0, "1639 2 10"),
+    )?;
     // At the fourth call the last bytes are handed on, behind the fault.
     let long = "repeat 20000; print 123456789; end; get y q f";
     let fronts = [
@@ -87,37 +83,57 @@ fn each_write_that_fails_leaves_the_front_of_the_output(rt: HostRuntime) -> Resu
         (184_350, "40001 4 0"),
     ];
     for (before, wanted) in fronts.iter().enumerate() {
-        check_front(&rt, long, 1 << 20, before as u64 + 1, *wanted)?;
+        check_front(&rt, long, (1 << 20, before as u64 + 1), *wanted)?;
     }
-    let ends = Pace {
-        failing_write: 1,
-        ..SURE
-    };
-    let came = came(&rt, "walk", FIRST, ends)?;
-    assert_eq!(rt; (came.ended.status, came.written.len()), (5, 0));
-    assert!(rt; came.ended.kept.is_none());
+    Ok(())
+}
+
+/// The words of the command line that run a script.
+fn run_words(alloc: Global) -> Result<Vec<String>, Fail> {
+    Ok(vec![in alloc; String::from_str(alloc, "run")?]?)
+}
+
+#[test]
+fn standard_ends_serve(rt: HostRuntime) -> Result<(), Fail> {
+    let alloc = rt.alloc();
+    let words = run_words(alloc)?;
+    let mut written = Vec::new(alloc);
+    let mut source = StdSource::new(b"new x 2\nset x a 5\nget y x a\nprint y\n".as_slice());
+    let mut sink = StdSink::new(&mut written);
+    let status = run(&rt, alloc, &words, &mut source, &mut sink, &OpenGate).status;
+    drop(sink);
+    assert_eq!(rt; status, 0);
+    assert_eq!(rt; written.as_slice(), b"5\n".as_slice());
     Ok(())
 }
 
 #[test]
-fn other_ends_serve(rt: HostRuntime) -> Result<(), Fail> {
+fn ends_that_never_fail_serve(rt: HostRuntime) -> Result<(), Fail> {
     let alloc = rt.alloc();
-    let words = vec![in alloc; String::from_str(alloc, "run")?]?;
-    let mut written = Vec::new(alloc);
-    let mut source = StdSource::new(b"new x 2\nset x a 5\nget y x a\nprint y\n".as_slice());
-    let mut sink = StdSink::new(&mut written);
-    let ended = run(&rt, alloc, &words, &mut source, &mut sink, &OpenGate);
-    drop(sink);
-    assert_eq!(rt; ended.status, 0);
-    assert_eq!(rt; written.as_slice(), b"5\n".as_slice());
+    let words = run_words(alloc)?;
     let mut source = SureSource::new(b"print 5\nprint 6".to_vec(alloc)?);
     let mut tally = Tally::new();
-    let ended = run(&rt, alloc, &words, &mut source, &mut tally, &OpenGate);
-    assert_eq!(rt; ended.status, 0);
+    let status = run(&rt, alloc, &words, &mut source, &mut tally, &OpenGate).status;
     // The bytes are those of `5`, `6` and two line feeds.
-    assert_eq!(rt; (tally.bytes(), tally.sum()), (4, 53 + 54 + 20));
+    assert_eq!(rt; (status, tally.bytes(), tally.sum()), (0, 4, 53 + 54 + 20));
+    Ok(())
+}
+
+#[test]
+fn no_memory_is_written_where_there_are_no_words(rt: HostRuntime) -> Result<(), Fail> {
+    let alloc = rt.alloc();
     let mut sink = MemSink::new(alloc, 64, 64, Vec::new(alloc))?;
     assert_eq!(rt; run_without_words(&mut sink).status, 7);
     assert_eq!(rt; sink.bytes(), b"no memory\n".as_slice());
+    // A sink that takes nothing ends a run under refused words with 5, and no heap is kept.
+    let ends = Pace {
+        failing_write: 1,
+        ..SURE
+    };
+    let seen = came(&rt, "walk", FIRST, ends)?;
+    assert_eq!(rt;
+        (seen.status, seen.written.len(), seen.words.len()),
+        (5, 0, 0)
+    );
     Ok(())
 }

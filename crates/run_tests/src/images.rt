@@ -1,48 +1,48 @@
 //! The words of the kept heap, by the description of cells.
 
 use crate::runs::{SURE, came};
+use std::alloc::Global;
 use std::test::Fail;
 
 /// The first word of eden, with 64 pages.
 const EDEN: usize = 131_072;
 
-// The script, and the words of eden. The second store of a list stands behind the first one, and the box
+// The script, and the words of eden with the one behind them, which no cell uses. The second store of a list stands behind the first one, and the box
 // behind it; the box of an entry stands behind its table. A box is written again where its element is
 // the first one now, and a store without spare slots is followed by another one.
 const CELLS: &str = "\
-new x 2; set x a 1 | 70 3 2 7
-list l; push l 1; push l 2; push l 3; push l 4 | 6 524301 4 14 4 2 4 6 8
+new x 2; set x a 1 | 70 3 2 7 0
+list l; push l 1; push l 2; push l 3; push l 4 | 6 524301 4 14 4 2 4 6 8 0
 list l; push l 1; push l 2; push l 3; push l 4; push l 5000000000 | \
-6 524325 5 14 4 2 4 6 8 14 8 2 4 6 8 524365 7 7 7 22 5000000000
-list l; push l 1; push l 2; push l 3; push l 4; shift l 1; shift l 2; trunc l 0 | 6 524313 0 26 30 2 14 0 26
-list l; shift l 0; trunc l 0 | 6 3 0
-list l; push l 1; push l 2; shift l 0; trunc l 2 | 6 524301 2 14 4 2 4 7 7
-list l; push l 1; push l 2; shift l 2; push l 3 | 6 524309 1 30 2 14 2 6 7
-list l; push l 1; push l 5000000000; shift l 1; put l 0 5000000001 | 6 524305 1 26 14 3 524325 7 7 22 5000000001
-list l; push l 1; push l 2; trunc l 1; push l 3 | 6 524325 2 14 1 2 30 3 7 14 4 2 6 7 7
-weak m; new k 0; wget y m k; wdel m k | 10 3 0 4294967330 3
-weak m; new k 0; wput m k 1 | 10 524309 1 4294967330 3 18 4 7 7 524301 2 7 7 7 7
+6 524325 5 14 4 2 4 6 8 14 8 2 4 6 8 524365 7 7 7 22 5000000000 0
+list l; push l 1; push l 2; push l 3; push l 4; shift l 1; shift l 2; trunc l 0 | 6 524313 0 26 30 2 14 0 26 0
+list l; shift l 0; trunc l 0 | 6 3 0 0
+list l; push l 1; push l 2; shift l 0; trunc l 2 | 6 524301 2 14 4 2 4 7 7 0
+list l; push l 1; push l 2; shift l 2; push l 3 | 6 524309 1 30 2 14 2 6 7 0
+list l; push l 1; push l 5000000000; shift l 1; put l 0 5000000001 | 6 524305 1 26 14 3 524325 7 7 22 5000000001 0
+list l; push l 1; push l 2; trunc l 1; push l 3 | 6 524325 2 14 1 2 30 3 7 14 4 2 6 7 7 0
+weak m; new k 0; wget y m k; wdel m k | 10 3 0 4294967330 3 0
+weak m; new k 0; wput m k 1 | 10 524309 1 4294967330 3 18 4 7 7 524301 2 7 7 7 7 0
 weak m; wput m m 5000000000; wput m m 5000000001 | \
-10 524301 1 18 4 524289 524341 7 7 7 7 7 7 22 5000000001";
+10 524301 1 18 4 524289 524341 7 7 7 7 7 7 22 5000000001 0";
+
+/// The words as text, with a blank before each.
+fn text_of(alloc: Global, words: &[u64]) -> Result<String, Fail> {
+    let mut text = String::new(alloc);
+    for word in words {
+        text.push_str(format!(in alloc; " {word}")?.as_str())?;
+    }
+    Ok(text)
+}
 
 #[test]
 fn each_cell_has_the_words_of_its_description(rt: HostRuntime) -> Result<(), Fail> {
     for row in CELLS.lines() {
-        let mut fields = row.split(" | ");
-        let script = fields.next().unwrap_or("");
-        let kept = came(&rt, "run", script, SURE)?
-            .ended
-            .kept
-            .ok_or("no heap was kept")?;
-        let words = kept.image.words.as_slice();
-        let mut at = EDEN;
-        for wanted in fields.next().unwrap_or("").split(' ') {
-            let word = format!(in rt.alloc(); "{}", words.get(at).copied().unwrap_or(0))?;
-            assert_eq!(rt; word.as_str(), wanted, "{row}: {at}");
-            at = at.saturating_add(1);
-        }
-        assert_eq!(rt; words.get(at).copied(), Some(0), "{row}");
-        assert_eq!(rt; EDEN.saturating_add(kept.image.used as usize), at, "{row}");
+        let mut fields = row.split(" |");
+        let seen = came(&rt, "run", fields.next().unwrap_or(""), SURE)?;
+        let end = EDEN.saturating_add(seen.used).saturating_add(1);
+        let cells = text_of(rt.alloc(), seen.words.get(EDEN..end).unwrap_or(&[]))?;
+        assert_eq!(rt; Some(cells.as_str()), fields.next(), "{row}");
     }
     Ok(())
 }
@@ -51,25 +51,21 @@ fn each_cell_has_the_words_of_its_description(rt: HostRuntime) -> Result<(), Fai
 // roots begin at 188,416. A variable has two root words, and a path its layout word.
 #[test]
 fn a_kept_heap_has_its_regions_by_the_words(rt: HostRuntime) -> Result<(), Fail> {
-    let came_to = came(&rt, "run", "new x 2; set x a 1", SURE)?;
-    let kept = came_to.ended.kept.ok_or("no heap was kept")?;
-    let words = kept.image.words.as_slice();
-    assert_eq!(rt; words.get(..2), Some([30u64, 2_048].as_slice()));
-    assert_eq!(rt;
-        words.get(188_416..188_418),
-        Some([524_289u64, 0].as_slice())
-    );
-    assert_eq!(rt; words.get(188_418 + 17).copied(), Some(0x121));
-    assert_eq!(rt; words.len(), 188_418 + 8_200);
+    let seen = came(&rt, "run", "new x 2; set x a 1", SURE)?;
+    let places = [
+        (0usize, 30u64),
+        (1, 2_048),
+        (188_416, 524_289),
+        (188_417, 0),
+        (188_418 + 17, 0x121),
+    ];
+    for (at, word) in places {
+        assert_eq!(rt; seen.words.get(at).copied(), Some(word), "at {at}");
+    }
+    assert_eq!(rt; seen.words.len(), 188_418 + 8_200);
     let given = "run --pages 1 --young 64 --helpers=0";
-    let came_to = came(&rt, given, "let x 1; let y 2", SURE)?;
-    let kept = came_to.ended.kept.ok_or("no heap was kept")?;
-    let sizes = kept.image.regions.sizes();
-    assert_eq!(rt; (sizes.pages, sizes.young, sizes.helpers), (1, 64, 0));
-    assert_eq!(rt; kept.image.regions.variables(), 2);
-    assert_eq!(rt;
-        kept.image.words.as_slice().len(),
-        2_048 + 64 + 128 + 4 + 8_200
-    );
+    let seen = came(&rt, given, "let x 1; let y 2", SURE)?;
+    assert_eq!(rt; seen.sizes.as_str(), "1 64 0 2");
+    assert_eq!(rt; seen.words.len(), 2_048 + 64 + 128 + 4 + 8_200);
     Ok(())
 }

@@ -22,11 +22,17 @@ pub(crate) const SURE: Pace = Pace {
     failing_write: 0,
 };
 
-/// What a run came to, and what its sink took.
+/// What a run came to, as plain data: its status, what its sink took, and of the heap that it kept, if it
+/// did, the executed lines with the line that stopped it and the words that this line needed, the pages,
+/// young words, helpers and variables, the used words of eden, and the words.
 #[derive(Drop)]
 pub(crate) struct RunSeen {
-    pub(crate) ended: Ended,
+    pub(crate) status: u8,
     pub(crate) written: Vec<u8>,
+    pub(crate) counts: String,
+    pub(crate) sizes: String,
+    pub(crate) used: usize,
+    pub(crate) words: Vec<u64>,
 }
 
 /// Runs a script under words. These have blanks between, and its lines `; `.
@@ -48,15 +54,29 @@ pub(crate) fn came<R: Threads + Sync + AllocGlobal>(
     let failing = vec![in alloc; ends.failing_write]?;
     let mut sink = MemSink::new(alloc, 1 << 20, ends.most, failing)?;
     let ended = run(rt, alloc, &words, &mut source, &mut sink, &OpenGate);
-    let written = sink.bytes().to_vec(alloc)?;
-    Ok(RunSeen { ended, written })
+    seen_of(alloc, &ended, sink.bytes())
 }
 
-/// The executed lines of a kept heap, the line that stopped its run, and the words that this line
-/// needed; `none` where no heap is kept.
-pub(crate) fn counts_of(alloc: Global, ended: &Ended) -> Result<String, Fail> {
-    match &ended.kept {
-        Some(kept) => Ok(format!(in alloc; "{} {} {}", kept.executed, kept.line, kept.need)?),
-        None => Ok(String::from_str(alloc, "none")?),
+/// What is seen of an end, with what the sink took.
+fn seen_of(alloc: Global, ended: &Ended, written: &[u8]) -> Result<RunSeen, Fail> {
+    let mut seen = RunSeen {
+        status: ended.status,
+        written: written.to_vec(alloc)?,
+        counts: String::new(alloc),
+        sizes: String::new(alloc),
+        used: 0,
+        words: Vec::new(alloc),
+    };
+    if let Some(kept) = &ended.kept {
+        let (image, sizes) = (&kept.image, kept.image.regions.sizes());
+        let variables = image.regions.variables();
+        seen.counts = format!(in alloc; "{} {} {}", kept.executed, kept.line, kept.need)?;
+        seen.sizes = format!(in alloc;
+            "{} {} {} {variables}",
+            sizes.pages, sizes.young, sizes.helpers
+        )?;
+        seen.used = image.used as usize;
+        seen.words = image.words.as_slice().to_vec(alloc)?;
     }
+    Ok(seen)
 }
