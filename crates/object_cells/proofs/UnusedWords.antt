@@ -51,8 +51,9 @@ run_before_marks main need at space tied room is same =
     omega (arith, next_before_marks main need tied room, is, ap (λ (one : Space). marks_start one) same)
 
 -- so a store that is made of them has no slot at the address of one of the store that stands beside an object
-pub run_apart : (main : Mutator) (object need at : ℕ) (store : Store) → IsTied main → IsStoreAt (heap_of main) object store
-    → HasRoom main.young need → at ≡ next_at main → store_head + store.capacity ≤ need
+pub run_apart : (main : Mutator) (object need at : ℕ) (store : Store) → IsTied main
+    → IsStoreAt (heap_of main) object store → HasRoom main.young need → at ≡ next_at main
+    → store_head + store.capacity ≤ need
     → AreApart (store.at + store_head) (at + store_head) store.capacity
 run_apart main object need at store tied is room stands fits =
     let run = next_before_segments main need tied room in

@@ -65,7 +65,8 @@ led_behind {old} {new} {path} leads = with_path-is (Some paths_most) old new pat
 pub led_longer : {old new : List Path} {path : Path} {next : ℕ} (before : ℕ) → Leads old new path next
     → before ≡ length old → before ≤ length new
 led_longer {old} {new} {path} before leads counted =
-    omega (arith, counted, length-append old (missing old path), ap (λ (all : List Path). length all) (led_behind leads))
+    let long = ap (λ (all : List Path). length all) (led_behind leads) in
+    omega (arith, counted, length-append old (missing old path), long)
 
 -- and the first ones are those that were there
 led_first : {old new : List Path} {path : Path} {next : ℕ} (before : ℕ) → Leads old new path next → before ≡ length old

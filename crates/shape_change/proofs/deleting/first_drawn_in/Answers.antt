@@ -83,7 +83,8 @@ returns-in-Wide c =
     ∙ c.field.ensures in
     draws_first heap c.args.store c.args.shape c.word-word.result c.raw_in_box.result c.field.result found
     c.word-word.ensures.of_heap
-    (subst (λ (rep : Rep). IsDrawnIn heap rep c.word-word.result c.raw_in_box.result) (sym c.in-Wide.is) c.raw_in_box.ensures)
+    (subst (λ (rep : Rep). IsDrawnIn heap rep c.word-word.result c.raw_in_box.result)
+    (sym c.in-Wide.is) c.raw_in_box.ensures)
 
 pub returns-in-Small : goal.returns-in-Small
 returns-in-Small c =
