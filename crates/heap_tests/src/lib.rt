@@ -5,12 +5,20 @@
 #![tactic(auto)]
 
 #[cfg(test)]
+mod forged_heaps;
+#[cfg(test)]
 mod images;
 #[cfg(test)]
+mod kept_heaps;
+#[cfg(test)]
 mod opened_heaps;
+#[cfg(test)]
+mod opened_words;
 #[cfg(test)]
 mod path_shapes;
 #[cfg(test)]
 mod shown_graphs;
 #[cfg(test)]
 mod whole_heaps;
+#[cfg(test)]
+mod worked;

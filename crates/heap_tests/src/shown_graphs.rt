@@ -1,6 +1,7 @@
 //! Which graphs images show: worked images, and forged ones, which are whole heaps all the same.
 use crate::images::Change::{self, Word};
-use crate::images::{MIXED, USUAL, Worked, image_of};
+use crate::images::{Worked, image_of};
+use crate::worked::{MIXED, USUAL};
 use heap_command::Command::{self, Del, DropVar, LetValue, List, New, Push, Set, WPut, Weak};
 use heap_command::Operand::{Int, Undefined, Var};
 use heap_judge::{is_whole_heap, shows};

@@ -1,0 +1,291 @@
+//! Worked heaps and what is forged of them: the changes, what the heap has with them, and the
+//! verdict of the judges.
+use crate::images::Change::{Survivors, Used, Word};
+use crate::images::Worked;
+use crate::whole_heaps::Case;
+use crate::whole_heaps::Verdict::*;
+use crate::worked::{APART, BESIDE, ENTRY, FREE, LISTS, MIXED, PROBED, RAW, SMALL, USUAL};
+
+pub(crate) const CASES: [(&Worked, &[Case]); 10] = [
+    (
+        &USUAL,
+        &[
+            (&[], "an object with a field", Whole),
+            (&[Word(188_435, 0)], "no layout word of its shape", Sizes),
+            (&[Word(131_072, 0)], "no header in eden", Rows),
+            (&[Word(0, 0)], "no gap in a page", Rows),
+            (&[Word(131_076, 1)], "a word behind the used ones", Blank),
+            (&[Word(139_263, 1)], "a word at the end of eden", Blank),
+            (&[Word(139_264, 1)], "no cell in a segment", Rows),
+            (&[Word(188_416, 5)], "a variable that holds no value", Roots),
+            (&[Word(188_417, 1)], "a second root word", Roots),
+            (&[Word(131_074, 4)], "another integer", Whole),
+            (&[Word(131_072, 21_474_836_550)], "another number", Whole),
+            (&[Word(131_075, 2)], "a hole with a value", Unsound),
+            (
+                &[Word(131_073, 524_289)],
+                "the object as its store",
+                Unsound,
+            ),
+            (
+                &[Word(131_074, 3)],
+                "a small field that is undefined",
+                Unsound,
+            ),
+            (
+                &[Word(131_074, 524_289)],
+                "a small field with the object",
+                Unsound,
+            ),
+            (
+                &[Word(131_072, 42)],
+                "the shape of a path of no field",
+                Unsound,
+            ),
+            (&[Word(0, 4_294_967_326)], "a gap with a number", Unsound),
+        ],
+    ),
+    (
+        &SMALL,
+        &[
+            (&[], "a list, its store, and a box that survived", Whole),
+            (&[Word(0, 0)], "no gap in the page", Rows),
+            (&[Word(1, 2_047)], "a gap that is a word short", Rows),
+            (&[Word(2_052, 5)], "a store that is a slot longer", Rows),
+            (&[Word(2_060, 7)], "a word behind the used ones", Blank),
+            (&[Word(2_176, 0)], "no header of the survivor", Rows),
+            (&[Word(2_178, 1)], "no cell behind the survivor", Rows),
+            (
+                &[Word(2_179, 1)],
+                "a word further behind the survivor",
+                Blank,
+            ),
+            (
+                &[Word(2_240, 8_205)],
+                "a variable that holds a store",
+                Roots,
+            ),
+            (&[Word(2_240, 8_705)], "a variable that holds a box", Roots),
+            (
+                &[Word(2_240, 8_197)],
+                "a variable that holds no cell",
+                Roots,
+            ),
+            (&[Word(2_250, 0)], "no layout word of shape 8", Sizes),
+            (&[Word(10_441, 1)], "a layout word of no shape", Sizes),
+            (
+                &[Word(2_240, 8_229)],
+                "the second cell of the number",
+                Whole,
+            ),
+            (&[Survivors(1)], "a survivor word less", Rows),
+            (&[Survivors(3)], "a survivor word more", Rows),
+            (&[Used(9)], "a used cell less", Blank),
+            (&[Used(63)], "more than the young generation has", Rows),
+        ],
+    ),
+    (
+        &BESIDE,
+        &[
+            (&[], "a wide field in a box", Whole),
+            (
+                &[Word(2_052, 9_223_372_036_854_775_808)],
+                "a raw word beside",
+                Unsound,
+            ),
+            (&[Word(2_052, 2)], "a small integer beside", Unsound),
+            (&[Word(2_052, 8_193)], "the object itself beside", Unsound),
+            (&[Word(2_049, 3)], "no store", Unsound),
+        ],
+    ),
+    (
+        &RAW,
+        &[(&[], "a wide field that is raw in the object", Whole)],
+    ),
+    (
+        &LISTS,
+        &[
+            (&[], "a list with a box and 2", Whole),
+            (&[Word(2_054, 3)], "an element that is undefined", Whole),
+            (
+                &[Word(2_062, 8_193)],
+                "an object in the unnamed store",
+                Whole,
+            ),
+            (&[Word(2_062, 7)], "a hole in the unnamed store", Whole),
+            (&[Word(2_050, 3)], "a length that is too great", Unsound),
+            (&[Word(2_050, 1)], "a length that is too small", Unsound),
+            (&[Word(2_050, 5)], "a length that the store lacks", Unsound),
+            (
+                &[Word(2_055, 2)],
+                "a value behind the last element",
+                Unsound,
+            ),
+            (&[Word(2_054, 8_205)], "the store as its element", Neither),
+            (&[Word(2_049, 3)], "no store", Unsound),
+            (&[Word(2_058, 8_193)], "a list as a store", Unsound),
+            (&[Word(2_177, 5)], "a small integer in the box", Unsound),
+            (
+                &[Word(2_176, 4_294_967_318)],
+                "a box with a number",
+                Unsound,
+            ),
+            (
+                &[Word(2_051, 4_294_967_310)],
+                "a store with a number",
+                Unsound,
+            ),
+            (
+                &[Word(2_062, 9_223_372_036_854_775_808)],
+                "a raw word",
+                Unsound,
+            ),
+            (&[Word(2_062, 8_197)], "a reference to no cell", Unsound),
+        ],
+    ),
+    (
+        &ENTRY,
+        &[
+            (&[], "an entry at its home", Whole),
+            (&[Word(2_056, 3)], "a value that is undefined", Whole),
+            (
+                &[Word(2_057, 21_474_836_486)],
+                "a number of that home",
+                Whole,
+            ),
+            (&[Word(2_050, 0)], "a count that is too small", Unsound),
+            (&[Word(2_050, 2)], "a count that is too great", Unsound),
+            (
+                &[Word(2_057, 8_589_934_598)],
+                "a number of the other home",
+                Unsound,
+            ),
+            (&[Word(2_055, 7)], "a value without a key", Unsound),
+            (&[Word(2_056, 7)], "a key without a value", Unsound),
+            (&[Word(2_053, 3)], "half of a free pair", Unsound),
+            (&[Word(2_055, 8_705)], "a box as a key", Unsound),
+            (&[Word(2_055, 2)], "a small integer as a key", Unsound),
+            (&[Word(2_049, 3)], "no table", Unsound),
+            (&[Word(2_049, 8_229)], "a list as a table", Unsound),
+        ],
+    ),
+    (
+        &PROBED,
+        &[
+            (&[], "an entry past the end, at the first place", Whole),
+            (
+                &[Word(2_064, 17_179_869_190)],
+                "the number 4 at its home",
+                Whole,
+            ),
+            (
+                &[Word(2_064, 25_769_803_782)],
+                "a free place before it",
+                Unsound,
+            ),
+        ],
+    ),
+    (
+        &FREE,
+        &[
+            (&[], "a free table of 4 pairs", Whole),
+            (
+                &[Word(2_052, 0), Word(2_053, 14), Word(2_054, 6)],
+                "a table of no pair, and a store behind it",
+                Unsound,
+            ),
+            (
+                &[Word(2_052, 1), Word(2_055, 14), Word(2_056, 4)],
+                "a table of 1 pair, and a store behind it",
+                Whole,
+            ),
+            (
+                &[Word(2_052, 2), Word(2_057, 14), Word(2_058, 2)],
+                "a table of 2 pairs, and a store behind it",
+                Whole,
+            ),
+            (
+                &[Word(2_052, 3), Word(2_059, 14), Word(2_060, 0)],
+                "a table of 3 pairs, and a store behind it",
+                Unsound,
+            ),
+        ],
+    ),
+    (
+        &APART,
+        &[
+            (&[], "one owner each", Whole),
+            (&[Word(2_051, 8_273)], "two fields of one object", Shared),
+            (
+                &[Word(2_054, 8_273)],
+                "two objects, one of them dead",
+                Shared,
+            ),
+            (&[Word(2_078, 8_273)], "a field and an element", Shared),
+            (
+                &[Word(2_055, 8_345)],
+                "a field and an entry's value",
+                Shared,
+            ),
+            (
+                &[Word(2_083, 8_297)],
+                "an element and an entry's value",
+                Shared,
+            ),
+            (
+                &[Word(2_060, 8_305), Word(2_061, 2)],
+                "two lists of one store",
+                Shared,
+            ),
+            (
+                &[Word(2_066, 8_321), Word(2_067, 1)],
+                "two maps of one table",
+                Shared,
+            ),
+            (
+                &[Word(2_055, 8_305)],
+                "a store that is a field's value",
+                Neither,
+            ),
+            (
+                &[Word(2_079, 8_305)],
+                "a store in a slot of itself",
+                Neither,
+            ),
+            (&[Word(2_240, 11)], "no variable bound", Whole),
+            (
+                &[Word(2_240, 11), Word(2_054, 8_273)],
+                "two dead fields",
+                Shared,
+            ),
+            (
+                &[Word(2_240, 11), Word(2_060, 8_305), Word(2_061, 2)],
+                "two dead lists of one store",
+                Shared,
+            ),
+            (
+                &[Word(2_240, 11), Word(2_066, 8_321), Word(2_067, 1)],
+                "two dead maps of one table",
+                Shared,
+            ),
+            (&[Word(2_051, 2)], "a box without an owner", Whole),
+            (&[Word(2_055, 8_193)], "two references to an object", Whole),
+            (
+                &[Word(2_060, 8_193)],
+                "an object as the store of a list",
+                Unsound,
+            ),
+            (
+                &[Word(2_087, 8_273)],
+                "an integer that reads as a reference",
+                Unsound,
+            ),
+            (
+                &[Word(2_087, 8_273), Word(2_073, 14), Word(2_060, 8_293)],
+                "words of a box that read as a store",
+                Unsound,
+            ),
+        ],
+    ),
+    (&MIXED, &[(&[], "objects of each kind", Whole)]),
+];

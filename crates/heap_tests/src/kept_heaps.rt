@@ -1,0 +1,82 @@
+//! Kept heaps of runs, judged against the ideal meaning of the same scripts.
+use heap_command::Command::LetValue;
+use heap_command::Operand::Int;
+use heap_judge::shows;
+use heap_run::{MemSink, MemSource, OpenGate, run};
+use ideal_graph::Ideal;
+use script_text::{Script, What, parse};
+use std::alloc::Global;
+use std::test::Fail;
+use std::thread::Threads;
+
+const SCRIPTS: [&[u8]; 13] = [
+    b"let x 1",
+    b"new x 2\nset x a 1\nset x b 5000000000\nset x c x\ndel x b\nset x c 5000000000",
+    b"new x 0\nset x a 5000000000\nset x b 5000000000\nset x a x\ndel x a\ndel x b",
+    b"new x 1\nset x a 1\nset x b 2\nset x c 3\nset x d 4\nset x e 5\nset x f 5000000000\ndel x c",
+    b"new x 8\nset x a x\nlet y x\ndrop x\nset y b 7\nget z y c\nset z a 1\nlet x 1",
+    b"new x 1\nnew y 1\nset x a y\nset y a x\nnew x 1\nlet z -9223372036854775808\nadd z z",
+    b"new x 2\nset x a 1\nnew y 2\nset y b 1\nset y a 1\nset x b undefined\nprint q",
+    b"list l\npush l 1\npush l 5000000000\npush l l\npush l undefined\npush l 5000000000\nput l 0 l\nput l 1 7",
+    b"list l\npush l 1\npush l 5000000000\npush l l\npush l undefined\nshift l 1\npush l 7\n\
+      trunc l 3\nput l 0 5000000001",
+    b"new x 1\nlist l\npush l x\npush l l\nshift l 2\npush l x\npush l 1\ntrunc l 1\nlist m\n\
+      trunc m 0\nset x a l\nshift l 2",
+    b"new x 1\nlist l\npush l x\nset x a l\nlist m\npush m l\nat y m 0\nat z l 0\ndrop l\n\
+      push y 5000000000\nput y 0 5000000001",
+    b"weak m\nnew k 1\nwput m k 5000000000\nwput m m k\nlist l\nwput m l l\nset k a m\n\
+      wdel m k\nwput m k 7\nwput m l 6000000000",
+    b"weak m\nnew k 0\nwput m k 1\nnew k 0\nwput m k m\nwget y m k\nnew k 0\n\
+      wput m k 5000000000\ndrop k\nweak n\nwput n m n\nwdel n m\nwdel n n",
+];
+
+/// The graph of a script without `repeat` up to its end or its first fault.
+fn meant(alloc: Global, script: &Script<'_>) -> Result<Ideal, Fail> {
+    let mut names = Vec::new(alloc);
+    for field in 0..script.fields() {
+        names.push(Vec::from_slice(alloc, script.field(field))?)?;
+    }
+    let Ok(mut ideal) = Ideal::new(alloc, names) else {
+        return Err(Fail::from("memory was refused"));
+    };
+    for line in script.lines() {
+        if let What::Run(command) = line.what {
+            if ideal.step(&command).is_err() {
+                break;
+            }
+        }
+    }
+    Ok(ideal)
+}
+
+/// Whether the kept heap of a script's run shows its graph, and whether it shows that graph with one
+/// binding more.
+fn judged<R: Threads + Sync + AllocGlobal>(rt: &R, source: &[u8]) -> Result<(bool, bool), Fail> {
+    let alloc = rt.alloc();
+    let mut words = Vec::new(alloc);
+    for word in ["run", "--pages", "1", "--young", "128", "--helpers", "1"] {
+        words.push(String::from_str(alloc, word)?)?;
+    }
+    let mut from = MemSource::new(source.to_vec(alloc)?, 4096, Vec::new(alloc));
+    let mut sink = MemSink::new(alloc, 1 << 20, 4096, Vec::new(alloc))?;
+    let kept = run(rt, alloc, &words, &mut from, &mut sink, &OpenGate).kept;
+    let image = kept.ok_or("no heap was kept")?.image;
+    let Ok(script) = parse(alloc, source) else {
+        return Err(Fail::from("the script is bad"));
+    };
+    let mut ideal = meant(alloc, &script)?;
+    let same = shows(&image, &ideal);
+    let bound = ideal.step(&LetValue { x: 0, v: Int(77) });
+    match (same, bound, shows(&image, &ideal)) {
+        (Ok(same), Ok(_), Ok(other)) => Ok((same, other)),
+        _ => Err(Fail::from("memory was refused")),
+    }
+}
+
+#[test]
+fn kept_heaps_show_the_graphs_of_their_scripts(rt: HostRuntime) -> Result<(), Fail> {
+    for script in SCRIPTS {
+        assert_eq!(rt; judged(&rt, script)?, (true, false));
+    }
+    Ok(())
+}
