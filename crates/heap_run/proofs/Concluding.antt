@@ -15,7 +15,7 @@ use Rattle.heap_script.specs.declared.finished.How.TheVariants.{End, Fault, Heap
 use Rattle.heap_script.specs.declared.finished.Finished.{Finished}
 use Rattle.heap_script.specs.Runs.{Reached, HasSpent, ComesTo, Finishes, need_at, IsCut}
 use Rattle.heap_script.proofs.Handing.{front-behind, front-longer}
-use Rattle.mutator.specs.declared.output.TheConstants.{OUTPUT_BYTES}
+use Rattle.heap_script.specs.TheConstants.{OUTPUT_BYTES}
 use Rattle.heap_run.specs.declared.ended.Kept.{Kept}
 use Rattle.heap_run.specs.declared.ended.Ended.{Ended}
 use Rattle.heap_run.specs.Texts.{last_bytes, status_of}

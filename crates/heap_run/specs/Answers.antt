@@ -13,7 +13,7 @@ use Rattle.byte_ends.specs.Source.{IsInput}
 use Rattle.byte_ends.specs.Sink.{Appends, AppendsSome}
 use Rattle.heap_script.specs.declared.finished.How.{How}
 use Rattle.heap_script.specs.declared.finished.How.TheVariants as how
-use Rattle.mutator.specs.declared.output.TheConstants.{OUTPUT_BYTES}
+use Rattle.heap_script.specs.TheConstants.{OUTPUT_BYTES}
 use Rattle.heap_script.specs.Runs.{Reached, HasSpent, ComesTo, need_at, IsDue}
 use Rattle.heap_model.specs.Images.{image_heap}
 use Rattle.heap_model.specs.Wholeness.{Blank}

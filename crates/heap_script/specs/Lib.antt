@@ -1,3 +1,4 @@
 pub mod Runs
 pub mod Turns
 pub mod Progress
+pub use Rattle.mutator.specs.declared.output.TheConstants

@@ -16,3 +16,4 @@ mod turns;
 
 pub use finished::{Finished, How};
 pub use interpreter::run_script;
+pub use mutator::Output;
