@@ -1,6 +1,7 @@
 pub mod Spots
 pub mod Ascending
 pub mod Filling
+pub mod Reading
 pub mod Moving
 pub mod Redirecting
 pub mod Ending

@@ -2,7 +2,7 @@
 ghost use Rattle.scav_copy.specs.CopyLaws.{StartIsCopying, RoomsMayBeFilled, CellsMayMove};
 ghost use Rattle.scav_copy.specs.CopyLaws.{SlotsMayBeRenamed, LiveSlotsReferAsBefore};
 ghost use Rattle.scav_copy.specs.CopyLaws.{LiveSlotsHaveOneOrigin, LiveSlotsStayLive};
-ghost use Rattle.scav_copy.specs.CopyLaws.{EndIsRenaming};
+ghost use Rattle.scav_copy.specs.CopyLaws.{CopiesEnd, CopiesReadAsCells, EndIsRenaming};
 ghost use Rattle.scav_copy.specs.Worked.{StartIsLaidOut, EndIsWorked, OthersAreNot};
 
 /// The words before are copying with no home. So are the words after each of three steps: a word of
@@ -21,6 +21,13 @@ pub fn laws_of_live_slots()
     ensures as_before { LiveSlotsReferAsBefore }
     ensures one_origin { LiveSlotsHaveOneOrigin }
     ensures stay_live { LiveSlotsStayLive }
+{}
+
+/// A home copy lies in the words, and what stands there reads as the cell that it is the copy of, by
+/// any bound that it does not pass.
+pub fn laws_of_home_copies()
+    ensures ends { CopiesEnd }
+    ensures read { CopiesReadAsCells }
 {}
 
 /// Where no live slot refers to a cell that is to be copied, the copies are a renaming of all that
