@@ -5,5 +5,6 @@ pub mod Reading
 pub mod Moving
 pub mod Redirecting
 pub mod Ending
+pub mod Continuing
 pub mod WorkedEnd
 pub mod WorkedStart

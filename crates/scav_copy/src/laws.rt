@@ -3,6 +3,7 @@ ghost use Rattle.scav_copy.specs.CopyLaws.{StartIsCopying, RoomsMayBeFilled, Cel
 ghost use Rattle.scav_copy.specs.CopyLaws.{SlotsMayBeRenamed, LiveSlotsReferAsBefore};
 ghost use Rattle.scav_copy.specs.CopyLaws.{LiveSlotsHaveOneOrigin, LiveSlotsStayLive};
 ghost use Rattle.scav_copy.specs.CopyLaws.{CopiesEnd, CopiesReadAsCells, EndIsRenaming};
+ghost use Rattle.scav_copy.specs.Going.{CopyingGoesOn};
 ghost use Rattle.scav_copy.specs.Worked.{StartIsLaidOut, EndIsWorked, OthersAreNot};
 
 /// The words before are copying with no home. So are the words after each of three steps: a word of
@@ -35,6 +36,13 @@ pub fn laws_of_home_copies()
 /// before.
 pub fn laws_of_renaming()
     ensures end { EndIsRenaming }
+{}
+
+/// A scavenge by one may go on from any words and homes that are copying, as from those that several
+/// workers left: each list of the three steps leaves copying words and loses no home, and where no
+/// live slot refers to a cell that is to be copied, all that was reached is renamed.
+pub fn laws_of_going_on()
+    ensures { CopyingGoesOn }
 {}
 
 /// A scavenge worked by hand is laid out and ends in a renaming, and wrong ends of it are none: a

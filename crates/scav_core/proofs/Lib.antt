@@ -16,3 +16,4 @@ pub mod Outcomes
 pub mod Forwarding
 pub mod Relying
 pub mod Enabling
+pub mod Concluding

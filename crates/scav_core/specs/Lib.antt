@@ -6,3 +6,4 @@ pub mod Runs
 pub mod Underway
 pub mod WorldLaws
 pub mod Reliance
+pub mod WorkerLaws

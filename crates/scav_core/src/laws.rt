@@ -3,6 +3,8 @@ ghost use Rattle.scav_core.specs.WorldLaws.{FreshIsUnderway, EventsKeepUnderway,
 ghost use Rattle.scav_core.specs.WorldLaws.{FixedStays, UnderwayHasFacts};
 ghost use Rattle.scav_core.specs.Reliance.{EventsStayFor, HeadersMayBeLoaded, BodiesMayBeLoaded};
 ghost use Rattle.scav_core.specs.Reliance.{SlotsMayBeRedirected, TodoMayBeLoaded};
+ghost use Rattle.scav_core.specs.WorkerLaws.{HomesReadAsCells, TodoReadsAsCells};
+ghost use Rattle.scav_core.specs.WorkerLaws.{LeftIsOnBoard, NothingLeftIsDone};
 
 /// A fresh world is underway, and stays so in each event that is possible, and so in each list of
 /// them. What is fixed no event changes. A world that is underway has all that `replay` says of the
@@ -30,4 +32,19 @@ pub fn laws_of_what_is_possible()
     ensures bodies { BodiesMayBeLoaded }
     ensures redirects { SlotsMayBeRedirected }
     ensures todo { TodoMayBeLoaded }
+{}
+
+/// What a worker may conclude of copies: a home copy reads as its cell, so what a worker with no job
+/// has to do reads as a cell, and it may read each slot that this cell has.
+pub fn laws_of_what_a_worker_knows()
+    ensures homes { HomesReadAsCells }
+    ensures todo { TodoReadsAsCells }
+{}
+
+/// What is left when workers stop. Where none is at a slot, and all slots were read that were dealt
+/// out or that they have to do, each live slot that still refers to one of the cells is one of a
+/// copy on the board; with no copy on the board the scavenge is done.
+pub fn laws_of_what_is_left()
+    ensures on_board { LeftIsOnBoard }
+    ensures nothing { NothingLeftIsDone }
 {}
