@@ -8,6 +8,7 @@ use Rattle.tagged_word.specs.Readings.{read_cell, reference_in}
 use Rattle.tagged_word.proofs.Members.{first_in, rest_in}
 use Rattle.scav_copy.specs.declared.places.Home.{Home}
 use Rattle.scav_copy.specs.Places.{Fixed, cell_before, size_of, offsets_in, StoodAt}
+use Rattle.scav_copy.proofs.Continuing.{copying_goes_on}
 use Rattle.scav_copy.proofs.Spots.{from_is}
 use Rattle.scav_copy.proofs.Reading.{copies_end, copies_read}
 use Rattle.scav_core.specs.declared.event.Event.TheVariants.{LoadSlot}
@@ -18,7 +19,7 @@ use Rattle.scav_core.specs.Worlds.{fixed_of}
 use Rattle.scav_core.specs.Possible.{is_possible}
 use Rattle.scav_core.specs.Underway.{times, todo_times, is_address, board_times, home_times, IsAt, IsQuiet, Underway}
 use Rattle.scav_core.specs.WorkerLaws.{HomesReadAsCells, IsReadable, TodoReadsAsCells, WasRead, WorkersAreDone}
-use Rattle.scav_core.specs.WorkerLaws.{LeftIsOnBoard, NothingLeftIsDone}
+use Rattle.scav_core.specs.WorkerLaws.{LeftIsOnBoard, NothingLeftIsDone, MainGoesOn}
 use Rattle.scav_core.proofs.Counting.{is_counted, counted}
 use Rattle.scav_core.proofs.Enabling.{todo_may}
 
@@ -132,3 +133,8 @@ nothing_left world underway done none slot place cell stood refers is =
     let left = left_is_on_board world slot place cell underway done stood refers is in
     let e : Some left.home.to ≡ None = sym left.refers ∙ none left.word left.stands in
     cc
+
+-- a scavenge by one goes on from the words and homes that workers left
+pub main_goes_on : MainGoesOn
+main_goes_on start world now all laid copying on =
+    copying_goes_on (fixed_of start) world.words now world.homes all laid copying on

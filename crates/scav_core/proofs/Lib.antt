@@ -17,3 +17,5 @@ pub mod Forwarding
 pub mod Relying
 pub mod Enabling
 pub mod Concluding
+pub mod OwnRooms
+pub mod OwnHomes

@@ -7,3 +7,4 @@ pub mod Underway
 pub mod WorldLaws
 pub mod Reliance
 pub mod WorkerLaws
+pub mod OwnHomes

@@ -1,19 +1,20 @@
 -- What may be concluded of home copies and of what is left to do.
-use Rattle.std.specs.Prelude.{◌≡◌, ℕ, ◌+◌, ◌≤◌, true, length, Contains, slice_get, Some, None}
+use Rattle.std.specs.Prelude.{◌≡◌, ℕ, ◌+◌, ◌≤◌, true, List, length, Contains, slice_get, Some, None}
 use Rattle.tagged_word.specs.declared.reading.Reading.{Reading}
 use Rattle.tagged_word.specs.Cells.{scavenge_offsets}
 use Rattle.tagged_word.specs.Readings.{read_cell, reference_in}
 use Rattle.seat_steps.specs.declared.note.Note.TheVariants.{Loaded}
 use Rattle.scav_copy.specs.declared.places.Home.{Home}
-use Rattle.scav_copy.specs.Places.{cell_before, size_of, offsets_of, StoodAt}
+use Rattle.scav_copy.specs.Places.{cell_before, size_of, offsets_of, IsLaidOut, StoodAt}
 use Rattle.scav_copy.specs.Renamings.{RefersTo}
+use Rattle.scav_copy.specs.Going.{GoesOn, HasGoneOn}
 use Rattle.scav_core.specs.declared.event.Event.TheVariants.{LoadSlot}
 use Rattle.scav_core.specs.declared.workers.WorkerView.{WorkerView}
 use Rattle.scav_core.specs.declared.world.World.{World}
 use Rattle.scav_core.specs.Worlds.{fixed_of}
 use Rattle.scav_core.specs.Possible.{is_possible}
 use Rattle.scav_core.specs.Underway.{Underway}
-use Rattle.scav_core.specs.WorldLaws.{IsDone}
+use Rattle.scav_core.specs.WorldLaws.{IsCopying, IsDone}
 
 -- Where a home copy ends at a bound or before, it reads as its cell.
 abbrev pub HomesReadAsCells : Type 0
@@ -72,3 +73,9 @@ abbrev pub NothingLeftIsDone : Type 0
 NothingLeftIsDone =
     (world : World) → Underway world → WorkersAreDone world
     → ((word : ℕ) → Contains world.board word → reference_in word ≡ None) → IsDone world world
+
+-- A scavenge by one goes on from the words and homes that workers left.
+abbrev pub MainGoesOn : Type 0
+MainGoesOn =
+    (start world : World) (now : List ℕ) (all : List Home) → IsLaidOut (fixed_of start) → IsCopying start world
+    → GoesOn (fixed_of start) world.words world.homes now all → HasGoneOn (fixed_of start) world.homes now all
