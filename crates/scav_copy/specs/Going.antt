@@ -15,7 +15,8 @@ pub data GoesOn (fixed : Fixed) (words : List ℕ) (homes : List Home) : List �
       → (IsInCopies fixed all at → ⊥) → GoesOn fixed words homes (slice_set now at word) all
   moves : (now : List ℕ) (all : List Home) (cell to : ℕ) → GoesOn fixed words homes now all → Reached fixed cell
       → HasNoHome all cell → IsCopyAt fixed now all cell to
-      → GoesOn fixed words homes (slice_set now cell (bits_of (Ref to))) (with_home all (record { from = cell; to = to }))
+      → GoesOn fixed words homes (slice_set now cell (bits_of (Ref to)))
+      (with_home all (record { from = cell; to = to }))
   renames : (now : List ℕ) (all : List Home) (slot place : ℕ) (home : Home) → GoesOn fixed words homes now all
       → StoodAt fixed all slot place → Contains all home → RefersTo fixed.before place home.from
       → GoesOn fixed words homes (slice_set now slot (bits_of (Ref home.to))) all

@@ -19,3 +19,4 @@ pub mod Enabling
 pub mod Concluding
 pub mod OwnRooms
 pub mod OwnHomes
+pub mod KnownHomes

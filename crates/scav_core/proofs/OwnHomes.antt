@@ -56,7 +56,8 @@ offered_may world worker view slot underway stood out idle there =
 pub words_may : WordsMayBeStored
 words_may world worker view room at word underway stood out there own inside beside =
     let fixed : Fixed = fixed_of world in
-    let lies : LiesInRoom fixed room at 1 = record { among = there; from = inside.from; ends = omega (arith, inside.below) }
+    let lies : LiesInRoom fixed room at 1 =
+    record { among = there; from = inside.from; ends = omega (arith, inside.below) }
     in
     let free : is_free fixed world.homes at 1 ≡ true =
     free_of_own world worker room at 1 underway (omega arith) own lies (λ home is.

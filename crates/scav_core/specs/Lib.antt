@@ -8,3 +8,4 @@ pub mod WorldLaws
 pub mod Reliance
 pub mod WorkerLaws
 pub mod OwnHomes
+pub mod KnownHomes

@@ -6,6 +6,8 @@ ghost use Rattle.scav_core.specs.Reliance.{SlotsMayBeRedirected, TodoMayBeLoaded
 ghost use Rattle.scav_core.specs.WorkerLaws.{HomesReadAsCells, TodoReadsAsCells};
 ghost use Rattle.scav_core.specs.WorkerLaws.{LeftIsOnBoard, NothingLeftIsDone, MainGoesOn};
 ghost use Rattle.scav_core.specs.OwnHomes.{OfferedMayBeLoaded, WordsMayBeStored};
+ghost use Rattle.scav_core.specs.KnownHomes.{FreshHasMakers, EventsKeepMakers, LentKnowsNone};
+ghost use Rattle.scav_core.specs.KnownHomes.{EventsKeepKnown, ExchangesAreKnown};
 ghost use Rattle.scav_core.specs.OwnHomes.{CellsMayBeForwarded, OwnHomesStay, JobsGoOn};
 
 /// A fresh world is underway, and stays so in each event that is possible, and so in each list of
@@ -49,6 +51,17 @@ pub fn laws_of_what_a_worker_knows()
     ensures cells { CellsMayBeForwarded }
     ensures own { OwnHomesStay }
     ensures jobs { JobsGoOn }
+{}
+
+/// How a worker knows the homes that it made, by a list beside its view: each home lies in a room of
+/// a worker that has begun, so one that begins has none; its own exchange makes one more, of the cell
+/// of its job; no other event makes one.
+pub fn laws_of_known_homes()
+    ensures fresh { FreshHasMakers }
+    ensures makers { EventsKeepMakers }
+    ensures lent { LentKnowsNone }
+    ensures event { EventsKeepKnown }
+    ensures exchange { ExchangesAreKnown }
 {}
 
 /// What is left when workers stop. Where none is at a slot, and all slots were read that were dealt
