@@ -1,22 +1,28 @@
 -- A home copy reads as its cell.
-use Rattle.std.proofs.Common.{ℕ, ◌<◌, ◌≤◌, ◌+◌, ◌-◌, ◌*◌, ◌≡◌, Bool, true, false, IsTrue, List, length, get_or}
-use Rattle.std.proofs.Common.{slice_get, Option, Some, None, IsSome, arith, refl, sym, ap, ◌∙◌}
+use Rattle.std.proofs.Common.{ℕ, zero, suc, ◌<◌, ◌≤◌, ◌+◌, ◌-◌, ◌*◌, ◌≡◌, Bool, true, false, IsTrue, List, length}
+use Rattle.std.proofs.Common.{get_or, slice_get, Option, Some, None, IsSome, arith, refl, sym, ap, ◌∙◌}
 use Rattle.std.specs.List.{Contains}
 use Rattle.std.proofs.lemmas.Bool.{false≢true}
-use Rattle.std.proofs.lemmas.Option.{slice_get-get_or}
+use Rattle.std.proofs.lemmas.Option.{slice_get-get_or, get_or_from_slice_get}
 use Rattle.tagged_word.specs.declared.layout.Kind.{Kind}
 use Rattle.tagged_word.specs.declared.layout.Kind.TheVariants as kind
 use Rattle.tagged_word.specs.declared.layout.LayoutWord.{LayoutWord}
 use Rattle.tagged_word.specs.declared.reading.Reading.{Reading}
+use Rattle.tagged_word.specs.declared.word.Class.TheVariants.{Ref}
+use Rattle.tagged_word.specs.Words.{bits_of}
+use Rattle.tagged_word.specs.Headers.{header_bits}
 use Rattle.tagged_word.specs.Cells.{ReadsAs, has_length, length_by, scavenge_offsets, scavenge_offsets_of, store_head}
 use Rattle.tagged_word.specs.Cells.{words_of, words_least}
-use Rattle.tagged_word.specs.Readings.{read_cell}
+use Rattle.tagged_word.specs.Readings.{read_cell, reference_in}
 use Rattle.tagged_word.proofs.Cells.{size_is, size_bounds, two_words_of, slot_within}
 use Rattle.tagged_word.proofs.CellReadings.{cell_from, cell_to}
 use Rattle.tagged_word.proofs.Members.{range_bounds}
-use Rattle.scav_copy.specs.Places.{last_address, cell_before, words_in, offsets_in, size_of}
+use Rattle.tagged_word.proofs.Readings.{reference_from}
+use Rattle.scav_copy.specs.declared.places.Home.{Home}
+use Rattle.scav_copy.specs.Places.{Fixed, last_address, cell_before, words_in, offsets_in, size_of, IsLaidOut}
+use Rattle.scav_copy.specs.Copies.{Copying}
 use Rattle.scav_copy.specs.CopyLaws.{CopiesEnd, CopiesReadAsCells}
-use Rattle.scav_copy.proofs.Spots.{none_in, from_is, some_words, copy_in_room}
+use Rattle.scav_copy.proofs.Spots.{cell_ends, none_in, from_is, some_words, copy_in_room}
 
 -- the word that is a length is no slot
 second_no_slot : (k : Kind) (layout : LayoutWord) (long : ℕ) → IsTrue (has_length k)
@@ -114,3 +120,57 @@ copies_read fixed words homes home bound laid copying there ends =
     (laid.cells_are home.from (from_is home copying there))
     (λ offset less no_slot. copying.copied home offset there less no_slot) ends
     (copies_end fixed words homes home laid copying there)
+
+-- a cell that is read ends at the bound or before
+read_ends : (words layouts : List ℕ) (at bound : ℕ) (cell : Option Reading) → read_cell words layouts at bound ≡ cell
+    → IsSome cell → at + words_in cell ≤ bound
+read_ends words layouts at bound None e is = cc
+read_ends words layouts at bound (Some cell) e is = (cell_from words layouts at bound cell e).ends
+
+-- its first word is no reference
+read_no_reference : (words layouts : List ℕ) (at bound : ℕ) (cell : Option Reading) (to : ℕ)
+    → read_cell words layouts at bound ≡ cell → IsSome cell → reference_in (get_or words at 0) ≡ Some to → ⊥
+read_no_reference words layouts at bound None to e is refers = cc
+read_no_reference words layouts at bound (Some cell) to e is refers =
+    let reads = cell_from words layouts at bound cell e in
+    let head : get_or words at 0 ≡ header_bits cell.header =
+    get_or_from_slice_get words at (header_bits cell.header) 0 reads.first in
+    let word : get_or words at 0 ≡ bits_of (Ref to) = (reference_from (get_or words at 0) to refers).1 in
+    omega (arith, head, word)
+
+-- what is no reference to any address is none
+none_by : (o : Option ℕ) → ((at : ℕ) → o ≡ Some at → ⊥) → o ≡ None
+none_by None never = refl
+none_by (Some at) never = absurd (never at refl)
+
+-- the header of a cell that stood before is no reference
+pub header_is_none : (fixed : Fixed) (cell : ℕ) → IsSome (cell_before fixed cell)
+    → reference_in (get_or fixed.before cell 0) ≡ None
+unfolding cell_before
+header_is_none fixed cell is =
+    none_by (reference_in (get_or fixed.before cell 0)) (λ to refers.
+    read_no_reference fixed.before fixed.layouts cell last_address (cell_before fixed cell) to refl is refers)
+
+-- a cell with no home has all words as before
+unmoved_words : {fixed : Fixed} {words : List ℕ} {homes : List Home} (cell offset : ℕ) → Copying fixed words homes
+    → Contains fixed.cells cell → get_or words cell 0 ≡ get_or fixed.before cell 0 → offset < size_of fixed cell
+    → get_or words (cell + offset) 0 ≡ get_or fixed.before (cell + offset) 0
+unmoved_words {fixed} {words} cell zero copying there same less =
+    let back : cell + 0 ≡ cell = omega arith in
+    ap (λ (at : ℕ). get_or words at 0) back ∙ same ∙ sym (ap (λ (at : ℕ). get_or fixed.before at 0) back)
+unmoved_words cell (suc k) copying there same less =
+    let low : 1 ≤ suc k = omega arith in copying.bodies cell (suc k) there low less
+
+-- so it reads as before
+pub unmoved_reads : (fixed : Fixed) (words : List ℕ) (homes : List Home) (cell : ℕ) → IsLaidOut fixed
+    → Copying fixed words homes → Contains fixed.cells cell → get_or words cell 0 ≡ get_or fixed.before cell 0
+    → read_cell words fixed.layouts cell last_address ≡ cell_before fixed cell
+unfolding cell_before
+unmoved_reads fixed words homes cell laid copying there same =
+    let is = laid.cells_are cell there in
+    let ends : cell + size_of fixed cell ≤ length fixed.before = cell_ends fixed cell is in
+    let long : length words ≡ length fixed.before = copying.long in
+    read_copy fixed.before words fixed.layouts cell cell last_address last_address (cell_before fixed cell) refl is
+    (λ offset less no_slot. unmoved_words cell offset copying there same less)
+    (read_ends fixed.before fixed.layouts cell last_address (cell_before fixed cell) refl is)
+    (omega (arith, ends, long))

@@ -1,9 +1,10 @@
 -- A scavenge by one, which goes on from any words and homes that are copying.
-use Rattle.std.specs.Prelude.{ℕ, List, Contains, slice_set}
+use Rattle.std.specs.Prelude.{◌≡◌, ℕ, List, Contains, slice_index, slice_set, Some, None}
 use Rattle.tagged_word.specs.declared.word.Class.TheVariants.{Ref}
 use Rattle.tagged_word.specs.Words.{bits_of}
+use Rattle.tagged_word.specs.Readings.{reference_in, read_cell}
 use Rattle.scav_copy.specs.declared.places.Home.{Home}
-use Rattle.scav_copy.specs.Places.{Fixed, IsLaidOut, IsInRooms, IsInCopies, StoodAt}
+use Rattle.scav_copy.specs.Places.{Fixed, last_address, cell_before, IsLaidOut, IsInRooms, IsInCopies, StoodAt}
 use Rattle.scav_copy.specs.Renamings.{RefersTo, Reached, Renaming, Outside}
 use Rattle.scav_copy.specs.Copies.{with_home, HasNoHome, AreHoused, AreApart, Copying, IsCopyAt}
 
@@ -34,3 +35,20 @@ abbrev pub CopyingGoesOn : Type 0
 CopyingGoesOn =
     (fixed : Fixed) (words now : List ℕ) (homes all : List Home) → IsLaidOut fixed → Copying fixed words homes
     → GoesOn fixed words homes now all → HasGoneOn fixed homes now all
+
+-- What is found at a cell that is to be copied, where a live slot refers to it. If it has a home, its header is the
+-- reference to that, and the slot may become it. If it has none, it reads as it did before, its header is no reference,
+-- and it may get a home.
+pub data IsFollowed (fixed : Fixed) (words : List ℕ) (homes : List Home) (place cell : ℕ) : Type 0 where
+  has_home : (home : Home) → Contains homes home → reference_in (slice_index words cell) ≡ Some home.to
+      → RefersTo fixed.before place home.from → IsFollowed fixed words homes place cell
+  has_none : HasNoHome homes cell → Reached fixed cell → reference_in (slice_index words cell) ≡ None
+      → read_cell words fixed.layouts cell last_address ≡ cell_before fixed cell
+      → IsFollowed fixed words homes place cell
+
+-- each live slot that refers to a cell that is to be copied may be followed
+abbrev pub SlotsAreFollowed : Type 0
+SlotsAreFollowed =
+    (fixed : Fixed) (words : List ℕ) (homes : List Home) (slot place cell : ℕ) → IsLaidOut fixed
+    → Copying fixed words homes → StoodAt fixed homes slot place → RefersTo words slot cell → Contains fixed.cells cell
+    → IsFollowed fixed words homes place cell

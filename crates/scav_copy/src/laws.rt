@@ -3,7 +3,7 @@ ghost use Rattle.scav_copy.specs.CopyLaws.{StartIsCopying, RoomsMayBeFilled, Cel
 ghost use Rattle.scav_copy.specs.CopyLaws.{SlotsMayBeRenamed, LiveSlotsReferAsBefore};
 ghost use Rattle.scav_copy.specs.CopyLaws.{LiveSlotsHaveOneOrigin, LiveSlotsStayLive};
 ghost use Rattle.scav_copy.specs.CopyLaws.{CopiesEnd, CopiesReadAsCells, EndIsRenaming};
-ghost use Rattle.scav_copy.specs.Going.{CopyingGoesOn};
+ghost use Rattle.scav_copy.specs.Going.{CopyingGoesOn, SlotsAreFollowed};
 ghost use Rattle.scav_copy.specs.Worked.{StartIsLaidOut, EndIsWorked, OthersAreNot};
 
 /// The words before are copying with no home. So are the words after each of three steps: a word of
@@ -40,9 +40,12 @@ pub fn laws_of_renaming()
 
 /// A scavenge by one may go on from any words and homes that are copying, as from those that several
 /// workers left: each list of the three steps leaves copying words and loses no home, and where no
-/// live slot refers to a cell that is to be copied, all that was reached is renamed.
+/// live slot refers to a cell that is to be copied, all that was reached is renamed. A live slot that
+/// refers to one may be followed: the header there is the reference to its home, or no reference, and
+/// then the cell reads as before and may get a home.
 pub fn laws_of_going_on()
-    ensures { CopyingGoesOn }
+    ensures goes_on { CopyingGoesOn }
+    ensures followed { SlotsAreFollowed }
 {}
 
 /// A scavenge worked by hand is laid out and ends in a renaming, and wrong ends of it are none: a
