@@ -27,13 +27,14 @@ use Rattle.scav_core.specs.Possible.{stands_at, is_copy, header_is, may, may_by,
 use Rattle.scav_core.specs.Underway.{HasReadCell, IsJob, Underway}
 use Rattle.scav_core.specs.Reliance.{IsForwarded}
 use Rattle.scav_core.specs.OwnHomes.{IsOwnHome, OfferedMayBeLoaded, WordsMayBeStored, CellsMayBeForwarded}
-use Rattle.scav_core.specs.OwnHomes.{OwnHomesStay, IsOfSize, JobsGoOn}
+use Rattle.scav_core.specs.OwnHomes.{OwnHomesStay, IsOfSize, JobsGoOn, WholeHasSize}
 use Rattle.scav_core.proofs.Enabling.{job_of, by_job, in_words}
 use Rattle.scav_core.proofs.Events.{events_keep}
+use Rattle.scav_core.proofs.Loading.{none_wanted}
 use Rattle.scav_core.proofs.OwnRooms.{beside_or, free_of_own, own_room_found}
 use Rattle.scav_core.proofs.Relying.{events_stay}
 use Rattle.scav_core.proofs.Unchanged.{fixed_stays}
-use Rattle.scav_core.proofs.Wanted.{IsWanted, wanted}
+use Rattle.scav_core.proofs.Wanted.{IsWanted, wanted, whole_size}
 
 -- an event of a worker that is out is possible, where what its view may do is
 by_view : (world : World) (worker : ℕ) (view : WorkerView) (event : Event) → slice_get world.workers worker ≡ Some view
@@ -169,3 +170,23 @@ goes_on {world} job header underway has e (HasReadCell.forwarded home there of i
 pub jobs_go_on : JobsGoOn
 jobs_go_on world worker view job header underway out e =
     let has = job_of underway out in goes_on job header underway has e has.read
+
+-- what a job has read, where it is whole, has the size of the cell
+whole_by : {world : World} (job : Job) (header : ℕ) → Underway world → IsJob (fixed_of world) world.homes job
+    → job.header ≡ Some header → is_whole (words_wanted world.layouts header job.body) (1 + length job.body) ≡ true
+    → HasReadCell (fixed_of world) world.homes job → 1 + length job.body ≡ size_of (fixed_of world) job.cell
+whole_by job header underway has e t (HasReadCell.nothing none empty) =
+    absurd (true≢false (sym (ap (λ (o : Option ℕ). is_none o) none) ∙ ap (λ (o : Option ℕ). is_none o) e))
+whole_by {world} job header underway has e t (HasReadCell.some is within same) =
+    let fixed : Fixed = fixed_of world in
+    whole_size (words_wanted world.layouts header job.body) (size_of fixed job.cell) job.body
+    (wanted fixed job.cell header job.body (underway.laid.cells_are job.cell has.among) (some_same e is) same) t
+whole_by {world} job header underway has e t (HasReadCell.forwarded home there of is) =
+    absurd (true≢false (sym t
+    ∙ ap (λ (word : ℕ). is_whole (words_wanted world.layouts word job.body) (1 + length job.body)) (some_same e is)
+    ∙ ap (λ (o : Option ℕ). is_whole o (1 + length job.body)) (none_wanted world.layouts home.to job.body)))
+
+-- a whole cell that a worker has read has the size of the cell
+pub whole_has_size : WholeHasSize
+whole_has_size world worker view job header underway out e t =
+    let has = job_of underway out in whole_by job header underway has e t has.read

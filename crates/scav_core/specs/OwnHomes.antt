@@ -71,3 +71,11 @@ JobsGoOn =
     (world : World) (worker : ℕ) (view : WorkerView) (job : Job) (header : ℕ) → Underway world
     → IsOutAt world worker view job → job.header ≡ Some header
     → IsSome (reference_in header) ⊎ IsOfSize world job header
+
+-- where just so many words are wanted as were read, the cell has so many
+abbrev pub WholeHasSize : Type 0
+WholeHasSize =
+    (world : World) (worker : ℕ) (view : WorkerView) (job : Job) (header : ℕ) → Underway world
+    → IsOutAt world worker view job → job.header ≡ Some header
+    → is_whole (words_wanted world.layouts header job.body) (1 + length job.body) ≡ true
+    → 1 + length job.body ≡ size_of (fixed_of world) job.cell

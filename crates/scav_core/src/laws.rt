@@ -9,6 +9,7 @@ ghost use Rattle.scav_core.specs.OwnHomes.{OfferedMayBeLoaded, WordsMayBeStored}
 ghost use Rattle.scav_core.specs.KnownHomes.{FreshHasMakers, EventsKeepMakers, LentKnowsNone};
 ghost use Rattle.scav_core.specs.KnownHomes.{EventsKeepKnown, ExchangesAreKnown};
 ghost use Rattle.scav_core.specs.OwnHomes.{CellsMayBeForwarded, OwnHomesStay, JobsGoOn};
+ghost use Rattle.scav_core.specs.OwnHomes.{WholeHasSize};
 
 /// A fresh world is underway, and stays so in each event that is possible, and so in each list of
 /// them. What is fixed no event changes. A world that is underway has all that `replay` says of the
@@ -42,7 +43,8 @@ pub fn laws_of_what_is_possible()
 /// reads as its cell, so what a worker with no job has to do reads as a cell, and it may read each
 /// slot that this cell has. It may read each of `slots`, store in its rooms beside its own homes, and
 /// exchange for a whole copy that stands there. It gets a home by its own exchange alone. What it has
-/// read of a header is a reference, or names a size, of which no more was read.
+/// read of a header is a reference, or names a size, of which no more was read; where all of it was
+/// read, it is the size of the cell, and so of the copy.
 pub fn laws_of_what_a_worker_knows()
     ensures homes { HomesReadAsCells }
     ensures todo { TodoReadsAsCells }
@@ -51,6 +53,7 @@ pub fn laws_of_what_a_worker_knows()
     ensures cells { CellsMayBeForwarded }
     ensures own { OwnHomesStay }
     ensures jobs { JobsGoOn }
+    ensures sizes { WholeHasSize }
 {}
 
 /// How a worker knows the homes that it made, by a list beside its view: each home lies in a room of
