@@ -1,8 +1,10 @@
 pub mod Spots
 pub mod Ascending
 pub mod Filling
+pub mod Reading
 pub mod Moving
 pub mod Redirecting
 pub mod Ending
+pub mod Continuing
 pub mod WorkedEnd
 pub mod WorkedStart

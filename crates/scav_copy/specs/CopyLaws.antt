@@ -1,9 +1,10 @@
 -- Laws of copying: the start, the three steps, what live slots refer to, and the end.
-use Rattle.std.specs.Prelude.{◌≡◌, ℕ, List, [], Contains, slice_index, slice_set}
+use Rattle.std.specs.Prelude.{◌≡◌, ℕ, ◌+◌, ◌≤◌, List, [], length, Contains, slice_index, slice_set}
 use Rattle.tagged_word.specs.declared.word.Class.TheVariants.{Ref}
 use Rattle.tagged_word.specs.Words.{bits_of}
+use Rattle.tagged_word.specs.Readings.{read_cell}
 use Rattle.scav_copy.specs.declared.places.Home.{Home}
-use Rattle.scav_copy.specs.Places.{Fixed, IsLaidOut, IsInRooms, IsInCopies, StoodAt}
+use Rattle.scav_copy.specs.Places.{Fixed, cell_before, size_of, IsLaidOut, IsInRooms, IsInCopies, StoodAt}
 use Rattle.scav_copy.specs.Renamings.{RefersTo, Reached, Renaming, Outside}
 use Rattle.scav_copy.specs.Copies.{with_home, HasNoHome, AreHoused, AreApart, Copying, IsCopyAt}
 
@@ -59,3 +60,16 @@ EndIsRenaming =
     → ((slot place cell : ℕ) → StoodAt fixed homes slot place → RefersTo words slot cell → Contains fixed.cells cell
     → ⊥)
     → Renaming fixed words homes × Outside fixed words × AreHoused fixed homes × AreApart fixed homes
+
+-- a home copy ends where the words do, or before
+abbrev pub CopiesEnd : Type 0
+CopiesEnd =
+    (fixed : Fixed) (words : List ℕ) (homes : List Home) (home : Home) → IsLaidOut fixed → Copying fixed words homes
+    → Contains homes home → home.to + size_of fixed home.from ≤ length words
+
+-- Where a home copy ends at a bound or before, it reads as its cell.
+abbrev pub CopiesReadAsCells : Type 0
+CopiesReadAsCells =
+    (fixed : Fixed) (words : List ℕ) (homes : List Home) (home : Home) (bound : ℕ) → IsLaidOut fixed
+    → Copying fixed words homes → Contains homes home → home.to + size_of fixed home.from ≤ bound
+    → read_cell words fixed.layouts home.to bound ≡ cell_before fixed home.from

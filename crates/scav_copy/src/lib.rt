@@ -12,5 +12,8 @@
 mod laws;
 mod places;
 
-pub use laws::{laws_of_a_worked_scavenge, laws_of_copying, laws_of_live_slots, laws_of_renaming};
+pub use laws::{
+    laws_of_a_worked_scavenge, laws_of_copying, laws_of_home_copies, laws_of_live_slots,
+    laws_of_renaming,
+};
 pub use places::{Home, Room};

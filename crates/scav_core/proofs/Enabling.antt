@@ -36,14 +36,14 @@ use Rattle.scav_core.proofs.Loading.{none_wanted}
 use Rattle.scav_core.proofs.Wanted.{wanted, part_within}
 
 -- the job of a worker that is out is one
-job_of : {world : World} {worker : ℕ} {view : WorkerView} {job : Job} → Underway world → IsOutAt world worker view job
-    → IsJob (fixed_of world) world.homes job
+pub job_of : {world : World} {worker : ℕ} {view : WorkerView} {job : Job} → Underway world
+    → IsOutAt world worker view job → IsJob (fixed_of world) world.homes job
 job_of {world} {worker} {view} {job} underway out =
     subst (HasJob (fixed_of world) world.homes) out.at
     (underway.jobs view (view_in world.workers worker view out.stood) out.is_out)
 
 -- an event of a job is possible, where the job's test holds
-by_job : {world : World} {worker : ℕ} {view : WorkerView} {job : Job} (event : Event) (test : Job → Bool)
+pub by_job : {world : World} {worker : ℕ} {view : WorkerView} {job : Job} (event : Event) (test : Job → Bool)
     → IsOutAt world worker view job → may world event view ≡ job_is view.job test → test job ≡ true
     → may_by world event (slice_get world.workers worker) ≡ true
 by_job {world} {worker} {view} {job} event test out is t =
@@ -52,7 +52,8 @@ by_job {world} {worker} {view} {job} event test out is t =
     (is ∙ ap (λ (o : Option Job). job_is o test) out.at ∙ t)
 
 -- a place in the words before is one in the words
-in_words : {world : World} (at : ℕ) → Underway world → at < length world.before → nat_lt at (length world.words) ≡ true
+pub in_words : {world : World} (at : ℕ) → Underway world → at < length world.before
+    → nat_lt at (length world.words) ≡ true
 in_words {world} at underway less =
     nat_lt-yes at (length world.words) (subst (λ (long : ℕ). at < long) (sym underway.copying.long) less)
 

@@ -16,3 +16,7 @@ pub mod Outcomes
 pub mod Forwarding
 pub mod Relying
 pub mod Enabling
+pub mod Concluding
+pub mod OwnRooms
+pub mod OwnHomes
+pub mod KnownHomes

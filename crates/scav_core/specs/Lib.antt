@@ -6,3 +6,6 @@ pub mod Runs
 pub mod Underway
 pub mod WorldLaws
 pub mod Reliance
+pub mod WorkerLaws
+pub mod OwnHomes
+pub mod KnownHomes

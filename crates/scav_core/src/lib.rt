@@ -22,7 +22,10 @@ mod workers;
 mod world;
 
 pub use event::Event;
-pub use laws::{laws_of_what_is_possible, laws_of_what_stays, laws_of_worlds};
+pub use laws::{
+    laws_of_known_homes, laws_of_what_a_worker_knows, laws_of_what_is_left,
+    laws_of_what_is_possible, laws_of_what_stays, laws_of_worlds,
+};
 pub use possible::is_possible;
 pub use run::replay;
 pub use step::{Touch, after};
