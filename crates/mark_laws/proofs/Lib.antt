@@ -48,3 +48,4 @@ pub mod Stems
 pub mod StemsSteps
 pub mod KeptCells
 pub mod OneLayouts
+pub mod Led
