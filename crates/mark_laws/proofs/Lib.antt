@@ -49,3 +49,6 @@ pub mod StemsSteps
 pub mod KeptCells
 pub mod OneLayouts
 pub mod Led
+pub mod Alike
+pub mod PageWords
+pub mod PagesTell

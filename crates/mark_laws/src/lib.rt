@@ -14,7 +14,7 @@ mod soundness;
 mod steadiness;
 
 pub use births::laws_of_births;
-pub use cycles::laws_of_cycles;
+pub use cycles::{laws_of_cycles, laws_of_pages};
 pub use ends::laws_of_ends;
 pub use keeping::laws_of_covering;
 pub use runs::laws_of_runs;
