@@ -52,3 +52,6 @@ pub mod Led
 pub mod Alike
 pub mod PageWords
 pub mod PagesTell
+pub mod RestartedCells
+pub mod Restarted
+pub mod WholeAgain

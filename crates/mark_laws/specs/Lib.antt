@@ -8,3 +8,4 @@ pub mod Soundness
 pub mod Runs
 pub mod Leads
 pub mod PageWords
+pub mod Restarts
