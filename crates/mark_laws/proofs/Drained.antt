@@ -50,7 +50,7 @@ none_waits world lists drained at (inr (inr (k, word, l, e, refers))) =
     let nothing : None ≡ Some at = sym (ap reference_in zero_word) ∙ refers in cc
 
 -- a colour of three that is neither white nor grey is black
-last_colour : (colour : ℕ) → colour ≤ black → colour ≢ white → colour ≢ grey → colour ≡ black
+pub last_colour : (colour : ℕ) → colour ≤ black → colour ≢ white → colour ≢ grey → colour ≡ black
 last_colour colour most coloured settled = grind arith
 
 -- a reached cell is black

@@ -55,3 +55,5 @@ pub mod PagesTell
 pub mod RestartedCells
 pub mod Restarted
 pub mod WholeAgain
+pub mod OwnReading
+pub mod OwnTelling

@@ -187,7 +187,7 @@ read_stands world snap cell was e =
     ]
 
 -- a true snap that is not unread names each tagged slot of the header that was read
-laid_out : (world : World) (snap : Snap) (cell : Reading) (was : WasHeader world snap cell)
+pub laid_out : (world : World) (snap : Snap) (cell : Reading) (was : WasHeader world snap cell)
     → cell_of world snap.cell ≡ Some cell → IsTrueSnap world snap → named snap ≢ Named.unread
     → named snap ≡ Named.slots (tagged_offsets was.laid.layout cell.length)
 laid_out world snap cell was e true_snap told =

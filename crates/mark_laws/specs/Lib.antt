@@ -9,3 +9,4 @@ pub mod Runs
 pub mod Leads
 pub mod PageWords
 pub mod Restarts
+pub mod OwnViews

@@ -1,0 +1,15 @@
+//! What a helper may conclude from its own view.
+ghost use Rattle.mark_laws.specs.OwnViews.{AllowedIsPossible, BoardRefersToOld, EmptyViewsAreOwn, GreySnapsNameCells};
+ghost use Rattle.mark_laws.specs.OwnViews.{NamelessSnapsAreBlack, OwnViewsStay, ReachedIsOld};
+
+/// A helper's view stays one that its steps make. In a sound world a step that it allows is possible, the snap of a
+/// grey cell names it, and what is reached or stands on the board is old.
+pub fn laws_of_views()
+    ensures empty { EmptyViewsAreOwn }
+    ensures stay { OwnViewsStay }
+    ensures names { GreySnapsNameCells }
+    ensures nameless { NamelessSnapsAreBlack }
+    ensures possible { AllowedIsPossible }
+    ensures reached { ReachedIsOld }
+    ensures board { BoardRefersToOld }
+{}
