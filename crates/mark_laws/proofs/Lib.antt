@@ -57,3 +57,5 @@ pub mod Restarted
 pub mod WholeAgain
 pub mod OwnReading
 pub mod OwnTelling
+pub mod NamedPages
+pub mod OwnSpots

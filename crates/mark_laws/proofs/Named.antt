@@ -32,7 +32,7 @@ use Rattle.mark_laws.proofs.SafeChanges.{same_size}
 use Rattle.mark_laws.proofs.Slots.{some_at}
 
 -- the size of a cell as far as marking asks for it, by its kind
-abbrev known_of : Kind → ℕ → ℕ → Option ℕ
+abbrev pub known_of : Kind → ℕ → ℕ → Option ℕ
 known_of k cap long =
     if has_length k && not (marks_by_length k) then Some 0 else size_within (words_least k) (words_of k cap long)
 

@@ -10,3 +10,4 @@ pub mod Leads
 pub mod PageWords
 pub mod Restarts
 pub mod OwnViews
+pub mod OwnAddresses

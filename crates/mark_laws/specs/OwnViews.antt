@@ -12,7 +12,6 @@ use Rattle.mark_world.specs.declared.snap.Snap.{Snap}
 use Rattle.mark_world.specs.declared.step.Actor.{Actor}
 use Rattle.mark_world.specs.declared.views.HelperView.{HelperView}
 use Rattle.mark_world.specs.declared.world.World.{World}
-use Rattle.mark_world.specs.Pages.{target}
 use Rattle.mark_world.specs.Naming.{IsReadOut, Named, named, read_offsets}
 use Rattle.mark_world.specs.Steps.{actor, black, grey, helper_learns, lent, returned}
 use Rattle.mark_world.specs.Conditions.{MayHelper}
@@ -106,7 +105,3 @@ abbrev pub BoardRefersToOld : Type 0
 BoardRefersToOld =
     (world : World) → Sound world
     → All (λ word. (word ≡ 0) ⊎ IsSomeAnd (reference_in word) (λ at. at < world.old)) world.board
-
--- a target is old
-abbrev pub TargetIsOld : Type 0
-TargetIsOld = (old word at : ℕ) → target old word ≡ Some at → at < old

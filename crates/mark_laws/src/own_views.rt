@@ -1,4 +1,5 @@
 //! What a helper may conclude from its own view.
+ghost use Rattle.mark_laws.specs.OwnAddresses.{NamedLieInPage, SpotsAreThere, TargetsAreOld};
 ghost use Rattle.mark_laws.specs.OwnViews.{AllowedIsPossible, BoardRefersToOld, EmptyViewsAreOwn, GreySnapsNameCells};
 ghost use Rattle.mark_laws.specs.OwnViews.{NamelessSnapsAreBlack, OwnViewsStay, ReachedIsOld};
 
@@ -12,4 +13,11 @@ pub fn laws_of_views()
     ensures possible { AllowedIsPossible }
     ensures reached { ReachedIsOld }
     ensures board { BoardRefersToOld }
+{}
+
+/// Each step that a helper's view allows touches a word that is there.
+pub fn laws_of_spots()
+    ensures target { TargetsAreOld }
+    ensures named { NamedLieInPage }
+    ensures spots { SpotsAreThere }
 {}
