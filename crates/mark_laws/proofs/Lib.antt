@@ -59,3 +59,5 @@ pub mod OwnReading
 pub mod OwnTelling
 pub mod NamedPages
 pub mod OwnSpots
+pub mod OwnCells
+pub mod OwnWhole

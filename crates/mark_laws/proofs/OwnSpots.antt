@@ -42,7 +42,7 @@ page_old : (old at : ℕ) → old % page_words ≡ 0 → at < old → page_end a
 page_old old at whole below = omega arith
 
 -- what a snap is to load is there
-spot_of_snap : (old : ℕ) (view : HelperView) (snap : Snap) → HasOldCells old view → view.snap ≡ Some snap
+pub spot_of_snap : (old : ℕ) (view : HelperView) (snap : Snap) → HasOldCells old view → view.snap ≡ Some snap
     → snap.cell < old
 spot_of_snap old view snap has e = some_at (λ (s : Snap). s.cell < old) view.snap snap e has.snap
 

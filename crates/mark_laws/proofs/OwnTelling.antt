@@ -27,14 +27,14 @@ use Rattle.mark_laws.proofs.Slots.{and_some, free_cell, grey_free, some_at}
 use Rattle.mark_laws.proofs.Starts.{start_old}
 
 -- the cell of a helper's snap is reached
-snap_reached : (world : World) (view : HelperView) (snap : Snap) → Sound world → HasSnap world view snap
+pub snap_reached : (world : World) (view : HelperView) (snap : Snap) → Sound world → HasSnap world view snap
     → IsReached world snap.cell
 snap_reached world view snap sound has =
     some_at (λ (s : Snap). IsReached world s.cell) view.snap snap has.has
     (All-contains (HasViewLists world) world.helpers view sound.lists.helpers has.there).snap
 
 -- the snap of a grey cell is true
-grey_true : (world : World) (view : HelperView) (snap : Snap) → Sound world → HasSnap world view snap
+pub grey_true : (world : World) (view : HelperView) (snap : Snap) → Sound world → HasSnap world view snap
     → colour_of world snap.cell ≡ grey → IsTrueSnap world snap
 grey_true world view snap sound has is_grey =
     some_at (λ (s : Snap). colour_of world s.cell ≡ grey → IsTrueSnap world s) view.snap snap has.has

@@ -1,3 +1,4 @@
+use Rattle.mark_laws.proofs.OwnWhole.{grey_whole}
 use Rattle.mark_laws.proofs.OwnReading.{empty_own, own_stays}
 use Rattle.mark_laws.proofs.OwnTelling.{allowed_possible, board_old, grey_names, nameless_black, reached_old}
 use Rattle.mark_laws.proofs.own_views.laws_of_views.Goals as goal
@@ -22,3 +23,6 @@ returns-clause-reached c = reached_old
 
 pub returns-clause-board : goal.returns-clause-board
 returns-clause-board c = board_old
+
+pub returns-clause-whole : goal.returns-clause-whole
+returns-clause-whole c = grey_whole
