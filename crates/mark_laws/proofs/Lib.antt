@@ -61,3 +61,4 @@ pub mod NamedPages
 pub mod OwnSpots
 pub mod OwnCells
 pub mod OwnWhole
+pub mod Visited

@@ -11,3 +11,4 @@ pub mod PageWords
 pub mod Restarts
 pub mod OwnViews
 pub mod OwnAddresses
+pub mod Visits

@@ -4,6 +4,7 @@ ghost use Rattle.mark_laws.specs.OwnAddresses.{SpotsAreThere, TargetsAreOld};
 ghost use Rattle.mark_laws.specs.OwnViews.{AllowedIsPossible, BoardRefersToOld, EmptyViewsAreOwn, GreySnapsNameCells};
 ghost use Rattle.mark_laws.specs.OwnViews.{GreySnapsReadWhole};
 ghost use Rattle.mark_laws.specs.OwnViews.{NamelessSnapsAreBlack, OwnViewsStay, ReachedIsOld};
+ghost use Rattle.mark_laws.specs.Visits.{SettlingVisitsTargets, ShadedIsColoured};
 
 /// A helper's view stays one that its steps make. In a sound world a step that it allows is possible, the snap of a
 /// grey cell names it, and what is reached or stands on the board is old.
@@ -13,6 +14,8 @@ pub fn laws_of_views()
     ensures names { GreySnapsNameCells }
     ensures whole { GreySnapsReadWhole }
     ensures nameless { NamelessSnapsAreBlack }
+    ensures visits { SettlingVisitsTargets }
+    ensures shaded { ShadedIsColoured }
     ensures possible { AllowedIsPossible }
     ensures reached { ReachedIsOld }
     ensures board { BoardRefersToOld }

@@ -1,6 +1,7 @@
 use Rattle.mark_laws.proofs.OwnWhole.{grey_whole}
 use Rattle.mark_laws.proofs.OwnReading.{empty_own, own_stays}
 use Rattle.mark_laws.proofs.OwnTelling.{allowed_possible, board_old, grey_names, nameless_black, reached_old}
+use Rattle.mark_laws.proofs.Visited.{settling_visits, shaded_is_coloured}
 use Rattle.mark_laws.proofs.own_views.laws_of_views.Goals as goal
 
 pub returns-clause-empty : goal.returns-clause-empty
@@ -26,3 +27,9 @@ returns-clause-board c = board_old
 
 pub returns-clause-whole : goal.returns-clause-whole
 returns-clause-whole c = grey_whole
+
+pub returns-clause-visits : goal.returns-clause-visits
+returns-clause-visits c = settling_visits
+
+pub returns-clause-shaded : goal.returns-clause-shaded
+returns-clause-shaded c = shaded_is_coloured
