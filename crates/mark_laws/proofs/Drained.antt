@@ -71,7 +71,8 @@ covered_reached world lists drained none at (inr (inl owed)) = absurd (in_none w
 covered_reached world lists drained none at (inr (inr visit)) = absurd (none_to_visit world lists drained at visit)
 
 -- a tagged slot of a reached cell refers to a reached cell
-pub next_reached : (world : World) → Sound world → Settled world → IsDrained world → (from at offset : ℕ) (cell : Reading)
+pub next_reached : (world : World) → Sound world → Settled world → IsDrained world → (from at offset : ℕ)
+    (cell : Reading)
     → IsReached world from → cell_of world from ≡ Some cell → Contains (slots_of cell) offset
     → target world.old (slice_index world.words (from + offset)) ≡ Some at → IsReached world at
 next_reached world sound settled drained from at offset cell reached reads there refers =

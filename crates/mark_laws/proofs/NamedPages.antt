@@ -14,8 +14,8 @@ use Rattle.tagged_word.proofs.Cells.{slot_within, tagged_is_scavenged}
 use Rattle.tagged_word.proofs.Readings.{layout_from}
 use Rattle.mark_world.specs.declared.snap.Snap.{Snap}
 use Rattle.mark_world.specs.Pages.{page_end}
-use Rattle.mark_world.specs.Naming.{Named, is_in_page, is_shape, known_size, named, named_headed, named_laid, named_long}
-use Rattle.mark_world.specs.Naming.{named_shaped, named_slots, named_unread}
+use Rattle.mark_world.specs.Naming.{Named, is_in_page, is_shape, known_size, named, named_headed, named_laid}
+use Rattle.mark_world.specs.Naming.{named_long, named_shaped, named_slots, named_unread}
 use Rattle.mark_world.specs.Conditions.{AwaitsLength}
 use Rattle.mark_laws.specs.OwnViews.{IsNamed}
 use Rattle.mark_laws.proofs.Named.{known_of}

@@ -49,8 +49,8 @@ same_named : (xs ys : List ℕ) → Named.slots xs ≡ Named.slots ys → xs ≡
 same_named xs ys e = cc
 
 -- a cell in its page names its slots
-pub slots_in_page : (inside : Bool) (xs ys : List ℕ) → (if inside then Named.slots xs else Named.no_cell) ≡ Named.slots ys
-    → ys ≡ xs
+pub slots_in_page : (inside : Bool) (xs ys : List ℕ)
+    → (if inside then Named.slots xs else Named.no_cell) ≡ Named.slots ys → ys ≡ xs
 slots_in_page true xs ys e = sym (same_named xs ys e)
 slots_in_page false xs ys e = cc
 

@@ -1,5 +1,5 @@
--- Free starts read as before after a scavenge, and each tagged slot of theirs holds what it did, or refers to a promoted
--- cell.
+-- Free starts read as before after a scavenge, and each tagged slot of theirs holds what it did, or refers to a
+-- promoted cell.
 use Rattle.std.proofs.Common.{ℕ, ◌+◌, ◌<◌, ◌≤◌, ◌≡◌, ◌≢◌, ◌∙◌, ◌⊎◌, inl, inr, true, false, IsTrue, List}
 use Rattle.std.proofs.Common.{Contains, length, min, slice_get, slice_index, Option, Some, sym, ap, subst, arith}
 use Rattle.std.proofs.lemmas.Bool.{cases_lt}
@@ -44,13 +44,14 @@ AreMoved world promoted words =
     ⊎ IsLeftAlone world at ⊎ IsMovedSlot world promoted at (slice_index words at)
 
 -- a free start lies outside the cell of another
-start_outside : (world : World) → HasCells world → (start other : ℕ) (cell : Reading) → IsTrue (is_free world.main start)
-    → IsTrue (is_free world.main other) → start ≢ other → cell_of world start ≡ Some cell
+start_outside : (world : World) → HasCells world → (start other : ℕ) (cell : Reading)
+    → IsTrue (is_free world.main start) → IsTrue (is_free world.main other) → start ≢ other → cell_of world start ≡ Some cell
     → start ≤ other → other < start + cell.size → ⊥
 start_outside world cells start other cell free other_free differ e from to =
     let inside = in_cell start cell other from to in
     let outside : is_inside start (Some cell) other ≡ false =
-    subst (λ (c : Option Reading). is_inside start c other ≡ false) e (cells.apart start free other other_free differ) in
+    subst (λ (c : Option Reading). is_inside start c other ≡ false) e
+    (cells.apart start free other other_free differ) in
     let both : true ≡ false = sym inside ∙ outside in
     cc
 

@@ -46,8 +46,8 @@ OwnViewsStay =
     (old : ℕ) (view : HelperView) (of : Event) (found : ℕ) → MayHelper view of → IsOwnView view
     → IsOwnView (helper_learns old view of found)
 
--- A snap has read a cell whole: its slots are the tagged ones by the header, the layout word and, if the layout asks for
--- one, the length that were read, each once.
+-- A snap has read a cell whole: its slots are the tagged ones by the header, the layout word and, if the layout asks
+-- for one, the length that were read, each once.
 pub record HasReadWhole (snap : Snap) : Type 0 where
   pub header : Header
   pub is_header : header_in snap.header ≡ Some header

@@ -28,8 +28,8 @@ abbrev pub SettlingVisitsTargets : Type 0
 SettlingVisitsTargets =
     (old number : ℕ) (view : HelperView) (snap : Snap) → view.snap ≡ Some snap → VisitsTargets old number view snap
 
--- A cell that a helper has shaded is not white. No event makes its colour lighter, so a slot that refers to it once more
--- can be passed over.
+-- A cell that a helper has shaded is not white. No event makes its colour lighter, so a slot that refers to it once
+-- more can be passed over.
 abbrev pub ShadedIsColoured : Type 0
 ShadedIsColoured =
     (world : World) (number at : ℕ) → Sound world → Born world → Possible world (event.ShadeHelper number at)
