@@ -45,7 +45,8 @@ AreMoved world promoted words =
 
 -- a free start lies outside the cell of another
 start_outside : (world : World) → HasCells world → (start other : ℕ) (cell : Reading)
-    → IsTrue (is_free world.main start) → IsTrue (is_free world.main other) → start ≢ other → cell_of world start ≡ Some cell
+    → IsTrue (is_free world.main start) → IsTrue (is_free world.main other) → start ≢ other
+    → cell_of world start ≡ Some cell
     → start ≤ other → other < start + cell.size → ⊥
 start_outside world cells start other cell free other_free differ e from to =
     let inside = in_cell start cell other from to in
