@@ -32,7 +32,7 @@ quiet_no_head true false slot e = refl
 quiet_no_head false head slot e = refl
 
 -- a store that leaves a cell alone goes to no head of it
-alone_no_head : (start : ℕ) (cell : Reading) (at : ℕ) → leaves_alone start (Some cell) at ≡ true
+pub alone_no_head : (start : ℕ) (cell : Reading) (at : ℕ) → leaves_alone start (Some cell) at ≡ true
     → is_head_of start (Some cell) at ≡ false
 alone_no_head start cell at e =
     quiet_no_head (is_inside start (Some cell) at) (is_head cell (offset_in start at))

@@ -50,7 +50,7 @@ none_waits world lists drained at (inr (inr (k, word, l, e, refers))) =
     let nothing : None ≡ Some at = sym (ap reference_in zero_word) ∙ refers in cc
 
 -- a colour of three that is neither white nor grey is black
-last_colour : (colour : ℕ) → colour ≤ black → colour ≢ white → colour ≢ grey → colour ≡ black
+pub last_colour : (colour : ℕ) → colour ≤ black → colour ≢ white → colour ≢ grey → colour ≡ black
 last_colour colour most coloured settled = grind arith
 
 -- a reached cell is black
@@ -71,7 +71,8 @@ covered_reached world lists drained none at (inr (inl owed)) = absurd (in_none w
 covered_reached world lists drained none at (inr (inr visit)) = absurd (none_to_visit world lists drained at visit)
 
 -- a tagged slot of a reached cell refers to a reached cell
-next_reached : (world : World) → Sound world → Settled world → IsDrained world → (from at offset : ℕ) (cell : Reading)
+pub next_reached : (world : World) → Sound world → Settled world → IsDrained world → (from at offset : ℕ)
+    (cell : Reading)
     → IsReached world from → cell_of world from ≡ Some cell → Contains (slots_of cell) offset
     → target world.old (slice_index world.words (from + offset)) ≡ Some at → IsReached world at
 next_reached world sound settled drained from at offset cell reached reads there refers =

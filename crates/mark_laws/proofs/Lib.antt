@@ -48,3 +48,17 @@ pub mod Stems
 pub mod StemsSteps
 pub mod KeptCells
 pub mod OneLayouts
+pub mod Led
+pub mod Alike
+pub mod PageWords
+pub mod PagesTell
+pub mod RestartedCells
+pub mod Restarted
+pub mod WholeAgain
+pub mod OwnReading
+pub mod OwnTelling
+pub mod NamedPages
+pub mod OwnSpots
+pub mod OwnCells
+pub mod OwnWhole
+pub mod Visited

@@ -32,7 +32,7 @@ use Rattle.mark_laws.proofs.SafeChanges.{same_size}
 use Rattle.mark_laws.proofs.Slots.{some_at}
 
 -- the size of a cell as far as marking asks for it, by its kind
-abbrev known_of : Kind → ℕ → ℕ → Option ℕ
+abbrev pub known_of : Kind → ℕ → ℕ → Option ℕ
 known_of k cap long =
     if has_length k && not (marks_by_length k) then Some 0 else size_within (words_least k) (words_of k cap long)
 
@@ -187,7 +187,7 @@ read_stands world snap cell was e =
     ]
 
 -- a true snap that is not unread names each tagged slot of the header that was read
-laid_out : (world : World) (snap : Snap) (cell : Reading) (was : WasHeader world snap cell)
+pub laid_out : (world : World) (snap : Snap) (cell : Reading) (was : WasHeader world snap cell)
     → cell_of world snap.cell ≡ Some cell → IsTrueSnap world snap → named snap ≢ Named.unread
     → named snap ≡ Named.slots (tagged_offsets was.laid.layout cell.length)
 laid_out world snap cell was e true_snap told =

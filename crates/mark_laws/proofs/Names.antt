@@ -49,13 +49,13 @@ same_named : (xs ys : List ℕ) → Named.slots xs ≡ Named.slots ys → xs ≡
 same_named xs ys e = cc
 
 -- a cell in its page names its slots
-slots_in_page : (inside : Bool) (xs ys : List ℕ) → (if inside then Named.slots xs else Named.no_cell) ≡ Named.slots ys
-    → ys ≡ xs
+pub slots_in_page : (inside : Bool) (xs ys : List ℕ)
+    → (if inside then Named.slots xs else Named.no_cell) ≡ Named.slots ys → ys ≡ xs
 slots_in_page true xs ys e = sym (same_named xs ys e)
 slots_in_page false xs ys e = cc
 
 -- a cell of which a length is still to be read names none
-unread_none : (inside : Bool) (ys : List ℕ) → (if inside then Named.unread else Named.no_cell) ≡ Named.slots ys → ⊥
+pub unread_none : (inside : Bool) (ys : List ℕ) → (if inside then Named.unread else Named.no_cell) ≡ Named.slots ys → ⊥
 unread_none true ys e = cc
 unread_none false ys e = cc
 
@@ -97,7 +97,7 @@ by_shape true o ys e = (refl, e)
 by_shape false o ys e = cc
 
 -- the header that is read where slots are named
-by_header : (start : ℕ) (word long : Option ℕ) (o : Option Header) (ys : List ℕ)
+pub by_header : (start : ℕ) (word long : Option ℕ) (o : Option Header) (ys : List ℕ)
     → named_headed start word long o ≡ Named.slots ys
     → (header : Header) × (o ≡ Some header) × (header.shape < shapes_most)
     × (named_shaped start long word ≡ Named.slots ys)

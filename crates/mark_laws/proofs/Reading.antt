@@ -67,14 +67,14 @@ cell_stays words layouts start bound at word cell e apart =
     }
 
 -- a cell has a word
-size_one : (words layouts : List ℕ) (start bound : ℕ) (cell : Reading)
+pub size_one : (words layouts : List ℕ) (start bound : ℕ) (cell : Reading)
     → read_cell words layouts start bound ≡ Some cell → 1 ≤ cell.size
 size_one words layouts start bound cell e =
     (size_bounds cell.layout cell.length cell.size (cell_from words layouts start bound cell e).sized).0
 
 -- and two, if its size is read from a length
-size_two : (words layouts : List ℕ) (start bound : ℕ) (cell : Reading) → read_cell words layouts start bound ≡ Some cell
-    → has_length cell.layout.kind ≡ true → 2 ≤ cell.size
+pub size_two : (words layouts : List ℕ) (start bound : ℕ) (cell : Reading)
+    → read_cell words layouts start bound ≡ Some cell → has_length cell.layout.kind ≡ true → 2 ≤ cell.size
 size_two words layouts start bound cell e long =
     let reads = cell_from words layouts start bound cell e in
     let size = size_is (words_least cell.layout.kind) (words_of cell.layout.kind cell.layout.cap cell.length) cell.size

@@ -108,7 +108,7 @@ begins start events k number cell there = record {
 }
 
 -- a snap whose header has a shape that may be, and whose layout is unread, names nothing yet
-awaits_unread : (snap : Snap) → AwaitsLayout snap → named snap ≡ Named.unread
+pub awaits_unread : (snap : Snap) → AwaitsLayout snap → named snap ≡ Named.unread
 awaits_unread snap awaits =
     let h = some_and (λ (header : Header). IsTrue (is_shape header)) (header_in snap.header) awaits.shape in
     ap (named_headed snap.cell snap.layout snap.length) h.1

@@ -54,7 +54,7 @@ free_made main at start out =
     hold_both (is_in main.starts at) (is_in main.mine at) (found_in main.starts at start) (not_found main.mine at out)
 
 -- a word in a cell lies inside
-in_cell : (start : ℕ) (cell : Reading) (at : ℕ) → start ≤ at → at < start + cell.size
+pub in_cell : (start : ℕ) (cell : Reading) (at : ℕ) → start ≤ at → at < start + cell.size
     → is_inside start (Some cell) at ≡ true
 in_cell start cell at from to = grind (arith, nat_tests)
 
@@ -81,7 +81,7 @@ quiet_no_slot true false false e i s = cc
 quiet_no_slot false head slot e i s = cc
 
 -- a word that leaves a cell alone is none of its tagged slots
-alone_no_slot : (world : World) (start : ℕ) (cell : Reading) (offset at : ℕ) → cell_of world start ≡ Some cell
+pub alone_no_slot : (world : World) (start : ℕ) (cell : Reading) (offset at : ℕ) → cell_of world start ≡ Some cell
     → Contains (slots_of cell) offset → start + offset ≡ at → leaves_alone start (Some cell) at ≡ true → ⊥
 alone_no_slot world start cell offset at e there same alone =
     let is : offset ≡ offset_in start at = omega (arith, same) in

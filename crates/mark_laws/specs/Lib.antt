@@ -6,3 +6,9 @@ pub mod Births
 pub mod Snapshots
 pub mod Soundness
 pub mod Runs
+pub mod Leads
+pub mod PageWords
+pub mod Restarts
+pub mod OwnViews
+pub mod OwnAddresses
+pub mod Visits

@@ -5,16 +5,20 @@
 #![tactic(auto)]
 
 mod births;
+mod cycles;
 mod ends;
 mod keeping;
+mod own_views;
 mod runs;
 mod snapshots;
 mod soundness;
 mod steadiness;
 
 pub use births::laws_of_births;
+pub use cycles::{laws_of_cycles, laws_of_pages};
 pub use ends::laws_of_ends;
 pub use keeping::laws_of_covering;
+pub use own_views::{laws_of_spots, laws_of_views};
 pub use runs::laws_of_runs;
 pub use snapshots::laws_of_snapshots;
 pub use soundness::laws_of_soundness;
