@@ -48,3 +48,5 @@ pub mod Stems
 pub mod StemsSteps
 pub mod KeptCells
 pub mod OneLayouts
+pub mod Growing
+pub mod SeatsOut

@@ -6,3 +6,4 @@ pub mod Births
 pub mod Snapshots
 pub mod Soundness
 pub mod Runs
+pub mod Growing

@@ -4,6 +4,7 @@
 //! Invariant: none of its own.
 #![tactic(auto)]
 
+mod between;
 mod births;
 mod ends;
 mod keeping;
@@ -12,6 +13,7 @@ mod snapshots;
 mod soundness;
 mod steadiness;
 
+pub use between::laws_of_growing;
 pub use births::laws_of_births;
 pub use ends::laws_of_ends;
 pub use keeping::laws_of_covering;
