@@ -50,3 +50,6 @@ pub mod KeptCells
 pub mod OneLayouts
 pub mod Growing
 pub mod SeatsOut
+pub mod Settling
+pub mod SettlingSteps
+pub mod Settled

@@ -7,3 +7,4 @@ pub mod Snapshots
 pub mod Soundness
 pub mod Runs
 pub mod Growing
+pub mod Settling

@@ -1,6 +1,8 @@
 //! What holds between the steps of a command, and what only grows.
 ghost use Rattle.mark_laws.specs.Growing.{ListsGrow, ListsGrowAlong, MomentsGrow};
 ghost use Rattle.mark_laws.specs.Growing.{LendCounts, ReturnCounts, OthersKeepCount, NoneIsZero};
+ghost use Rattle.mark_laws.specs.Settling.{NoneMadeIsSettled, NoneOwedIsSettled, MoreMayBeMade, DoneLeaves};
+ghost use Rattle.mark_laws.specs.Settling.{PaidLeaves, SettlingStays, SettledStays, ShadesSettle, StepsSettle};
 
 /// What is published, born, made black by the mutator or sure to it stays so, and how many seats are
 /// out.
@@ -12,4 +14,17 @@ pub fn laws_of_growing()
     ensures take_back { ReturnCounts }
     ensures others { OthersKeepCount }
     ensures none { NoneIsZero }
+{}
+
+/// The mutator's part is done but for the cells that it is making or changing, from step to step.
+pub fn laws_of_settling()
+    ensures none_made { NoneMadeIsSettled }
+    ensures none_owed { NoneOwedIsSettled }
+    ensures more { MoreMayBeMade }
+    ensures done { DoneLeaves }
+    ensures paid { PaidLeaves }
+    ensures under_way { SettlingStays }
+    ensures stays { SettledStays }
+    ensures shades { ShadesSettle }
+    ensures settle { StepsSettle }
 {}

@@ -9,3 +9,4 @@ pub mod Soundness
 pub mod Lineage
 pub mod Resting
 pub mod OneLayouts
+pub mod Unfinished
