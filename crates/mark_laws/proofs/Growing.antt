@@ -91,7 +91,7 @@ return_grows world number (Some view) = record {
 }
 
 -- and through every step
-step_grows : (world : World) (of : Event) (by : Actor) → Grows world.main (after_step world of by).main
+pub step_grows : (world : World) (of : Event) (by : Actor) → Grows world.main (after_step world of by).main
 step_grows world of Actor.Mutator = main_grows world of
 step_grows world of (Actor.Helper number) =
     subst (Grows world.main) (sym (helper_main world number of (slice_get world.helpers number)))

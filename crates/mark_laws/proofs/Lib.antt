@@ -53,3 +53,7 @@ pub mod SeatsOut
 pub mod Settling
 pub mod SettlingSteps
 pub mod Settled
+pub mod KnownCells
+pub mod AnyCells
+pub mod Knowing
+pub mod KnowingStores

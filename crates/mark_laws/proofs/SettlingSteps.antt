@@ -262,7 +262,7 @@ helper_promises world number of view to p =
     (sym (helper_main world number of view)) p
 
 -- only the mutator's steps add to the cells that it is making
-made_stays : (made : List ℕ) (of : Event) (by : Actor) → actor of ≡ by → (by ≡ Actor.Mutator → ⊥)
+pub made_stays : (made : List ℕ) (of : Event) (by : Actor) → actor of ≡ by → (by ≡ Actor.Mutator → ⊥)
     → made_after made of ≡ made
 made_stays made (event.NewBlack at) by is other = absurd (other (sym is))
 made_stays made _ by is other = refl

@@ -8,3 +8,4 @@ pub mod Soundness
 pub mod Runs
 pub mod Growing
 pub mod Settling
+pub mod Knowing

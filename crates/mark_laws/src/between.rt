@@ -1,6 +1,8 @@
 //! What holds between the steps of a command, and what only grows.
 ghost use Rattle.mark_laws.specs.Growing.{ListsGrow, ListsGrowAlong, MomentsGrow};
 ghost use Rattle.mark_laws.specs.Growing.{LendCounts, ReturnCounts, OthersKeepCount, NoneIsZero};
+ghost use Rattle.mark_laws.specs.Knowing.{NoneMadeIsKnown, MoreMayBeUnknown, KnownLeaves, RootsMayChange};
+ghost use Rattle.mark_laws.specs.Knowing.{YoungMayJoin, KnownStays};
 ghost use Rattle.mark_laws.specs.Settling.{NoneMadeIsSettled, NoneOwedIsSettled, MoreMayBeMade, DoneLeaves};
 ghost use Rattle.mark_laws.specs.Settling.{PaidLeaves, SettlingStays, SettledStays, ShadesSettle, StepsSettle};
 
@@ -27,4 +29,14 @@ pub fn laws_of_settling()
     ensures stays { SettledStays }
     ensures shades { ShadesSettle }
     ensures settle { StepsSettle }
+{}
+
+/// What is known, but of the cells that the mutator is making or changing, from step to step.
+pub fn laws_of_knowing()
+    ensures none_made { NoneMadeIsKnown }
+    ensures more { MoreMayBeUnknown }
+    ensures leaves { KnownLeaves }
+    ensures roots { RootsMayChange }
+    ensures young { YoungMayJoin }
+    ensures stays { KnownStays }
 {}

@@ -13,7 +13,7 @@ mod snapshots;
 mod soundness;
 mod steadiness;
 
-pub use between::{laws_of_growing, laws_of_settling};
+pub use between::{laws_of_growing, laws_of_knowing, laws_of_settling};
 pub use births::laws_of_births;
 pub use ends::laws_of_ends;
 pub use keeping::laws_of_covering;

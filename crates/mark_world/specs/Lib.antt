@@ -10,3 +10,4 @@ pub mod Lineage
 pub mod Resting
 pub mod OneLayouts
 pub mod Unfinished
+pub mod Knowing
