@@ -57,3 +57,4 @@ pub mod KnownCells
 pub mod AnyCells
 pub mod Knowing
 pub mod KnowingStores
+pub mod BetweenRuns

@@ -2,12 +2,12 @@
 use Rattle.std.specs.Prelude.{◌↔◌, ℕ, List, [], ◌∷◌, All}
 use Rattle.mark_world.specs.declared.event.Event.{Event}
 use Rattle.mark_world.specs.declared.world.World.{World}
-use Rattle.mark_world.specs.Moments.{after, Possible}
+use Rattle.mark_world.specs.Moments.{after, after_all, Possible}
 use Rattle.mark_world.specs.Lineage.{HasBorn}
 use Rattle.mark_world.specs.Resting.{Known}
 use Rattle.mark_world.specs.Soundness.{AreIn}
-use Rattle.mark_world.specs.Unfinished.{made_after}
-use Rattle.mark_world.specs.Knowing.{IsKnownCell, KeptAreRead, KnownBut, SparesKnown, SparesTables}
+use Rattle.mark_world.specs.Unfinished.{made_after, made_after_all}
+use Rattle.mark_world.specs.Knowing.{EachSparesKnown, IsKnownCell, KeptAreRead, KnownBut, SparesKnown, SparesTables}
 
 -- with no cell to make all is known, and each kept cell is read; and the other way round
 abbrev pub NoneMadeIsKnown : Type 0
@@ -45,3 +45,10 @@ KnownStays =
     (world : World) (made roots young reached : List ℕ) (count : ℕ) (of : Event)
     → KnownBut world made roots young reached count → Possible world of → SparesKnown world made young of
     → KnownBut (after world of) (made_after made of) roots young reached count
+
+-- so it stays known along a list of events
+abbrev pub KnownAlong : Type 0
+KnownAlong =
+    (world : World) (made roots young reached : List ℕ) (count : ℕ) (events : List Event)
+    → KnownBut world made roots young reached count → EachSparesKnown world made young events
+    → KnownBut (after_all world events) (made_after_all made events) roots young reached count

@@ -6,7 +6,8 @@ use Rattle.mark_world.specs.Moments.{after, after_all, Possible}
 use Rattle.mark_world.specs.Resting.{HasSureTarget, Settled}
 use Rattle.mark_world.specs.Soundness.{AreIn, HasCells}
 use Rattle.mark_world.specs.Unfinished.{HasSureOrOwed, MayOwe, MineAreRead, ReadsSlots, SettledBut, SettlingBut}
-use Rattle.mark_world.specs.Unfinished.{Spares, made_after, shades}
+use Rattle.mark_world.specs.Unfinished.{EachSpares, Spares, made_after, made_after_all, shades}
+use Rattle.mark_laws.specs.Runs.{IsWhole}
 
 -- with no cell to make the mutator's part is done, and each cell that it made black is read; and the other way round
 abbrev pub NoneMadeIsSettled : Type 0
@@ -57,3 +58,9 @@ StepsSettle =
     (world : World) (made : List ℕ) (of : Event) → HasCells world → SettledBut world made → Possible world of
     → Spares world made of
     → SettledBut (after_all (after world of) (shades (after world of).main.owed)) (made_after made of)
+
+-- so it goes on from a whole world along a list of events
+abbrev pub SettlingAlong : Type 0
+SettlingAlong =
+    (world : World) (made : List ℕ) (events : List Event) → IsWhole world → SettlingBut world made
+    → EachSpares world made events → SettlingBut (after_all world events) (made_after_all made events)

@@ -2,9 +2,10 @@
 ghost use Rattle.mark_laws.specs.Growing.{ListsGrow, ListsGrowAlong, MomentsGrow};
 ghost use Rattle.mark_laws.specs.Growing.{LendCounts, ReturnCounts, OthersKeepCount, NoneIsZero};
 ghost use Rattle.mark_laws.specs.Knowing.{NoneMadeIsKnown, MoreMayBeUnknown, KnownLeaves, RootsMayChange};
-ghost use Rattle.mark_laws.specs.Knowing.{YoungMayJoin, KnownStays};
+ghost use Rattle.mark_laws.specs.Knowing.{YoungMayJoin, KnownAlong, KnownStays};
 ghost use Rattle.mark_laws.specs.Settling.{NoneMadeIsSettled, NoneOwedIsSettled, MoreMayBeMade, DoneLeaves};
-ghost use Rattle.mark_laws.specs.Settling.{PaidLeaves, SettlingStays, SettledStays, ShadesSettle, StepsSettle};
+ghost use Rattle.mark_laws.specs.Settling.{PaidLeaves, SettlingAlong, SettlingStays, SettledStays, ShadesSettle};
+ghost use Rattle.mark_laws.specs.Settling.{StepsSettle};
 
 /// What is published, born, made black by the mutator or sure to it stays so, and how many seats are
 /// out.
@@ -29,6 +30,7 @@ pub fn laws_of_settling()
     ensures stays { SettledStays }
     ensures shades { ShadesSettle }
     ensures settle { StepsSettle }
+    ensures along { SettlingAlong }
 {}
 
 /// What is known, but of the cells that the mutator is making or changing, from step to step.
@@ -39,4 +41,5 @@ pub fn laws_of_knowing()
     ensures roots { RootsMayChange }
     ensures young { YoungMayJoin }
     ensures stays { KnownStays }
+    ensures along { KnownAlong }
 {}

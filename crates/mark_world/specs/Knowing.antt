@@ -1,5 +1,6 @@
 -- What is known between the steps of a command, but of the cells that the mutator is making or changing.
-use Rattle.std.specs.Prelude.{◌≡◌, ℕ, ◌+◌, ◌*◌, ◌<◌, ◌⊎◌, false, IsTrue, List, All, Contains, slice_index, Some, IsSome}
+use Rattle.std.specs.Prelude.{◌≡◌, ℕ, ◌+◌, ◌*◌, ◌<◌, ◌⊎◌, false, IsTrue, List, [], ◌∷◌, All, Contains, Some, IsSome}
+use Rattle.std.specs.Prelude.{slice_index}
 use Rattle.tagged_word.specs.declared.layout.Kind.TheVariants as kind
 use Rattle.tagged_word.specs.declared.reading.Reading.{Reading}
 use Rattle.tagged_word.specs.Cells.{is_object_kind, store_head}
@@ -9,7 +10,9 @@ use Rattle.mark_world.specs.declared.event.Event.TheVariants as event
 use Rattle.mark_world.specs.declared.world.World.{World}
 use Rattle.mark_world.specs.Pages.{is_head_of, slots_of}
 use Rattle.mark_world.specs.Conditions.{AreSureAfter}
+use Rattle.mark_world.specs.Moments.{after, Possible}
 use Rattle.mark_world.specs.Lineage.{HasBorn}
+use Rattle.mark_world.specs.Unfinished.{made_after}
 use Rattle.mark_world.specs.Resting.{HasBornValues, HasSureTarget, IsBornObject, IsKept, any_cell, key_word, value_word}
 
 -- A kept cell is known, by the young cells, the numbers of the objects that were reached when the cycle began, and the
@@ -81,3 +84,10 @@ SparesKnown world made young (event.StoreHeader at word) =
     (start : ℕ) → IsKept world young start → Contains made start ⊎ SparesHead world young at word start
 SparesKnown world made young (event.NewBlack at) = SparesTables world made young at
 SparesKnown world made young _ = Unit {0}
+
+-- each event of a list is possible at its moment, and spares what is known but of the cells that are made then
+abbrev pub EachSparesKnown : World → List ℕ → List ℕ → List Event → Type 0
+EachSparesKnown world made young [] = Unit {0}
+EachSparesKnown world made young (of ∷ rest) =
+    Possible world of × SparesKnown world made young of
+    × EachSparesKnown (after world of) (made_after made of) young rest

@@ -5,6 +5,7 @@ use Rattle.mark_world.specs.declared.event.Event.TheVariants as event
 use Rattle.mark_world.specs.declared.world.World.{World}
 use Rattle.mark_world.specs.Pages.{OfTarget, is_head_of}
 use Rattle.mark_world.specs.Conditions.{AreSureAfter}
+use Rattle.mark_world.specs.Moments.{after, Possible}
 use Rattle.mark_world.specs.Covering.{EachSlot, cell_of}
 use Rattle.mark_world.specs.Resting.{HasSureTarget}
 
@@ -78,3 +79,14 @@ MayOwe _ = ⊥
 -- the events that shade these cells, one after another
 abbrev pub shades : List ℕ → List Event
 shades list = map (λ at. event.ShadeMain at) list
+
+-- the cells that the mutator is making or changing after a list of events
+abbrev pub made_after_all : List ℕ → List Event → List ℕ
+made_after_all made [] = made
+made_after_all made (of ∷ rest) = made_after_all (made_after made of) rest
+
+-- each event of a list is possible at its moment, and spares the cells that the mutator is done with then
+abbrev pub EachSpares : World → List ℕ → List Event → Type 0
+EachSpares world made [] = Unit {0}
+EachSpares world made (of ∷ rest) =
+    Possible world of × Spares world made of × EachSpares (after world of) (made_after made of) rest

@@ -1,5 +1,6 @@
 use Rattle.mark_laws.proofs.KnownCells.{known_leaves, more_may_be_unknown, none_made_known, roots_may_change}
 use Rattle.mark_laws.proofs.Knowing.{known_stays, young_may_join}
+use Rattle.mark_laws.proofs.BetweenRuns.{known_along}
 use Rattle.mark_laws.proofs.between.laws_of_knowing.Goals as goal
 
 pub returns-clause-none_made : goal.returns-clause-none_made
@@ -19,3 +20,6 @@ returns-clause-young c = young_may_join
 
 pub returns-clause-stays : goal.returns-clause-stays
 returns-clause-stays c = known_stays
+
+pub returns-clause-along : goal.returns-clause-along
+returns-clause-along c = known_along

@@ -1,6 +1,7 @@
 use Rattle.mark_laws.proofs.SettlingSteps.{settling_stays}
 use Rattle.mark_laws.proofs.Settled.{done_leaves, more_may_be_made, none_made, none_owed, paid_leaves, settled_stays}
 use Rattle.mark_laws.proofs.Settled.{shades_settle, steps_settle}
+use Rattle.mark_laws.proofs.BetweenRuns.{settling_along}
 use Rattle.mark_laws.proofs.between.laws_of_settling.Goals as goal
 
 pub returns-clause-none_made : goal.returns-clause-none_made
@@ -29,3 +30,6 @@ returns-clause-shades c = shades_settle
 
 pub returns-clause-settle : goal.returns-clause-settle
 returns-clause-settle c = steps_settle
+
+pub returns-clause-along : goal.returns-clause-along
+returns-clause-along c = settling_along
