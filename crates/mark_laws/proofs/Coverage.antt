@@ -60,7 +60,7 @@ left_or_coloured list colours a at within there = elim (decided (at == a)) [
 ]
 
 -- what is owed stays so where a cell turns black, since targets only join
-black_keeps : (old : ℕ) (owed words : List ℕ) (was_black : Bool) (at : ℕ) → Contains owed at
+pub black_keeps : (old : ℕ) (owed words : List ℕ) (was_black : Bool) (at : ℕ) → Contains owed at
     → Contains (if was_black then owed else targets_joined old owed words) at
 black_keeps old owed words true at c = c
 black_keeps old owed words false at c = targets_keep old owed words at c

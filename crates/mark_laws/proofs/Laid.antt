@@ -14,7 +14,7 @@ use Rattle.tagged_word.specs.declared.reading.Reading.{Reading}
 use Rattle.tagged_word.specs.Cells.{marks_by_length, tagged_offsets, tagged_offsets_of}
 use Rattle.tagged_word.specs.Headers.{header_bits}
 use Rattle.tagged_word.specs.Layouts.{layout_bits}
-use Rattle.tagged_word.specs.Readings.{header_in, layout_in, shape_layout}
+use Rattle.tagged_word.specs.Readings.{header_in, layout_in, read_cell, shape_layout}
 use Rattle.tagged_word.specs.Shapes.{shapes_most}
 use Rattle.tagged_word.proofs.Cells.{some_same}
 use Rattle.tagged_word.proofs.CellReadings.{cell_from}
@@ -52,17 +52,22 @@ pub laid_is : (layouts : List ℕ) (word : ℕ) (header : Header) (layout : Layo
 laid_is layouts word header layout e f =
     ap (option_and_then (λ h. laid_by h (shape_layout layouts h.shape))) e ∙ ap (laid_by header) f
 
--- the first word of a cell stands for its header and its layout
+-- the first word of what is read stands for its header and its layout
+pub read_laid : (words layouts : List ℕ) (at bound : ℕ) (cell : Reading) → read_cell words layouts at bound ≡ Some cell
+    → laid_in layouts (slice_index words at) ≡ Some (laid_of cell)
+read_laid words layouts at bound cell e =
+    let reads = cell_from words layouts at bound cell e in
+    let first : slice_index words at ≡ header_bits cell.header =
+    get_or_from_slice_get words at (header_bits cell.header) 0 reads.first in
+    laid_is layouts (slice_index words at) cell.header cell.layout
+    (header_to (slice_index words at) cell.header reads.is_header first)
+    (shape_is layouts cell.header.shape (layout_bits cell.layout) cell.layout reads.known reads.of_shape
+    (layout_to (layout_bits cell.layout) cell.layout reads.is_layout refl))
+
+-- so does that of a cell
 pub cell_laid : (world : World) (at : ℕ) (cell : Reading) → cell_of world at ≡ Some cell
     → laid_in world.layouts (slice_index world.words at) ≡ Some (laid_of cell)
-cell_laid world at cell e =
-    let reads = cell_from world.words world.layouts at (min world.old (page_end at)) cell e in
-    let first : slice_index world.words at ≡ header_bits cell.header =
-    get_or_from_slice_get world.words at (header_bits cell.header) 0 reads.first in
-    laid_is world.layouts (slice_index world.words at) cell.header cell.layout
-    (header_to (slice_index world.words at) cell.header reads.is_header first)
-    (shape_is world.layouts cell.header.shape (layout_bits cell.layout) cell.layout reads.known reads.of_shape
-    (layout_to (layout_bits cell.layout) cell.layout reads.is_layout refl))
+cell_laid world at = read_laid world.words world.layouts at (min world.old (page_end at))
 
 -- a header with its layout, taken apart
 laid_parts : (header : Header) (o : Option LayoutWord) (laid : Laid) → laid_by header o ≡ Some laid

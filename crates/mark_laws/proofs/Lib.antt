@@ -62,3 +62,13 @@ pub mod OwnSpots
 pub mod OwnCells
 pub mod OwnWhole
 pub mod Visited
+pub mod Growing
+pub mod SeatsOut
+pub mod Settling
+pub mod SettlingSteps
+pub mod Settled
+pub mod KnownCells
+pub mod AnyCells
+pub mod Knowing
+pub mod KnowingStores
+pub mod BetweenRuns

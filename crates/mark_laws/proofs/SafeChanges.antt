@@ -61,23 +61,33 @@ same_size old new long long' size one_kind one_cap one_length e =
     ∙ ap (λ cap. size_within (words_least new.kind) (words_of new.kind cap long)) one_cap
     ∙ ap (λ n. size_within (words_least new.kind) (words_of new.kind new.cap n)) one_length) ∙ e
 
--- a safe change of the first word of a cell leaves its size, and each tagged slot
-changed_widens : (words layouts : List ℕ) (start bound word : ℕ) (cell : Reading) (new : Laid)
+-- after a safe change of its first word a cell is read by the new one, with the size of before
+pub changed_read : (words layouts : List ℕ) (start bound word : ℕ) (cell : Reading) (new : Laid)
     → ReadsAs words layouts start bound cell → laid_in layouts word ≡ Some new → IsSafeChange (laid_of cell) new
-    → IsSomeAnd (read_cell (slice_set words start word) layouts start bound) (Widens cell)
-changed_widens words layouts start bound word cell new reads is change =
+    → read_cell (slice_set words start word) layouts start bound ≡ Some (made new.header new.layout 0 cell.size)
+changed_read words layouts start bound word cell new reads is change =
     let within : start < length words = slice_get_within words start (header_bits cell.header) reads.first in
     let has = laid_from layouts word new is in
     let short : has_length cell.layout.kind ≡ false = ap has_length change.old_plain in
     let none : cell.length ≡ 0 =
     no_length cell.layout.kind (slice_get words (start + length_offset)) cell.length short reads.second in
-    let read = plain_read (slice_set words start word) layouts start bound cell.size new
+    plain_read (slice_set words start word) layouts start bound cell.size new
     (ap (option_and_then header_in) (slice_get_same words start word within) ∙ has.0) has.1
     (ap has_length change.new_plain)
     (same_size cell.layout new.layout cell.length 0 cell.size (change.old_plain ∙ sym change.new_plain) change.one_cap
     none
-    reads.sized) reads.ends (omega (arith, reads.there, length-set words start word)) in
-    subst (λ (o : Option Reading). IsSomeAnd o (Widens cell)) (sym read) record {
+    reads.sized) reads.ends (omega (arith, reads.there, length-set words start word))
+
+-- a safe change of the first word of a cell leaves its size, and each tagged slot
+changed_widens : (words layouts : List ℕ) (start bound word : ℕ) (cell : Reading) (new : Laid)
+    → ReadsAs words layouts start bound cell → laid_in layouts word ≡ Some new → IsSafeChange (laid_of cell) new
+    → IsSomeAnd (read_cell (slice_set words start word) layouts start bound) (Widens cell)
+changed_widens words layouts start bound word cell new reads is change =
+    let short : has_length cell.layout.kind ≡ false = ap has_length change.old_plain in
+    let none : cell.length ≡ 0 =
+    no_length cell.layout.kind (slice_get words (start + length_offset)) cell.length short reads.second in
+    subst (λ (o : Option Reading). IsSomeAnd o (Widens cell))
+    (sym (changed_read words layouts start bound word cell new reads is change)) record {
       size = refl;
       slots = subst (λ (n : ℕ). Includes (tagged_offsets new.layout 0) (tagged_offsets cell.layout n)) (sym none)
           change.tagged;

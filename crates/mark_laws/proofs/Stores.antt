@@ -15,8 +15,8 @@ use Rattle.mark_world.specs.declared.views.MainView.{MainView}
 use Rattle.mark_world.specs.declared.world.World.{World}
 use Rattle.mark_world.specs.Pages.{EachFree, OfTarget, cell_at, is_free, is_head, is_inside, leaves_alone}
 use Rattle.mark_world.specs.Pages.{offset_in, page_end, slots_of}
-use Rattle.mark_world.specs.Safety.{laid_in, slots_by}
-use Rattle.mark_world.specs.Conditions.{MayStoreHeader}
+use Rattle.mark_world.specs.Safety.{IsSafe, laid_in, slots_by}
+use Rattle.mark_world.specs.Conditions.{AreSureAfter, MayStoreHeader}
 use Rattle.mark_world.specs.Covering.{cell_of}
 use Rattle.mark_world.specs.Soundness.{HasCells}
 use Rattle.mark_laws.proofs.Laid.{cell_laid, laid_of, plain_any, safe_from}
@@ -152,13 +152,14 @@ WasTaggedOrSure world at cell offset =
     Contains (slots_of cell) offset
     ⊎ OfTarget world.old (slice_index world.words (at + offset)) (λ to. Contains world.main.sure to)
 
--- so is each tagged slot after the change of a free start's header
-pub header_slot : (world : World) (at word : ℕ) (owed : List ℕ) (cell new : Reading) (offset : ℕ)
-    → MayStoreHeader world.old world.words world.layouts world.main at word → IsTrue (is_free world.main at)
+-- so is each tagged slot after a safe change of a header under which new ones have sure targets
+pub changed_header_slot : (world : World) (at word : ℕ) (owed : List ℕ) (cell new : Reading) (offset : ℕ)
+    → IsSafe world.layouts (slice_index world.words at) word
+    → AreSureAfter world.old world.words world.layouts world.main at word
     → cell_of world at ≡ Some cell → cell_of (stored world at word owed) at ≡ Some new → Contains (slots_of new) offset
     → WasTaggedOrSure world at cell offset
-header_slot world at word owed cell new offset may free e f there =
-    let safe = safe_from world.layouts (slice_index world.words at) word may.safe in
+changed_header_slot world at word owed cell new offset is_safe are_sure e f there =
+    let safe = safe_from world.layouts (slice_index world.words at) word is_safe in
     let is = header_laid world at word owed cell new e f in
     let was = cell_laid world at cell e in
     let new_plain : new.layout.kind ≡ kind.Plain =
@@ -170,8 +171,16 @@ header_slot world at word owed cell new offset may free e f there =
     (subst (λ (xs : List ℕ). Contains xs offset) (plain_any new.layout new.length 0 new_plain) there) in
     elim (All-contains (λ (o : ℕ). Contains (slots_by (laid_in world.layouts (slice_index world.words at)) 0) o
     ⊎ OfTarget world.old (slice_index world.words (at + o)) (λ to. Contains world.main.sure to))
-    (slots_by (laid_in world.layouts word) 0) offset (may.sure free) tagged) [
+    (slots_by (laid_in world.layouts word) 0) offset are_sure tagged) [
       | inl before ↦ inl (subst (λ (xs : List ℕ). Contains xs offset) (plain_any cell.layout 0 cell.length old_plain)
           (subst (λ (o : Option Laid). Contains (slots_by o 0) offset) was before))
       | inr sure ↦ inr sure
     ]
+
+-- so is each tagged slot after the change of a free start's header
+pub header_slot : (world : World) (at word : ℕ) (owed : List ℕ) (cell new : Reading) (offset : ℕ)
+    → MayStoreHeader world.old world.words world.layouts world.main at word → IsTrue (is_free world.main at)
+    → cell_of world at ≡ Some cell → cell_of (stored world at word owed) at ≡ Some new → Contains (slots_of new) offset
+    → WasTaggedOrSure world at cell offset
+header_slot world at word owed cell new offset may free =
+    changed_header_slot world at word owed cell new offset may.safe (may.sure free)

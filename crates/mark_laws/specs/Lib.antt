@@ -12,3 +12,6 @@ pub mod Restarts
 pub mod OwnViews
 pub mod OwnAddresses
 pub mod Visits
+pub mod Growing
+pub mod Settling
+pub mod Knowing

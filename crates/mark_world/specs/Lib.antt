@@ -9,3 +9,5 @@ pub mod Soundness
 pub mod Lineage
 pub mod Resting
 pub mod OneLayouts
+pub mod Unfinished
+pub mod Knowing

@@ -1,0 +1,45 @@
+//! What holds between the steps of a command, and what only grows.
+ghost use Rattle.mark_laws.specs.Growing.{ListsGrow, ListsGrowAlong, MomentsGrow};
+ghost use Rattle.mark_laws.specs.Growing.{LendCounts, ReturnCounts, OthersKeepCount, NoneIsZero};
+ghost use Rattle.mark_laws.specs.Knowing.{NoneMadeIsKnown, MoreMayBeUnknown, KnownLeaves, RootsMayChange};
+ghost use Rattle.mark_laws.specs.Knowing.{YoungMayJoin, KnownAlong, KnownStays};
+ghost use Rattle.mark_laws.specs.Settling.{NoneMadeIsSettled, NoneOwedIsSettled, MoreMayBeMade, DoneLeaves};
+ghost use Rattle.mark_laws.specs.Settling.{PaidLeaves, SettlingAlong, SettlingStays, SettledStays, ShadesSettle};
+ghost use Rattle.mark_laws.specs.Settling.{StepsSettle};
+
+/// What is published, born, made black by the mutator or sure to it stays so, and how many seats are
+/// out.
+pub fn laws_of_growing()
+    ensures grow { ListsGrow }
+    ensures along { ListsGrowAlong }
+    ensures moments { MomentsGrow }
+    ensures lend { LendCounts }
+    ensures take_back { ReturnCounts }
+    ensures others { OthersKeepCount }
+    ensures none { NoneIsZero }
+{}
+
+/// The mutator's part is done but for the cells that it is making or changing, from step to step.
+pub fn laws_of_settling()
+    ensures none_made { NoneMadeIsSettled }
+    ensures none_owed { NoneOwedIsSettled }
+    ensures more { MoreMayBeMade }
+    ensures done { DoneLeaves }
+    ensures paid { PaidLeaves }
+    ensures under_way { SettlingStays }
+    ensures stays { SettledStays }
+    ensures shades { ShadesSettle }
+    ensures settle { StepsSettle }
+    ensures along { SettlingAlong }
+{}
+
+/// What is known, but of the cells that the mutator is making or changing, from step to step.
+pub fn laws_of_knowing()
+    ensures none_made { NoneMadeIsKnown }
+    ensures more { MoreMayBeUnknown }
+    ensures leaves { KnownLeaves }
+    ensures roots { RootsMayChange }
+    ensures young { YoungMayJoin }
+    ensures stays { KnownStays }
+    ensures along { KnownAlong }
+{}
