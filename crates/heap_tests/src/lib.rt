@@ -9,8 +9,6 @@ mod forged_heaps;
 #[cfg(test)]
 mod images;
 #[cfg(test)]
-mod kept_heaps;
-#[cfg(test)]
 mod opened_heaps;
 #[cfg(test)]
 mod opened_words;

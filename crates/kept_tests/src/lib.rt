@@ -1,0 +1,7 @@
+//! Tests of kept heaps: what a run leaves, judged against the ideal meaning of its script.
+//!
+//! Model: none, since nothing stands here but tests.
+#![tactic(auto)]
+
+#[cfg(test)]
+mod kept_heaps;
