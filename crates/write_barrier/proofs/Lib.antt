@@ -6,5 +6,4 @@ mod PutLayouts
 mod Starting
 mod Ranges
 mod ClassValues
-mod BoxShapes
 mod ShownHeld
