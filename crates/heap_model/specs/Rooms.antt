@@ -106,16 +106,15 @@ abbrev pub field_need : Bool → Field → Value → ℕ
 field_need own field value =
     box_need (is_boxed own (join field.rep (rep_of value)) value && not (is_boxed own field.rep field.value))
 
--- A field that is new: nothing in the object itself, and in the property store a store where that is full or absent, and
--- a box where the value is wide.
-abbrev pub new_field_need : ℕ → PlainObject → Value → ℕ
-new_field_need capacity plain value =
-    if nat_lt (length plain.fields) plain.cap then 0
-    else store_need capacity (length plain.fields - plain.cap) + box_need (is_wide value)
+-- A field that is new, behind so many of an object of this cap: nothing in the object itself, and in the property store,
+-- which has so many slots, a store where that is full or absent, and a box where the value is wide.
+abbrev pub new_field_need : ℕ → ℕ → ℕ → Bool → ℕ
+new_field_need capacity cap fields wide =
+    if nat_lt fields cap then 0 else store_need capacity (fields - cap) + box_need wide
 
 -- `set` of a field, by its place if it is there
 abbrev pub set_need_by : ℕ → PlainObject → Value → Option ℕ → ℕ
-set_need_by capacity plain value None = new_field_need capacity plain value
+set_need_by capacity plain value None = new_field_need capacity plain.cap (length plain.fields) (is_wide value)
 set_need_by capacity plain value (Some at) =
     on_found (slice_get plain.fields at) (λ field. field_need (nat_lt at plain.cap) field value)
 
@@ -168,18 +167,16 @@ abbrev pub changed : {A : Type 0} → (ℕ → Room) → Option A → (A → ℕ
 changed rooms None change = rooms
 changed rooms (Some one) change = change one
 
--- A store of so many slots, of which so many are used, as it is once one slot more is used: the store itself, or the
--- one that takes its place where it is full.
-abbrev pub stored_capacity : ℕ → ℕ → ℕ
-stored_capacity capacity used = if nat_lt used capacity then capacity else grown capacity
+-- A property store of so many slots once a field is new, behind so many of an object of this cap: the field comes to
+-- the object itself below its cap, and else to the store, which is made anew where it is full.
+abbrev pub new_field_capacity : ℕ → ℕ → ℕ → ℕ
+new_field_capacity capacity cap fields =
+    if nat_lt fields cap then capacity else (if nat_lt (fields - cap) capacity then capacity else grown capacity)
 
--- a property store of so many slots after `set`, by the place of the field if it is there: a field that is new comes to
--- the object itself below its cap, and else to the store
+-- a property store of so many slots after `set`, by the place of the field if it is there
 abbrev pub set_capacity_by : ℕ → PlainObject → Option ℕ → ℕ
+set_capacity_by capacity plain None = new_field_capacity capacity plain.cap (length plain.fields)
 set_capacity_by capacity plain (Some at) = capacity
-set_capacity_by capacity plain None =
-    if nat_lt (length plain.fields) plain.cap then capacity
-    else stored_capacity capacity (length plain.fields - plain.cap)
 
 -- and by the name of the field
 abbrev pub set_capacity : ℕ → PlainObject → ℕ → ℕ

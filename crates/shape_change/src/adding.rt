@@ -1,5 +1,5 @@
 //! A field of a name that is new to its object.
-ghost use Rattle.std.specs.Prelude.{◌≡◌, ℕ, ℤ, ◌+◌, ◌-◌, ◌<◌, ◌≤◌, false, OnOk, IfErr, None};
+ghost use Rattle.std.specs.Prelude.{◌≡◌, ℕ, ℤ, ◌+◌, ◌-◌, ◌<◌, ◌≤◌, false, OnOk, IfErr, None, length};
 ghost use Rattle.std.specs.Prelude.{slice_set};
 ghost use Rattle.tagged_word.specs.Headers.{IsHeader};
 ghost use Rattle.tagged_word.specs.Cells.{plain_head, store_head};
@@ -11,6 +11,7 @@ ghost use Rattle.shape_tree.specs.Shapes.{shape_path, has_name};
 ghost use Rattle.heap_table.specs.declared.phase.Phase.TheVariants.{Quiet};
 ghost use Rattle.heap_table.specs.Seats.{heap_words};
 ghost use Rattle.heap_model.specs.Needs as needs;
+ghost use Rattle.heap_model.specs.Rooms.{new_field_need};
 ghost use Rattle.write_barrier.specs.Mains.{heap_of, MainShows};
 ghost use Rattle.object_cells.specs.PlainObjects.{IsPlainAt};
 ghost use Rattle.object_cells.specs.HeldValues.{IsValueHeld};
@@ -88,7 +89,9 @@ fn add_field(
     requires { CanAdd main.old object header name value }
     ensures ok { OnOk result (AddsField main.old main.new object header name value) }
     ensures refused { let heap = heap_of main.old in
-        let need = needs.set_need_at heap object name (is_wide_held value) in
+        let path = shape_path main.old.paths header.shape in
+        let capacity = needs.capacity_at heap object in
+        let need = new_field_need capacity path.cap (length path.fields) (is_wide_held value) in
         IfErr result (RefusesRoom main.old main.new need) }
 {
     let slot = fields_of(main, header.shape);

@@ -1,15 +1,14 @@
 -- A field of a new name is added, or refused.
-use Rattle.std.proofs.Common.{refl, ◌∙◌, ap, subst, rules, arith}
+use Rattle.std.proofs.Common.{refl, ◌∙◌, subst, rules, arith}
 use Rattle.object_graph.specs.declared.value.Rep.{Rep}
 use Rattle.shape_tree.specs.Shapes.{IsFullFor, shape_path, stepped}
 use Rattle.handle_roots.specs.Roots.{FitsHeld}
-use Rattle.heap_model.specs.Needs.{set_need_at}
+use Rattle.heap_model.specs.Needs.{capacity_at}
 use Rattle.nursery.specs.Young.{HasRoom}
 use Rattle.write_barrier.specs.Mains.{heap_of}
 use Rattle.shape_change.specs.Additions.{MayAdd}
 use Rattle.shape_change.proofs.AddedShown.{adding}
-use Rattle.object_cells.proofs.HeldNeeds.{wide_is}
-use Rattle.shape_change.proofs.FieldAdded.{field_is_set}
+use Rattle.shape_change.proofs.FieldAdded.{field_is_set, new_need_is}
 use Rattle.shape_change.proofs.NewNames.{shown_shape, lacks_fields, lacks_no_field, lacks_paths, lacks_no_path}
 use Rattle.object_cells.proofs.HeldNeeds.{held_is_value}
 use Rattle.shape_change.proofs.NewNames.{can_add}
@@ -65,11 +64,14 @@ returns-in-Err-add_field c graph plain what shows is holds fresh =
     let paths = c.args.main.now.paths in
     let may = subst (λ (rep : Rep). MayAdd paths (stepped (shape_path paths c.args.shape) c.args.name rep))
     c.rep_of.ensures c.in_default.ensures.may in
-    let refused = c.in-Err-add_field.ensures.refused in
-    let need = set_need_at (heap_of c.args.main.now) c.args.object c.args.name in (
+    let can =
+    can_add c.requires.shown c.requires.shape c.header_at-header.ensures c.requires.is_new (omega arith) may in
+    let fits : FitsHeld c.args.value = search rules in
+    let held = adding can shows is holds (held_is_value c.args.value what shows fits holds.shows) fresh in
+    let refused = c.in-Err-add_field.ensures.refused in (
       lacks_no_field c.args.name known (omega arith),
       lacks_no_path c.args.name c.args.value shows known holds.shows fresh may,
-      refused.need_is ∙ ap need (wide_is c.args.value what holds.shows),
+      refused.need_is ∙ new_need_is (capacity_at (heap_of c.args.main.now) c.args.object) held,
       λ room. refused.lacks (subst (HasRoom c.args.main.now.young) refused.need_is room),
       refused.same,
     )
