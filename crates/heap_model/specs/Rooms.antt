@@ -182,14 +182,13 @@ set_capacity_by capacity plain (Some at) = capacity
 abbrev pub set_capacity : ℕ → PlainObject → ℕ → ℕ
 set_capacity capacity plain name = set_capacity_by capacity plain (field_place plain.fields name)
 
--- a list's store of so many slots after `push`
-abbrev pub push_capacity : ℕ → ListObject → ℕ
-push_capacity capacity list =
-    if length list.elements == capacity then grown_list (length list.elements) else capacity
+-- the store of so many slots of a list of so many elements after `push`
+abbrev pub push_capacity : ℕ → ℕ → ℕ
+push_capacity capacity count = if count == capacity then grown_list count else capacity
 
--- a list's store of so many slots once the first elements alone, so many, stay
-abbrev pub truncated_capacity : ℕ → ListObject → ℕ → ℕ
-truncated_capacity capacity list kept = if kept == length list.elements then capacity else kept
+-- and once its first elements alone, so many, stay
+abbrev pub truncated_capacity : ℕ → ℕ → ℕ → ℕ
+truncated_capacity capacity count kept = if kept == count then capacity else kept
 
 -- how many pairs a weak map's table has once a key is put that is new
 abbrev pub table_capacity : Room → ℕ
@@ -220,7 +219,7 @@ rooms_after graph rooms (command.Set x name v) =
     with_capacity rooms plain.number (set_capacity (rooms plain.number).capacity plain name))
 rooms_after graph rooms (command.Push x v) =
     changed rooms (list_of graph x) (λ list.
-    with_capacity rooms list.number (push_capacity (rooms list.number).capacity list))
+    with_capacity rooms list.number (push_capacity (rooms list.number).capacity (length list.elements)))
 rooms_after graph rooms (command.Shift x n) =
     changed rooms (list_of graph x) (λ list.
     changed rooms (number_of graph (suc (length list.elements)) n) (λ gone.
@@ -228,7 +227,7 @@ rooms_after graph rooms (command.Shift x n) =
 rooms_after graph rooms (command.Trunc x n) =
     changed rooms (list_of graph x) (λ list.
     changed rooms (number_of graph (suc (length list.elements)) n) (λ kept.
-    with_capacity rooms list.number (truncated_capacity (rooms list.number).capacity list kept)))
+    with_capacity rooms list.number (truncated_capacity (rooms list.number).capacity (length list.elements) kept)))
 rooms_after graph rooms (command.WPut m k v) =
     changed rooms (weak_of graph m) (λ weak. changed rooms (key_of graph k) (λ key.
     with_room rooms weak.number (room_put (rooms weak.number) (entry_value weak.entries key))))
