@@ -29,7 +29,6 @@ pub mod GrowingTables
 pub mod PutPairs
 pub mod PutValues
 pub mod PutMaps
-pub mod KeysAt
 pub mod EntryPairs
 pub mod ReplacedValues
 pub mod PutEntries
