@@ -22,7 +22,7 @@ use Rattle.object_cells.specs.Made.{content_need, beside_content}
 use Rattle.list_store.specs.ListChanges.{HasPushed}
 use Rattle.list_store.specs.Pushes.{PushesAt}
 use Rattle.list_store.proofs.PushNeeds.{need_to_store, need_to_new_store, push_need_is}
-use Rattle.list_store.proofs.ListChanging.{Changing, Elements}
+use Rattle.object_cells.proofs.ListChanging.{Changing, Elements}
 use Rattle.list_store.proofs.WrittenSlots.{slot_shown, slot_keeps}
 use Rattle.list_store.proofs.PushedToNewStore.{to_new_store_shown, to_new_store_becomes}
 
