@@ -1,5 +1,5 @@
 -- What probing finds, and what stays found.
-use Rattle.std.proofs.Common.{ℕ, ◌<◌, ◌≤◌, ◌≡◌, ◌≢◌, List, length, slice_set, Option, Some, None}
+use Rattle.std.proofs.Common.{ℕ, ◌<◌, ◌≤◌, ◌≡◌, ◌≢◌, List, length, slice_get, slice_set, Option, Some, None}
 use Rattle.std.proofs.Common.{replicate, inl, inr, sym, ap, subst, ◌∙◌, arith}
 use Rattle.std.proofs.lemmas.Bool.{cases_eq, cases_order}
 use Rattle.std.proofs.lemmas.List.{length-set}
@@ -39,12 +39,18 @@ probed_before old new number at same less probed steps few =
           (subst (λ (n : ℕ). IsFree new (place_after n number before)) same free));
     }
 
--- so what was found is found
-pub still_probed : (old new : List (Option ℕ)) (number at : ℕ) → length new ≡ length old
-    → ((place : ℕ) → IsFree new place → IsFree old place) → IsProbed None old number at → IsProbed None new number at
-still_probed old new number at same less probed =
-    subst (IsProbed None new number) (sym probed.comes)
-    (probed_before old new number at same less probed probed.steps (omega arith))
+-- in a table of as many places, each of which is free only if it was free in the other, what was found is found
+pub still_probed : {A B : Type 0} {free : A} {freed : B} (old : List A) (new : List B) (number at : ℕ)
+    → length new ≡ length old → ((place : ℕ) → slice_get new place ≡ Some freed → slice_get old place ≡ Some free)
+    → IsProbed free old number at → IsProbed freed new number at
+still_probed {freed = freed} old new number at same less probed = record {
+  steps = probed.steps;
+  within = omega (arith, same, probed.within);
+  comes = probed.comes ∙ ap (λ (n : ℕ). place_after n number probed.steps) (sym same);
+  filled = λ before sooner free. probed.filled before sooner
+      (less (place_after (length old) number before)
+      (subst (λ (n : ℕ). slice_get new (place_after n number before) ≡ Some freed) same free));
+}
 
 -- likewise where a number is put somewhere
 pub probed_with_put : (table : List (Option ℕ)) (place put number at : ℕ) → IsProbed None table number at

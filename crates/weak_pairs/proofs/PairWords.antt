@@ -1,6 +1,5 @@
 -- The pairs of a weak map's table by their words: where the value of each stands, and what each slot of the map is.
-use Rattle.std.proofs.Common.{◌≡◌, ℕ, zero, suc, ◌+◌, ◌-◌, ◌*◌, ◌<◌, List, [], ◌∷◌, length, drop}
-use Rattle.std.proofs.Common.{Some, slice_get}
+use Rattle.std.proofs.Common.{◌≡◌, ℕ, zero, suc, ◌+◌, ◌-◌, ◌*◌, ◌<◌, List, [], ◌∷◌, length, drop, Some, slice_get}
 use Rattle.std.proofs.Common.{refl, sym, ◌∙◌, ap, subst, arith, length-drop}
 use Rattle.std.proofs.lemmas.Option.{none-some, same_Some}
 use Rattle.tagged_word.specs.declared.layout.Kind.TheVariants as kind
@@ -18,7 +17,7 @@ use Rattle.heap_model.proofs.CellWords.{slice_get-drop, words_by_kind, slots_by_
 use Rattle.heap_model.proofs.CellWords.{behind_head_few}
 use Rattle.heap_model.proofs.ObjectSlots.{pair_words}
 use Rattle.heap_model.proofs.SlotWords.{same_target}
-use Rattle.ephemeron_table.specs.Pairs.{HasPairs}
+use Rattle.weak_pairs.specs.Pairs.{HasPairs}
 
 -- the pairs are those of the table
 pub record IsTableOf (pairs : List Pair) (other : Cell) (others : List ℕ) : Type 0 where

@@ -1,6 +1,5 @@
 -- What the pairs of a table are while those of another one come to it, one after the other.
-use Rattle.std.proofs.Common.{◌≡◌, ◌≢◌, ℕ, zero, suc, ◌+◌, ◌<◌, inl, inr, Bool, true}
-use Rattle.std.proofs.Common.{false, List, [], ◌∷◌, length}
+use Rattle.std.proofs.Common.{◌≡◌, ◌≢◌, ℕ, zero, suc, ◌+◌, ◌<◌, inl, inr, Bool, true, false, List, [], ◌∷◌, length}
 use Rattle.std.proofs.Common.{drop, Some, slice_get, refl, sym, ◌∙◌, ap, subst, arith, cond, not, ◌==◌}
 use Rattle.std.specs.Prelude.{slice_set}
 use Rattle.std.proofs.lemmas.Bool.{cases_eq, cases_lt, eq-eqb, ne_eqb}
@@ -8,11 +7,11 @@ use Rattle.std.proofs.lemmas.List.Sums.{sum_by-cons}
 use Rattle.std.proofs.lemmas.Option.{none-some, same_Some, slice_get_within}
 use Rattle.object_graph.proofs.Lists.{slice_get-set_same}
 use Rattle.heap_model.specs.Kinds.{Pair, free_pair, is_free_pair}
-use Rattle.ephemeron_table.specs.Movings.{AreMoved, HoldNothing}
-use Rattle.ephemeron_table.specs.Pairs.{IsFilledAt}
-use Rattle.ephemeron_table.proofs.CountedPairs.{count_filled, count_put, one_if, filled_counts}
-use Rattle.ephemeron_table.proofs.PairLists.{at_place}
-use Rattle.ephemeron_table.proofs.TakenPairs.{filled_elsewhere, free_not_filled, still_filled}
+use Rattle.weak_pairs.specs.Rehashing.{AreRehashed}
+use Rattle.weak_pairs.specs.Pairs.{HoldNothing, IsFilledAt}
+use Rattle.weak_pairs.proofs.CountedPairs.{count_filled, count_put, one_if, filled_counts}
+use Rattle.weak_pairs.proofs.PairsPut.{at_place}
+use Rattle.weak_pairs.proofs.FilledPairs.{filled_elsewhere, free_not_filled, still_filled}
 
 -- those behind a place are one pair fewer than those from it on
 count_from : (pairs : List Pair) (at : ℕ) (pair : Pair) → slice_get pairs at ≡ Some pair
@@ -43,8 +42,8 @@ none_counted (first ∷ pairs) nothing =
     )
 
 -- it begins with none
-pub moved_begins : (before after : List Pair) → HoldNothing after → AreMoved before after 0
-moved_begins before after nothing = record {
+pub rehashed_begins : (before after : List Pair) → HoldNothing after → AreRehashed before after 0
+rehashed_begins before after nothing = record {
   origin = λ at. at;
   from = λ at pair filled. absurd (filled.filled (nothing at pair filled.stands));
   apart = λ at other pair another one two same. same;
@@ -58,11 +57,11 @@ abbrev origin_by : Bool → ℕ → ℕ → ℕ
 origin_by true here there = here
 origin_by false here there = there
 
-module _ {before after : List Pair} {at : ℕ} (moved : AreMoved before after at) (pair : Pair)
+module _ {before after : List Pair} {at : ℕ} (moved : AreRehashed before after at) (pair : Pair)
     (there : slice_get before at ≡ Some pair) where
   -- one that holds nothing is passed
-  pub moved_passes : pair ≡ free_pair → AreMoved before after (at + 1)
-  moved_passes free = record {
+  pub rehashed_passes : pair ≡ free_pair → AreRehashed before after (at + 1)
+  rehashed_passes free = record {
     origin = moved.origin;
     from = λ one found filled. let was = moved.from one found filled in (was.0, omega (arith, was.1));
     apart = moved.apart;
@@ -158,8 +157,8 @@ module _ {before after : List Pair} {at : ℕ} (moved : AreMoved before after at
           )
     ]
 
-    pub moved_puts : AreMoved before put (at + 1)
-    moved_puts =
+    pub rehashed_puts : AreRehashed before put (at + 1)
+    rehashed_puts =
         let more = count_put after place pair free filled in
         record {
           origin = origin;

@@ -4,11 +4,12 @@ ghost use Rattle.page_space.specs.Extents.{marks_start};
 ghost use Rattle.heap_table.specs.declared.phase.Phase.TheVariants.{Quiet};
 ghost use Rattle.write_barrier.specs.Mains.{heap_of};
 ghost use Rattle.object_cells.specs.CellsAt.{IsWhole};
-ghost use Rattle.ephemeron_table.specs.Probes as probes;
+ghost use Rattle.weak_pairs.specs.Tables as tables;
 ghost use Rattle.ephemeron_table.specs.Probes.{IsTableAt, IsWeakCellAt};
 
 use object_cells::STORE_SLOT;
 use tagged_word::{Header, Word};
+use weak_pairs::Table;
 use write_barrier::Main;
 
 /// The offset of a weak map's count of entries.
@@ -19,16 +20,6 @@ pub(crate) const TABLE_HEAD: u32 = 2;
 
 /// The offset of the capacity of a table.
 pub(crate) const CAPACITY: u32 = 1;
-
-/// The table of a weak map: where it stands, and how many pairs it has. One of no pairs stands for
-/// none.
-#[derive(Clone, Copy)]
-pub struct Table {
-    /// The address of its cell.
-    pub at: u32,
-    /// How many pairs it has.
-    pub capacity: u32,
-}
 
 /// The table of the weak map at an address.
 pub(crate) fn table_of(main: &Main, map: u32) -> Table
@@ -51,7 +42,7 @@ pub(crate) fn table_of(main: &Main, map: u32) -> Table
 pub(crate) fn number_at(main: &Main, at: u32) -> u32
     requires quiet { main.now.seat.phase ≡ Quiet }
     requires within { at < marks_start main.now.seat.space }
-    ensures { result ≡ probes.number_at (heap_of main.now) at }
+    ensures { result ≡ tables.number_at (heap_of main.now) at }
 {
     match Header::parse(Word(main.word(at))) {
         Some(header) => header.object,

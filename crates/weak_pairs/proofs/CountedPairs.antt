@@ -1,8 +1,6 @@
 -- How many pairs hold something, once one was put.
-use Rattle.std.proofs.Common.{◌≡◌, ◌≢◌, ℕ, zero, suc, ◌+◌, Bool, true, false, not, cond, List, [], ◌∷◌}
-use Rattle.std.proofs.Common.{Some}
-use Rattle.std.proofs.Common.{slice_get, count_by}
-use Rattle.std.proofs.Common.{refl, ◌∙◌, ap, arith, ◌==◌, ◌&&◌}
+use Rattle.std.proofs.Common.{◌≡◌, ◌≢◌, ℕ, zero, suc, ◌+◌, Bool, true, false, not, cond, List, [], ◌∷◌, Some}
+use Rattle.std.proofs.Common.{slice_get, count_by, refl, ◌∙◌, ap, arith, ◌==◌, ◌&&◌}
 use Rattle.std.specs.Prelude.{slice_set}
 use Rattle.std.proofs.lemmas.Bool.{eqb-true}
 use Rattle.std.proofs.lemmas.List.Sums.{sum_by-cons}

@@ -1,6 +1,6 @@
--- The entries of a weak map where that of one key was put, or taken out.
-use Rattle.std.proofs.Common.{◌≡◌, ◌≢◌, ℕ, zero, suc, Bool, true, false, List, [], ◌∷◌, Option, Some, None}
-use Rattle.std.proofs.Common.{map, slice_get, cond, refl, sym, ◌∙◌, ap, subst, arith}
+-- The entries of a weak map where that of one key was put, or removed.
+use Rattle.std.proofs.Common.{◌≡◌, ◌≢◌, ℕ, zero, suc, Bool, true, false, List, [], ◌∷◌, Option, Some, None, map}
+use Rattle.std.proofs.Common.{slice_get, cond, refl, sym, ◌∙◌, ap, subst, arith}
 use Rattle.std.specs.Prelude.{◌==◌}
 use Rattle.std.specs.List.{IsDistinct, AllByRecursion}
 use Rattle.std.proofs.lemmas.Map.Keys.{IsDistinct-head, IsDistinct-tail}
@@ -10,7 +10,7 @@ use Rattle.std.proofs.lemmas.Option.{none-some, same_Some}
 use Rattle.object_graph.specs.declared.value.Value.{Value}
 use Rattle.object_graph.specs.declared.object.Entry.{Entry}
 use Rattle.object_graph.specs.Objects.{with_entry, without_entry}
-use Rattle.ephemeron_table.specs.PairLaws.{entries_with}
+use Rattle.weak_pairs.specs.Entries.{entries_with}
 
 -- the keys of entries
 abbrev keys_in : List Entry → List ℕ

@@ -6,8 +6,9 @@ use Rattle.cell_layout.proofs.OneCell.{cells_have_words}
 use Rattle.heap_model.proofs.CellsApart.{has_is_cell}
 use Rattle.write_barrier.specs.Mains.{heap_of}
 use Rattle.object_cells.proofs.CellsRead.{cell_before_marks, fits_address}
-use Rattle.ephemeron_table.proofs.TablesRead.{weak_sound, weak_pairs, slot_within, read_table, table_is, table_is_none}
-use Rattle.ephemeron_table.proofs.reading.table_of.Goals as goal
+use Rattle.ephemeron_table.proofs.TablesRead.{weak_sound, weak_pairs, slot_within, read_table, table_is}
+use Rattle.ephemeron_table.proofs.TablesRead.{table_is_none}
+use Rattle.ephemeron_table.proofs.table.table_of.Goals as goal
 
 pub overflow_add-map : goal.overflow_add-map
 overflow_add-map c =

@@ -1,53 +1,21 @@
--- What is left of the pairs of a table while one is taken out.
-use Rattle.std.proofs.Common.{◌≡◌, ◌≢◌, ℕ, ◌<◌, inl, inr, Bool, true, false, List, length, Some, slice_get}
-use Rattle.std.proofs.Common.{refl, sym, ◌∙◌, ap, subst, arith, length-set, ◌==◌}
+-- What is left of the pairs of a table while one is removed.
+use Rattle.std.proofs.Common.{◌≡◌, ◌≢◌, ℕ, ◌<◌, inl, inr, Bool, true, false, List, length, Some, slice_get, refl, sym}
+use Rattle.std.proofs.Common.{◌∙◌, ap, subst, arith, length-set, ◌==◌}
 use Rattle.std.specs.Prelude.{slice_set}
 use Rattle.std.proofs.lemmas.Bool.{cases_eq, eq-eqb, ne_eqb}
-use Rattle.std.proofs.lemmas.Option.{same_Some, slice_get_within}
+use Rattle.std.proofs.lemmas.Option.{slice_get_within}
 use Rattle.object_graph.proofs.Lists.{slice_get-set_same, slice_get-set_other}
 use Rattle.heap_model.specs.Kinds.{Pair, free_pair}
-use Rattle.ephemeron_table.specs.Pairs.{IsFilledAt}
-use Rattle.ephemeron_table.specs.Takings.{IsTaken}
-use Rattle.ephemeron_table.proofs.PairLists.{at_place}
-use Rattle.ephemeron_table.proofs.CountedPairs.{count_freed, count_put}
-
--- a place that is free is not filled
-pub free_not_filled : (pairs : List Pair) (at : ℕ) (pair : Pair) → slice_get pairs at ≡ Some free_pair
-    → IsFilledAt pairs at pair → ⊥
-free_not_filled pairs at pair free filled = filled.filled (same_Some pair free_pair (sym filled.stands ∙ free))
-
--- nor is one that was made free
-pub freed_not_filled : (pairs : List Pair) (at : ℕ) (pair : Pair) → IsFilledAt (slice_set pairs at free_pair) at pair
-    → ⊥
-freed_not_filled pairs at pair filled = filled.filled (sym (at_place pairs at free_pair pair filled.stands))
-
--- so another place is meant
-pub filled_apart : (pairs : List Pair) (hole at : ℕ) (pair : Pair) → IsFilledAt (slice_set pairs hole free_pair) at pair
-    → at ≢ hole
-filled_apart pairs hole at pair filled same =
-    freed_not_filled pairs hole pair (subst (λ n. IsFilledAt (slice_set pairs hole free_pair) n pair) same filled)
-
--- what is filled elsewhere is so whatever is put
-pub filled_elsewhere : (pairs : List Pair) (hole at : ℕ) (put pair : Pair) → at ≢ hole
-    → IsFilledAt (slice_set pairs hole put) at pair → IsFilledAt pairs at pair
-filled_elsewhere pairs hole at put pair apart filled =
-    record { stands = sym (slice_get-set_other pairs hole at put apart) ∙ filled.stands; filled = filled.filled }
-
--- and what was filled there is so still
-pub still_filled : (pairs : List Pair) (hole at : ℕ) (put pair : Pair) → at ≢ hole → IsFilledAt pairs at pair
-    → IsFilledAt (slice_set pairs hole put) at pair
-still_filled pairs hole at put pair apart filled =
-    record { stands = slice_get-set_other pairs hole at put apart ∙ filled.stands; filled = filled.filled }
-
--- one place holds one pair
-pub same_filled : (pairs : List Pair) (at other : ℕ) (pair another : Pair) → at ≡ other → IsFilledAt pairs at pair
-    → IsFilledAt pairs other another → pair ≡ another
-same_filled pairs at other pair another same one two =
-    same_Some pair another (sym one.stands ∙ ap (slice_get pairs) same ∙ two.stands)
+use Rattle.weak_pairs.specs.Pairs.{IsFilledAt}
+use Rattle.weak_pairs.specs.Removals.{IsRemoved}
+use Rattle.weak_pairs.proofs.PairsPut.{at_place}
+use Rattle.weak_pairs.proofs.CountedPairs.{count_freed, count_put}
+use Rattle.weak_pairs.proofs.FilledPairs.{free_not_filled, filled_apart, filled_elsewhere}
+use Rattle.weak_pairs.proofs.FilledPairs.{still_filled, same_filled}
 
 -- where nothing has moved, the pair is taken out
-pub taken_begins : (before : List Pair) (place : ℕ) → IsTaken before (slice_set before place free_pair) place
-taken_begins before place = record {
+pub removed_begins : (before : List Pair) (place : ℕ) → IsRemoved before (slice_set before place free_pair) place
+removed_begins before place = record {
   long = length-set before place free_pair;
   origin = λ at. at;
   from = λ at pair filled.
@@ -59,8 +27,8 @@ taken_begins before place = record {
 }
 
 -- then each comes from its own place
-pub begins_origin : (before : List Pair) (place at : ℕ) → (taken_begins before place).origin at ≡ at
-unfolding taken_begins
+pub begins_origin : (before : List Pair) (place at : ℕ) → (removed_begins before place).origin at ≡ at
+unfolding removed_begins
 begins_origin before place at = refl
 
 -- by a test, the one place or the other
@@ -68,7 +36,7 @@ abbrev origin_by : Bool → ℕ → ℕ → ℕ
 origin_by true here there = here
 origin_by false here there = there
 
-module _ {before after : List Pair} {place : ℕ} (taken : IsTaken before after place) (hole next : ℕ) (pair : Pair)
+module _ {before after : List Pair} {place : ℕ} (taken : IsRemoved before after place) (hole next : ℕ) (pair : Pair)
     (free : slice_get after hole ≡ Some free_pair) (there : slice_get after next ≡ Some pair)
     (filled : pair ≢ free_pair)
     (apart : hole ≢ next) where
@@ -167,8 +135,8 @@ module _ {before after : List Pair} {place : ℕ} (taken : IsTaken before after 
       ]
 
   -- so the pair at the place is still taken out
-  pub taken_moves : IsTaken before moved place
-  taken_moves = record {
+  pub removed_moves : IsRemoved before moved place
+  removed_moves = record {
     long = length-set (slice_set after hole pair) next free_pair ∙ length-set after hole pair ∙ taken.long;
     origin = origin;
     from = λ at found now. comes_from at found (filled_by at found now);
@@ -185,10 +153,10 @@ module _ {before after : List Pair} {place : ℕ} (taken : IsTaken before after 
   }
 
   -- from where each comes then
-  pub moved_here : taken_moves.origin hole ≡ taken.origin next
-  unfolding taken_moves
+  pub moved_here : removed_moves.origin hole ≡ taken.origin next
+  unfolding removed_moves
   moved_here = origin_here hole refl
 
-  pub moved_other : (at : ℕ) → at ≢ hole → taken_moves.origin at ≡ taken.origin at
-  unfolding taken_moves
+  pub moved_other : (at : ℕ) → at ≢ hole → removed_moves.origin at ≡ taken.origin at
+  unfolding removed_moves
   moved_other at other = origin_other at other

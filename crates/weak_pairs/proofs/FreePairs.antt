@@ -1,11 +1,11 @@
 -- Where fewer pairs than all hold something, one of them is free.
-use Rattle.std.proofs.Common.{◌≡◌, ℕ, suc, ◌<◌, List, [], ◌∷◌, length, Some, slice_get, not, Bool, true, false}
-use Rattle.std.proofs.Common.{refl, ◌∙◌, ap, arith, cond, ◌==◌, ◌&&◌}
+use Rattle.std.proofs.Common.{◌≡◌, ℕ, suc, ◌<◌, List, [], ◌∷◌, length, Some, slice_get, not, Bool, true, false, refl}
+use Rattle.std.proofs.Common.{◌∙◌, ap, arith, cond, ◌==◌, ◌&&◌}
 use Rattle.std.proofs.lemmas.Bool.{eqb-true, false≢true}
 use Rattle.std.proofs.lemmas.List.Sums.{sum_by-cons}
 use Rattle.heap_model.specs.Slots.{hole_word}
 use Rattle.heap_model.specs.Kinds.{Pair, free_pair, is_free_pair}
-use Rattle.ephemeron_table.proofs.CountedPairs.{count_filled, one_if}
+use Rattle.weak_pairs.proofs.CountedPairs.{count_filled, one_if}
 
 -- both words of a pair that counts as free are holes
 pub both_holes : (one two : Bool) (pair : Pair) → (pair.key == hole_word) ≡ one → (pair.value == hole_word) ≡ two

@@ -1,6 +1,5 @@
--- Where a pair is free, taking out goes round less than once, and what comes to stand below its place stood below it.
-use Rattle.std.proofs.Common.{◌≡◌, ◌≢◌, ℕ, ◌+◌, ◌<◌, inl, inr, List, Some, slice_get}
-use Rattle.std.proofs.Common.{sym, ◌∙◌, ap, arith}
+-- Where a pair is free, removing goes round less than once, and what comes to stand below its place stood below it.
+use Rattle.std.proofs.Common.{◌≡◌, ◌≢◌, ℕ, ◌+◌, ◌<◌, inl, inr, List, Some, slice_get, sym, ◌∙◌, ap, arith}
 use Rattle.std.specs.Prelude.{slice_set}
 use Rattle.std.proofs.lemmas.Bool.{cases_eq, cases_lt}
 use Rattle.std.proofs.lemmas.Option.{same_Some}
@@ -8,16 +7,15 @@ use Rattle.object_graph.proofs.Lists.{slice_get-set_other}
 use Rattle.linear_probing.specs.Tables.{place_after}
 use Rattle.linear_probing.proofs.Rounds.{place_after_none, place_after-place_after, same_steps, moves_stay_below}
 use Rattle.heap_model.specs.Kinds.{Pair, free_pair}
-use Rattle.ephemeron_table.specs.Pairs.{IsFilledAt}
-use Rattle.ephemeron_table.specs.Takings.{IsTaken}
-use Rattle.ephemeron_table.proofs.TakenPairs.{taken_begins, begins_origin, taken_moves, moved, moved_here}
-use Rattle.ephemeron_table.proofs.TakenPairs.{moved_other, filled_apart}
-use Rattle.ephemeron_table.proofs.TakenPairs.{filled_elsewhere}
+use Rattle.weak_pairs.specs.Pairs.{IsFilledAt}
+use Rattle.weak_pairs.specs.Removals.{IsRemoved}
+use Rattle.weak_pairs.proofs.Removals.{removed_begins, begins_origin, removed_moves, moved, moved_here, moved_other}
+use Rattle.weak_pairs.proofs.FilledPairs.{filled_apart, filled_elsewhere}
 
 -- A pair that was free stands so many steps behind the place, and taking out has not come there: pairs behind the hole
 -- stand where they stood, and what stands below the place stood below it.
 pub record IsFirstRound (capacity : ℕ) (before after : List Pair) (place hole passed distance : ℕ)
-    (taken : IsTaken before after place) : Type 0 where
+    (taken : IsRemoved before after place) : Type 0 where
   pub steps : ℕ
   pub few : steps + passed < distance
   pub at_hole : hole ≡ place_after capacity place steps
@@ -36,7 +34,7 @@ pub record IsFreeAfter (capacity : ℕ) (pairs : List Pair) (place distance : �
 -- so it begins
 pub round_begins : (capacity : ℕ) (before : List Pair) (place distance : ℕ) → place < capacity
     → IsFreeAfter capacity before place distance
-    → IsFirstRound capacity before (slice_set before place free_pair) place place 0 distance (taken_begins before place)
+    → IsFirstRound capacity before (slice_set before place free_pair) place place 0 distance (removed_begins before place)
 round_begins capacity before place distance within free = record {
   steps = 0;
   few = omega (arith, free.some);
@@ -50,7 +48,7 @@ round_begins capacity before place distance within free = record {
 }
 
 -- it goes on behind a pair that stays, and behind one that moves
-module _ {capacity : ℕ} {before after : List Pair} {place hole passed distance : ℕ} {taken : IsTaken before after place}
+module _ {capacity : ℕ} {before after : List Pair} {place hole passed distance : ℕ} {taken : IsRemoved before after place}
     (within : place < capacity) (free : IsFreeAfter capacity before place distance)
     (round : IsFirstRound capacity before after place hole passed distance taken) (next : ℕ) (pair : Pair)
     (next_is : next ≡ place_after capacity hole (passed + 1)) (there : slice_get after next ≡ Some pair)
@@ -86,8 +84,8 @@ module _ {capacity : ℕ} {before after : List Pair} {place hole passed distance
   }
 
   module _ (free_hole : slice_get after hole ≡ Some free_pair) (apart : hole ≢ next) where
-    abbrev now : IsTaken before (moved taken hole next pair free_hole there filled apart) place
-    now = taken_moves taken hole next pair free_hole there filled apart
+    abbrev now : IsRemoved before (moved taken hole next pair free_hole there filled apart) place
+    now = removed_moves taken hole next pair free_hole there filled apart
 
     -- a place further on is neither
     not_hole : (k : ℕ) → round.steps < k → k < capacity → place_after capacity place k ≢ hole
