@@ -2,7 +2,7 @@
 use Rattle.std.proofs.Common.{◌≡◌, ℕ, ◌+◌, ◌-◌, ◌<◌, sym, subst, arith}
 use Rattle.heap_table.specs.Seats.{heap_words}
 use Rattle.object_cells.specs.Made.{PutsWords}
-use Rattle.list_store.proofs.ListCells.{list_beside, count_within, store_has_room}
+use Rattle.object_cells.proofs.ListCells.{list_beside, count_within, store_has_room}
 use Rattle.array_trim.specs.TrimWords.{covered, truncated_words}
 use Rattle.array_trim.proofs.CoveredWords.{puts_none, puts_then, covers_then, marks_still}
 use Rattle.array_trim.proofs.OwnStores.{store_named, length_within}

@@ -1,7 +1,7 @@
 -- The length of a list is a word of its cell.
 use Rattle.std.proofs.Common.{arith}
-use Rattle.list_store.proofs.ListCells.{sound_at, count_within, count_read}
-use Rattle.list_store.proofs.elements.count_of.Goals as goal
+use Rattle.object_cells.proofs.ListCells.{sound_at, count_within, count_read}
+use Rattle.object_cells.proofs.lists.count_of.Goals as goal
 
 pub slot-requires-clause-within : goal.slot-requires-clause-within
 slot-requires-clause-within c = count_within c.requires.whole.whole c.requires.there
