@@ -73,4 +73,6 @@ pub mod KnownCells
 pub mod AnyCells
 pub mod Knowing
 pub mod KnowingStores
+pub mod Changes
 pub mod BetweenRuns
+pub mod ChangesEnd
