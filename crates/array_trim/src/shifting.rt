@@ -2,15 +2,13 @@
 ghost use Rattle.std.specs.Prelude.{◌≤◌};
 ghost use Rattle.object_graph.specs.Graphs.{Graph, ListObject};
 ghost use Rattle.write_barrier.specs.Mains.{MainShows};
-ghost use Rattle.object_cells.specs.ListObjects.{IsListAt, IsShownList};
-ghost use Rattle.list_store.specs.Pushes.{IsListReady};
+ghost use Rattle.object_cells.specs.ListObjects.{IsListAt, IsListReady, IsShownList};
 ghost use Rattle.array_trim.specs.TrimWords.{PutsShifted};
 ghost use Rattle.array_trim.specs.Trims.{ShiftsElements};
 
 use crate::cover::{LENGTH, cover};
 use crate::laws::laws_of_trims;
-use list_store::{COUNT, Range, count_of, place_of};
-use object_cells::{STORE_SLOT, store_of};
+use object_cells::{COUNT, Range, STORE_SLOT, count_of, place_of, store_of};
 use tagged_word::{Header, Word, shape};
 use write_barrier::Main;
 
@@ -27,17 +25,16 @@ fn shift_store(main: &mut Main, list: u32, count: u32, gone: u32)
     requires few { gone ≤ count }
     ensures { PutsShifted main.old main.new list count gone }
 {
-    // No address of a heap is past 32 bits.
-    let _regions = main.regions();
+    main.addresses_fit();
     let store = store_of(main, list);
     let start = store.at + gone;
     // The store may not be read by marking while it moves.
     main.blacken(store.at);
     main.made(start);
     main.set_header(start, STORE);
-    main.write(start + LENGTH, (store.capacity - gone) as u64);
+    main.write_slot(start, LENGTH, (store.capacity - gone) as u64);
     main.store(list, STORE_SLOT, Word::reference(start));
-    main.write(list + COUNT, (count - gone) as u64);
+    main.write_slot(list, COUNT, (count - gone) as u64);
     cover(main, store.at, gone);
 }
 
@@ -51,8 +48,7 @@ pub fn shift(main: &mut Main, list: u32, n: i64) -> Result<(), Range>
     ensures { (graph : Graph) (one : ListObject) → MainShows main.old graph
         → IsListAt main.old graph list one → ShiftsElements main.old main.new graph list one n result }
 {
-    // No address of a heap is past 32 bits.
-    let _regions = main.regions();
+    main.addresses_fit();
     laws_of_trims();
     let count = count_of(main, list);
     let Some(gone) = place_of(count + 1, n) else {

@@ -6,18 +6,19 @@ ghost use Rattle.object_graph.specs.Graphs.{Graph, ListObject};
 ghost use Rattle.object_graph.specs.Meaning.{list_most};
 ghost use Rattle.write_barrier.specs.Mains.{heap_of, MainShows};
 ghost use Rattle.object_cells.specs.HeldValues.{IsValueHeld};
-ghost use Rattle.object_cells.specs.ListObjects.{IsListAt};
+ghost use Rattle.object_cells.specs.ListObjects.{IsListAt, IsListReady};
 ghost use Rattle.object_cells.specs.Made.{RefusesRoom, content_need, beside_content, is_wide_held};
 ghost use Rattle.heap_model.specs.Needs.{grown_list, push_need_at};
-ghost use Rattle.list_store.specs.Pushes.{IsListReady, CanChange, PushesToStore, PushesToNewStore};
+ghost use Rattle.list_store.specs.Pushes.{CanChange, PushesToStore, PushesToNewStore};
 ghost use Rattle.list_store.specs.Pushes.{PushesAt};
 ghost use Rattle.list_store.specs.ListChanges.{IsShownSetting, PushesElement};
 
-use crate::elements::{COUNT, ELEMENTS_MOST, content_for, count_of, grown};
+use crate::elements::{ELEMENTS_MOST, content_for, grown};
 use crate::stop::PushStop;
 use handle_roots::Held;
 use object_cells::{
-    STORE_HEAD, STORE_SLOT, Store, begin_store, boxed_word, need_of, room_for, store_of,
+    COUNT, STORE_HEAD, STORE_SLOT, Store, begin_store, boxed_word, count_of, need_of, room_for,
+    store_of,
 };
 use tagged_word::Word;
 use write_barrier::{Main, NoRoom};
@@ -36,13 +37,11 @@ fn push_to_store(
     ensures refused { let need = content_need (beside_content value) in
         IfErr result (RefusesRoom main.old main.new need) }
 {
-    // No address of a heap is past 32 bits.
-    let _regions = main.regions();
     let content = content_for(value);
     let at = room_for(main, need_of(content))?;
     let word = boxed_word(main, content, at);
     main.store(store.at, STORE_HEAD + count, word);
-    main.write(list + COUNT, (count + 1) as u64);
+    main.write_slot(list, COUNT, (count + 1) as u64);
     Ok(())
 }
 
@@ -62,8 +61,7 @@ fn push_to_new_store(
         let need = words + content_need (beside_content value) in
         IfErr result (RefusesRoom main.old main.new need) }
 {
-    // No address of a heap is past 32 bits.
-    let _regions = main.regions();
+    main.addresses_fit();
     let content = content_for(value);
     let capacity = grown(count);
     let words = STORE_HEAD + capacity;
@@ -74,7 +72,7 @@ fn push_to_new_store(
     main.store(at, STORE_HEAD + count, word);
     main.made(at);
     main.store(list, STORE_SLOT, Word::reference(at));
-    main.write(list + COUNT, (count + 1) as u64);
+    main.write_slot(list, COUNT, (count + 1) as u64);
     Ok(())
 }
 
@@ -106,8 +104,7 @@ pub fn push(main: &mut Main, list: u32, value: Held) -> Result<(), PushStop>
         → IsListAt main.old graph list one → IsValueHeld main.old graph value what
         → PushesElement main.old main.new graph list one what result }
 {
-    // No address of a heap is past 32 bits.
-    let _regions = main.regions();
+    main.addresses_fit();
     let count = count_of(main, list);
     if count >= ELEMENTS_MOST {
         return Err(PushStop::ListFull);

@@ -2,8 +2,8 @@
 use Rattle.std.proofs.Common.{ℕ, ◌+◌, refl, sym, ◌∙◌, rules, arith}
 use Rattle.std.specs.Prelude.{FitsSigned}
 use Rattle.std.specs.Int.{w64}
-use Rattle.list_store.proofs.ListCells.{list_shown, shown_there, shown_ready, count_shown}
-use Rattle.list_store.proofs.ElementsRead.{place_below}
+use Rattle.object_cells.proofs.ListCells.{list_shown, shown_there, shown_ready, count_shown}
+use Rattle.object_cells.proofs.ElementsRead.{place_below}
 use Rattle.array_trim.proofs.TrimOutcomes.{number_named, some_shifted, none_shifted}
 use Rattle.array_trim.proofs.shifting.shift.Goals as goal
 
@@ -31,7 +31,7 @@ returns-then-gone-ne0 c graph one shows is =
       gone,
       number_named one c.count_of-count.result c.args.n c.place_of.result shows is c.count_of-count.ensures.counted
           fits c.place_of.ensures ∙ c.in-Some.is,
-      some_shifted one c.count_of-count.result gone c.laws_of_trims.ensures.shift c.regions-regions.ensures.within
+      some_shifted one c.count_of-count.result gone c.laws_of_trims.ensures.shift c.addresses_fit.ensures.within
           shows is counted (omega (arith, c.if-gone-ne0.true)) (omega (arith, within)) c.shift_store.ensures,
     )
 

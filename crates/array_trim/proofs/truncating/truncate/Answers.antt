@@ -2,8 +2,8 @@
 use Rattle.std.proofs.Common.{ℕ, ◌+◌, refl, sym, ◌∙◌, rules, arith}
 use Rattle.std.specs.Prelude.{FitsSigned}
 use Rattle.std.specs.Int.{w64}
-use Rattle.list_store.proofs.ListCells.{list_shown, shown_there, shown_ready, count_shown}
-use Rattle.list_store.proofs.ElementsRead.{place_below}
+use Rattle.object_cells.proofs.ListCells.{list_shown, shown_there, shown_ready, count_shown}
+use Rattle.object_cells.proofs.ElementsRead.{place_below}
 use Rattle.array_trim.proofs.TrimOutcomes.{number_named, some_truncated, none_truncated}
 use Rattle.array_trim.proofs.truncating.truncate.Goals as goal
 
@@ -32,7 +32,7 @@ returns-then-kept-count c graph one shows is =
       kept,
       number_named one c.count_of-count.result c.args.n c.place_of.result shows is c.count_of-count.ensures.counted
           fits c.place_of.ensures ∙ c.in-Some.is,
-      some_truncated one kept c.laws_of_trims.ensures.truncate c.regions-regions.ensures.within shows is
+      some_truncated one kept c.laws_of_trims.ensures.truncate c.addresses_fit.ensures.within shows is
           (omega (arith, counted, within, c.if-kept-count.true)) c.truncate_store.ensures,
     )
 

@@ -6,8 +6,8 @@ use Rattle.handle_roots.specs.Roots.{FitsHeld}
 use Rattle.write_barrier.specs.Mains.{heap_of}
 use Rattle.object_cells.proofs.HeldNeeds.{wide_is}
 use Rattle.heap_model.specs.Needs.{push_need_at}
-use Rattle.list_store.proofs.ListCells.{list_shown, shown_there, shown_ready, count_shown}
-use Rattle.list_store.proofs.ListChanging.{changing}
+use Rattle.object_cells.proofs.ListCells.{list_shown, shown_there, shown_ready, count_shown}
+use Rattle.object_cells.proofs.ListChanging.{changing}
 use Rattle.list_store.proofs.PushOutcomes.{has_pushed}
 use Rattle.list_store.proofs.pushing.push.Goals as goal
 
@@ -27,7 +27,7 @@ returns-in-Ok c graph one what shows is holds =
     let shown = list_shown shows is in
     let fits : FitsHeld c.args.value = search rules in
     let counted = c.count_of-count.ensures.counted ∙ count_shown shown in
-    has_pushed (changing c.args.value shows is holds fits) counted (omega (arith, counted)) c.regions-regions.ensures.within c.in-Ok.ensures.ok
+    has_pushed (changing c.args.value shows is holds fits) counted (omega (arith, counted)) c.addresses_fit.ensures.within c.in-Ok.ensures.ok
 
 pub returns-in-Err : goal.returns-in-Err
 returns-in-Err c graph one what shows is holds =

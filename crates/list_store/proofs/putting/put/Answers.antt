@@ -11,11 +11,11 @@ use Rattle.object_cells.proofs.NothingUsed.{room_for_none}
 use Rattle.object_cells.proofs.HeldNeeds.{new_value_held}
 use Rattle.object_cells.proofs.SlotBoxes.{lacks_need}
 use Rattle.object_cells.proofs.FilledSlots.{slot_filled, held_before, no_raw}
-use Rattle.list_store.proofs.ListCells.{list_shown, shown_there, shown_beside, shown_ready, count_shown}
-use Rattle.list_store.proofs.ListCells.{store_has_room}
-use Rattle.list_store.proofs.ElementsRead.{place_below, slot_read}
-use Rattle.list_store.proofs.Places.{index_named, place_stands}
-use Rattle.list_store.proofs.ListChanging.{changing}
+use Rattle.object_cells.proofs.ListCells.{list_shown, shown_there, shown_beside, shown_ready, count_shown}
+use Rattle.object_cells.proofs.ListCells.{store_has_room}
+use Rattle.object_cells.proofs.ElementsRead.{place_below, slot_read}
+use Rattle.object_cells.proofs.NamedPlaces.{index_named, place_stands}
+use Rattle.object_cells.proofs.ListChanging.{changing}
 use Rattle.list_store.proofs.PutOutcomes.{put_need, has_put}
 use Rattle.list_store.proofs.putting.put.Goals as goal
 
@@ -75,7 +75,7 @@ returns-in-Ok c graph one what shows is holds =
       has_put store place known c.store_of-store.ensures stands.below (omega (arith, below, counted))
           (omega (arith, counted, c.count_of.ensures.few))
           (omega (arith, counted, store_has_room store ready c.store_of-store.ensures))
-          c.regions-regions.ensures.within fills by,
+          c.addresses_fit.ensures.within fills by,
     )
 
 pub returns-in-Err : goal.returns-in-Err
@@ -96,7 +96,7 @@ returns-in-Err c graph one what shows is holds =
       place,
       index_named c.count_of.result c.args.index c.place_of.result shown c.count_of.ensures.counted index
           c.place_of.ensures ∙ c.in-Some.is,
-      lacks.0 ∙ put_need store place known c.store_of-store.ensures stands.below c.regions-regions.ensures.within,
+      lacks.0 ∙ put_need store place known c.store_of-store.ensures stands.below c.addresses_fit.ensures.within,
       lacks.1,
       c.in-Err.ensures.1,
     )
