@@ -1,6 +1,7 @@
 -- Steps of changes among a list of events: what they store, and that they spare what the mutator is done with.
 use Rattle.std.proofs.Common.{ℕ, suc, ◌+◌, ◌≡◌, ◌≢◌, ◌∙◌, ◌⊎◌, inl, inr, true, false, List, [], ◌∷◌, min, All}
-use Rattle.std.proofs.Common.{Contains, IsSomeAnd, get_or, length, slice_get, slice_set, Option, Some, None, refl, sym, ap, subst, arith}
+use Rattle.std.proofs.Common.{Contains, IsSomeAnd, get_or, length, slice_get, slice_set, Option, Some, None}
+use Rattle.std.proofs.Common.{refl, sym, ap, subst, arith}
 use Rattle.std.proofs.lemmas.List.Elements.{All-contains, All-head, All-tail}
 use Rattle.tagged_word.specs.declared.reading.Reading.{Reading}
 use Rattle.tagged_word.proofs.Cells.{some_same}
@@ -15,7 +16,8 @@ use Rattle.mark_world.specs.declared.world.World.{World}
 use Rattle.mark_world.specs.Pages.{cell_at, is_head_of, is_inside, page_end}
 use Rattle.mark_world.specs.Steps.{actor}
 use Rattle.mark_world.specs.Conditions.{AreSureAfter, MayMain}
-use Rattle.mark_world.specs.Moments.{Possible, PossibleStep, WerePossible, after, after_helper, after_main, after_return, after_step}
+use Rattle.mark_world.specs.Moments.{Possible, PossibleStep, WerePossible, after, after_helper, after_main}
+use Rattle.mark_world.specs.Moments.{after_return, after_step}
 use Rattle.mark_world.specs.Covering.{EachSlot, cell_of}
 use Rattle.mark_world.specs.Unfinished.{Spares, made_after, made_after_all}
 use Rattle.mark_laws.specs.Changes.{ApartIsSpared, LeavesDone, LiesApart, WordsAreStored, all_stored, steps_of, stored}
@@ -125,7 +127,8 @@ beside_no_slot world at a beside =
     let v = some_and (λ (cell : Reading). is_inside a (Some cell) at ≡ false) (cell_of world a) beside in
     each_slot world a (λ offset word. a + offset ≢ at) (λ cell e offset c same.
     let inside = slot_inside world a cell offset e c in
-    let is : is_inside a (Some cell) at ≡ true = in_cell a cell at (omega (arith, same)) (omega (arith, same, inside.1)) in
+    let is : is_inside a (Some cell) at ≡ true =
+    in_cell a cell at (omega (arith, same)) (omega (arith, same, inside.1)) in
     let one : v.0 ≡ cell = some_same v.1 e in
     let both : true ≡ false = sym is ∙ ap (λ (r : Reading). is_inside a (Some r) at) (sym one) ∙ v.2 in
     absurd (cc))
@@ -176,7 +179,8 @@ main_apart : (world : World) (made : List ℕ) (of : Event) (at : ℕ)
     → MayMain world.old world.words world.layouts world.main of → LeavesDone world made of → LiesApart world made at
     → LiesApart (after_main world of) (made_after made of) at
 main_apart world made (event.StoreSlot place word) at may leaves apart =
-    store_apart world (after_main world (event.StoreSlot place word)) made place word at refl refl refl refl leaves apart
+    store_apart world (after_main world (event.StoreSlot place word)) made place word at refl refl refl refl leaves
+    apart
 main_apart world made (event.StoreOwned place word) at may leaves apart =
     store_apart world (after_main world (event.StoreOwned place word)) made place word at refl refl refl refl leaves
     apart

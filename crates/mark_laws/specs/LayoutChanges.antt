@@ -35,9 +35,9 @@ store_filled store header words =
 -- A change of a cell's layout. A field more: the property store of a cell is made, with the field in it, and the cell
 -- gets a header. Small to wide: an integer goes into a slot of a cell, which gets a header. A field less: words move in
 -- a cell and its store, and the cell gets a header. A left trim: a list's store begins later, at a new start with a
--- header, a capacity and the list's length, and words of a free cell go over the old start. A right trim: the store gets a capacity, the list
--- a length, and a free cell stands behind. A list's store grows: one is made, with one element more, and the list gets a
--- length.
+-- header, a capacity and the list's length, and words of a free cell go over the old start. A right trim: the store
+-- gets a capacity, the list a length, and a free cell stands behind. A list's store grows: one is made, with one
+-- element more, and the list gets a length.
 pub data Change : Type 0 where
   field_more : (cell store store_header : ℕ) → (words : List ℕ) → (header : ℕ) → Change
   small_to_wide : (cell slot integer header : ℕ) → Change

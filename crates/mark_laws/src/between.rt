@@ -5,7 +5,8 @@ ghost use Rattle.mark_laws.specs.Growing.{ListsGrow, ListsGrowAlong, MomentsGrow
 ghost use Rattle.mark_laws.specs.Growing.{LendCounts, ReturnCounts, OthersKeepCount, NoneIsZero};
 ghost use Rattle.mark_laws.specs.Knowing.{NoneMadeIsKnown, MoreMayBeUnknown, KnownLeaves, RootsMayChange};
 ghost use Rattle.mark_laws.specs.Knowing.{YoungMayJoin, KnownAlong, KnownStays};
-ghost use Rattle.mark_laws.specs.Settling.{AllDoneLeave, NoneMadeIsSettled, NoneOwedIsSettled, MoreMayBeMade, DoneLeaves};
+ghost use Rattle.mark_laws.specs.Settling.{AllDoneLeave, DoneLeaves, MoreMayBeMade, NoneMadeIsSettled};
+ghost use Rattle.mark_laws.specs.Settling.{NoneOwedIsSettled};
 ghost use Rattle.mark_laws.specs.Settling.{PaidLeaves, SettlingAlong, SettlingStays, SettledStays, ShadesSettle};
 ghost use Rattle.mark_laws.specs.Settling.{StepsSettle};
 
