@@ -1,8 +1,8 @@
--- Steps of changes among a list of events: what they store, and that they spare what the mutator is done with.
-use Rattle.std.proofs.Common.{ℕ, suc, ◌+◌, ◌≡◌, ◌≢◌, ◌∙◌, ◌⊎◌, inl, inr, true, false, List, [], ◌∷◌, min, All}
+-- Steps of changes that leave alone what the mutator was done with spare it at their moments.
+use Rattle.std.proofs.Common.{ℕ, suc, ◌+◌, ◌≡◌, ◌≢◌, ◌∙◌, ◌⊎◌, inl, inr, true, false, List, [], ◌∷◌, min}
 use Rattle.std.proofs.Common.{Contains, IsSomeAnd, get_or, length, slice_get, slice_set, Option, Some, None}
 use Rattle.std.proofs.Common.{refl, sym, ap, subst, arith}
-use Rattle.std.proofs.lemmas.List.Elements.{All-contains, All-head, All-tail}
+use Rattle.std.proofs.lemmas.List.Elements.{All-contains}
 use Rattle.tagged_word.specs.declared.reading.Reading.{Reading}
 use Rattle.tagged_word.proofs.Cells.{some_same}
 use Rattle.tagged_word.proofs.Members.{first_in, rest_in}
@@ -19,89 +19,17 @@ use Rattle.mark_world.specs.Conditions.{AreSureAfter, MayMain}
 use Rattle.mark_world.specs.Moments.{Possible, PossibleStep, WerePossible, after, after_helper, after_main}
 use Rattle.mark_world.specs.Moments.{after_return, after_step}
 use Rattle.mark_world.specs.Covering.{EachSlot, cell_of}
-use Rattle.mark_world.specs.Unfinished.{Spares, made_after, made_after_all}
-use Rattle.mark_laws.specs.Changes.{ApartIsSpared, LeavesDone, LiesApart, WordsAreStored, all_stored, steps_of, stored}
+use Rattle.mark_world.specs.Unfinished.{Spares, made_after}
+use Rattle.mark_laws.specs.Changes.{ApartIsSpared, LeavesDone, LiesApart, steps_of}
 use Rattle.mark_laws.proofs.Cells.{layout_keeps}
 use Rattle.mark_laws.proofs.Joins.{all_from, joins, some_and}
-use Rattle.mark_laws.proofs.SamePages.{SamePages, helper_pages, return_pages, same_cells}
+use Rattle.mark_laws.proofs.SamePages.{SamePages, helper_pages, same_cells}
 use Rattle.mark_laws.proofs.Settling.{EachBut, each_but, each_but_more, store_cell}
 use Rattle.mark_laws.proofs.SettlingSteps.{made_stays}
 use Rattle.mark_laws.proofs.Slots.{each_slot, outside_no_head, slot_inside}
 use Rattle.mark_laws.proofs.Stores.{in_cell}
 use Rattle.mark_laws.proofs.Sureness.{helper_main}
-
--- a step of the mutator stores what it says
-main_stores : (world : World) (of : Event) → (after_main world of).words ≡ stored world.words of
-main_stores world (event.StoreSlot at word) = refl
-main_stores world _ = refl
-
--- no other event stores a word
-other_stores : (words : List ℕ) (of : Event) (by : Actor) → actor of ≡ by → (by ≡ Actor.Mutator → ⊥)
-    → stored words of ≡ words
-other_stores words (event.StoreSlot at word) by is other = absurd (other (sym is))
-other_stores words (event.StoreOwned at word) by is other = absurd (other (sym is))
-other_stores words (event.StoreHeader at word) by is other = absurd (other (sym is))
-other_stores words _ by is other = refl
-
--- each event stores what it says
-step_stores : (world : World) (of : Event) (by : Actor) → actor of ≡ by
-    → (after_step world of by).words ≡ stored world.words of
-step_stores world of Actor.Mutator is = main_stores world of
-step_stores world of (Actor.Helper number) is =
-    (helper_pages world number of (slice_get world.helpers number)).words
-    ∙ sym (other_stores world.words of (Actor.Helper number) is (λ e. absurd (cc)))
-step_stores world of Actor.Lends is = sym (other_stores world.words of Actor.Lends is (λ e. absurd (cc)))
-step_stores world of (Actor.Returns number) is =
-    (return_pages world number (slice_get world.helpers number)).words
-    ∙ sym (other_stores world.words of (Actor.Returns number) is (λ e. absurd (cc)))
-
--- an event that is no step of a change stores nothing
-stored_first : (words : List ℕ) (of : Event) (rest : List Event)
-    → all_stored words (steps_of (of ∷ rest)) ≡ all_stored (stored words of) (steps_of rest)
-stored_first words (event.StoreSlot at word) rest = refl
-stored_first words _ rest = refl
-
--- the words of a world change by the steps of changes alone
-pub words_are_stored : WordsAreStored
-words_are_stored world [] = refl
-words_are_stored world (of ∷ rest) =
-    words_are_stored (after world of) rest
-    ∙ ap (λ (words : List ℕ). all_stored words (steps_of rest)) (step_stores world of (actor of) refl)
-    ∙ sym (stored_first world.words of rest)
-
--- an event that is no step of a change makes no cell
-made_first : (made : List ℕ) (of : Event) (rest : List Event)
-    → made_after_all made (steps_of (of ∷ rest)) ≡ made_after_all (made_after made of) (steps_of rest)
-made_first made (event.NewBlack at) rest = refl
-made_first made _ rest = refl
-
--- the cells that are made come by the steps alone
-pub made_by_steps : (made : List ℕ) (events : List Event)
-    → made_after_all made (steps_of events) ≡ made_after_all made events
-made_by_steps made [] = refl
-made_by_steps made (of ∷ rest) = made_first made of rest ∙ made_by_steps (made_after made of) rest
-
--- what is no step leaves alone what the mutator is done with
-step_leaves : (world : World) (made : List ℕ) (of : Event) (rest : List Event)
-    → All (LeavesDone world made) (steps_of (of ∷ rest))
-    → LeavesDone world made of × All (LeavesDone world made) (steps_of rest)
-step_leaves world made (event.StoreSlot at word) rest each =
-    let of : Event = event.StoreSlot at word in
-    (All-head (LeavesDone world made) of (steps_of rest) each, All-tail (LeavesDone world made) of (steps_of rest) each)
-step_leaves world made (event.StoreOwned at word) rest each =
-    let of : Event = event.StoreOwned at word in
-    (All-head (LeavesDone world made) of (steps_of rest) each, All-tail (LeavesDone world made) of (steps_of rest) each)
-step_leaves world made (event.StoreHeader at word) rest each =
-    let of : Event = event.StoreHeader at word in
-    (All-head (LeavesDone world made) of (steps_of rest) each, All-tail (LeavesDone world made) of (steps_of rest) each)
-step_leaves world made (event.AddLayout shape word) rest each =
-    (tt, All-tail (LeavesDone world made) (event.AddLayout shape word) (steps_of rest) each)
-step_leaves world made (event.Blacken at) rest each =
-    let of : Event = event.Blacken at in
-    (All-head (LeavesDone world made) of (steps_of rest) each, All-tail (LeavesDone world made) of (steps_of rest) each)
-step_leaves world made (event.NewBlack at) rest each =
-    (tt, All-tail (LeavesDone world made) (event.NewBlack at) (steps_of rest) each)
-step_leaves world made _ rest each = (tt, each)
+use Rattle.mark_laws.proofs.ChangeSteps.{step_leaves}
 
 -- a cell is read, and a word lies outside
 abbrev IsBeside : World → ℕ → ℕ → Type 0

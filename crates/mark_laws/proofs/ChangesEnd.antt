@@ -18,7 +18,8 @@ use Rattle.mark_world.specs.Unfinished.{HasSureOrOwed, IsSureOrOwed, SettledBut,
 use Rattle.mark_laws.specs.Changes.{ChangesKeep, ChangesSettle, HasEnded, LeavesDone, StoredIsSure, steps_of}
 use Rattle.mark_laws.specs.LayoutChanges.{LayoutChangesSettle, changed}
 use Rattle.mark_laws.proofs.BetweenRuns.{settling_along}
-use Rattle.mark_laws.proofs.Changes.{apart_is_spared, made_by_steps}
+use Rattle.mark_laws.proofs.ChangeSteps.{made_by_steps}
+use Rattle.mark_laws.proofs.Changes.{apart_is_spared}
 use Rattle.mark_laws.proofs.Joins.{all_from, all_keep, joined_by_keeps}
 use Rattle.mark_laws.proofs.RestartSettles.{all_done_leave}
 use Rattle.mark_laws.proofs.Settled.{done_settling, either_is_sure, more_may_be_made, settling_done}

@@ -1,4 +1,5 @@
-use Rattle.mark_laws.proofs.Changes.{apart_is_spared, words_are_stored}
+use Rattle.mark_laws.proofs.ChangeSteps.{words_are_stored}
+use Rattle.mark_laws.proofs.Changes.{apart_is_spared}
 use Rattle.mark_laws.proofs.ChangesEnd.{changes_keep, changes_settle, layout_changes_settle, stored_is_sure}
 use Rattle.mark_laws.proofs.between.laws_of_changes.Goals as goal
 
