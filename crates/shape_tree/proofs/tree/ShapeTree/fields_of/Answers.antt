@@ -2,7 +2,7 @@
 use Rattle.std.proofs.Common.{subst}
 use Rattle.shape_tree.specs.Shapes.{AreShapes}
 use Rattle.shape_tree.proofs.HeldNodes.{shape_path_is}
-use Rattle.shape_tree.proofs.tree.ShapeTree.row.Goals as goal
+use Rattle.shape_tree.proofs.tree.ShapeTree.fields_of.Goals as goal
 
 pub returns-clause-is : goal.returns-clause-is
 returns-clause-is c =

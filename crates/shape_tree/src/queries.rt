@@ -11,31 +11,8 @@ ghost use Rattle.shape_tree.specs.Nodes.{IsNodeOf};
 use crate::node::Node;
 use crate::tree::{FIRST, ShapeTree};
 use object_graph::PathField;
-use tagged_word::{Kind, LayoutWord};
-
-/// The layout of the cells of a fixed shape.
-fn fixed_layout(shape: u32) -> LayoutWord
-    requires from { 1 ≤ shape }
-    requires below { shape < FIRST }
-    ensures word { layout_bits result ≡ shape + 1 }
-    ensures is { IsLayout result }
-{
-    let kind = match shape {
-        1 => Kind::List,
-        2 => Kind::Weak,
-        3 => Kind::Store,
-        4 => Kind::Table,
-        5 => Kind::Boxed,
-        6 => Kind::Filler,
-        _ => Kind::Gap,
-    };
-    LayoutWord {
-        kind,
-        cap: 0,
-        used: 0,
-        raw: 0,
-    }
-}
+use tagged_word::LayoutWord;
+use tagged_word::shape::fixed_layout;
 
 impl ShapeTree {
     /// How many paths there are: at most 8,192. Their shapes are the numbers from 8 on.
@@ -66,13 +43,13 @@ impl ShapeTree {
 
     /// The fields of a path's shape.
     #[inline(always)]
-    pub(crate) fn row(&self, shape: u32) -> &[PathField]
+    pub(crate) fn fields_of(&self, shape: u32) -> &[PathField]
         requires { IsPathShape self.now shape }
-        ensures row { result.now ≡ (shape_path self.now shape).fields }
+        ensures fields { result.now ≡ (shape_path self.now shape).fields }
         ensures is { IsPath (shape_path self.now shape) }
     {
         let node = self.nodes[(shape - FIRST) as usize];
-        &self.rows[node.start as usize..(node.start + node.count) as usize]
+        &self.fields[node.start as usize..(node.start + node.count) as usize]
     }
 
     /// The shape of the path of no field and this cap.
@@ -114,10 +91,9 @@ impl ShapeTree {
         ensures of_path { IsPathShape self.now shape
             → result ≡ layout_of (shape_path self.now shape) }
     {
-        if shape < FIRST {
-            fixed_layout(shape)
-        } else {
-            self.node(shape).layout
+        match fixed_layout(shape) {
+            Some(layout) => layout,
+            None => self.node(shape).layout,
         }
     }
 
@@ -128,7 +104,7 @@ impl ShapeTree {
         requires there { at < length (shape_path self.now shape).fields }
         ensures { slice_get (shape_path self.now shape).fields at ≡ Some result }
     {
-        self.row(shape)[at as usize]
+        self.fields_of(shape)[at as usize]
     }
 
     /// The place of the field of this name in the path of a shape.
@@ -140,7 +116,7 @@ impl ShapeTree {
             option_map (λ field. field.name) (slice_get fields at) ≡ Some name) }
         ensures none { IsNone result ↔ (has_name (shape_path self.now shape) name ≡ false) }
     {
-        for (at, field) in self.row(shape).iter().enumerate() {
+        for (at, field) in self.fields_of(shape).iter().enumerate() {
             if field.name == name {
                 return Some(at as u32);
             }
