@@ -24,8 +24,8 @@ use Rattle.object_cells.proofs.OwnPlaces.{has_own_words}
 use Rattle.object_cells.proofs.SlotPlaces.{one_beside}
 use Rattle.object_cells.proofs.StoresRead.{IsFoundStore, found_store}
 use Rattle.object_cells.proofs.WordsTold.{cell_fits}
-use Rattle.list_store.proofs.ListCells.{ListShown, list_shown}
-use Rattle.list_store.proofs.ListChanging.{list_is_no_store}
+use Rattle.object_cells.proofs.ListCells.{ListShown, list_shown}
+use Rattle.object_cells.proofs.ListChanging.{list_is_no_store}
 use Rattle.array_trim.specs.TrimWords.{HasStoreAt}
 
 -- A list is shown, and its store of so many slots stands at the address.

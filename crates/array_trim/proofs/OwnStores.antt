@@ -7,8 +7,8 @@ use Rattle.write_barrier.specs.Mains.{Mutator, heap_of}
 use Rattle.object_cells.specs.declared.stores.Store.{Store}
 use Rattle.object_cells.specs.Made.{IsStoreAt}
 use Rattle.object_cells.proofs.CellsRead.{word_stands}
-use Rattle.list_store.specs.Pushes.{IsListReady}
-use Rattle.list_store.proofs.ListCells.{sound_at, store_has_room}
+use Rattle.object_cells.specs.ListObjects.{IsListReady}
+use Rattle.object_cells.proofs.ListCells.{sound_at, store_has_room}
 use Rattle.array_trim.specs.TrimWords.{HasStoreAt}
 
 -- a store that has a slot is the one to which the list's cell refers

@@ -12,8 +12,8 @@ use Rattle.object_graph.specs.Meaning.{below}
 use Rattle.heap_model.specs.Needs.{capacity_at, count_at}
 use Rattle.write_barrier.specs.Mains.{Mutator, heap_of, MainShows}
 use Rattle.object_cells.specs.ListObjects.{IsListAt}
-use Rattle.list_store.proofs.ListCells.{list_shown, count_shown}
-use Rattle.list_store.proofs.Places.{named_below}
+use Rattle.object_cells.proofs.ListCells.{list_shown, count_shown}
+use Rattle.object_cells.proofs.NamedPlaces.{named_below}
 use Rattle.array_trim.specs.TrimLaws.{ShiftedListShows, TruncatedListShows}
 use Rattle.array_trim.specs.TrimWords.{PutsShifted, PutsTruncated}
 use Rattle.array_trim.specs.Trims.{HasTrimmed, HasShifted, HasTruncated}

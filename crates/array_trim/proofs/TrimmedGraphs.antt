@@ -25,7 +25,7 @@ use Rattle.object_cells.proofs.NothingUsed.{uses_none}
 use Rattle.object_cells.proofs.NewElements.{elements_are_new}
 use Rattle.object_cells.proofs.RefilledLists.{links_reached}
 use Rattle.object_cells.proofs.ReplacedObjects.{ReplacesCells, replaced_shows}
-use Rattle.list_store.proofs.ListCells.{ListShown}
+use Rattle.object_cells.proofs.ListCells.{ListShown}
 use Rattle.array_trim.specs.Trims.{HasTrimmed}
 use Rattle.array_trim.proofs.TrimmedCells.{Trimming, trimmed_cells}
 use Rattle.array_trim.proofs.TrimmedSlots.{went_object}

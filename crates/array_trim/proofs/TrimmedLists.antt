@@ -25,7 +25,7 @@ use Rattle.object_cells.proofs.OwnCells.{list_size}
 use Rattle.object_cells.proofs.OwnWritings.{store_is_sound}
 use Rattle.object_cells.proofs.SlotPlaces.{one_beside}
 use Rattle.object_cells.proofs.SlotsNow.{word_at_offset}
-use Rattle.list_store.proofs.ListChanging.{slot_few}
+use Rattle.object_cells.proofs.ListChanging.{slot_few}
 use Rattle.array_trim.proofs.TrimmedCells.{IsFreeCell, Trimming, list_now, store_now}
 use Rattle.array_trim.proofs.TrimmedSlots.{is_object, came_cases, came_object, went_no_box, objects_stay}
 use Rattle.array_trim.proofs.TrimmedSlots.{places_are_kept}

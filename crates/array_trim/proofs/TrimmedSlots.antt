@@ -29,7 +29,7 @@ use Rattle.object_cells.proofs.ListSlots.{element_of_number}
 use Rattle.object_cells.proofs.NumberedSlots.{SlotOfNumber, is_store_of}
 use Rattle.object_cells.proofs.OwnCells.{list_size}
 use Rattle.object_cells.proofs.SlotsNow.{word_at_offset}
-use Rattle.list_store.proofs.ListChanging.{slot_stands, slot_few}
+use Rattle.object_cells.proofs.ListChanging.{slot_stands, slot_few}
 use Rattle.array_trim.proofs.TrimmedCells.{IsFreeCell, Trimming, trimmed_cells, list_now, store_now}
 
 -- a free cell is no object's

@@ -10,7 +10,7 @@ use Rattle.heap_model.specs.Needs.{capacity_at, count_at}
 use Rattle.write_barrier.specs.Mains.{Mutator, heap_of, MainShows}
 use Rattle.object_cells.specs.Uses.{UsesMore}
 use Rattle.object_cells.specs.Capacities.{ChangesObject}
-use Rattle.list_store.specs.declared.stop.Range.{Range}
+use Rattle.object_cells.specs.declared.lists.Range.{Range}
 use Rattle.array_trim.specs.TrimWords.{PutsShifted, PutsTruncated}
 
 -- The heap shows the graph in which the list at the address has these elements. Only words of the list change, its

@@ -14,6 +14,5 @@ mod shifting;
 mod truncating;
 
 pub use laws::laws_of_trims;
-pub use list_store::Range;
 pub use shifting::shift;
 pub use truncating::truncate;

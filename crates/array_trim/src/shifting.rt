@@ -2,15 +2,13 @@
 ghost use Rattle.std.specs.Prelude.{◌≤◌};
 ghost use Rattle.object_graph.specs.Graphs.{Graph, ListObject};
 ghost use Rattle.write_barrier.specs.Mains.{MainShows};
-ghost use Rattle.object_cells.specs.ListObjects.{IsListAt, IsShownList};
-ghost use Rattle.list_store.specs.Pushes.{IsListReady};
+ghost use Rattle.object_cells.specs.ListObjects.{IsListAt, IsListReady, IsShownList};
 ghost use Rattle.array_trim.specs.TrimWords.{PutsShifted};
 ghost use Rattle.array_trim.specs.Trims.{ShiftsElements};
 
 use crate::cover::{LENGTH, cover};
 use crate::laws::laws_of_trims;
-use list_store::{COUNT, Range, count_of, place_of};
-use object_cells::{STORE_SLOT, store_of};
+use object_cells::{COUNT, Range, STORE_SLOT, count_of, place_of, store_of};
 use tagged_word::{Header, Word, shape};
 use write_barrier::Main;
 

@@ -2,15 +2,13 @@
 ghost use Rattle.std.specs.Prelude.{◌<◌};
 ghost use Rattle.object_graph.specs.Graphs.{Graph, ListObject};
 ghost use Rattle.write_barrier.specs.Mains.{MainShows};
-ghost use Rattle.object_cells.specs.ListObjects.{IsListAt, IsShownList};
-ghost use Rattle.list_store.specs.Pushes.{IsListReady};
+ghost use Rattle.object_cells.specs.ListObjects.{IsListAt, IsListReady, IsShownList};
 ghost use Rattle.array_trim.specs.TrimWords.{PutsTruncated};
 ghost use Rattle.array_trim.specs.Trims.{TruncatesElements};
 
 use crate::cover::{LENGTH, cover};
 use crate::laws::laws_of_trims;
-use list_store::{COUNT, Range, count_of, place_of};
-use object_cells::{STORE_HEAD, store_of};
+use object_cells::{COUNT, Range, STORE_HEAD, count_of, place_of, store_of};
 use write_barrier::Main;
 
 // The store of the list has so many slots. The words behind them are free.

@@ -46,7 +46,7 @@ use Rattle.object_cells.proofs.OwnerWrites.{list_owns}
 use Rattle.object_cells.proofs.RefilledLists.{written_elements_show}
 use Rattle.object_cells.proofs.SlotBoxes.{IsBoxOf}
 use Rattle.object_cells.proofs.StoresRead.{StoredAt}
-use Rattle.list_store.proofs.ListChanging.{Changing, Elements, changing_store, store_is_no_box, slot_stands, slot_few}
+use Rattle.object_cells.proofs.ListChanging.{Changing, Elements, changing_store, store_is_no_box, slot_stands, slot_few}
 
 module _ {old new : Mutator} {graph : Graph} {at slot count : ℕ} {list : ListObject} {value : Held} {what : Value}
     {store : Store} (w : ℕ) {box : ℕ} {v : ℤ} (known : Changing old graph at list value what)

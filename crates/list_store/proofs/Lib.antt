@@ -1,9 +1,5 @@
-pub mod ListCells
 mod PushNeeds
-pub mod ElementsRead
-pub mod Places
 mod ElementValues
-pub mod ListChanging
 mod SlotWords
 mod WrittenSlots
 mod NewStoreWords

@@ -33,7 +33,7 @@ use Rattle.object_cells.proofs.StoreWords.{empty_store_hole}
 use Rattle.object_cells.proofs.UnusedWords.{next_before_segments, cell_is_used}
 use Rattle.object_cells.proofs.OwnPuts.{PutsOwn, own_sized, own_writes, box_put}
 use Rattle.list_store.specs.Pushes.{with_count, CanChange, PushesToNewStore}
-use Rattle.list_store.proofs.ListChanging.{Changing, list_word}
+use Rattle.object_cells.proofs.ListChanging.{Changing, list_word}
 
 -- A value comes behind the elements of a list, to a store that is made for it.
 pub record StoreWriting (old new : Mutator) (graph : Graph) (at count : ℕ) (list : ListObject) (value : Held)

@@ -20,7 +20,7 @@ use Rattle.heap_model.specs.Needs.{count_at, grown_list, push_need_at}
 use Rattle.list_store.specs.ListChanges.{HasPushed}
 use Rattle.list_store.specs.Pushes.{PushesAt}
 use Rattle.list_store.proofs.PushNeeds.{need_to_store, need_to_new_store}
-use Rattle.list_store.proofs.ListChanging.{Changing, Elements}
+use Rattle.object_cells.proofs.ListChanging.{Changing, Elements}
 use Rattle.list_store.proofs.WrittenSlots.{slot_shown, slot_keeps}
 use Rattle.list_store.proofs.PushedToNewStore.{to_new_store_shown, to_new_store_becomes}
 

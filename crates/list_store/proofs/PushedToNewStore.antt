@@ -52,7 +52,7 @@ use Rattle.object_cells.proofs.WrittenPlaces.{object_places_stay}
 use Rattle.object_cells.proofs.OwnerWrites.{written_list_keeps_cells, writes_own, list_owns}
 use Rattle.list_store.specs.Pushes.{CanChange, PushesToNewStore}
 use Rattle.list_store.proofs.ElementValues.{element_comes}
-use Rattle.list_store.proofs.ListChanging.{Changing, changing_store, store_is_no_box, slot_stands, slot_few, list_word}
+use Rattle.object_cells.proofs.ListChanging.{Changing, changing_store, store_is_no_box, slot_stands, slot_few, list_word}
 use Rattle.list_store.proofs.NewStoreWords as of_store
 use Rattle.list_store.proofs.NewStoreWords.{StoreWriting}
 

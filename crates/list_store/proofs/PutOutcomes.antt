@@ -42,8 +42,8 @@ use Rattle.object_cells.proofs.NothingUsed.{room_for_none}
 use Rattle.list_store.specs.ListChanges.{HasPut}
 use Rattle.list_store.specs.Pushes.{WritesSlot}
 use Rattle.list_store.proofs.BoxedElements.{box_shown, box_keeps, same_young}
-use Rattle.list_store.proofs.ElementsRead.{SlotRead, slot_read}
-use Rattle.list_store.proofs.ListChanging.{Changing, Elements, list_is_no_store}
+use Rattle.object_cells.proofs.ElementsRead.{SlotRead, slot_read}
+use Rattle.object_cells.proofs.ListChanging.{Changing, Elements, list_is_no_store}
 use Rattle.list_store.proofs.WrittenSlots.{slot_shown, slot_keeps}
 
 -- one element in the place of another

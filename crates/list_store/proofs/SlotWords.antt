@@ -24,7 +24,7 @@ use Rattle.object_cells.proofs.OwnPlaces.{has_own_words}
 use Rattle.object_cells.proofs.OwnPuts.{PutsOwn, not_reserved, own_sized, own_writes, one_beside, box_put}
 use Rattle.object_cells.proofs.StoresRead.{StoredAt}
 use Rattle.list_store.specs.Pushes.{WritesSlot, with_count}
-use Rattle.list_store.proofs.ListChanging.{Changing, changing_store, list_is_no_store, list_word}
+use Rattle.object_cells.proofs.ListChanging.{Changing, changing_store, list_is_no_store, list_word}
 
 -- A value comes to a slot that the store of a list has.
 pub record SlotWriting (old new : Mutator) (graph : Graph) (at slot count : ℕ) (list : ListObject) (value : Held)

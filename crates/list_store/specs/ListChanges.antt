@@ -24,7 +24,7 @@ use Rattle.list_store.specs.declared.stop.PushStop.{PushStop}
 use Rattle.list_store.specs.declared.stop.PushStop.TheVariants as push
 use Rattle.list_store.specs.declared.stop.PutStop.{PutStop}
 use Rattle.list_store.specs.declared.stop.PutStop.TheVariants as put
-use Rattle.list_store.specs.declared.stop.Range.{Range}
+use Rattle.object_cells.specs.declared.lists.Range.{Range}
 
 -- The heap shows a graph whose list of some number stands at the address, and what is held shows a value of it.
 pub record IsShownSetting (main : Mutator) (at : ℕ) (held : Held) : Type 0 where

@@ -1,38 +1,20 @@
 -- How a value comes behind the elements of a list, or in place of one: which words that puts.
 use Rattle.std.specs.Prelude.{◌≡◌, ℕ, ◌+◌, ◌<◌, List, slice_set}
-use Rattle.tagged_word.specs.declared.layout.Kind.TheVariants as kind
 use Rattle.tagged_word.specs.Cells.{store_head, store_slot}
 use Rattle.nursery.specs.Young.{HasRoom}
-use Rattle.cell_layout.specs.declared.cell.Cell.{Cell}
 use Rattle.handle_roots.specs.declared.held.Held.{Held}
 use Rattle.heap_table.specs.Seats.{heap_words}
-use Rattle.heap_model.specs.Heaps.{Heap, HasCell}
 use Rattle.heap_model.specs.Slots.{reference_word}
 use Rattle.heap_model.specs.Kinds.{count_offset}
-use Rattle.write_barrier.specs.Mains.{Mutator, heap_of, IsTied, reserved}
+use Rattle.write_barrier.specs.Mains.{Mutator, heap_of, reserved}
 use Rattle.object_cells.specs.declared.stores.Store.{Store}
-use Rattle.object_cells.specs.CellsAt.{IsWhole}
+use Rattle.object_cells.specs.ListObjects.{IsListReady}
 use Rattle.object_cells.specs.Contents.{next_at}
 use Rattle.object_cells.specs.Made.{PutsWords, IsStoreAt, begun_store, with_content, content_need, content_word}
 use Rattle.object_cells.specs.Made.{beside_content}
-use Rattle.heap_model.specs.Needs.{count_at, grown_list}
+use Rattle.heap_model.specs.Needs.{grown_list}
 
--- a list's cell stands at the address
-pub record IsListCellAt (heap : Heap) (at : ℕ) : Type 0 where
-  pub cell : Cell
-  pub words : List ℕ
-  pub has : HasCell heap cell words
-  pub stands : cell.at ≡ at
-  pub of_kind : cell.layout.kind ≡ kind.List
-
--- The elements of the list at the address, which are so many, may change.
-pub record IsListReady (main : Mutator) (list count : ℕ) : Type 0 where
-  pub tied : IsTied main
-  pub whole : IsWhole main
-  pub there : IsListCellAt (heap_of main) list
-  pub counted : count_at (heap_of main) list ≡ count
-
--- and they stand in this store
+-- The elements of the list at the address, which are so many, may change, and stand in this store.
 pub record CanChange (main : Mutator) (list count : ℕ) (store : Store) : Type 0 where
   pub ready : IsListReady main list count
   pub is : IsStoreAt (heap_of main) list store

@@ -13,8 +13,7 @@ mod putting;
 mod stop;
 mod telling;
 
-pub use elements::{COUNT, count_of, place_of};
 pub use pushing::push;
 pub use putting::put;
-pub use stop::{PushStop, PutStop, Range};
+pub use stop::{PushStop, PutStop};
 pub use telling::at;

@@ -6,18 +6,19 @@ ghost use Rattle.object_graph.specs.Graphs.{Graph, ListObject};
 ghost use Rattle.object_graph.specs.Meaning.{list_most};
 ghost use Rattle.write_barrier.specs.Mains.{heap_of, MainShows};
 ghost use Rattle.object_cells.specs.HeldValues.{IsValueHeld};
-ghost use Rattle.object_cells.specs.ListObjects.{IsListAt};
+ghost use Rattle.object_cells.specs.ListObjects.{IsListAt, IsListReady};
 ghost use Rattle.object_cells.specs.Made.{RefusesRoom, content_need, beside_content, is_wide_held};
 ghost use Rattle.heap_model.specs.Needs.{grown_list, push_need_at};
-ghost use Rattle.list_store.specs.Pushes.{IsListReady, CanChange, PushesToStore, PushesToNewStore};
+ghost use Rattle.list_store.specs.Pushes.{CanChange, PushesToStore, PushesToNewStore};
 ghost use Rattle.list_store.specs.Pushes.{PushesAt};
 ghost use Rattle.list_store.specs.ListChanges.{IsShownSetting, PushesElement};
 
-use crate::elements::{COUNT, ELEMENTS_MOST, content_for, count_of, grown};
+use crate::elements::{ELEMENTS_MOST, content_for, grown};
 use crate::stop::PushStop;
 use handle_roots::Held;
 use object_cells::{
-    STORE_HEAD, STORE_SLOT, Store, begin_store, boxed_word, need_of, room_for, store_of,
+    COUNT, STORE_HEAD, STORE_SLOT, Store, begin_store, boxed_word, count_of, need_of, room_for,
+    store_of,
 };
 use tagged_word::Word;
 use write_barrier::{Main, NoRoom};

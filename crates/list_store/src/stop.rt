@@ -19,8 +19,3 @@ pub enum PutStop {
     /// Eden has not the words for a box that the element needs.
     Full(NoRoom),
 }
-
-/// An integer is below 0 or too large: an index that is not below the length, or a number of elements
-/// that is over it.
-#[derive(Clone, Copy)]
-pub struct Range;

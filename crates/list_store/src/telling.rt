@@ -4,10 +4,8 @@ ghost use Rattle.write_barrier.specs.Mains.{MainShows};
 ghost use Rattle.object_cells.specs.ListObjects.{IsListAt, IsShownList};
 ghost use Rattle.list_store.specs.ListChanges.{TellsElement};
 
-use crate::elements::{count_of, place_of};
-use crate::stop::Range;
 use handle_roots::Held;
-use object_cells::{STORE_HEAD, store_of};
+use object_cells::{Range, STORE_HEAD, count_of, place_of, store_of};
 use tagged_word::Word;
 use write_barrier::{Main, laws_of_values};
 

@@ -9,7 +9,7 @@ use Rattle.object_graph.specs.Graphs.{Graph}
 use Rattle.object_graph.specs.Meaning.{list_most, relist}
 use Rattle.heap_model.specs.Needs.{element_of}
 use Rattle.write_barrier.specs.Mains.{Mutator, heap_of}
-use Rattle.list_store.specs.declared.stop.Range.{Range}
+use Rattle.object_cells.specs.declared.lists.Range.{Range}
 use Rattle.array_trim.specs.Trims.{IsCountIn, ShiftsElements, TruncatesElements}
 use Rattle.mutator.specs.declared.stop.Stop.TheVariants.{Fault}
 use Rattle.mutator.specs.Carries.{Carries}

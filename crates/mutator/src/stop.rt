@@ -3,7 +3,8 @@ ghost use Rattle.std.specs.Prelude.{◌≡◌};
 
 use ephemeron_table::TableStop;
 use heap_command::FaultWord;
-use list_store::{PushStop, PutStop, Range};
+use list_store::{PushStop, PutStop};
+use object_cells::Range;
 use shape_change::FieldStop;
 use shape_tree::ShapesFull;
 

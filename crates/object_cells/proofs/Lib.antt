@@ -49,3 +49,7 @@ pub mod StoresRead
 pub mod HeldNeeds
 pub mod SlotBoxes
 pub mod FilledSlots
+pub mod ListCells
+pub mod ElementsRead
+pub mod NamedPlaces
+pub mod ListChanging

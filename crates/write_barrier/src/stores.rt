@@ -26,6 +26,20 @@ impl Main {
         self.seat.put(a, word);
     }
 
+    /// Puts a word at an offset of a cell, before the marks: in no slot that marking may have seen. No
+    /// other word changes.
+    #[inline]
+    pub fn write_slot(&mut self, cell: u32, offset: u32, word: u64)
+        requires quiet { self.old.seat.phase ≡ Quiet }
+        requires within { cell + offset < marks_start self.old.seat.space }
+        ensures written { self.new ≡ with_word self.old (cell + offset) word }
+        ensures heap { let words = heap_words self.old.seat in
+            heap_words self.new.seat ≡ slice_set words (cell + offset) word }
+    {
+        self.addresses_fit();
+        self.write(cell + offset, word);
+    }
+
     /// Puts a value in the slot of a cell at an offset. No other word changes.
     #[inline]
     pub fn store(&mut self, cell: u32, offset: u32, value: Word)

@@ -2,8 +2,8 @@
 use Rattle.std.proofs.Common.{ℕ, ◌+◌, refl, sym, ◌∙◌, rules, arith}
 use Rattle.std.specs.Prelude.{FitsSigned}
 use Rattle.std.specs.Int.{w64}
-use Rattle.list_store.proofs.ListCells.{list_shown, shown_there, shown_ready, count_shown}
-use Rattle.list_store.proofs.ElementsRead.{place_below}
+use Rattle.object_cells.proofs.ListCells.{list_shown, shown_there, shown_ready, count_shown}
+use Rattle.object_cells.proofs.ElementsRead.{place_below}
 use Rattle.array_trim.proofs.TrimOutcomes.{number_named, some_shifted, none_shifted}
 use Rattle.array_trim.proofs.shifting.shift.Goals as goal
 

@@ -4,7 +4,7 @@ use Rattle.heap_table.specs.Seats.{heap_words}
 use Rattle.object_cells.specs.Made.{PutsWords}
 use Rattle.object_cells.proofs.CellsRead.{fits_address}
 use Rattle.object_cells.proofs.UnusedWords.{marks_fit}
-use Rattle.list_store.proofs.ListCells.{list_beside, count_within, store_has_room}
+use Rattle.object_cells.proofs.ListCells.{list_beside, count_within, store_has_room}
 use Rattle.array_trim.specs.TrimWords.{covered, truncated_words}
 use Rattle.array_trim.proofs.CoveredWords.{puts_none, puts_then, covers_then, marks_still}
 use Rattle.array_trim.proofs.OwnStores.{store_named, length_within}

@@ -6,8 +6,8 @@ use Rattle.handle_roots.specs.Roots.{FitsHeld}
 use Rattle.write_barrier.specs.Mains.{heap_of}
 use Rattle.object_cells.proofs.HeldNeeds.{wide_is}
 use Rattle.heap_model.specs.Needs.{push_need_at}
-use Rattle.list_store.proofs.ListCells.{list_shown, shown_there, shown_ready, count_shown}
-use Rattle.list_store.proofs.ListChanging.{changing}
+use Rattle.object_cells.proofs.ListCells.{list_shown, shown_there, shown_ready, count_shown}
+use Rattle.object_cells.proofs.ListChanging.{changing}
 use Rattle.list_store.proofs.PushOutcomes.{has_pushed}
 use Rattle.list_store.proofs.pushing.push.Goals as goal
 

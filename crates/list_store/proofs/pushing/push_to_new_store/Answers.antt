@@ -10,7 +10,7 @@ use Rattle.object_cells.specs.Made.{content_need}
 use Rattle.object_cells.proofs.CellsRead.{fits_address}
 use Rattle.object_cells.proofs.WordsBeside.{same_beside, put_beside, reserved_beside}
 use Rattle.object_cells.proofs.UnusedWords.{run_before_marks, run_apart, marks_fit}
-use Rattle.list_store.proofs.ListCells.{count_within, slot_within}
+use Rattle.object_cells.proofs.ListCells.{count_within, slot_within}
 use Rattle.list_store.proofs.pushing.push_to_new_store.Goals as goal
 
 -- the store that is made has as many slots as the one before, or more

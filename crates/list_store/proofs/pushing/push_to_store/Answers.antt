@@ -8,7 +8,7 @@ use Rattle.object_cells.specs.Made.{content_need}
 use Rattle.object_cells.proofs.CellsRead.{fits_address}
 use Rattle.object_cells.proofs.WordsBeside.{put_beside, reserved_beside}
 use Rattle.object_cells.proofs.UnusedWords.{run_before_marks}
-use Rattle.list_store.proofs.ListCells.{count_within}
+use Rattle.object_cells.proofs.ListCells.{count_within}
 use Rattle.list_store.proofs.pushing.push_to_store.Goals as goal
 
 pub boxed_word-word-requires-clause-within : goal.boxed_word-word-requires-clause-within

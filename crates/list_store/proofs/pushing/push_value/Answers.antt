@@ -3,7 +3,7 @@ use Rattle.std.proofs.Common.{◌≡◌, sym, subst, arith}
 use Rattle.std.proofs.lemmas.Result.{on_ok_weaker, IfErr-weaker}
 use Rattle.object_cells.specs.Made.{RefusesRoom}
 use Rattle.list_store.specs.Pushes.{PushesAt}
-use Rattle.list_store.proofs.ListCells.{list_beside, store_has_room}
+use Rattle.object_cells.proofs.ListCells.{list_beside, store_has_room}
 use Rattle.list_store.proofs.PushNeeds.{need_to_store, need_to_new_store}
 use Rattle.list_store.proofs.pushing.push_value.Goals as goal
 

@@ -11,11 +11,11 @@ use Rattle.object_cells.proofs.NothingUsed.{room_for_none}
 use Rattle.object_cells.proofs.HeldNeeds.{new_value_held}
 use Rattle.object_cells.proofs.SlotBoxes.{lacks_need}
 use Rattle.object_cells.proofs.FilledSlots.{slot_filled, held_before, no_raw}
-use Rattle.list_store.proofs.ListCells.{list_shown, shown_there, shown_beside, shown_ready, count_shown}
-use Rattle.list_store.proofs.ListCells.{store_has_room}
-use Rattle.list_store.proofs.ElementsRead.{place_below, slot_read}
-use Rattle.list_store.proofs.Places.{index_named, place_stands}
-use Rattle.list_store.proofs.ListChanging.{changing}
+use Rattle.object_cells.proofs.ListCells.{list_shown, shown_there, shown_beside, shown_ready, count_shown}
+use Rattle.object_cells.proofs.ListCells.{store_has_room}
+use Rattle.object_cells.proofs.ElementsRead.{place_below, slot_read}
+use Rattle.object_cells.proofs.NamedPlaces.{index_named, place_stands}
+use Rattle.object_cells.proofs.ListChanging.{changing}
 use Rattle.list_store.proofs.PutOutcomes.{put_need, has_put}
 use Rattle.list_store.proofs.putting.put.Goals as goal
 

@@ -8,9 +8,9 @@ use Rattle.handle_roots.specs.declared.held.Held.{Held}
 use Rattle.heap_model.specs.Showing.{ShowsHeld}
 use Rattle.write_barrier.specs.Mains.{heap_of}
 use Rattle.object_cells.proofs.CellsRead.{fits_address}
-use Rattle.list_store.proofs.ListCells.{list_shown, shown_there, shown_beside, count_shown, shown_ready}
-use Rattle.list_store.proofs.ElementsRead.{place_below}
-use Rattle.list_store.proofs.Places.{index_named, place_stands, element_shown}
+use Rattle.object_cells.proofs.ListCells.{list_shown, shown_there, shown_beside, count_shown, shown_ready}
+use Rattle.object_cells.proofs.ElementsRead.{place_below}
+use Rattle.object_cells.proofs.NamedPlaces.{index_named, place_stands, element_shown}
 use Rattle.list_store.proofs.telling.at.Goals as goal
 
 pub count_of-requires-clause-there : goal.count_of-requires-clause-there

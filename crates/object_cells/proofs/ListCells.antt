@@ -12,13 +12,12 @@ use Rattle.heap_model.specs.Wholeness.{Whole}
 use Rattle.heap_model.specs.Showing.{ShowsList}
 use Rattle.write_barrier.specs.Mains.{Mutator, heap_of, MainShows}
 use Rattle.object_cells.specs.declared.stores.Store.{Store}
-use Rattle.object_cells.specs.ListObjects.{IsListAt}
+use Rattle.object_cells.specs.ListObjects.{IsListAt, IsListCellAt, IsListReady}
 use Rattle.object_cells.specs.Made.{HasBeside, IsStoreAt}
 use Rattle.object_cells.proofs.CellsRead.{word_before_marks, word_stands}
 use Rattle.object_cells.proofs.ListSlots.{list_sound}
 use Rattle.object_cells.proofs.PlainFields.{shown_whole}
 use Rattle.heap_model.specs.Needs.{count_at}
-use Rattle.list_store.specs.Pushes.{IsListCellAt, IsListReady}
 
 -- the cell of a list at an address is sound
 pub sound_at : {heap : Heap} {at : ℕ} → Whole heap → (there : IsListCellAt heap at) → IsListCell heap there.words

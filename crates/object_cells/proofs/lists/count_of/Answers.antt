@@ -1,8 +1,8 @@
 -- The length of a list is a word of its cell.
 use Rattle.std.proofs.Common.{arith}
 use Rattle.object_cells.proofs.CellsRead.{fits_address}
-use Rattle.list_store.proofs.ListCells.{sound_at, count_within, count_read}
-use Rattle.list_store.proofs.elements.count_of.Goals as goal
+use Rattle.object_cells.proofs.ListCells.{sound_at, count_within, count_read}
+use Rattle.object_cells.proofs.lists.count_of.Goals as goal
 
 pub overflow_add-list : goal.overflow_add-list
 overflow_add-list c =

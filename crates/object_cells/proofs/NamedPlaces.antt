@@ -18,9 +18,9 @@ use Rattle.write_barrier.specs.Mains.{Mutator, heap_of}
 use Rattle.object_cells.specs.declared.stores.Store.{Store}
 use Rattle.object_cells.specs.Made.{IsStoreAt}
 use Rattle.heap_model.specs.Needs.{count_at}
-use Rattle.list_store.specs.Pushes.{IsListReady}
-use Rattle.list_store.proofs.ListCells.{ListShown, count_shown, store_has_room}
-use Rattle.list_store.proofs.ElementsRead.{slot_read}
+use Rattle.object_cells.specs.ListObjects.{IsListReady}
+use Rattle.object_cells.proofs.ListCells.{ListShown, count_shown, store_has_room}
+use Rattle.object_cells.proofs.ElementsRead.{slot_read}
 
 -- what was found of an index below one number is what is found below a number that is the same
 pub named_below : (most wanted : ℕ) (index : ℤ) (found : Option ℕ) → wanted ≡ most → FitsSigned w64 index

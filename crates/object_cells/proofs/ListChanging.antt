@@ -25,7 +25,7 @@ use Rattle.object_cells.proofs.HeldNeeds.{held_is_value}
 use Rattle.object_cells.proofs.OneElement.{DiffersAt}
 use Rattle.object_cells.proofs.SlotsNow.{word_at_offset}
 use Rattle.object_cells.proofs.StoresRead.{StoredAt, stored_at}
-use Rattle.list_store.proofs.ListCells.{ListShown, list_shown}
+use Rattle.object_cells.proofs.ListCells.{ListShown, list_shown}
 
 -- What is known where a value is written to a list that is shown.
 pub record Changing (old : Mutator) (graph : Graph) (at : ℕ) (list : ListObject) (value : Held) (what : Value)
