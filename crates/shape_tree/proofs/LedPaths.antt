@@ -2,8 +2,9 @@
 use Rattle.std.proofs.Common.{◌≡◌, ℕ, ◌+◌, ◌<◌, ◌≤◌, List, [], ◌∷◌, ◌++◌, length, Some, None, refl, sym, ap}
 use Rattle.std.proofs.Common.{◌∙◌}
 use Rattle.std.proofs.Common.{arith, subst, append-nil, length-append}
-use Rattle.std.specs.Prelude.{Result, Ok, Err, IfErr}
+use Rattle.std.specs.Prelude.{Result, Err}
 use Rattle.std.specs.Result.{IsErrAnd}
+use Rattle.std.proofs.lemmas.Result.{err_from_is_err_and}
 use Rattle.std.proofs.lemmas.Bool.{leb-true, le-leb, lt-leb, cond-true, cond-false}
 use Rattle.std.proofs.lemmas.Option.{cond_some}
 use Rattle.tagged_word.specs.Shapes.{first_path_shape}
@@ -106,8 +107,9 @@ leads_added paths new shape next field good is missed room added comes =
           (subst (IsShapeOf (paths ++ path ∷ []) path) (sym comes) (IsShapeOf-last paths path));
     }
 
--- a refusal that a `?` hands on says what it said before
-pub handed_on : {T E : Type 0} (P : E → Type 0) (answer : Result T E) (refusal : E)
-    → IsErrAnd answer (λ other. other ≡ refusal) → P refusal → IfErr answer P
-handed_on P (Ok done) refusal is says = tt
-handed_on P (Err other) refusal is says = subst P (sym is) says
+-- what holds of the refusal that a `?` makes holds of the answer with it
+pub refused_with : {T E : Type 0} (P : Result T E → Type 0) (answer : Result T E) (refusal : E)
+    → IsErrAnd answer (λ other. other ≡ refusal) → P (Err refusal) → P answer
+refused_with P answer refusal is says =
+    let (other, same, made) = err_from_is_err_and answer is in
+    subst P (sym same) (subst (λ e. P (Err e)) (sym made) says)
