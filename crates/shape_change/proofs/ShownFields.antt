@@ -1,5 +1,5 @@
 -- The cell of a plain object that a heap shows, and the field of a name that was found in its path.
-use Rattle.std.proofs.Common.{◌≡◌, ℕ, Some, slice_get}
+use Rattle.std.proofs.Common.{◌≡◌, ℕ, List, Some, slice_get}
 use Rattle.std.proofs.Common.{sym, ◌∙◌, ap, subst}
 use Rattle.std.specs.Prelude.{option_map}
 use Rattle.std.proofs.lemmas.Option.{slice_get_within}

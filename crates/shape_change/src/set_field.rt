@@ -46,13 +46,7 @@ pub(crate) struct SlotSetting {
 
 // How the slot of the field of this number of the plain object at an address is set to a value.
 #[inline(always)]
-fn setting_of(
-    main: &Main,
-    object: u32,
-    shape: u32,
-    slot: u32,
-    value: Held,
-) -> SlotSetting
+fn setting_of(main: &Main, object: u32, shape: u32, slot: u32, value: Held) -> SlotSetting
     requires shown { IsShownSetting main.now object value }
     requires there { HasField (heap_of main.now) object shape slot }
     ensures { IsSlotSetting (heap_of main.now) object shape slot value result }

@@ -67,7 +67,7 @@ pub(crate) fn put_new_layouts(main: &mut Main, before: u32)
         ChangesWithin main.old main.new (layouts_start space) (marks_start space) }
 {
     // There are no more paths than shapes.
-    let _paths = main.shapes().paths();
+    main.paths_fit();
     main.set_layouts(shape::PATHS + before);
     // There are as many words as addresses before the marks.
     main.addresses_fit();
@@ -83,7 +83,7 @@ pub(crate) fn set_shape(main: &mut Main, object: u32, header: Header, shape: u32
         heap_words main.new.seat ≡ slice_set words object (shaped_bits header shape) }
 {
     // There are no more paths than shapes.
-    let _paths = main.shapes().paths();
+    main.paths_fit();
     let changed = Header {
         shape,
         object: header.object,

@@ -1,5 +1,5 @@
 -- A field of a new name is added, or refused.
-use Rattle.std.proofs.Common.{refl, sym, ◌∙◌, ap, subst, rules}
+use Rattle.std.proofs.Common.{sym, ◌∙◌, ap, subst, rules}
 use Rattle.handle_roots.specs.Roots.{FitsHeld}
 use Rattle.heap_model.specs.Needs.{set_need_at}
 use Rattle.nursery.specs.Young.{HasRoom}

@@ -1,8 +1,6 @@
 -- A field is taken out of what the heap shows.
-use Rattle.std.proofs.Common.{◌≡◌, ℕ, Some, slice_get, sym, ◌∙◌, ap, subst, refl, List}
-use Rattle.std.specs.Prelude.{option_map}
+use Rattle.std.proofs.Common.{sym, ◌∙◌, ap, subst, refl, List}
 use Rattle.object_graph.specs.declared.path.Path.{Path}
-use Rattle.object_graph.specs.declared.path.PathField.{PathField}
 use Rattle.shape_tree.specs.Shapes.{IsPathShape, shape_path, has_name}
 use Rattle.write_barrier.proofs.Headers.{has_header}
 use Rattle.object_cells.proofs.PlainFields.{plain_shown}

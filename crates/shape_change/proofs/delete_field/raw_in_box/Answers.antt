@@ -3,7 +3,7 @@ use Rattle.std.proofs.Common.{◌≡◌, sym, ◌∙◌}
 use Rattle.std.proofs.lemmas.Option.{same_Some, none-some}
 use Rattle.tagged_word.proofs.Readings.{reference_to}
 use Rattle.heap_model.specs.Slots.{raw_word}
-use Rattle.object_cells.proofs.CellsRead.{word_is, word_before_marks, fits_address}
+use Rattle.object_cells.proofs.CellsRead.{word_is, word_before_marks}
 use Rattle.object_cells.proofs.WordsTold.{cell_fits}
 use Rattle.shape_change.proofs.delete_field.raw_in_box.Goals as goal
 

@@ -1,10 +1,9 @@
 -- A field's name is sought among those of the object's path.
-use Rattle.std.proofs.Common.{◌≡◌, ℕ, false, List, refl, sym, ◌∙◌, ap, subst, Some, None, slice_get}
+use Rattle.std.proofs.Common.{◌≡◌, ℕ, false, List, refl, sym, ◌∙◌, ap, subst, Some, None}
 use Rattle.std.specs.Prelude.{option_map}
 use Rattle.tagged_word.specs.declared.header.Header.{Header}
 use Rattle.object_graph.specs.declared.object.Field.{Field}
 use Rattle.object_graph.specs.declared.path.Path.{Path}
-use Rattle.object_graph.specs.declared.path.PathField.{PathField}
 use Rattle.object_graph.specs.Graphs.{Graph, PlainObject}
 use Rattle.object_graph.specs.Objects.{field_value}
 use Rattle.shape_tree.specs.Shapes.{IsPathShape, shape_path, has_name}
