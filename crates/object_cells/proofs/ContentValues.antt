@@ -11,7 +11,7 @@ use Rattle.heap_model.specs.Heaps.{Heap}
 use Rattle.heap_model.specs.Slots.{reference_word, RefersToBox}
 use Rattle.heap_model.specs.Showing.{ShowsValue}
 use Rattle.heap_model.proofs.WordsStay.{PlacesStay}
-use Rattle.object_cells.specs.SlotChanges.{NamesNone}
+use Rattle.object_cells.specs.OwnSlots.{NamesNone}
 use Rattle.object_cells.specs.declared.content.Content.{Content}
 use Rattle.object_cells.specs.declared.content.Content.TheVariants as content
 use Rattle.object_cells.specs.Made.{content_word}

@@ -21,8 +21,6 @@ pub mod NewFields
 pub mod NewElements
 pub mod StoreCells
 pub mod ObjectWrites
-pub mod CellWritesRead
-pub mod CellWrites
 pub mod OwnerWrites
 pub mod NothingUsed
 pub mod OwnPuts
@@ -32,10 +30,13 @@ pub mod KeptCapacities
 pub mod NumberedSlots
 pub mod FieldWords
 pub mod WrittenPlaces
-pub mod OwnWritings
+pub mod SlotNumbers
+pub mod BesideSound
+pub mod OwnSteps
+pub mod OwnNames
 pub mod RefilledFields
 pub mod RefilledCells
-pub mod RefilledNames
+pub mod ShownLists
 pub mod RefilledHeaps
 pub mod ListSlots
 pub mod RefilledElements
