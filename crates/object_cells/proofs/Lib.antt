@@ -27,6 +27,7 @@ pub mod OwnPuts
 pub mod OwnIntegers
 pub mod ContentValues
 pub mod KeptCapacities
+pub mod OwnCapacities
 pub mod NumberedSlots
 pub mod FieldWords
 pub mod WrittenPlaces
