@@ -30,14 +30,12 @@ pub(crate) fn cover(main: &mut Main, at: u32, count: u32)
     requires within { at + count ≤ marks_start main.old.seat.space }
     ensures { PutsWords main.old main.new (covered (heap_words main.old.seat) at count) }
 {
-    // No address of a heap is past 32 bits.
-    let _regions = main.regions();
     match count {
         0 => {}
         1 => main.set_header(at, FILLER),
         _ => {
             main.set_header(at, GAP);
-            main.write(at + LENGTH, count as u64);
+            main.write_slot(at, LENGTH, count as u64);
         }
     }
 }

@@ -25,17 +25,16 @@ fn shift_store(main: &mut Main, list: u32, count: u32, gone: u32)
     requires few { gone ≤ count }
     ensures { PutsShifted main.old main.new list count gone }
 {
-    // No address of a heap is past 32 bits.
-    let _regions = main.regions();
+    main.addresses_fit();
     let store = store_of(main, list);
     let start = store.at + gone;
     // The store may not be read by marking while it moves.
     main.blacken(store.at);
     main.made(start);
     main.set_header(start, STORE);
-    main.write(start + LENGTH, (store.capacity - gone) as u64);
+    main.write_slot(start, LENGTH, (store.capacity - gone) as u64);
     main.store(list, STORE_SLOT, Word::reference(start));
-    main.write(list + COUNT, (count - gone) as u64);
+    main.write_slot(list, COUNT, (count - gone) as u64);
     cover(main, store.at, gone);
 }
 
@@ -49,8 +48,7 @@ pub fn shift(main: &mut Main, list: u32, n: i64) -> Result<(), Range>
     ensures { (graph : Graph) (one : ListObject) → MainShows main.old graph
         → IsListAt main.old graph list one → ShiftsElements main.old main.new graph list one n result }
 {
-    // No address of a heap is past 32 bits.
-    let _regions = main.regions();
+    main.addresses_fit();
     laws_of_trims();
     let count = count_of(main, list);
     let Some(gone) = place_of(count + 1, n) else {

@@ -17,13 +17,12 @@ fn truncate_store(main: &mut Main, list: u32, count: u32, kept: u32)
     requires fewer { kept < count }
     ensures { PutsTruncated main.old main.new list kept }
 {
-    // No address of a heap is past 32 bits.
-    let _regions = main.regions();
+    main.addresses_fit();
     let store = store_of(main, list);
     // The store may not be read by marking while it shrinks.
     main.blacken(store.at);
-    main.write(store.at + LENGTH, kept as u64);
-    main.write(list + COUNT, kept as u64);
+    main.write_slot(store.at, LENGTH, kept as u64);
+    main.write_slot(list, COUNT, kept as u64);
     cover(main, store.at + STORE_HEAD + kept, store.capacity - kept);
 }
 
@@ -39,8 +38,7 @@ pub fn truncate(main: &mut Main, list: u32, n: i64) -> Result<(), Range>
         → IsListAt main.old graph list one
         → TruncatesElements main.old main.new graph list one n result }
 {
-    // No address of a heap is past 32 bits.
-    let _regions = main.regions();
+    main.addresses_fit();
     laws_of_trims();
     let count = count_of(main, list);
     let Some(kept) = place_of(count + 1, n) else {

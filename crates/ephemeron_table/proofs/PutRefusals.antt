@@ -16,9 +16,9 @@ use Rattle.object_cells.specs.HeldValues.{IsValueHeld}
 use Rattle.object_cells.proofs.HeldNeeds.{wide_is}
 use Rattle.ephemeron_table.specs.EntryChanges.{IsFullFor, PutsEntry}
 use Rattle.ephemeron_table.specs.WeakObjects.{IsKeyAt, IsWeakAt}
-use Rattle.ephemeron_table.specs.Pairs.{HasPairsAt}
-use Rattle.ephemeron_table.specs.PairChanges.{LacksPair, PutsPair}
-use Rattle.ephemeron_table.specs.declared.reading.Table.{Table}
+use Rattle.weak_pairs.specs.Pairs.{HasPairsAt, LacksPair}
+use Rattle.ephemeron_table.specs.PairChanges.{PutsPair}
+use Rattle.weak_pairs.specs.declared.table.Table.{Table}
 use Rattle.ephemeron_table.specs.declared.stop.TableStop.TheVariants as stop
 use Rattle.ephemeron_table.proofs.KeysFound.{weak_shown}
 use Rattle.ephemeron_table.proofs.KnownTables.{KnownMap}

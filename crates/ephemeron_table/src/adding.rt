@@ -11,15 +11,17 @@ ghost use Rattle.heap_model.specs.Slots.{hole_word, reference_word};
 ghost use Rattle.write_barrier.specs.Mains.{heap_of, IsTied, MainShows};
 ghost use Rattle.object_cells.specs.HeldValues.{IsValueHeld};
 ghost use Rattle.ephemeron_table.specs.WeakObjects.{IsKeyAt, IsShownPutting, IsWeakAt};
-ghost use Rattle.ephemeron_table.specs.Probes.{ComesTo, IsTableAt, IsWithin, key_in};
+ghost use Rattle.weak_pairs.specs.Probes.{ComesTo};
+ghost use Rattle.ephemeron_table.specs.Probes.{IsTableAt};
+ghost use Rattle.weak_pairs.specs.Tables.{IsWithin, key_in};
 ghost use Rattle.ephemeron_table.specs.PairChanges.{PutsBoth};
 
 use crate::growing::put_in_new_table;
 use crate::laws::{laws_of_entries, laws_of_tables};
 use crate::putting::put_in_table;
-use crate::reading::Table;
 use crate::stop::TableStop;
 use handle_roots::Held;
+use weak_pairs::Table;
 use write_barrier::{Main, laws_of_values};
 
 /// Puts the entry of a key that is new at the free place of the map's table where probing for it

@@ -3,10 +3,11 @@ ghost use Rattle.std.specs.Prelude.{List};
 ghost use Rattle.heap_model.specs.Kinds.{Pair};
 ghost use Rattle.write_barrier.specs.Mains.{heap_of, IsTied};
 ghost use Rattle.object_cells.specs.CellsAt.{IsWhole};
-ghost use Rattle.ephemeron_table.specs.Pairs.{HasPairsAt, IsFilledAt, RemovesPair};
+ghost use Rattle.weak_pairs.specs.Pairs.{HasPairsAt, IsFilledAt};
+ghost use Rattle.ephemeron_table.specs.Pairs.{RemovesPair};
 
 use crate::laws::{laws_of_pairs, laws_of_tables};
-use crate::reading::table_of;
+use crate::table::table_of;
 use crate::removing::take_out;
 use write_barrier::Main;
 

@@ -5,12 +5,12 @@ ghost use Rattle.heap_model.specs.Kinds.{Pair};
 ghost use Rattle.write_barrier.specs.Mains.{MainShows, heap_of};
 ghost use Rattle.ephemeron_table.specs.WeakObjects.{IsKeyAt, IsShownKey, IsWeakAt};
 ghost use Rattle.ephemeron_table.specs.EntryChanges.{DeletesEntry};
-ghost use Rattle.ephemeron_table.specs.Pairs.{HasPairsAt};
+ghost use Rattle.weak_pairs.specs.Pairs.{HasPairsAt};
 ghost use Rattle.ephemeron_table.specs.PairChanges.{DeletesPair};
 
 use crate::laws::{laws_of_entries, laws_of_pairs, laws_of_tables};
 use crate::probing::{End, probe};
-use crate::reading::{number_at, table_of};
+use crate::table::{number_at, table_of};
 use crate::removing::take_out;
 use tagged_word::Word;
 use write_barrier::Main;

@@ -6,11 +6,11 @@ ghost use Rattle.heap_model.specs.Kinds.{Pair};
 ghost use Rattle.write_barrier.specs.Mains.{MainShows, heap_of};
 ghost use Rattle.ephemeron_table.specs.WeakObjects.{IsKeyAt, IsShownKey, IsWeakAt};
 ghost use Rattle.ephemeron_table.specs.EntryChanges.{TellsEntry};
-ghost use Rattle.ephemeron_table.specs.Pairs.{HasPairsAt};
+ghost use Rattle.weak_pairs.specs.Pairs.{HasPairsAt};
 ghost use Rattle.ephemeron_table.specs.PairChanges.{TellsPairValue};
 
 use crate::probing::{End, probe};
-use crate::reading::{TABLE_HEAD, number_at, table_of};
+use crate::table::{TABLE_HEAD, number_at, table_of};
 use handle_roots::Held;
 use tagged_word::Word;
 use write_barrier::{Main, laws_of_values};

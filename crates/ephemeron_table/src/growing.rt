@@ -6,19 +6,20 @@ ghost use Rattle.heap_table.specs.declared.phase.Phase.TheVariants.{Quiet};
 ghost use Rattle.heap_model.specs.Needs as needs;
 ghost use Rattle.write_barrier.specs.Mains.{heap_of};
 ghost use Rattle.object_cells.specs.Made.{PutsWords, RefusesRoom};
-ghost use Rattle.ephemeron_table.specs.Movings.{HoldNothing, IsBesideTable, KeysMovable, MovesPairs};
-ghost use Rattle.ephemeron_table.specs.Movings.{CanGrow, PutsInNewTable, new_table_need};
-ghost use Rattle.ephemeron_table.specs.Probes.{IsWithin};
-ghost use Rattle.ephemeron_table.specs.Puttings.{FreeBy, HasFree, Settles, begun_table};
-ghost use Rattle.ephemeron_table.specs.Takings.{pairs_of};
+ghost use Rattle.weak_pairs.specs.Pairs.{HoldNothing};
+ghost use Rattle.weak_pairs.specs.Tables.{IsBesideTable, KeysMovable, IsWithin, pairs_of};
+ghost use Rattle.ephemeron_table.specs.Movings.{MovesPairs, CanGrow, PutsInNewTable, new_table_need};
+ghost use Rattle.weak_pairs.specs.Probes.{FreeBy, HasFree};
+ghost use Rattle.ephemeron_table.specs.Puttings.{Settles, begun_table};
 
 use crate::probing::{key_of, place};
 use crate::putting::content_for;
-use crate::reading::{CAPACITY, COUNT, TABLE_HEAD, Table, number_at};
+use crate::table::{CAPACITY, COUNT, TABLE_HEAD, number_at};
 use crate::removing::put_pair;
 use handle_roots::Held;
 use object_cells::{STORE_SLOT, boxed_word, need_of, room_for};
 use tagged_word::{Header, Word, odd, shape};
+use weak_pairs::Table;
 use write_barrier::{Main, NoRoom};
 
 // The most pairs of a table.

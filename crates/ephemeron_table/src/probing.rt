@@ -3,10 +3,12 @@ ghost use Rattle.std.specs.Prelude.{◌≡◌, ◌+◌, ◌<◌};
 ghost use Rattle.heap_table.specs.declared.phase.Phase.TheVariants.{Quiet};
 ghost use Rattle.linear_probing.specs.Tables.{place_after};
 ghost use Rattle.write_barrier.specs.Mains.{heap_of};
-ghost use Rattle.ephemeron_table.specs.Probes.{EndsBy, IsWithin, key_in};
+ghost use Rattle.ephemeron_table.specs.Probes.{EndsBy};
+ghost use Rattle.weak_pairs.specs.Tables.{IsWithin, key_in};
 
-use crate::reading::{TABLE_HEAD, Table};
+use crate::table::TABLE_HEAD;
 use tagged_word::{Word, odd};
+use weak_pairs::Table;
 use write_barrier::Main;
 
 /// Where probing for a key ends.

@@ -8,16 +8,17 @@ ghost use Rattle.object_cells.specs.CellsAt.{IsWhole};
 ghost use Rattle.object_cells.specs.Contents as contents;
 ghost use Rattle.object_cells.specs.Contents.{FillsOrRefuses, HoldsSlotWord, IsBeforeMarks};
 ghost use Rattle.object_cells.specs.Made.{RefusesRoom, content_need, beside_content};
-ghost use Rattle.ephemeron_table.specs.Probes.{IsWithin, value_in, value_offset};
+ghost use Rattle.weak_pairs.specs.Tables.{IsWithin, value_in, value_offset};
 ghost use Rattle.ephemeron_table.specs.Puttings.{PutsInTable};
 
-use crate::reading::{COUNT, TABLE_HEAD, Table};
+use crate::table::{COUNT, TABLE_HEAD};
 use crate::removing::put_pair;
 use handle_roots::Held;
 use object_cells::{
     Content, Filling, boxed_word, content_of, filling_of, need_of, rep_of, room_for,
 };
 use tagged_word::Word;
+use weak_pairs::Table;
 use write_barrier::{Main, NoRoom};
 
 /// What the slot of a value holds for it.

@@ -8,13 +8,14 @@ ghost use Rattle.heap_model.specs.Kinds.{Pair, count_offset};
 ghost use Rattle.heap_model.specs.Needs.{count_at};
 ghost use Rattle.write_barrier.specs.Mains.{heap_of};
 ghost use Rattle.object_cells.specs.Made.{PutsWords};
-ghost use Rattle.ephemeron_table.specs.Probes.{IsWithin, key_in, value_in};
-ghost use Rattle.ephemeron_table.specs.Takings.{ClosesAt, KeysBeside, TakesAt};
-ghost use Rattle.ephemeron_table.specs.Takings.{IsBesidePairs, made_pair, with_pair};
+ghost use Rattle.weak_pairs.specs.Tables.{IsWithin, key_in, value_in, KeysBeside, IsBesidePairs, made_pair};
+ghost use Rattle.weak_pairs.specs.Tables.{with_pair};
+ghost use Rattle.ephemeron_table.specs.Takings.{ClosesAt, TakesAt};
 
 use crate::probing::{key_of, place};
-use crate::reading::{COUNT, TABLE_HEAD, Table, number_at};
+use crate::table::{COUNT, TABLE_HEAD, number_at};
 use tagged_word::{Word, odd};
+use weak_pairs::Table;
 use write_barrier::Main;
 
 /// How many steps probing for a number takes to a place.

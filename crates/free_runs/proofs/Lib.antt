@@ -2,3 +2,5 @@ pub mod Bounds
 pub mod Ascents
 pub mod Cuts
 pub mod Pages
+pub mod Takes
+pub mod TakenWords

@@ -1,3 +1,4 @@
 pub mod FreeRuns
 pub mod Standing
 pub mod Kept
+pub mod Laws

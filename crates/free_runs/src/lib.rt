@@ -14,9 +14,11 @@ ghost use Rattle.free_runs.specs.FreeRuns.{AreFree, IsRowOf, FitsNowhere, TakesF
 ghost use Rattle.free_runs.specs.FreeRuns.{longest_of, row_of, whole_rows};
 ghost use Rattle.free_runs.specs.Standing.{FitsIn, FitsInNone};
 
+mod laws;
 mod row;
 
 use crate::row::Row;
+pub use laws::laws_of_runs;
 use page_space::Run;
 use std::alloc::Global;
 use std::marker::Model;

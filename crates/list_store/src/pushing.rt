@@ -37,13 +37,11 @@ fn push_to_store(
     ensures refused { let need = content_need (beside_content value) in
         IfErr result (RefusesRoom main.old main.new need) }
 {
-    // No address of a heap is past 32 bits.
-    let _regions = main.regions();
     let content = content_for(value);
     let at = room_for(main, need_of(content))?;
     let word = boxed_word(main, content, at);
     main.store(store.at, STORE_HEAD + count, word);
-    main.write(list + COUNT, (count + 1) as u64);
+    main.write_slot(list, COUNT, (count + 1) as u64);
     Ok(())
 }
 
@@ -63,8 +61,7 @@ fn push_to_new_store(
         let need = words + content_need (beside_content value) in
         IfErr result (RefusesRoom main.old main.new need) }
 {
-    // No address of a heap is past 32 bits.
-    let _regions = main.regions();
+    main.addresses_fit();
     let content = content_for(value);
     let capacity = grown(count);
     let words = STORE_HEAD + capacity;
@@ -75,7 +72,7 @@ fn push_to_new_store(
     main.store(at, STORE_HEAD + count, word);
     main.made(at);
     main.store(list, STORE_SLOT, Word::reference(at));
-    main.write(list + COUNT, (count + 1) as u64);
+    main.write_slot(list, COUNT, (count + 1) as u64);
     Ok(())
 }
 
@@ -107,8 +104,7 @@ pub fn push(main: &mut Main, list: u32, value: Held) -> Result<(), PushStop>
         → IsListAt main.old graph list one → IsValueHeld main.old graph value what
         → PushesElement main.old main.new graph list one what result }
 {
-    // No address of a heap is past 32 bits.
-    let _regions = main.regions();
+    main.addresses_fit();
     let count = count_of(main, list);
     if count >= ELEMENTS_MOST {
         return Err(PushStop::ListFull);

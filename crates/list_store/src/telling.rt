@@ -18,13 +18,12 @@ pub fn at(main: &Main, list: u32, index: i64) -> Result<Held, Range>
     ensures { (graph : Graph) (one : ListObject) → MainShows main.now graph
         → IsListAt main.now graph list one → TellsElement main.now one index result }
 {
-    // No address of a heap is past 32 bits.
-    let _regions = main.regions();
+    main.addresses_fit();
     laws_of_values();
     let Some(place) = place_of(count_of(main, list), index) else {
         return Err(Range);
     };
     let store = store_of(main, list);
-    let word = main.word(store.at + (STORE_HEAD + place));
+    let word = main.slot(store.at, STORE_HEAD + place);
     Ok(main.value_of_word(Word(word)))
 }

@@ -67,6 +67,8 @@ pub mod SeatsOut
 pub mod Settling
 pub mod SettlingSteps
 pub mod Settled
+pub mod RestartSettles
+pub mod MainStays
 pub mod KnownCells
 pub mod AnyCells
 pub mod Knowing

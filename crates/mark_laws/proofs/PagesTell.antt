@@ -1,5 +1,7 @@
 -- Worlds that agree on the words of their pages are sound alike, born alike and settled alike.
 use Rattle.std.proofs.Common.{ℕ, ◌+◌, ◌<◌, ◌≤◌, ◌≡◌, ◌∙◌, ◌⊎◌, inl, inr, true, false, IsTrue, List, Contains}
+use Rattle.std.proofs.lemmas.List.Elements.{All-contains}
+use Rattle.mark_laws.proofs.Joins.{all_from}
 use Rattle.std.proofs.Common.{get_or, min, slice_get, Option, Some, None, IsSome, IfSome, sym, ap}
 use Rattle.std.proofs.Common.{subst, arith}
 use Rattle.tagged_word.specs.declared.reading.Reading.{Reading}
@@ -171,6 +173,7 @@ main_on world words log same main = record {
   born = main.born;
   mine = main.mine;
   mine_born = main.mine_born;
+  mine_old = main.mine_old;
   sure_born = main.sure_born;
   owed_born = main.owed_born;
   slots = λ start free is_born. each_on world words log same start (λ offset. HasBorn world)
@@ -204,6 +207,9 @@ whole_main world sound born = record {
   born = sound.cells.born;
   mine = sound.cells.mine;
   mine_born = sound.cells.mine_born;
+  mine_old = all_from (λ at. at < world.old) world.main.mine (λ at mine. subst (λ (n : ℕ). at < n) sound.sizes.colours
+      (start_old world sound.sizes sound.cells at (All-contains (Contains world.main.starts) world.main.mine at
+      sound.cells.mine mine)));
   sure_born = sound.sure.sure_born;
   owed_born = sound.sure.owed_born;
   slots = born.slots;

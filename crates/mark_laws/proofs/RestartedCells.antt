@@ -97,7 +97,7 @@ head_word world promoted words cells moved start cell free e at from to read non
     ]
 
 -- a word that is as before is there as before
-there_as : (words others : List ℕ) (at : ℕ) → at < length words → length others ≡ length words
+pub there_as : (words others : List ℕ) (at : ℕ) → at < length words → length others ≡ length words
     → slice_index others at ≡ slice_index words at → slice_get others at ≡ slice_get words at
 there_as words others at within count same =
     slice_get-get_or others at 0 (omega (arith, within, count)) ∙ ap (λ (w : ℕ). Some w) same

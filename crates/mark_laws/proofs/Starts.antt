@@ -30,7 +30,7 @@ value_of None e = cc
 value_of (Some x) e = (x, refl)
 
 -- a cell of a page begins in the pages
-read_old : (world : World) (at : ℕ) (cell : Reading) → cell_of world at ≡ Some cell → at < world.old
+pub read_old : (world : World) (at : ℕ) (cell : Reading) → cell_of world at ≡ Some cell → at < world.old
 read_old world at cell e =
     let reads = cell_from world.words world.layouts at (min world.old (page_end at)) cell e in
     let size = size_bounds cell.layout cell.length cell.size reads.sized in

@@ -3,16 +3,21 @@ use Rattle.std.specs.Prelude.{◌≡◌, ◌≢◌, ℕ, ◌+◌, ◌%◌, ◌^�
 use Rattle.std.specs.Prelude.{length, take, slice_index, IsSome, IfSome}
 use Rattle.tagged_word.specs.Shapes.{shapes_most}
 use Rattle.page_space.specs.Sizes.{page_words}
+use Rattle.mark_world.specs.declared.event.Event.{Event}
+use Rattle.mark_world.specs.declared.step.Actor.{Actor}
 use Rattle.mark_world.specs.declared.views.MainView.{MainView}
 use Rattle.mark_world.specs.declared.world.World.{World}
 use Rattle.mark_world.specs.Pages.{EachFree, OfTarget, cell_at, is_inside, slots_of}
+use Rattle.mark_world.specs.Steps.{actor}
+use Rattle.mark_world.specs.Moments.{Possible, after}
 use Rattle.mark_world.specs.Soundness.{AreIn, Sound}
 use Rattle.mark_world.specs.Lineage.{Born}
 use Rattle.mark_world.specs.Resting.{Settled}
 
 -- What soundness and births say of the mutator's view, the pages and the layout words, without colours, board or
 -- helpers: the sizes are right, each free start reads a cell and none begins in another's, the mutator's lists are
--- published and born cells, and each target of a tagged slot of a born free start is born.
+-- published and born cells, those that it made black are old, and each target of a tagged slot of a born free start is
+-- born.
 pub record MainSound (old : ℕ) (words layouts : List ℕ) (main : MainView) : Type 0 where
   pub pages : old % page_words ≡ 0
   pub addresses : old < 2 ^ 32
@@ -24,6 +29,7 @@ pub record MainSound (old : ℕ) (words layouts : List ℕ) (main : MainView) : 
   pub born : AreIn main.starts main.born
   pub mine : AreIn main.starts main.mine
   pub mine_born : AreIn main.born main.mine
+  pub mine_old : All (λ at. at < old) main.mine
   pub sure_born : AreIn main.born main.sure
   pub owed_born : AreIn main.born main.owed
   pub slots : EachFree main (λ start. Contains main.born start → IfSome (cell_at old words layouts start) (λ cell.
@@ -53,3 +59,9 @@ pub record KnowsOf (world other : World) : Type 0 where
 -- what is known of a world is known of each that agrees with it on the pages
 abbrev pub PagesTellAll : Type 0
 PagesTellAll = (world other : World) → AgreesOnPages world other → KnowsOf world other
+
+-- each possible step of the mutator keeps it, whatever the world is beside its view, pages and layout words
+abbrev pub MainSoundStays : Type 0
+MainSoundStays =
+    (world : World) (of : Event) → HasMainSound world → actor of ≡ Actor.Mutator → Possible world of
+    → HasMainSound (after world of)

@@ -1,10 +1,11 @@
 -- How an open cycle goes on after a scavenge.
-use Rattle.std.specs.Prelude.{◌≡◌, ℕ, ◌+◌, ◌<◌, ◌⊎◌, true, List, Contains, length, slice_index, Some, IsTrue}
+use Rattle.std.specs.Prelude.{◌≡◌, ℕ, ◌+◌, ◌<◌, ◌⊎◌, true, List, ◌++◌, All, Contains, length, slice_index, Some, IsTrue}
 use Rattle.tagged_word.specs.declared.reading.Reading.{Reading}
 use Rattle.mark_world.specs.declared.world.World.{World}
-use Rattle.mark_world.specs.Pages.{EachFree, OfTarget, is_free, leaves_alone, slots_of}
+use Rattle.mark_world.specs.Pages.{EachFree, OfTarget, is_free, is_head_of, leaves_alone, slots_of}
 use Rattle.mark_world.specs.Steps.{black}
-use Rattle.mark_world.specs.Covering.{cell_of, colour_of}
+use Rattle.mark_world.specs.Covering.{EachSlot, cell_of, colour_of}
+use Rattle.mark_world.specs.Unfinished.{SettledBut}
 use Rattle.mark_laws.specs.Runs.{HasNoneOut, IsWhole}
 
 -- a list is what it was, with others joined
@@ -54,3 +55,22 @@ abbrev pub RestartsStayWhole : Type 0
 RestartsStayWhole =
     (world : World) (promoted : List ℕ) (later : World) → IsWhole world → HasNoneOut world
     → IsRestarted world promoted later → IsWhole later
+
+-- A scavenge keeps a cell that the mutator made black: each word that the cell is read by is as before, and each of its
+-- tagged slots is, or has no target, or that of a promoted cell.
+pub record KeepsCell (world : World) (promoted : List ℕ) (later : World) (at : ℕ) : Type 0 where
+  pub heads : (place : ℕ) → is_head_of at (cell_of world at) place ≡ true
+      → slice_index later.words place ≡ slice_index world.words place
+  pub slots : EachSlot world at (λ offset word. (slice_index later.words (at + offset) ≡ word)
+      ⊎ OfTarget world.old (slice_index later.words (at + offset)) (Contains promoted))
+
+-- it keeps each that the mutator is done with
+abbrev pub KeepsDone : World → List ℕ → List ℕ → World → Type 0
+KeepsDone world made promoted later =
+    All (λ at. Contains made at ⊎ KeepsCell world promoted later at) world.main.mine
+
+-- after a scavenge that keeps these cells the mutator's part is done but for the promoted ones, which are made too
+abbrev pub RestartsStaySettled : Type 0
+RestartsStaySettled =
+    (world : World) (made promoted : List ℕ) (later : World) → SettledBut world made
+    → IsRestarted world promoted later → KeepsDone world made promoted later → SettledBut later (promoted ++ made)

@@ -1,5 +1,5 @@
 -- The mutator's part, done but for the cells that it is making or changing, from step to step of a command.
-use Rattle.std.specs.Prelude.{◌≡◌, ◌↔◌, ℕ, List, [], ◌∷◌}
+use Rattle.std.specs.Prelude.{◌≡◌, ◌↔◌, ℕ, List, [], ◌∷◌, ◌++◌, All}
 use Rattle.mark_world.specs.declared.event.Event.{Event}
 use Rattle.mark_world.specs.declared.world.World.{World}
 use Rattle.mark_world.specs.Moments.{after, after_all, Possible}
@@ -27,6 +27,12 @@ abbrev pub DoneLeaves : Type 0
 DoneLeaves =
     (world : World) (at : ℕ) (made : List ℕ) → ReadsSlots world (HasSureTarget world) at → SettledBut world (at ∷ made)
     → SettledBut world made
+
+-- so do all of a list, each of which is
+abbrev pub AllDoneLeave : Type 0
+AllDoneLeave =
+    (world : World) (cells made : List ℕ) → All (ReadsSlots world (HasSureTarget world)) cells
+    → SettledBut world (cells ++ made) → SettledBut world made
 
 -- or owed, while the mutator's part is under way
 abbrev pub PaidLeaves : Type 0

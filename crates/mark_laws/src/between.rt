@@ -3,7 +3,7 @@ ghost use Rattle.mark_laws.specs.Growing.{ListsGrow, ListsGrowAlong, MomentsGrow
 ghost use Rattle.mark_laws.specs.Growing.{LendCounts, ReturnCounts, OthersKeepCount, NoneIsZero};
 ghost use Rattle.mark_laws.specs.Knowing.{NoneMadeIsKnown, MoreMayBeUnknown, KnownLeaves, RootsMayChange};
 ghost use Rattle.mark_laws.specs.Knowing.{YoungMayJoin, KnownAlong, KnownStays};
-ghost use Rattle.mark_laws.specs.Settling.{NoneMadeIsSettled, NoneOwedIsSettled, MoreMayBeMade, DoneLeaves};
+ghost use Rattle.mark_laws.specs.Settling.{AllDoneLeave, NoneMadeIsSettled, NoneOwedIsSettled, MoreMayBeMade, DoneLeaves};
 ghost use Rattle.mark_laws.specs.Settling.{PaidLeaves, SettlingAlong, SettlingStays, SettledStays, ShadesSettle};
 ghost use Rattle.mark_laws.specs.Settling.{StepsSettle};
 
@@ -25,6 +25,7 @@ pub fn laws_of_settling()
     ensures none_owed { NoneOwedIsSettled }
     ensures more { MoreMayBeMade }
     ensures done { DoneLeaves }
+    ensures all_done { AllDoneLeave }
     ensures paid { PaidLeaves }
     ensures under_way { SettlingStays }
     ensures stays { SettledStays }

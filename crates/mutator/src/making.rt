@@ -65,10 +65,9 @@ fn fill_plain(main: &mut Main, at: u32, header: Header, cap: u32)
     ensures heap { let words = empty_plain header cap in
         heap_words main.new.seat ≡ with_range (heap_words main.old.seat) at words }
 {
-    // No address of a heap is past 32 bits.
-    let _regions = main.regions();
+    main.addresses_fit();
     main.set_header(at, header);
-    main.write(at + STORE_SLOT, Word::odd(odd::UNDEFINED).0);
+    main.write_slot(at, STORE_SLOT, Word::odd(odd::UNDEFINED).0);
     main.fill_holes(at + PLAIN_HEAD, cap);
     main.made(at);
 }
@@ -83,10 +82,9 @@ pub(crate) fn fill_counted(main: &mut Main, at: u32, header: Header)
     ensures heap { let words = empty_counted header in
         heap_words main.new.seat ≡ with_range (heap_words main.old.seat) at words }
 {
-    // No address of a heap is past 32 bits.
-    let _regions = main.regions();
+    main.addresses_fit();
     main.set_header(at, header);
-    main.write(at + STORE_SLOT, Word::odd(odd::UNDEFINED).0);
-    main.write(at + COUNT, 0);
+    main.write_slot(at, STORE_SLOT, Word::odd(odd::UNDEFINED).0);
+    main.write_slot(at, COUNT, 0);
     main.made(at);
 }

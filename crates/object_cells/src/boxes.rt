@@ -128,16 +128,14 @@ pub fn fill(main: &mut Main, cell: u32, offset: u32, filling: Filling)
     requires room { IsBeforeMarks main.old.seat.space filling }
     ensures { main.new ≡ contents.filled main.old (cell + offset) filling }
 {
-    // No address of a heap is past 32 bits.
-    let _regions = main.regions();
     match filling {
         Filling::Tagged(word) => main.store(cell, offset, word),
-        Filling::Raw(word) => main.write(cell + offset, word),
+        Filling::Raw(word) => main.write_slot(cell, offset, word),
         Filling::NewBox { at, v } => {
             main.make_box(at, v);
             main.made(at);
             main.store(cell, offset, Word::reference(at));
         }
-        Filling::OldBox { at, v } => main.write(at + 1, v.cast_unsigned()),
+        Filling::OldBox { at, v } => main.write_slot(at, 1, v.cast_unsigned()),
     }
 }

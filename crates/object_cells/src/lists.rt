@@ -23,9 +23,7 @@ pub fn count_of(main: &Main, list: u32) -> u32
     ensures counted { result ≡ needs.count_at (heap_of main.now) list }
     ensures few { result ≤ list_most }
 {
-    // No address of a heap is past 32 bits.
-    let _regions = main.regions();
-    main.word(list + COUNT) as u32
+    main.slot(list, COUNT) as u32
 }
 
 /// The number that an integer is, if it is below a count: which of so many elements an index names.

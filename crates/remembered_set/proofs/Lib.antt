@@ -1,4 +1,4 @@
-pub mod Filtered
+pub mod Ascending
 pub mod Slots
 pub mod Shown
 pub mod Counts

@@ -30,9 +30,9 @@ slots_of-replicate n =
     absurd (cc))
 
 -- where a flag is set, its slot is recorded beside those that were
-pub noted : (flags : List Bool) (slot : ℕ) → slot < length flags → (other : ℕ)
+pub has_noted : (flags : List Bool) (slot : ℕ) → slot < length flags → (other : ℕ)
     → Contains (slots_of (set flags slot true)) other ↔ ((other ≡ slot) ⊎ Contains (slots_of flags) other)
-noted flags slot below other = (
+has_noted flags slot below other = (
   λ there.
       elim (cases_eq other slot) [
         | inl is ↦ inl is
@@ -49,9 +49,9 @@ noted flags slot below other = (
 )
 
 -- where a flag is set already, its slot is recorded already
-pub noted_again : (flags : List Bool) (slot : ℕ) → get_or flags slot false ≡ true → (other : ℕ)
+pub has_noted_again : (flags : List Bool) (slot : ℕ) → get_or flags slot false ≡ true → (other : ℕ)
     → Contains (slots_of flags) other ↔ ((other ≡ slot) ⊎ Contains (slots_of flags) other)
-noted_again flags slot is_set other = (
+has_noted_again flags slot is_set other = (
   λ there. inr there,
   λ was. elim was [
     | inl is ↦ subst (λ (place : ℕ). Contains (slots_of flags) place) (sym is) (slot_of_flag flags slot is_set)
@@ -67,9 +67,9 @@ none_shown flags from to clear = λ slot there between.
     absurd (cc)
 
 -- where the flags of a range are cleared, its slots are forgotten
-pub forgotten : (old new : List Bool) (from to : ℕ) → ClearsBetween old new from to → (other : ℕ)
+pub has_forgotten : (old new : List Bool) (from to : ℕ) → ClearsBetween old new from to → (other : ℕ)
     → Contains (slots_of new) other ↔ (Contains (slots_of old) other × (¬ IsBetween from to other))
-forgotten old new from to clears other =
+has_forgotten old new from to clears other =
     let outside : Contains (slots_of new) other → ¬ IsBetween from to other =
     none_shown new from to clears.cleared other in (
       λ there. (
@@ -81,9 +81,9 @@ forgotten old new from to clears other =
     )
 
 -- where none of a range is recorded, forgetting it changes nothing
-pub forgotten_again : (flags : List Bool) (from to : ℕ) → AreClear flags from to → (other : ℕ)
+pub has_forgotten_again : (flags : List Bool) (from to : ℕ) → AreClear flags from to → (other : ℕ)
     → Contains (slots_of flags) other ↔ (Contains (slots_of flags) other × (¬ IsBetween from to other))
-forgotten_again flags from to clear other =
+has_forgotten_again flags from to clear other =
     (λ there. (there, none_shown flags from to clear other there), λ was. was.0)
 
 -- the first flag of a range that is set shows the first of its slots that is recorded

@@ -1,5 +1,5 @@
 -- The places of the flags that are set.
-use Rattle.std.proofs.Common.{◌≡◌, ℕ, ◌+◌, ◌<◌, ◌≤◌, Bool, true, false, List, length, get_or, Contains, All, arith, ◌*◌, inl, inr, ◌∙◌}
+use Rattle.std.proofs.Common.{◌≡◌, ℕ, ◌+◌, ◌<◌, ◌≤◌, Bool, true, false, List, length, get_or, Contains, All, arith, ◌*◌, inl, inr}
 use Rattle.std.specs.List.{range_with_len}
 use Rattle.std.specs.List.Sorted.{IsStrictlyIncreasing}
 use Rattle.std.proofs.lemmas.Bool.{cases_lt}
@@ -10,20 +10,13 @@ use Rattle.std.proofs.lemmas.List.Kept.{AllPairs-from_increasing, IsStrictlyIncr
 use Rattle.remembered_set.specs.Kept.{slots_of, shown}
 use Rattle.page_space.specs.Sizes.{page_words, pages_most}
 use Rattle.remembered_set.specs.Recorded.{IsRecorded, IsAscending}
-use Rattle.remembered_set.proofs.Filtered.{Contains-filter, Contains-from_filter}
+use Rattle.tagged_word.proofs.Members.{in_filter, filter_true, in_range}
 
 -- a slot that is recorded has its flag set
 pub flag_of_slot : (flags : List Bool) (slot : ℕ) → Contains (slots_of flags) slot → get_or flags slot false ≡ true
 unfolding slots_of
 flag_of_slot flags slot there =
-    Contains-from_filter (λ place. get_or flags place false) (range_with_len 0 (length flags)) slot there
-
--- a range has each number from its start on
-range_has : (n k : ℕ) → k < n → Contains (range_with_len 0 n) k
-range_has n k below =
-    let inside : k < length (range_with_len 0 n) = rw length-range_with_len below in
-    let at : get_or (range_with_len 0 n) k k ≡ k = get_or-range_with_len 0 n k k below ∙ omega arith in
-    (k, inside, at)
+    filter_true (λ place. get_or flags place false) (range_with_len 0 (length flags)) slot there
 
 -- a flag that is set is one of the flags
 flag_below : (flags : List Bool) (slot : ℕ) → get_or flags slot false ≡ true → slot < length flags
@@ -37,8 +30,8 @@ flag_below flags slot is_set =
 pub slot_of_flag : (flags : List Bool) (slot : ℕ) → get_or flags slot false ≡ true → Contains (slots_of flags) slot
 unfolding slots_of
 slot_of_flag flags slot is_set =
-    Contains-filter (λ place. get_or flags place false) (range_with_len 0 (length flags)) slot
-    (range_has (length flags) slot (flag_below flags slot is_set)) is_set
+    in_filter (λ place. get_or flags place false) (range_with_len 0 (length flags)) slot is_set
+    (in_range 0 (length flags) slot (omega arith) (omega (arith, flag_below flags slot is_set)))
 
 -- a slot that is recorded is below the bound
 pub slot_below : (flags : List Bool) (slot : ℕ) → Contains (slots_of flags) slot → slot < length flags

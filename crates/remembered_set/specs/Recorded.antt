@@ -1,6 +1,6 @@
 -- Which slots of pages may refer to young cells.
-use Rattle.std.specs.Prelude.{ℕ, ◌<◌, ◌≤◌, ◌*◌, List, Contains}
-use Rattle.std.specs.List.{All, AllPairs}
+use Rattle.std.specs.Prelude.{ℕ, ◌<◌, ◌≤◌, ◌*◌, ◌==◌, ◌&&◌, Bool, not, nat_lt, if◌then◌else◌, List, [], ◌∷◌, Contains}
+use Rattle.std.specs.List.{All, AllPairs, filter}
 use Rattle.page_space.specs.Sizes.{page_words, pages_most}
 
 -- the addresses of the recorded slots in ascending order, and the bound that all addresses of pages are below
@@ -42,3 +42,22 @@ pub record IsLeastBetween (recorded : Recorded) (from to slot : ℕ) : Type 0 wh
   pub stands : Contains recorded.slots slot
   pub between : IsBetween from to slot
   pub none_before : HasNoneBetween recorded from slot
+
+-- the slot stands at its place among those that ascend, once
+abbrev pub with_slot : ℕ → List ℕ → List ℕ
+with_slot slot [] = slot ∷ []
+with_slot slot (first ∷ more) =
+    if nat_lt slot first then slot ∷ first ∷ more
+    else (if slot == first then first ∷ more else first ∷ with_slot slot more)
+
+-- the slot is recorded, beside those that were
+abbrev pub noted : Recorded → ℕ → Recorded
+noted recorded slot = record recorded { slots = with_slot slot recorded.slots }
+
+-- whether the address is one of the range's
+abbrev pub is_between : ℕ → ℕ → ℕ → Bool
+is_between from to slot = (not (nat_lt slot from)) && nat_lt slot to
+
+-- the slots of the range are not recorded, and all others are as they were
+abbrev pub forgotten : Recorded → ℕ → ℕ → Recorded
+forgotten recorded from to = record recorded { slots = filter (λ slot. not (is_between from to slot)) recorded.slots }

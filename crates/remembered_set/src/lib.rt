@@ -7,9 +7,10 @@
 //! Below: `page_space`, for the words of a page. Above: no crate so far.
 #![tactic(auto)]
 
-ghost use Rattle.std.specs.Prelude.{◌≡◌, ◌+◌, ◌*◌, ◌<◌, ◌≤◌, ◌↔◌, ◌⊎◌, ℕ, min, max, [], Contains, IfOk, MatchOption};
+ghost use Rattle.std.specs.Prelude.{◌≡◌, ◌+◌, ◌*◌, ◌<◌, ◌≤◌, ◌↔◌, ◌⊎◌, ℕ, min, max, [], Contains, IfOk, IfSome, MatchOption};
 ghost use Rattle.page_space.specs.Sizes.{page_words, pages_most};
-ghost use Rattle.remembered_set.specs.Recorded.{IsAscending, IsBetween, HasNoneFrom, IsLeastFrom, HasNoneBetween, IsLeastBetween};
+ghost use Rattle.remembered_set.specs.Recorded.{IsRecorded, IsAscending, IsBetween, HasNoneFrom, IsLeastFrom};
+ghost use Rattle.remembered_set.specs.Recorded.{HasNoneBetween, IsLeastBetween, noted, forgotten};
 
 mod flags;
 
@@ -60,6 +61,7 @@ impl Remembered {
         ensures recorded { (other : ℕ)
             → Contains self.new.slots other ↔ ((other ≡ slot) ⊎ Contains self.old.slots other) }
         ensures bound { self.new.bound ≡ self.old.bound }
+        ensures value { self.new ≡ noted self.old slot }
     {
         if self.flags[slot as usize] {
             return;
@@ -74,6 +76,7 @@ impl Remembered {
             → Contains self.new.slots other
             ↔ (Contains self.old.slots other × (¬ IsBetween from to other)) }
         ensures bound { self.new.bound ≡ self.old.bound }
+        ensures value { self.new ≡ forgotten self.old from to }
     {
         let end = (to / PAGE_WORDS + 1).min(self.counts.len() as u32);
         for page in from / PAGE_WORDS..end {
@@ -86,6 +89,7 @@ impl Remembered {
         ensures next { MatchOption result
             (HasNoneFrom self.now from) (λ slot. IsLeastFrom self.now from slot) }
         ensures ascending { IsAscending self.now.slots }
+        ensures below { IfSome result (λ slot. slot < self.now.bound) }
     {
         for page in from / PAGE_WORDS..self.counts.len() as u32 {
             if let Some(slot) = self.next_in_page(page, from) {
@@ -103,6 +107,7 @@ impl Remembered {
             ↔ (Contains self.old.slots other
             × (¬ IsBetween (max from start) (min to (start + page_words)) other)) }
         ensures bound { self.new.bound ≡ self.old.bound }
+        ensures own { IsRecorded self.new }
     {
         if self.counts[page as usize] == 0 {
             return;

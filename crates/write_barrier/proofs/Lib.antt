@@ -1,4 +1,5 @@
 pub mod Places
+pub mod Headers
 mod FirstCells
 mod FirstHeaps
 mod Changes

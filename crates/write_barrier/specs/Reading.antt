@@ -1,8 +1,22 @@
--- What reading leaves.
-use Rattle.std.specs.Prelude.{◌≡◌}
+-- What is read of a heap, and what reading leaves.
+use Rattle.std.specs.Prelude.{◌≡◌, ℕ, List, Some}
 use Rattle.std.proofs.Common.{◌∙◌, ap}
+use Rattle.tagged_word.specs.declared.header.Header.{Header}
+use Rattle.tagged_word.specs.Readings.{header_at}
+use Rattle.cell_layout.specs.declared.cell.Cell.{Cell}
 use Rattle.heap_table.specs.declared.phase.Phase.TheVariants.{Quiet}
+use Rattle.heap_model.specs.Heaps.{Heap, HasCell}
 use Rattle.write_barrier.specs.Mains.{Mutator}
+
+-- a header stands at the address
+pub record HasHeader (heap : Heap) (at : ℕ) : Type 0 where
+  pub header : Header
+  pub stands : header_at heap.words at ≡ Some header
+
+-- it is the header of the cell at the address
+abbrev pub IsHeaderAt : Heap → ℕ → Header → Type 0
+IsHeaderAt heap at header =
+    (cell : Cell) (words : List ℕ) → HasCell heap cell words → cell.at ≡ at → cell.header ≡ header
 
 -- the phase is quiet where nothing has changed since it was
 pub stays_quiet : (old new : Mutator) → new ≡ old → old.seat.phase ≡ Quiet → new.seat.phase ≡ Quiet

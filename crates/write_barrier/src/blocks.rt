@@ -24,14 +24,12 @@ impl Main {
             let headed = slice_set words at (header_bits box_header) in
             heap_words self.new.seat ≡ slice_set headed (at + 1) (raw_word v) }
     {
-        // No address of a heap is past 32 bits.
-        let _regions = self.regions();
         let header = Header {
             shape: shape::BOX,
             object: 0,
         };
         self.set_header(at, header);
-        self.write(at + 1, v.cast_unsigned());
+        self.write_slot(at, 1, v.cast_unsigned());
     }
 
     /// Makes the words at an address a store of so many slots that hold nothing: its header, its
@@ -44,14 +42,13 @@ impl Main {
         ensures heap { let words = heap_words self.old.seat in
             heap_words self.new.seat ≡ with_range words at (empty_store capacity) }
     {
-        // No address of a heap is past 32 bits.
-        let _regions = self.regions();
+        self.addresses_fit();
         let header = Header {
             shape: shape::STORE,
             object: 0,
         };
         self.set_header(at, header);
-        self.write(at + 1, capacity as u64);
+        self.write_slot(at, 1, capacity as u64);
         self.fill_holes(at + 2, capacity);
     }
 
@@ -65,11 +62,11 @@ impl Main {
         ensures heap { let words = heap_words self.old.seat in
             heap_words self.new.seat ≡ with_range words at (replicate count hole_word) }
     {
-        // No address of a heap is past 32 bits, and the table has a word for each.
-        let _regions = self.regions();
+        // The table has a word for each address.
+        self.addresses_fit();
         let hole = Word::odd(odd::HOLE).0;
         for i in 0..count {
-            self.write(at + i, hole);
+            self.write_slot(at, i, hole);
         }
     }
 
@@ -85,11 +82,11 @@ impl Main {
         ensures heap { let words = heap_words self.old.seat in
             heap_words self.new.seat ≡ copied words from to count }
     {
-        // No address of a heap is past 32 bits, and the table has a word for each.
-        let _regions = self.regions();
+        // The table has a word for each address.
+        self.addresses_fit();
         for i in 0..count {
-            let word = self.word(from + i);
-            self.write(to + i, word);
+            let word = self.slot(from, i);
+            self.write_slot(to, i, word);
         }
     }
 }

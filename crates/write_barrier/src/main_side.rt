@@ -1,21 +1,25 @@
 //! What the thread that runs commands has, and what it reads. Stores are in `stores.rt`, room for
 //! new cells in `room.rt`, variables in `roots.rt`.
-ghost use Rattle.std.specs.Prelude.{◌≡◌, ◌<◌, length, slice_get, Some, refl};
+ghost use Rattle.std.specs.Prelude.{◌≡◌, ◌+◌, ◌<◌, ◌^◌, length, slice_get, Some, refl};
 ghost use Rattle.std.specs.Borrow.{sem};
 ghost use Rattle.std.proofs.Common.{◌∙◌, subst, sym};
+ghost use Rattle.tagged_word.specs.Readings.{header_at};
 ghost use Rattle.page_space.specs.Sizes.{AreWithin};
 ghost use Rattle.page_space.specs.Extents.{words_count, marks_start};
+ghost use Rattle.shape_tree.specs.Shapes.{AreShapes};
 ghost use Rattle.nursery.specs.Young.{IsYoung};
 ghost use Rattle.heap_table.specs.declared.phase.Phase.TheVariants.{Quiet};
 ghost use Rattle.heap_table.specs.Seats.{heap_words};
 ghost use Rattle.write_barrier.specs.Lending.{LendsSeat, LendsShapes, LendsNursery};
-ghost use Rattle.write_barrier.specs.Reading.{stays_quiet};
+ghost use Rattle.write_barrier.specs.Mains.{heap_of};
+ghost use Rattle.write_barrier.specs.Reading.{HasHeader, IsHeaderAt, stays_quiet};
 
 use heap_table::MainSeat;
 use nursery::Nursery;
 use page_space::Regions;
 use shape_tree::ShapeTree;
 use std::marker::Model;
+use tagged_word::{Header, Word};
 use word_store::Reads;
 
 /// The mutator: the seat of the thread that runs commands, the shapes, and the young generation.
@@ -60,6 +64,63 @@ impl Main {
         ensures of_heap { slice_get (heap_words self.now.seat) a ≡ Some result }
     {
         self.seat.word(a)
+    }
+
+    /// The word at an offset of a cell, before the marks.
+    #[inline(always)]
+    pub fn slot(&self, cell: u32, offset: u32) -> u64
+        requires within { cell + offset < marks_start self.now.seat.space }
+        requires quiet { self.now.seat.phase ≡ Quiet }
+        ensures of_table { slice_get self.now.seat.table (cell + offset) ≡ Some result }
+        ensures of_heap { slice_get (heap_words self.now.seat) (cell + offset) ≡ Some result }
+    {
+        self.addresses_fit();
+        self.word(cell + offset)
+    }
+
+    /// The header that stands at an address: that of each cell there.
+    #[inline(always)]
+    pub fn header(&self, at: u32) -> Header
+        requires there { HasHeader (heap_of self.now) at }
+        requires quiet { self.now.seat.phase ≡ Quiet }
+        ensures stands { header_at (heap_of self.now).words at ≡ Some result }
+        ensures of_cell { IsHeaderAt (heap_of self.now) at result }
+    {
+        self.addresses_fit();
+        match Header::parse(Word(self.word(at))) {
+            Some(header) => header,
+            None => unreachable!(),
+        }
+    }
+
+    /// No address of a heap is past 32 bits: there is a word for each address of the regions, and
+    /// these are within their limits. The call says so, and does nothing else.
+    #[inline(always)]
+    pub fn addresses_fit(&self)
+        ensures counted { length self.now.seat.table ≡ words_count self.now.seat.space }
+        ensures heap_counted { length (heap_words self.now.seat) ≡ marks_start self.now.seat.space }
+        ensures within { AreWithin self.now.seat.space.sizes self.now.seat.space.variables }
+        ensures fit { marks_start self.now.seat.space < 2 ^ 32 }
+    {
+        let _regions = self.regions();
+    }
+
+    /// There are no more paths than shapes, and their layouts are as they should be. The call says
+    /// so, and does nothing else.
+    #[inline(always)]
+    pub fn paths_fit(&self)
+        ensures good { AreShapes self.now.paths }
+    {
+        let _paths = self.shapes.paths();
+    }
+
+    /// Survivors and used words are no more than the words of the young generation. The call says so,
+    /// and does nothing else.
+    #[inline(always)]
+    pub fn used_fits(&self)
+        ensures is_young { IsYoung self.now.young }
+    {
+        let _used = self.nursery.used();
     }
 
     /// How many words of eden are used.
@@ -124,7 +185,7 @@ impl Reads for Main {
     #[inline(always)]
     fn load(&mut self, a: u32) -> u64 {
         // There are as many of these words as addresses before the marks.
-        let _regions = self.regions();
+        self.addresses_fit();
         self.word(a)
     }
 }

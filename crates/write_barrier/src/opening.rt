@@ -48,12 +48,11 @@ impl Main {
         ensures started { IsStarted self.new }
         ensures space { self.new.seat.space ≡ regions.now }
     {
-        // There are as many words as addresses.
-        let _regions = self.regions();
         self.put_gaps();
         self.put_unbound();
         self.put_layouts();
-        let _regions_at_last = self.regions();
+        // There are as many words as addresses.
+        self.addresses_fit();
     }
 
     // Makes a page one gap.
@@ -65,14 +64,14 @@ impl Main {
             ChangesWithin self.old self.new at (at + page_words) }
     {
         // There are as many words as addresses before the marks, and pages are among them.
-        let _regions = self.regions();
+        self.addresses_fit();
         let at = page * PAGE_WORDS;
         let header = Header {
             shape: shape::GAP,
             object: 0,
         };
         self.set_header(at, header);
-        self.write(at + 1, PAGE_WORDS as u64);
+        self.write_slot(at, 1, PAGE_WORDS as u64);
     }
 
     // Makes each page one gap.

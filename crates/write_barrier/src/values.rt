@@ -73,10 +73,8 @@ impl Main {
         ensures { let heap = heap_of self.now in
             result ≡ values.held_at heap at (is_box_at heap (Some at)) }
     {
-        // No address of a heap is past 32 bits.
-        let _regions = self.regions();
         if self.has_box(at) {
-            Held::Int(self.word(at + 1).cast_signed())
+            Held::Int(self.slot(at, 1).cast_signed())
         } else {
             Held::Ref(at)
         }

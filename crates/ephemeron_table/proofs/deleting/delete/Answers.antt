@@ -4,8 +4,7 @@ use Rattle.object_cells.proofs.CellsRead.{place_before_marks}
 use Rattle.ephemeron_table.proofs.EntryPairs.{entry_pair}
 use Rattle.ephemeron_table.proofs.KeysFound.{weak_shown, shown_there, key_told}
 use Rattle.ephemeron_table.proofs.KeysProbed.{comes_within, none_at_free, none_passed}
-use Rattle.ephemeron_table.proofs.KnownTables.{keys_beside, map_beside}
-use Rattle.ephemeron_table.proofs.KnownTables.{shown_known}
+use Rattle.ephemeron_table.proofs.KnownTables.{keys_beside, map_beside, shown_known}
 use Rattle.ephemeron_table.proofs.TablesRead.{count_within}
 use Rattle.ephemeron_table.proofs.DeletedPairs.{deletes_nothing, deletes_pair}
 use Rattle.ephemeron_table.proofs.DeletedEntries.{deletes_entry, IsDeleting, length-without_entry}

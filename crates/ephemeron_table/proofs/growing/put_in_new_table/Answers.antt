@@ -7,8 +7,8 @@ use Rattle.heap_table.specs.Staying.{stays_beside_again}
 use Rattle.write_barrier.specs.Mains.{Mutator}
 use Rattle.object_cells.specs.Made.{content_need}
 use Rattle.object_cells.proofs.WordsBeside.{same_beside, reserved_beside, put_beside}
-use Rattle.ephemeron_table.proofs.GrowingTables.{begun_within, boxed_free, grown_apart, grown_before_marks, grown_keys}
-use Rattle.ephemeron_table.proofs.GrowingTables.{grown_more, grown_nothing}
+use Rattle.ephemeron_table.proofs.GrowingTables.{begun_within, boxed_free, grown_apart, grown_before_marks}
+use Rattle.ephemeron_table.proofs.GrowingTables.{grown_keys, grown_more, grown_nothing}
 use Rattle.ephemeron_table.proofs.growing.put_in_new_table.Goals as goal
 
 -- some words are asked for

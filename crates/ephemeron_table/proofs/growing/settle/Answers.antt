@@ -2,7 +2,7 @@
 use Rattle.std.proofs.Common.{sym, ap, ◌∙◌}
 use Rattle.write_barrier.specs.Mains.{heap_of}
 use Rattle.linear_probing.proofs.Findings.{comes_everywhere}
-use Rattle.ephemeron_table.specs.Probes.{key_in}
+use Rattle.weak_pairs.specs.Tables.{key_in}
 use Rattle.ephemeron_table.proofs.growing.settle.Goals as goal
 
 pub unreachable-requires : goal.unreachable-requires

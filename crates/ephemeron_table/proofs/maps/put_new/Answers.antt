@@ -4,7 +4,7 @@ use Rattle.heap_model.specs.Needs.{count_at}
 use Rattle.heap_model.specs.Slots.{reference_word}
 use Rattle.write_barrier.specs.Mains.{heap_of}
 use Rattle.object_cells.proofs.CellsRead.{fits_address}
-use Rattle.ephemeron_table.specs.Probes as probes
+use Rattle.weak_pairs.specs.Tables as tables
 use Rattle.ephemeron_table.specs.Probes.{EndsNew}
 use Rattle.ephemeron_table.proofs.FullTables.{put_known, over_nowhere, counted_within}
 use Rattle.ephemeron_table.proofs.KeysFound.{weak_shown, shown_there, number_is}
@@ -55,7 +55,7 @@ put_grown-requires-in-None-clause-over c =
     let heap = heap_of c.args.main.now in
     let read : count_at heap c.args.map ≡ c.word-count.result =
     ap (λ found. unwrap_or found 0) c.word-count.ensures.of_heap in
-    let number = probes.number_at heap c.args.key in
+    let number = tables.number_at heap c.args.key in
     let passes = subst (EndsNew heap c.args.table number (reference_word c.args.key)) c.in-None.is c.requires.ends in
     let over = over_nowhere (put_known c.requires.shown c.regions-regions.ensures.within c.requires.table) number
     (reference_word c.args.key) passes in
@@ -66,7 +66,7 @@ returns-then-count-table c graph weak number what shows is is_key held =
     let heap = heap_of c.args.main.now in
     let ends = subst (λ n. EndsNew heap c.args.table n (reference_word c.args.key) (Some c.in-Some.at))
     (number_is is_key.place)
-    (subst (EndsNew heap c.args.table (probes.number_at heap c.args.key) (reference_word c.args.key)) c.in-Some.is
+    (subst (EndsNew heap c.args.table (tables.number_at heap c.args.key) (reference_word c.args.key)) c.in-Some.is
     c.requires.ends) in
     c.put_free.ensures graph weak number what shows is is_key held c.requires.table
     (ap (λ found. unwrap_or found 0) c.word-count.ensures.of_heap) ends.0 ends.1

@@ -3,7 +3,7 @@ use Rattle.std.proofs.Common.{ap, subst, arith}
 use Rattle.heap_table.specs.Seats.{heap_words}
 use Rattle.write_barrier.specs.Mains.{Mutator}
 use Rattle.object_cells.specs.Made.{PutsWords}
-use Rattle.ephemeron_table.specs.Takings.{made_pair, with_pair}
+use Rattle.weak_pairs.specs.Tables.{made_pair, with_pair}
 use Rattle.ephemeron_table.proofs.TakenOut.{takes_at}
 use Rattle.ephemeron_table.proofs.removing.take_out.Goals as goal
 

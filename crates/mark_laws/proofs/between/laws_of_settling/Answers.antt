@@ -2,6 +2,7 @@ use Rattle.mark_laws.proofs.SettlingSteps.{settling_stays}
 use Rattle.mark_laws.proofs.Settled.{done_leaves, more_may_be_made, none_made, none_owed, paid_leaves, settled_stays}
 use Rattle.mark_laws.proofs.Settled.{shades_settle, steps_settle}
 use Rattle.mark_laws.proofs.BetweenRuns.{settling_along}
+use Rattle.mark_laws.proofs.RestartSettles.{all_done_leave}
 use Rattle.mark_laws.proofs.between.laws_of_settling.Goals as goal
 
 pub returns-clause-none_made : goal.returns-clause-none_made
@@ -33,3 +34,6 @@ returns-clause-settle c = steps_settle
 
 pub returns-clause-along : goal.returns-clause-along
 returns-clause-along c = settling_along
+
+pub returns-clause-all_done : goal.returns-clause-all_done
+returns-clause-all_done c = all_done_leave

@@ -1,4 +1,5 @@
 use Rattle.mark_laws.proofs.Led.{led_is_black, sure_is_black}
+use Rattle.mark_laws.proofs.RestartSettles.{restarts_stay_settled}
 use Rattle.mark_laws.proofs.WholeAgain.{restarts_stay_whole}
 use Rattle.mark_laws.proofs.cycles.laws_of_cycles.Goals as goal
 
@@ -10,3 +11,6 @@ returns-clause-sure c = sure_is_black
 
 pub returns-clause-restart : goal.returns-clause-restart
 returns-clause-restart c = restarts_stay_whole
+
+pub returns-clause-settled : goal.returns-clause-settled
+returns-clause-settled c = restarts_stay_settled

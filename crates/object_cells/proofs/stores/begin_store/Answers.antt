@@ -19,7 +19,7 @@ returns c =
     let at = c.args.at in
     let store = c.args.store in
     let capacity = c.args.capacity in
-    let counted = c.regions-regions.ensures.heap_counted in
+    let counted = c.addresses_fit.ensures.heap_counted in
     let within : at + length (empty_store capacity) ≤ marks_start old.seat.space =
     omega (arith, c.requires.within, length-empty_store capacity) in
     let inside : at + length (empty_store capacity) ≤ length (heap_words old.seat) = omega (arith, within, counted) in

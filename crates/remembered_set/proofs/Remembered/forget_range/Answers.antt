@@ -1,6 +1,7 @@
 use Rattle.std.proofs.Common.{◌≡◌, ◌*◌, length, subst, sym, ap, ◌∙◌, arith}
 use Rattle.page_space.specs.Sizes.{page_words}
 use Rattle.remembered_set.specs.Recorded.{Recorded, IsRecorded}
+use Rattle.remembered_set.proofs.Ascending.{is_forgotten}
 use Rattle.remembered_set.proofs.Turns.{forgotten_more, forgotten_all}
 use Rattle.remembered_set.proofs.Remembered.forget_range.Goals as goal
 
@@ -9,6 +10,7 @@ loop-page-preserved c = record {
   forgotten = forgotten_more c.args.self.now c.loop-page.self c.forget_in_page.new.self c.args.from c.args.to
       c.loop-page.page c.loop-page.invariant.forgotten c.forget_in_page.ensures.forgotten;
   bound = c.forget_in_page.ensures.bound ∙ c.loop-page.invariant.bound;
+  recorded = c.forget_in_page.ensures.own;
 }
 
 pub returns-clause-forgotten : goal.returns-clause-forgotten
@@ -18,3 +20,9 @@ returns-clause-forgotten c =
     forgotten_all c.args.self.now c.loop-page.self c.args.from c.args.to (length c.self.inside.counts.items)
     c.loop-page.page (subst IsRecorded c.self.view_is c.self.invariant.recorded) bound (omega arith)
     c.loop-page.invariant.forgotten
+
+pub returns-clause-value : goal.returns-clause-value
+returns-clause-value c =
+    is_forgotten c.args.self.now c.loop-page.self c.args.from c.args.to
+    (subst IsRecorded c.self.view_is c.self.invariant.recorded) c.loop-page.invariant.recorded
+    c.loop-page.invariant.bound (returns-clause-forgotten c)

@@ -1,18 +1,25 @@
-use Rattle.std.proofs.Common.{◌≡◌, ◌/◌, ◌<◌, ◌≤◌, get_or, length, true, false, arith, ap}
+use Rattle.std.proofs.Common.{◌≡◌, ◌/◌, ◌<◌, ◌≤◌, get_or, set, length, true, false, arith, ap, subst, refl, ◌∙◌, ◌*◌}
 use Rattle.std.proofs.lemmas.List.{length-set}
-use Rattle.page_space.specs.Sizes.{page_words}
-use Rattle.remembered_set.specs.Recorded.{Recorded}
+use Rattle.page_space.specs.Sizes.{page_words, pages_most}
+use Rattle.remembered_set.specs.Recorded.{Recorded, IsRecorded}
+use Rattle.remembered_set.specs.Kept.{shown}
 use Rattle.remembered_set.proofs.Slots.{is_recorded}
-use Rattle.remembered_set.proofs.Shown.{noted, noted_again}
+use Rattle.remembered_set.proofs.Ascending.{is_noted}
+use Rattle.remembered_set.proofs.Shown.{has_noted, has_noted_again}
 use Rattle.remembered_set.proofs.Pages.{read_there, count_within, counted_note}
 use Rattle.remembered_set.proofs.Remembered.note.Goals as goal
 
 pub returns-then-index-clause-recorded : goal.returns-then-index-clause-recorded
 returns-then-index-clause-recorded c =
-    rw (← c.self.view_is) (noted_again c.self.inside.flags.items c.args.slot
+    rw (← c.self.view_is) (has_noted_again c.self.inside.flags.items c.args.slot
     (read_there c.self.inside.flags.items c.args.slot true false
     (omega (arith, ap (λ (recorded : Recorded). recorded.bound) c.self.view_is))
     (rw c.if-index.true at c.index.ensures)))
+
+pub returns-then-index-clause-value : goal.returns-then-index-clause-value
+returns-then-index-clause-value c =
+    let was : IsRecorded c.args.self.now = subst IsRecorded c.self.view_is c.self.invariant.recorded in
+    is_noted c.args.self.now c.args.self.now c.args.slot was was refl (returns-then-index-clause-recorded c)
 
 pub overflow_add-index_mut : goal.overflow_add-index_mut
 overflow_add-index_mut c =
@@ -44,5 +51,14 @@ invariant_of-self c =
 
 pub returns-clause-recorded : goal.returns-clause-recorded
 returns-clause-recorded c =
-    rw (← c.self.view_is) (noted c.self.inside.flags.items c.args.slot
+    rw (← c.self.view_is) (has_noted c.self.inside.flags.items c.args.slot
     (omega (arith, ap (λ (recorded : Recorded). recorded.bound) c.self.view_is)))
+
+pub returns-clause-value : goal.returns-clause-value
+returns-clause-value c =
+    let flags = set c.self.inside.flags.items c.args.slot true in
+    let was : IsRecorded c.args.self.now = subst IsRecorded c.self.view_is c.self.invariant.recorded in
+    let bound : length flags ≡ c.args.self.now.bound =
+    length-set c.self.inside.flags.items c.args.slot true ∙ ap (λ (recorded : Recorded). recorded.bound) c.self.view_is in
+    let within : length flags ≤ page_words * pages_most = omega (arith, bound, was.within) in
+    is_noted c.args.self.now (shown flags) c.args.slot was (is_recorded flags within) bound (returns-clause-recorded c)
