@@ -7,8 +7,8 @@ ghost use Rattle.weak_pairs.specs.Pairs.{HasPairsAt, IsFilledAt};
 ghost use Rattle.ephemeron_table.specs.Pairs.{RemovesPair};
 
 use crate::laws::{laws_of_pairs, laws_of_tables};
-use crate::table::table_of;
 use crate::removing::take_out;
+use crate::table::table_of;
 use write_barrier::Main;
 
 /// Takes the pair at a place out of the table of a weak map. Where some pair was free, what then

@@ -10,8 +10,8 @@ ghost use Rattle.ephemeron_table.specs.PairChanges.{DeletesPair};
 
 use crate::laws::{laws_of_entries, laws_of_pairs, laws_of_tables};
 use crate::probing::{End, probe};
-use crate::table::{number_at, table_of};
 use crate::removing::take_out;
+use crate::table::{number_at, table_of};
 use tagged_word::Word;
 use write_barrier::Main;
 

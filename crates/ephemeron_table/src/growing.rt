@@ -14,8 +14,8 @@ ghost use Rattle.ephemeron_table.specs.Puttings.{Settles, begun_table};
 
 use crate::probing::{key_of, place};
 use crate::putting::content_for;
-use crate::table::{CAPACITY, COUNT, TABLE_HEAD, number_at};
 use crate::removing::put_pair;
+use crate::table::{CAPACITY, COUNT, TABLE_HEAD, number_at};
 use handle_roots::Held;
 use object_cells::{STORE_SLOT, boxed_word, need_of, room_for};
 use tagged_word::{Header, Word, odd, shape};

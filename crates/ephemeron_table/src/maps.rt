@@ -15,9 +15,9 @@ ghost use Rattle.ephemeron_table.specs.PairChanges.{PutsBoth, PutsPair};
 
 use crate::adding::{put_free, put_grown};
 use crate::probing::{End, probe};
-use crate::table::{COUNT, number_at, table_of};
 use crate::replacing::put_there;
 use crate::stop::TableStop;
+use crate::table::{COUNT, number_at, table_of};
 use handle_roots::Held;
 use tagged_word::Word;
 use weak_pairs::Table;

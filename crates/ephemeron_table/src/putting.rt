@@ -11,8 +11,8 @@ ghost use Rattle.object_cells.specs.Made.{RefusesRoom, content_need, beside_cont
 ghost use Rattle.weak_pairs.specs.Tables.{IsWithin, value_in, value_offset};
 ghost use Rattle.ephemeron_table.specs.Puttings.{PutsInTable};
 
-use crate::table::{COUNT, TABLE_HEAD};
 use crate::removing::put_pair;
+use crate::table::{COUNT, TABLE_HEAD};
 use handle_roots::Held;
 use object_cells::{
     Content, Filling, boxed_word, content_of, filling_of, need_of, rep_of, room_for,

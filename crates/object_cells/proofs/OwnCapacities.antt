@@ -39,7 +39,7 @@ owned_is_store _ owned long = absurd owned
 module _ {old new : Heap} {cell came : Cell} {others beside made : List Cell}
     (writing : OwnWriting old new cell came others beside made) where
   -- no object is made
-  none_made : (number at : ℕ) → IsPlace new number at → IsPlace old number at
+  pub none_made : (number at : ℕ) → IsPlace new number at → IsPlace old number at
   none_made number at place = elim (writing.step.cells.back place.cell place.words place.has) [
     | inl comes ↦
         let same = came_object writing place.cell comes place.object in

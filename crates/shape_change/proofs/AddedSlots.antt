@@ -94,9 +94,12 @@ slot_comes {new = new} {cell} {next} {made = made} {fields} k x adds (SlotIs.put
     (subst (ComesFrom new was made (length fields) (length fields) (length fields)) (sym is) (adds.comes tagged_at))
 slot_comes {new = new} {cell} {next} {field = field} k x adds (SlotIs.kept apart there) tagged =
     let one : Cell = reshaped new.paths cell next in
-    ComesFrom.moved (there, tagged_before one field.name field.rep k adds.whole.sized adds.has
-    adds.plain adds.sound.shape
-    (cap_is adds.whole.sized adds.has adds.sound.shape) (laid_after adds) (λ same. apart (same ∙ as_many adds)) tagged)
+    ComesFrom.moved (
+      there,
+      tagged_before one field.name field.rep k adds.whole.sized adds.has
+          adds.plain adds.sound.shape
+          (cap_is adds.whole.sized adds.has adds.sound.shape) (laid_after adds) (λ same. apart (same ∙ as_many adds)) tagged,
+    )
 slot_comes {new = new} k x adds (SlotIs.more apart behind is) tagged =
     ComesFrom.none (subst (NamesNone new) (sym is) hole_names_none)
 
