@@ -6,15 +6,15 @@ use Rattle.ephemeron_table.specs.Movings.{MovesPairs}
 use Rattle.ephemeron_table.proofs.MovingTables.{moving_begins, moving_free, moving_key, moving_passes, moving_settles}
 use Rattle.ephemeron_table.proofs.MovingTables.{next_read}
 use Rattle.ephemeron_table.proofs.TableBounds.{none_from_not_some, table_within}
-use Rattle.ephemeron_table.proofs.growing.move_pairs.Goals as goal
-use Rattle.ephemeron_table.proofs.growing.move_pairs.Goals.{in-Some, in_default}
+use Rattle.ephemeron_table.proofs.growing.rehash.Goals as goal
+use Rattle.ephemeron_table.proofs.growing.rehash.Goals.{in-Some, in_default}
 
 pub loop-at-init : goal.loop-at-init
 loop-at-init c = moving_begins c.args.main.now c.args.from c.args.to c.requires.empty
 
-pub settle-requires-clause-key : goal.settle-requires-clause-key
-settle-requires-clause-key c =
-    let counted = c.regions-regions.ensures.heap_counted in
+pub insert_rehashed-requires-clause-key : goal.insert_rehashed-requires-clause-key
+insert_rehashed-requires-clause-key c =
+    let counted = c.addresses_fit.ensures.heap_counted in
     let within_from = table_within c.args.main.now c.args.from c.requires.from counted in
     let within = table_within c.args.main.now c.args.to c.requires.to counted in
     let read = next_read within_from within c.requires.more c.requires.apart c.requires.keys c.loop-at.invariant
@@ -23,9 +23,9 @@ settle-requires-clause-key c =
     c.loop-at-test.true
     c.in-Some.key (sym (c.address.ensures ∙ ap reference_in (c.key_of.ensures ∙ read.key)) ∙ c.in-Some.is)
 
-pub settle-requires-clause-free : goal.settle-requires-clause-free
-settle-requires-clause-free c =
-    let counted = c.regions-regions.ensures.heap_counted in
+pub insert_rehashed-requires-clause-free : goal.insert_rehashed-requires-clause-free
+insert_rehashed-requires-clause-free c =
+    let counted = c.addresses_fit.ensures.heap_counted in
     let within_from = table_within c.args.main.now c.args.from c.requires.from counted in
     let within = table_within c.args.main.now c.args.to c.requires.to counted in
     moving_free within_from within c.requires.more c.requires.apart c.requires.keys c.loop-at.invariant
@@ -33,7 +33,7 @@ settle-requires-clause-free c =
 
 pub loop-at-preserved : goal.loop-at-preserved
 loop-at-preserved c =
-    let counted = c.regions-regions.ensures.heap_counted in
+    let counted = c.addresses_fit.ensures.heap_counted in
     let within_from = table_within c.args.main.now c.args.from c.requires.from counted in
     let within = table_within c.args.main.now c.args.to c.requires.to counted in
     let read = next_read within_from within c.requires.more c.requires.apart c.requires.keys c.loop-at.invariant
@@ -44,8 +44,8 @@ loop-at-preserved c =
     elim c.match-address.branch [
       | in-Some w ↦ subst now (sym w.main-is)
           (moving_settles within_from within c.requires.more c.requires.apart c.requires.keys c.loop-at.invariant
-          c.loop-at-test.true w.in-Some.key (sym address ∙ w.in-Some.is) w.word.result
-          (ap (λ found. unwrap_or found 0) (sym w.word.ensures.of_heap) ∙ read.value) w.settle.ensures)
+          c.loop-at-test.true w.in-Some.key (sym address ∙ w.in-Some.is) w.slot.result
+          (ap (λ found. unwrap_or found 0) (sym w.slot.ensures.of_heap) ∙ read.value) w.insert_rehashed.ensures)
       | in_default w ↦ subst now (sym w.main-is)
           (moving_passes within_from within c.requires.more c.requires.apart c.requires.keys c.loop-at.invariant
           c.loop-at-test.true (sym address ∙ none_from_not_some c.address.result w.in_default.not-Some))

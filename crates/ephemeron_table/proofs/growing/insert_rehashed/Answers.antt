@@ -3,7 +3,7 @@ use Rattle.std.proofs.Common.{sym, ap, ◌∙◌}
 use Rattle.write_barrier.specs.Mains.{heap_of}
 use Rattle.linear_probing.proofs.Findings.{comes_everywhere}
 use Rattle.weak_pairs.specs.Tables.{key_in}
-use Rattle.ephemeron_table.proofs.growing.settle.Goals as goal
+use Rattle.ephemeron_table.proofs.growing.insert_rehashed.Goals as goal
 
 pub unreachable-requires : goal.unreachable-requires
 unreachable-requires c =

@@ -12,11 +12,11 @@ use Rattle.ephemeron_table.proofs.ClosedPairs.{nothing_changed, pair_changed}
 use Rattle.weak_pairs.proofs.BackwardShifts.{shift_begins, read, key_beside, numbers_long, hole_below, stays_below}
 use Rattle.weak_pairs.proofs.BackwardShifts.{ends_here, passes_on, moves_on, less_left}
 use Rattle.ephemeron_table.proofs.TableBounds.{none_from_not_some, table_within}
-use Rattle.ephemeron_table.proofs.removing.close.Goals as goal
+use Rattle.ephemeron_table.proofs.removing.backward_shift.Goals as goal
 
 pub loop-passed-init : goal.loop-passed-init
 loop-passed-init c =
-    let within = table_within c.args.main.now c.args.table c.requires.within c.regions-regions.ensures.heap_counted in
+    let within = table_within c.args.main.now c.args.table c.requires.within c.addresses_fit.ensures.heap_counted in
     record {
       changes = nothing_changed c.args.main.now c.args.table;
       shifting = shift_begins (heap_of c.args.main.now)
@@ -26,15 +26,15 @@ loop-passed-init c =
 
 pub overflow_add-passed : goal.overflow_add-passed
 overflow_add-passed c =
-    let within = table_within c.args.main.now c.args.table c.requires.within c.regions-regions.ensures.heap_counted in
+    let within = table_within c.args.main.now c.args.table c.requires.within c.addresses_fit.ensures.heap_counted in
     let far = c.loop-passed.invariant in
     let below : c.loop-passed.passed + 1 < marks_start c.args.main.now.seat.space =
     omega (arith, far.shifting.removal.few, numbers_long (heap_of c.args.main.now) (heap_of c.loop-passed.main) c.args.table within far.changes.long far.shifting, c.requires.within) in
-    fits_address below c.regions-regions.ensures.within
+    fits_address below c.addresses_fit.ensures.within
 
 pub returns-in_default : goal.returns-in_default
 returns-in_default c =
-    let within = table_within c.args.main.now c.args.table c.requires.within c.regions-regions.ensures.heap_counted in
+    let within = table_within c.args.main.now c.args.table c.requires.within c.addresses_fit.ensures.heap_counted in
     let far = c.loop-passed.invariant in
     let few = c.loop-passed-test.true in
     let next : ℕ = c.place-next.result in
@@ -52,7 +52,7 @@ returns-in_default c =
 
 pub number_at-number-requires-clause-within : goal.number_at-number-requires-clause-within
 number_at-number-requires-clause-within c =
-    let within = table_within c.args.main.now c.args.table c.requires.within c.regions-regions.ensures.heap_counted in
+    let within = table_within c.args.main.now c.args.table c.requires.within c.addresses_fit.ensures.heap_counted in
     let far = c.loop-passed.invariant in
     let few = c.loop-passed-test.true in
     let next : ℕ = c.place-next.result in
@@ -65,7 +65,7 @@ number_at-number-requires-clause-within c =
 
 pub loop-passed-preserved-then-steps-passed : goal.loop-passed-preserved-then-steps-passed
 loop-passed-preserved-then-steps-passed c =
-    let within = table_within c.args.main.now c.args.table c.requires.within c.regions-regions.ensures.heap_counted in
+    let within = table_within c.args.main.now c.args.table c.requires.within c.addresses_fit.ensures.heap_counted in
     let far = c.loop-passed.invariant in
     let few = c.loop-passed-test.true in
     let next : ℕ = c.place-next.result in
@@ -81,12 +81,12 @@ loop-passed-preserved-then-steps-passed c =
 
 pub copy_pair-requires-clause-to : goal.copy_pair-requires-clause-to
 copy_pair-requires-clause-to c =
-    let within = table_within c.args.main.now c.args.table c.requires.within c.regions-regions.ensures.heap_counted in
+    let within = table_within c.args.main.now c.args.table c.requires.within c.addresses_fit.ensures.heap_counted in
     hole_below (heap_of c.args.main.now) (heap_of c.loop-passed.main) c.args.table within c.loop-passed.invariant.changes.long c.loop-passed.invariant.shifting
 
 pub loop-passed-smaller : goal.loop-passed-smaller
 loop-passed-smaller c =
-    let within = table_within c.args.main.now c.args.table c.requires.within c.regions-regions.ensures.heap_counted in
+    let within = table_within c.args.main.now c.args.table c.requires.within c.addresses_fit.ensures.heap_counted in
     let far = c.loop-passed.invariant in
     let few = c.loop-passed-test.true in
     let next : ℕ = c.place-next.result in
@@ -99,7 +99,7 @@ loop-passed-smaller c =
 
 pub loop-passed-preserved : goal.loop-passed-preserved
 loop-passed-preserved c =
-    let within = table_within c.args.main.now c.args.table c.requires.within c.regions-regions.ensures.heap_counted in
+    let within = table_within c.args.main.now c.args.table c.requires.within c.addresses_fit.ensures.heap_counted in
     let far = c.loop-passed.invariant in
     let few = c.loop-passed-test.true in
     let next : ℕ = c.place-next.result in
@@ -116,7 +116,7 @@ loop-passed-preserved c =
 
 pub returns : goal.returns
 returns c =
-    let within = table_within c.args.main.now c.args.table c.requires.within c.regions-regions.ensures.heap_counted in
+    let within = table_within c.args.main.now c.args.table c.requires.within c.addresses_fit.ensures.heap_counted in
     let far = c.loop-passed.invariant in
     let long = numbers_long (heap_of c.args.main.now) (heap_of c.loop-passed.main) c.args.table within far.changes.long far.shifting in
     record {

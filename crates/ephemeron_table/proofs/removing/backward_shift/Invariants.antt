@@ -5,7 +5,7 @@ use Rattle.linear_probing.proofs.Removals.{left}
 use Rattle.ephemeron_table.specs.Takings.{ChangesPairs}
 use Rattle.weak_pairs.specs.Tables.{numbers, pairs_of}
 use Rattle.weak_pairs.proofs.BackwardShifts.{HasShifted}
-use Rattle.ephemeron_table.proofs.removing.close.Given as goal
+use Rattle.ephemeron_table.proofs.removing.backward_shift.Given as goal
 
 abbrev pub invariant-loop-passed : goal.invariant-loop-passed
 invariant-loop-passed l = record {
