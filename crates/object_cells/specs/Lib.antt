@@ -6,6 +6,7 @@ pub mod CellsAt
 pub mod Contents
 pub mod Refills
 pub mod CellWrites
+pub mod OwnSlots
 pub mod SlotChanges
 pub mod ListObjects
 pub mod ElementChanges
