@@ -12,9 +12,9 @@ use std::test::Fail;
 
 // A list at 0 with its store of no slots at 3; a list at 5 with its store of two slots at 8 and a
 // plain cell of none at 12; a plain cell with a raw slot at 14, one with a tagged slot at 17; a gap.
-const WORDS: &str = "6 13 0 14 0 6 33 2 14 2 49 3 34 3 74 3 5000000000 70 3 13 30 2028";
+pub(crate) const WORDS: &str = "6 13 0 14 0 6 33 2 14 2 49 3 34 3 74 3 5000000000 70 3 13 30 2028";
 
-const CELLS: &str = "0 3 5 8 12 14 17";
+pub(crate) const CELLS: &str = "0 3 5 8 12 14 17";
 
 // The fixed layouts, shape 8 for plain cells of no slots, 17 for a tagged slot and 18 for a raw one.
 const LAYOUTS: &str = "0 2 3 4 5 6 7 8 1 0 0 0 0 0 0 0 0 273 4369";
@@ -137,7 +137,7 @@ fn helper_event(step: Step<'_>) -> Option<Event> {
 }
 
 // The events that a text says.
-fn events_of(alloc: Global, text: &str) -> Result<Vec<Event>, Fail> {
+pub(crate) fn events_of(alloc: Global, text: &str) -> Result<Vec<Event>, Fail> {
     let mut events = Vec::new(alloc);
     for part in text.split("; ") {
         let step = step_of(part)?;
@@ -148,7 +148,7 @@ fn events_of(alloc: Global, text: &str) -> Result<Vec<Event>, Fail> {
 }
 
 // The world that a cycle begins with, of a page with these words and with these cells, each born.
-fn world(alloc: Global, words: &str, cells: &str) -> Result<World, Fail> {
+pub(crate) fn world(alloc: Global, words: &str, cells: &str) -> Result<World, Fail> {
     Ok(World {
         old: 2048,
         words: Items::from_vec(padded(alloc, words, 2048)?),
@@ -182,7 +182,7 @@ fn show_helper(text: &mut String, view: &HelperView) -> Result<(), Fail> {
 }
 
 // What is seen of a world: of its colours, words and board the first.
-fn show(text: &mut String, world: &World) -> Result<(), Fail> {
+pub(crate) fn show(text: &mut String, world: &World) -> Result<(), Fail> {
     let main = &world.main;
     let colours = world.colours.as_slice().get(..20).unwrap_or(&[]);
     let words = world.words.as_slice().get(..20).unwrap_or(&[]);
@@ -205,7 +205,7 @@ fn show(text: &mut String, world: &World) -> Result<(), Fail> {
 }
 
 // The world after events. No clause says which, so that proofs of tests need not read it.
-fn carried(alloc: Global, start: &World, events: &[Event]) -> Result<World, StepStop> {
+pub(crate) fn carried(alloc: Global, start: &World, events: &[Event]) -> Result<World, StepStop> {
     replay(alloc, start, events)
 }
 
@@ -243,7 +243,13 @@ fn hold_all(rt: &impl Abort, alloc: Global, start: &World, rows: &str) -> Result
 }
 
 // Each row ends as it says, from a world of these words and cells.
-fn walk(rt: &impl Abort, alloc: Global, words: &str, cells: &str, rows: &str) -> Result<(), Fail> {
+pub(crate) fn walk(
+    rt: &impl Abort,
+    alloc: Global,
+    words: &str,
+    cells: &str,
+    rows: &str,
+) -> Result<(), Fail> {
     let start = world(alloc, words, cells)?;
     hold_all(rt, alloc, &start, rows)
 }

@@ -13,12 +13,12 @@ use std::test::Fail;
 // What a scavenge begins with: its words and layouts, its only cell, the slots that may refer to it,
 // and rooms, each with its worker, its first word and the word behind its last.
 #[derive(Clone, Copy)]
-struct Start<'t> {
-    words: &'t str,
-    layouts: &'t str,
-    cells: &'t str,
-    slots: &'t str,
-    rooms: &'t str,
+pub(crate) struct Start<'t> {
+    pub(crate) words: &'t str,
+    pub(crate) layouts: &'t str,
+    pub(crate) cells: &'t str,
+    pub(crate) slots: &'t str,
+    pub(crate) rooms: &'t str,
 }
 
 // A list with object number 5 and nothing in it, two slots that refer to it, and two rooms.
@@ -275,7 +275,7 @@ fn hold_all(
 }
 
 // Each row ends as it says, behind these events, from a world of this start.
-fn walk(
+pub(crate) fn walk(
     rt: &impl Abort,
     alloc: Global,
     start: Start<'_>,

@@ -1,7 +1,6 @@
 -- An integer that was put into the box of an entry's value refills the map: so the entry has the value.
-use Rattle.std.proofs.Common.{◌≡◌, ℕ, ◌+◌, inl, inr, List, [], ◌∷◌, ◌++◌, length, Contains}
-use Rattle.std.proofs.Common.{Some, false}
-use Rattle.std.proofs.Common.{slice_get, refl, sym, ◌∙◌, ap, subst, arith}
+use Rattle.std.proofs.Common.{◌≡◌, ℕ, ◌+◌, inl, inr, List, [], ◌∷◌, ◌++◌, length, Contains, Some, false, slice_get}
+use Rattle.std.proofs.Common.{refl, sym, ◌∙◌, ap, subst, arith}
 use Rattle.std.specs.Prelude.{ℤ, FitsSigned}
 use Rattle.std.specs.Int.{w64}
 use Rattle.std.proofs.lemmas.Bool.{cases_eq}
@@ -20,8 +19,7 @@ use Rattle.handle_roots.specs.declared.held.Held.{Held}
 use Rattle.heap_table.specs.Seats.{heap_words}
 use Rattle.heap_model.specs.Heaps.{words_of_cell}
 use Rattle.heap_model.specs.Slots.{reference_word, raw_word}
-use Rattle.heap_model.specs.Kinds.{HasWord, Pair, IsFilledPair, count_offset}
-use Rattle.heap_model.specs.Kinds.{HasNoNumber}
+use Rattle.heap_model.specs.Kinds.{HasWord, Pair, IsFilledPair, count_offset, HasNoNumber}
 use Rattle.heap_model.specs.Showing.{ShowsValue}
 use Rattle.heap_model.specs.Wholeness.{NamesFrom}
 use Rattle.heap_model.proofs.BoundHeaps.{none_in}
@@ -36,16 +34,14 @@ use Rattle.object_cells.proofs.MadeBoxes.{boxed_integer}
 use Rattle.object_cells.proofs.SlotBoxes.{IsBoxOf}
 use Rattle.object_cells.proofs.ContentValues.{box_shows}
 use Rattle.object_cells.proofs.FieldWords.{value_word}
-use Rattle.ephemeron_table.specs.Pairs.{IsFilledAt}
+use Rattle.weak_pairs.specs.Pairs.{IsFilledAt}
 use Rattle.ephemeron_table.specs.PairWrites.{RefillsPairs, PairComes, ValueComes}
-use Rattle.ephemeron_table.specs.Takings.{pairs_of, numbers}
-use Rattle.ephemeron_table.specs.declared.reading.Table.{Table}
-use Rattle.ephemeron_table.proofs.CountedPairs.{count_filled}
+use Rattle.weak_pairs.specs.Tables.{pairs_of, numbers}
+use Rattle.weak_pairs.specs.declared.table.Table.{Table}
+use Rattle.weak_pairs.proofs.CountedPairs.{count_filled}
 use Rattle.ephemeron_table.proofs.EntryPairs.{HasEntryPair, known, some, entry_filled, entry_refers}
-use Rattle.ephemeron_table.proofs.KnownTables.{table_is_no_box, are_before, cell, other}
-use Rattle.ephemeron_table.proofs.KnownTables.{sound, slot_there, of_map}
-use Rattle.ephemeron_table.proofs.KnownTables.{finds_all, found, other_belongs, other_number}
-use Rattle.ephemeron_table.proofs.KnownTables.{pairs_same}
+use Rattle.ephemeron_table.proofs.KnownTables.{table_is_no_box, are_before, cell, other, sound, slot_there, of_map}
+use Rattle.ephemeron_table.proofs.KnownTables.{finds_all, found, other_belongs, other_number, pairs_same}
 use Rattle.ephemeron_table.proofs.ReplacedValues.{ReplacesValue}
 use Rattle.object_cells.proofs.OwnIntegers as integer
 use Rattle.object_cells.proofs.NothingUsed.{room_for_none}

@@ -1,7 +1,6 @@
 -- An entry of a weak map was taken out.
-use Rattle.std.proofs.Common.{◌≡◌, ◌≢◌, ℕ, ◌+◌, Bool, true, false, cond, List, [], ◌∷◌, length, Some}
-use Rattle.std.proofs.Common.{None}
-use Rattle.std.proofs.Common.{slice_get, get_or, set, refl, sym, ◌∙◌, ap, subst, arith, ◌==◌}
+use Rattle.std.proofs.Common.{◌≡◌, ◌≢◌, ℕ, ◌+◌, Bool, true, false, cond, List, [], ◌∷◌, length, Some, None, slice_get}
+use Rattle.std.proofs.Common.{get_or, set, refl, sym, ◌∙◌, ap, subst, arith, ◌==◌}
 use Rattle.std.specs.Prelude.{slice_set}
 use Rattle.std.proofs.lemmas.List.{set-get_or}
 use Rattle.std.proofs.lemmas.Option.{none-some, get_or_from_slice_get}
@@ -24,15 +23,17 @@ use Rattle.object_cells.specs.Capacities.{ChangesObject}
 use Rattle.object_cells.proofs.NothingUsed.{uses_none, nothing_changes}
 use Rattle.ephemeron_table.specs.EntryChanges.{DeletesEntry}
 use Rattle.ephemeron_table.specs.WeakObjects.{IsWeakAt}
-use Rattle.ephemeron_table.specs.Pairs.{IsFilledAt}
+use Rattle.weak_pairs.specs.Pairs.{IsFilledAt}
 use Rattle.ephemeron_table.specs.PairLaws.{PutsOne, TablesStay, WrittenEntriesShow}
-use Rattle.ephemeron_table.specs.Takings.{TakesAt, pairs_of}
-use Rattle.ephemeron_table.specs.declared.reading.Table.{Table}
-use Rattle.ephemeron_table.proofs.CountedPairs.{count_filled}
-use Rattle.ephemeron_table.proofs.EntryPairs.{HasEntryPair, shown, known, some, entry_filled, entry_refers, entry_only}
+use Rattle.ephemeron_table.specs.Takings.{TakesAt}
+use Rattle.weak_pairs.specs.Tables.{pairs_of}
+use Rattle.weak_pairs.specs.declared.table.Table.{Table}
+use Rattle.weak_pairs.proofs.CountedPairs.{count_filled}
+use Rattle.ephemeron_table.proofs.EntryPairs.{HasEntryPair, shown, known, some, entry_filled, entry_refers}
+use Rattle.ephemeron_table.proofs.EntryPairs.{entry_only}
 use Rattle.ephemeron_table.proofs.KnownTables.{KnownMap, count_is}
 use Rattle.ephemeron_table.proofs.TakenMaps.{refills_weak, refers_back, slot_stays, count_after}
-use Rattle.ephemeron_table.proofs.TakenPairs.{free_not_filled, same_filled}
+use Rattle.weak_pairs.proofs.FilledPairs.{free_not_filled, same_filled}
 
 -- without an entry that has a value there is one less, by whether the first has the key
 less_by : (test : Bool) (entry : Entry) (entries : List Entry) (key : ℕ) (value : Value)

@@ -8,17 +8,17 @@ use Rattle.heap_model.specs.Slots.{reference_word}
 use Rattle.write_barrier.specs.Mains.{Mutator, heap_of, MainShows}
 use Rattle.ephemeron_table.specs.WeakObjects.{IsKeyAt, IsShownKey, IsWeakAt}
 use Rattle.ephemeron_table.specs.EntryChanges.{DeletesEntry}
-use Rattle.ephemeron_table.specs.Pairs.{HasPairsAt, RemovesPair}
-use Rattle.ephemeron_table.specs.PairChanges.{DeletesPair, IsPairOf}
+use Rattle.weak_pairs.specs.Pairs.{HasPairsAt, IsPairOf}
+use Rattle.ephemeron_table.specs.Pairs.{RemovesPair}
+use Rattle.ephemeron_table.specs.PairChanges.{DeletesPair}
 use Rattle.ephemeron_table.specs.PairLaws.{WrittenPairsAreOwn, TablesStay}
 use Rattle.ephemeron_table.specs.Probes.{IsTableAt}
 use Rattle.ephemeron_table.specs.Takings.{TakesAt}
-use Rattle.ephemeron_table.specs.declared.reading.Table.{Table}
+use Rattle.weak_pairs.specs.declared.table.Table.{Table}
 use Rattle.ephemeron_table.proofs.KeysFound.{WeakShown, weak_shown, TellsPair}
 use Rattle.ephemeron_table.proofs.DeletedEntries.{deletes_none}
 use Rattle.ephemeron_table.proofs.KeysProbed.{LacksEntry}
-use Rattle.ephemeron_table.proofs.KnownTables.{KnownMap}
-use Rattle.ephemeron_table.proofs.KnownTables.{shown_known}
+use Rattle.ephemeron_table.proofs.KnownTables.{KnownMap, shown_known}
 use Rattle.ephemeron_table.proofs.PairsByKey.{lacks_pair, one_pair_of, pairs_shown, told_pair}
 use Rattle.ephemeron_table.proofs.RemovedPairs.{removes_pair}
 

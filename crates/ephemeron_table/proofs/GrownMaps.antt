@@ -1,7 +1,6 @@
 -- A weak map to which an entry came in a table that was made is refilled.
-use Rattle.std.proofs.Common.{◌≡◌, ℕ, ◌+◌, ◌<◌, ◌⊎◌, inl, inr, List, []}
-use Rattle.std.proofs.Common.{drop, Contains, Some}
-use Rattle.std.proofs.Common.{false, slice_get, refl, sym, ◌∙◌, ap, subst, arith}
+use Rattle.std.proofs.Common.{◌≡◌, ℕ, ◌+◌, ◌<◌, ◌⊎◌, inl, inr, List, [], drop, Contains, Some, false, slice_get, refl}
+use Rattle.std.proofs.Common.{sym, ◌∙◌, ap, subst, arith}
 use Rattle.std.specs.Prelude.{ℤ}
 use Rattle.std.proofs.lemmas.Bool.{cases_lt}
 use Rattle.std.proofs.lemmas.Option.{same_Some}
@@ -19,8 +18,8 @@ use Rattle.handle_roots.specs.declared.held.Held.{Held}
 use Rattle.heap_table.specs.Seats.{heap_words}
 use Rattle.heap_model.specs.Heaps.{HasCell, words_of_cell}
 use Rattle.heap_model.specs.Slots.{reference_word, RefersToBox, RefersToPlace, IsPlace}
-use Rattle.heap_model.specs.Kinds.{HasWord, Pair, HasTable, IsFilledPair, pairs_in, count_offset}
-use Rattle.heap_model.specs.Kinds.{HasNoNumber, IsBoxCell, IsPowerOfTwo}
+use Rattle.heap_model.specs.Kinds.{HasWord, Pair, HasTable, IsFilledPair, pairs_in, count_offset, HasNoNumber}
+use Rattle.heap_model.specs.Kinds.{IsBoxCell, IsPowerOfTwo}
 use Rattle.heap_model.proofs.BoundHeaps.{none_in}
 use Rattle.heap_model.proofs.WordsStay.{PlacesStay}
 use Rattle.write_barrier.specs.Mains.{Mutator, heap_of}
@@ -37,24 +36,20 @@ use Rattle.object_cells.proofs.ContentValues.{content_shows}
 use Rattle.object_cells.proofs.FieldWords.{value_word}
 use Rattle.object_cells.proofs.ObjectWrites.{owned_or_box}
 use Rattle.ephemeron_table.specs.Movings.{CanGrow, PutsInNewTable}
-use Rattle.ephemeron_table.specs.Pairs.{HasPairs, IsFilledAt}
+use Rattle.weak_pairs.specs.Pairs.{HasPairs, IsFilledAt}
 use Rattle.ephemeron_table.specs.PairWrites.{RefillsPairs, PairComes}
 use Rattle.ephemeron_table.specs.PairLaws.{RefillsWeak}
-use Rattle.ephemeron_table.specs.declared.reading.Table.{Table}
-use Rattle.ephemeron_table.proofs.CountedPairs.{count_filled}
+use Rattle.weak_pairs.specs.declared.table.Table.{Table}
+use Rattle.weak_pairs.proofs.CountedPairs.{count_filled}
 use Rattle.ephemeron_table.proofs.GrownPairs.{before, after, place, origin, origin_other, all_apart, all_found, moved}
-use Rattle.ephemeron_table.proofs.GrownPairs.{one_more}
-use Rattle.ephemeron_table.proofs.GrownPairs.{NowFilled, now_filled}
+use Rattle.ephemeron_table.proofs.GrownPairs.{one_more, NowFilled, now_filled}
 use Rattle.ephemeron_table.proofs.GrownWords.{pair, made, made_table, other, boxes, behind, capacity, box_stands}
-use Rattle.ephemeron_table.proofs.GrownWords.{writes}
-use Rattle.ephemeron_table.proofs.GrownWords.{capacity_word, fits_new}
+use Rattle.ephemeron_table.proofs.GrownWords.{writes, capacity_word, fits_new}
 use Rattle.ephemeron_table.proofs.LinkedMaps.{count_word, slot_word}
-use Rattle.ephemeron_table.proofs.NewTables.{first_power, grown_power}
-use Rattle.ephemeron_table.proofs.PairLists.{pairs_are}
+use Rattle.weak_pairs.proofs.GrownPowers.{first_power, grown_power}
+use Rattle.weak_pairs.proofs.PairLists.{pairs_are}
 use Rattle.ephemeron_table.proofs.TablesRead.{found_table, pairs_stand}
-use Rattle.ephemeron_table.proofs.KnownTables.{table_is_no_box, are_before}
-use Rattle.ephemeron_table.proofs.KnownTables.{KnownMap, cell, of_map}
-use Rattle.ephemeron_table.proofs.KnownTables.{found, other_long}
+use Rattle.ephemeron_table.proofs.KnownTables.{table_is_no_box, are_before, KnownMap, cell, of_map, found, other_long}
 use Rattle.ephemeron_table.proofs.PutValues.{value_comes}
 use Rattle.ephemeron_table.proofs.StayingTables as staying
 use Rattle.ephemeron_table.proofs.StayingTables.{WritesMap}

@@ -1,16 +1,10 @@
 pub mod TablesRead
-pub mod EntriesFound
 pub mod KeysFound
 pub mod KeysProbed
-pub mod PairLists
-pub mod CountedPairs
-pub mod TakenPairs
 pub mod ClosedPairs
 pub mod KeptTables
-pub mod PairWords
 pub mod WovenPairs
 pub mod PairNames
-pub mod EntryLists
 pub mod TakenOut
 pub mod KnownTables
 pub mod StayingTables
@@ -18,9 +12,7 @@ pub mod TakenMaps
 pub mod DeletedEntries
 pub mod ShownEntries
 pub mod WrittenEntries
-pub mod FirstRounds
 pub mod RemovedPairs
-pub mod MovedPairs
 pub mod SettledPairs
 pub mod MovingTables
 pub mod TableBounds
@@ -50,7 +42,6 @@ pub mod NoPair
 pub mod GrowableMaps
 pub mod GrownEntries
 pub mod NewTableEntries
-pub mod FreePairs
 pub mod PairsByKey
 pub mod PutRefusals
 pub mod PutPlaces

@@ -1,7 +1,6 @@
 -- The pair of a key that is new came to a free place of a weak map's table: so its entry is put.
-use Rattle.std.proofs.Common.{◌≡◌, ℕ, suc, ◌+◌, ◌*◌, ◌<◌, ◌≤◌, Bool, false, nat_lt}
-use Rattle.std.proofs.Common.{List, [], ◌∷◌, length, None, Some, Err}
-use Rattle.std.proofs.Common.{refl, sym, ◌∙◌, ap, subst, arith}
+use Rattle.std.proofs.Common.{◌≡◌, ℕ, suc, ◌+◌, ◌*◌, ◌<◌, ◌≤◌, Bool, false, nat_lt, List, [], ◌∷◌, length, None, Some}
+use Rattle.std.proofs.Common.{Err, refl, sym, ◌∙◌, ap, subst, arith}
 use Rattle.std.specs.Prelude.{slice_set}
 use Rattle.std.proofs.lemmas.Bool.{cond-false}
 use Rattle.std.proofs.lemmas.Bool.Decides.{nat_tests}
@@ -33,23 +32,22 @@ use Rattle.object_cells.proofs.HeldNeeds.{new_value_held, content_need_is, wide_
 use Rattle.ephemeron_table.specs.EntryChanges.{HasPutEntry, PutsEntry}
 use Rattle.ephemeron_table.specs.declared.stop.TableStop.TheVariants as stop
 use Rattle.ephemeron_table.specs.Growth.{put_capacity_at, put_capacity_by}
-use Rattle.ephemeron_table.specs.Pairs.{HasPairsAt}
+use Rattle.weak_pairs.specs.Pairs.{HasPairsAt}
 use Rattle.ephemeron_table.specs.PairChanges.{PutsPair}
 use Rattle.ephemeron_table.specs.PairLaws.{PutsOne, RefillsWeak, TablesStay, WrittenEntriesShow, IsNewValue}
 use Rattle.ephemeron_table.specs.WeakObjects.{IsKeyAt, IsWeakAt}
 use Rattle.ephemeron_table.specs.Probes.{EndsBy, IsTableAt}
 use Rattle.ephemeron_table.specs.declared.probing.End.TheVariants as probe_end
 use Rattle.ephemeron_table.specs.Puttings.{PutsInTable}
-use Rattle.ephemeron_table.specs.Takings.{pairs_of, numbers}
-use Rattle.ephemeron_table.specs.declared.reading.Table.{Table}
+use Rattle.weak_pairs.specs.Tables.{pairs_of, numbers}
+use Rattle.weak_pairs.specs.declared.table.Table.{Table}
 use Rattle.linear_probing.specs.Tables.{FindsAll}
-use Rattle.ephemeron_table.proofs.CountedPairs.{count_filled}
+use Rattle.weak_pairs.proofs.CountedPairs.{count_filled}
 use Rattle.ephemeron_table.proofs.FreeKeys.{ComesToFree, below, finds_put, counted_put, not_filled}
 use Rattle.ephemeron_table.proofs.GrownEntries.{length-with_entry_new}
 use Rattle.ephemeron_table.proofs.KnownTables.{KnownMap, cell, other}
-use Rattle.ephemeron_table.proofs.NewKeys.{LacksKey, shown, known, no_pair_of, no_pair_refers}
-use Rattle.ephemeron_table.proofs.NewKeys.{entries_counted, not_full_for}
-use Rattle.ephemeron_table.proofs.NewKeys.{is_full_for, lacks_where_free}
+use Rattle.ephemeron_table.proofs.NewKeys.{LacksKey, shown, known, no_pair_of, no_pair_refers, entries_counted}
+use Rattle.ephemeron_table.proofs.NewKeys.{not_full_for, is_full_for, lacks_where_free}
 use Rattle.ephemeron_table.proofs.PairsByKey.{lacks_pair, pairs_shown}
 use Rattle.ephemeron_table.proofs.PutEntries.{puts_one}
 use Rattle.ephemeron_table.proofs.PutMaps.{refills_weak, slot_stays, count_after}

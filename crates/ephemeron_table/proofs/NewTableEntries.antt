@@ -30,12 +30,12 @@ use Rattle.ephemeron_table.specs.declared.stop.TableStop.TheVariants as stop
 use Rattle.ephemeron_table.specs.Growth.{put_capacity_by}
 use Rattle.ephemeron_table.specs.Movings.{CanGrow, PutsInNewTable, new_table_need}
 use Rattle.ephemeron_table.specs.PairLaws.{RefillsWeak, TablesGrow, WrittenEntriesShow, IsNewValue}
-use Rattle.ephemeron_table.specs.declared.reading.Table.{Table}
-use Rattle.ephemeron_table.proofs.CountedPairs.{count_filled}
+use Rattle.weak_pairs.specs.declared.table.Table.{Table}
+use Rattle.weak_pairs.proofs.CountedPairs.{count_filled}
 use Rattle.ephemeron_table.proofs.GrownEntries.{IsGrowing, growing_can, growing_need, known, length-with_entry_new}
-use Rattle.ephemeron_table.proofs.GrownEntries.{no_pair_of}
-use Rattle.ephemeron_table.proofs.GrownEntries.{none, over_test, puts_one, shown}
-use Rattle.ephemeron_table.proofs.GrownMaps.{all_made, boxes_made, count_now, refills_weak, slot_there_now, table_made}
+use Rattle.ephemeron_table.proofs.GrownEntries.{no_pair_of, none, over_test, puts_one, shown}
+use Rattle.ephemeron_table.proofs.GrownMaps.{all_made, boxes_made, count_now, refills_weak, slot_there_now}
+use Rattle.ephemeron_table.proofs.GrownMaps.{table_made}
 use Rattle.ephemeron_table.proofs.GrownPairs.{after, before, one_more}
 use Rattle.ephemeron_table.proofs.GrownWords.{puts_weak}
 use Rattle.ephemeron_table.proofs.KnownTables.{KnownMap, cell, count_is}

@@ -1,7 +1,7 @@
 -- What the slots of a weak map name whose pairs were written: each named the same before, or names what was made; and
 -- no two name one. So the change of cells is the map's own.
-use Rattle.std.proofs.Common.{◌≡◌, ℕ, ◌+◌, ◌⊎◌, inl, inr, List, ◌∷◌, ◌++◌, Contains, Some, slice_get}
-use Rattle.std.proofs.Common.{refl, sym, ◌∙◌, ap, subst}
+use Rattle.std.proofs.Common.{◌≡◌, ℕ, ◌+◌, ◌⊎◌, inl, inr, List, ◌∷◌, ◌++◌, Contains, Some, slice_get, refl, sym, ◌∙◌}
+use Rattle.std.proofs.Common.{ap, subst}
 use Rattle.std.proofs.lemmas.Option.{same_Some}
 use Rattle.tagged_word.specs.declared.layout.Kind.{Kind}
 use Rattle.tagged_word.specs.declared.layout.Kind.TheVariants as kind
@@ -21,12 +21,12 @@ use Rattle.heap_model.proofs.NamedBefore.{slot_named_before}
 use Rattle.object_cells.proofs.WrittenPlaces.{object_names_none, objects_stay}
 use Rattle.object_cells.proofs.OwnWritings.{came_object, went_own, came_stood, boxes_came}
 use Rattle.object_cells.proofs.OwnerWrites.{weak_owns, written_own_keeps_cells}
-use Rattle.ephemeron_table.specs.Pairs.{IsFilledAt}
+use Rattle.weak_pairs.specs.Pairs.{IsFilledAt}
 use Rattle.ephemeron_table.specs.PairWrites.{PairComes, ValueComes}
 use Rattle.ephemeron_table.specs.PairLaws.{RefillsWeak, WrittenPairsAreOwn}
 use Rattle.heap_model.proofs.WholeStays.{own_changes_keep_whole}
-use Rattle.ephemeron_table.proofs.PairWords.{is_table_of, IsValueAt, one_place, one_value, value_slot_at, WeakSlot}
-use Rattle.ephemeron_table.proofs.PairWords.{weak_slot}
+use Rattle.weak_pairs.proofs.PairWords.{is_table_of, IsValueAt, one_place, one_value, value_slot_at, WeakSlot}
+use Rattle.weak_pairs.proofs.PairWords.{weak_slot}
 use Rattle.ephemeron_table.proofs.WovenPairs.{weak_writes, weak_cells, weak_writing, weak_now, weak_places_stay}
 use Rattle.ephemeron_table.proofs.WovenPairs.{filled_now, pairs_sound}
 

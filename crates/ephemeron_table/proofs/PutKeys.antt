@@ -10,8 +10,8 @@ use Rattle.heap_model.specs.Slots.{reference_word, IsSlotWord}
 use Rattle.heap_model.specs.Needs.{word_at, wput_need_at}
 use Rattle.write_barrier.specs.Mains.{Mutator, heap_of}
 use Rattle.write_barrier.specs.declared.room.NoRoom.{NoRoom}
-use Rattle.object_cells.specs.Contents.{next_at, box_in, filling_at, filling_of, filling_need, HoldsSlotWord, LacksRoom}
-use Rattle.object_cells.specs.Contents.{FillsSlot}
+use Rattle.object_cells.specs.Contents.{next_at, box_in, filling_at, filling_of, filling_need, HoldsSlotWord}
+use Rattle.object_cells.specs.Contents.{LacksRoom, FillsSlot}
 use Rattle.object_cells.specs.HeldValues.{IsValueHeld, is_wide}
 use Rattle.object_cells.specs.Made.{beside_content}
 use Rattle.object_cells.proofs.NothingUsed.{room_for_none}
@@ -21,8 +21,8 @@ use Rattle.object_cells.proofs.SlotBoxes.{box_of_word, lacks_need}
 use Rattle.ephemeron_table.specs.EntryChanges.{HasPutEntry, IsFullFor, PutsEntry}
 use Rattle.ephemeron_table.specs.declared.stop.TableStop.TheVariants as stop
 use Rattle.ephemeron_table.specs.PairLaws.{TablesStay, WrittenEntriesShow}
-use Rattle.ephemeron_table.specs.Probes.{value_in, value_offset}
-use Rattle.ephemeron_table.specs.declared.reading.Table.{Table}
+use Rattle.weak_pairs.specs.Tables.{value_in, value_offset}
+use Rattle.weak_pairs.specs.declared.table.Table.{Table}
 use Rattle.ephemeron_table.proofs.BoxedMaps.{box_replaces}
 use Rattle.ephemeron_table.proofs.EntryPairs.{HasEntryPair, known, entry_need, value_read, value_slot}
 use Rattle.ephemeron_table.proofs.KnownTables.{cell}

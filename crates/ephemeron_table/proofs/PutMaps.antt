@@ -1,7 +1,6 @@
 -- A weak map to whose table a pair came is refilled.
-use Rattle.std.proofs.Common.{◌≡◌, ℕ, ◌+◌, ◌<◌, inl, inr, List, [], ◌∷◌, ◌++◌, length, Contains}
-use Rattle.std.proofs.Common.{Some}
-use Rattle.std.proofs.Common.{false, slice_get, refl, sym, ◌∙◌, ap, subst, arith}
+use Rattle.std.proofs.Common.{◌≡◌, ℕ, ◌+◌, ◌<◌, inl, inr, List, [], ◌∷◌, ◌++◌, length, Contains, Some, false}
+use Rattle.std.proofs.Common.{slice_get, refl, sym, ◌∙◌, ap, subst, arith}
 use Rattle.std.specs.Prelude.{slice_set, ℤ}
 use Rattle.std.proofs.lemmas.Bool.{cases_eq}
 use Rattle.tagged_word.specs.declared.layout.Kind.TheVariants as kind
@@ -19,8 +18,7 @@ use Rattle.handle_roots.specs.declared.held.Held.{Held}
 use Rattle.heap_table.specs.Seats.{heap_words}
 use Rattle.heap_model.specs.Heaps.{words_of_cell}
 use Rattle.heap_model.specs.Slots.{reference_word, RefersToBox, RefersToPlace, IsPlace}
-use Rattle.heap_model.specs.Kinds.{HasWord, Pair, IsFilledPair, count_offset}
-use Rattle.heap_model.specs.Kinds.{HasNoNumber, IsBoxCell}
+use Rattle.heap_model.specs.Kinds.{HasWord, Pair, IsFilledPair, count_offset, HasNoNumber, IsBoxCell}
 use Rattle.heap_model.specs.Wholeness.{NamesFrom, IsOwnedKind}
 use Rattle.heap_model.proofs.WordsStay.{PlacesStay}
 use Rattle.write_barrier.specs.Mains.{Mutator, heap_of}
@@ -35,22 +33,19 @@ use Rattle.object_cells.proofs.OwnCells.{cell_below_layouts}
 use Rattle.object_cells.proofs.SlotsNow.{word_at_offset}
 use Rattle.object_cells.proofs.ContentValues.{content_shows}
 use Rattle.object_cells.proofs.FieldWords.{value_word}
-use Rattle.ephemeron_table.specs.Pairs.{IsFilledAt}
+use Rattle.weak_pairs.specs.Pairs.{IsFilledAt}
 use Rattle.ephemeron_table.specs.PairWrites.{RefillsPairs, PairComes}
 use Rattle.ephemeron_table.specs.PairLaws.{RefillsWeak}
 use Rattle.ephemeron_table.specs.Puttings.{PutsInTable}
-use Rattle.ephemeron_table.specs.Takings.{numbers, pairs_of, with_pair}
-use Rattle.ephemeron_table.specs.declared.reading.Table.{Table}
-use Rattle.ephemeron_table.proofs.CountedPairs.{count_filled}
-use Rattle.ephemeron_table.proofs.KnownTables.{table_is_no_box, are_before}
-use Rattle.ephemeron_table.proofs.KnownTables.{KnownMap, cell, cell_has, sound, slot_there}
-use Rattle.ephemeron_table.proofs.KnownTables.{of_map}
-use Rattle.ephemeron_table.proofs.KnownTables.{found, other, other_belongs}
-use Rattle.ephemeron_table.proofs.KnownTables.{other_number}
-use Rattle.ephemeron_table.proofs.PairLists.{at_place, length-with_pair}
+use Rattle.weak_pairs.specs.Tables.{numbers, pairs_of, with_pair}
+use Rattle.weak_pairs.specs.declared.table.Table.{Table}
+use Rattle.weak_pairs.proofs.CountedPairs.{count_filled}
+use Rattle.ephemeron_table.proofs.KnownTables.{table_is_no_box, are_before, KnownMap, cell, cell_has, sound}
+use Rattle.ephemeron_table.proofs.KnownTables.{slot_there, of_map, found, other, other_belongs, other_number}
+use Rattle.weak_pairs.proofs.PairsPut.{at_place, length-with_pair}
 use Rattle.ephemeron_table.proofs.PutPairs.{pair, made, pairs_are_now, box_stands, writes, some, map_stays}
 use Rattle.ephemeron_table.proofs.PutValues.{value_comes}
-use Rattle.ephemeron_table.proofs.TakenPairs.{filled_elsewhere}
+use Rattle.weak_pairs.proofs.FilledPairs.{filled_elsewhere}
 use Rattle.ephemeron_table.proofs.StayingTables as staying
 use Rattle.ephemeron_table.proofs.StayingTables.{WritesMap, StaysTable}
 

@@ -1,7 +1,5 @@
 -- Where an entry of a weak map was put, a pair of its key was put among the map's pairs.
-use Rattle.std.proofs.Common.{◌≡◌, ◌≢◌, ℕ, ◌+◌, List, ◌++◌, None, Some, refl, sym}
-use Rattle.std.proofs.Common.{◌∙◌, ap, subst}
-use Rattle.std.proofs.Common.{unwrap_or}
+use Rattle.std.proofs.Common.{◌≡◌, ◌≢◌, ℕ, ◌+◌, List, ◌++◌, None, Some, refl, sym, ◌∙◌, ap, subst, unwrap_or}
 use Rattle.tagged_word.proofs.Members.{first_in}
 use Rattle.page_space.specs.Sizes.{AreWithin}
 use Rattle.page_space.specs.Extents.{Space}
@@ -26,18 +24,17 @@ use Rattle.object_cells.specs.HeldValues.{IsReachedValue, IsValueHeld}
 use Rattle.object_cells.proofs.CellsRead.{word_stands}
 use Rattle.object_cells.proofs.OwnerWrites.{weak_owns, written_own_keeps_cells}
 use Rattle.ephemeron_table.specs.WeakObjects.{IsKeyAt, IsWeakAt}
-use Rattle.ephemeron_table.specs.Pairs.{HasPairsAt, IsFilledAt}
-use Rattle.ephemeron_table.specs.PairChanges.{AreWith, HasPutPair, IsPairOf, LacksPair, WordStandsFor}
+use Rattle.weak_pairs.specs.Pairs.{HasPairsAt, IsFilledAt, AreWith, IsPairOf, LacksPair}
+use Rattle.ephemeron_table.specs.PairChanges.{HasPutPair, WordStandsFor}
 use Rattle.ephemeron_table.specs.EntryChanges.{IsFullFor}
 use Rattle.ephemeron_table.specs.PairLaws.{RefillsWeak, PutsOne}
 use Rattle.ephemeron_table.specs.PairWrites.{PairComes}
 use Rattle.ephemeron_table.specs.Probes.{IsTableAt}
 use Rattle.ephemeron_table.specs.PutWords.{PutsAt}
-use Rattle.ephemeron_table.specs.declared.reading.Table.{Table}
-use Rattle.ephemeron_table.proofs.CountedPairs.{count_filled}
+use Rattle.weak_pairs.specs.declared.table.Table.{Table}
+use Rattle.weak_pairs.proofs.CountedPairs.{count_filled}
 use Rattle.ephemeron_table.proofs.KeysFound.{WeakShown, weak_shown, one_place}
-use Rattle.ephemeron_table.proofs.KnownTables.{KnownMap}
-use Rattle.ephemeron_table.proofs.KnownTables.{shown_known}
+use Rattle.ephemeron_table.proofs.KnownTables.{KnownMap, shown_known}
 use Rattle.ephemeron_table.proofs.PairsByKey.{has_pair, lacks_pair, pairs_shown}
 use Rattle.ephemeron_table.proofs.PutRefusals.{few_lacking}
 

@@ -1,6 +1,6 @@
 -- A pair of a weak map was taken out.
-use Rattle.std.proofs.Common.{◌≡◌, ◌+◌, ◌*◌, ◌≤◌, ◌⊎◌, inl, inr, unwrap_or, ℕ, ◌<◌, List, []}
-use Rattle.std.proofs.Common.{sym, ◌∙◌, ap, subst, arith}
+use Rattle.std.proofs.Common.{◌≡◌, ◌+◌, ◌*◌, ◌≤◌, ◌⊎◌, inl, inr, unwrap_or, ℕ, ◌<◌, List, [], sym, ◌∙◌, ap, subst}
+use Rattle.std.proofs.Common.{arith}
 use Rattle.heap_model.specs.Slots.{reference_word}
 use Rattle.std.proofs.lemmas.Option.{slice_get_within}
 use Rattle.page_space.specs.Sizes.{AreWithin}
@@ -15,14 +15,16 @@ use Rattle.object_cells.specs.CellsAt.{IsWhole}
 use Rattle.object_cells.specs.Capacities.{ChangesObject}
 use Rattle.object_cells.proofs.NothingUsed.{uses_none}
 use Rattle.object_cells.proofs.CellsRead.{word_stands}
-use Rattle.ephemeron_table.specs.Pairs.{HasPairsAt, IsFilledAt, RemovesPair, AreWithout}
+use Rattle.weak_pairs.specs.Pairs.{HasPairsAt, IsFilledAt, AreWithout}
+use Rattle.ephemeron_table.specs.Pairs.{RemovesPair}
 use Rattle.ephemeron_table.specs.PairLaws.{WrittenPairsAreOwn, TablesStay}
 use Rattle.ephemeron_table.specs.Probes.{IsTableAt}
-use Rattle.ephemeron_table.specs.Takings.{TakesAt, pairs_of, IsBesidePairs}
-use Rattle.ephemeron_table.specs.declared.reading.Table.{Table}
-use Rattle.ephemeron_table.proofs.CountedPairs.{count_freed}
+use Rattle.ephemeron_table.specs.Takings.{TakesAt}
+use Rattle.weak_pairs.specs.Tables.{pairs_of, IsBesidePairs}
+use Rattle.weak_pairs.specs.declared.table.Table.{Table}
+use Rattle.weak_pairs.proofs.CountedPairs.{count_freed}
 use Rattle.ephemeron_table.proofs.KnownTables.{KnownMap, cell, count_is, within_words}
-use Rattle.ephemeron_table.proofs.PairLists.{pairs_are}
+use Rattle.weak_pairs.proofs.PairLists.{pairs_are}
 use Rattle.ephemeron_table.proofs.TakenMaps.{refills_weak, slot_stays, map_has, are_after}
 
 -- the map whose pair is to be taken out is known

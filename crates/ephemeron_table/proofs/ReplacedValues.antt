@@ -1,6 +1,5 @@
 -- The pair of an entry came to have another value: so the entry is put.
-use Rattle.std.proofs.Common.{◌≡◌, ◌≢◌, ℕ, ◌+◌, inl, inr, Bool, true, false, cond, List, [], ◌∷◌, length}
-use Rattle.std.proofs.Common.{Some}
+use Rattle.std.proofs.Common.{◌≡◌, ◌≢◌, ℕ, ◌+◌, inl, inr, Bool, true, false, cond, List, [], ◌∷◌, length, Some}
 use Rattle.std.proofs.Common.{slice_get, refl, sym, ◌∙◌, ap, subst, arith, ◌==◌}
 use Rattle.std.specs.Prelude.{slice_set}
 use Rattle.std.proofs.lemmas.Bool.{cases_eq}
@@ -27,16 +26,16 @@ use Rattle.object_cells.specs.Capacities.{ChangesObject}
 use Rattle.object_cells.specs.Uses.{UsesMore}
 use Rattle.ephemeron_table.specs.EntryChanges.{HasPutEntry}
 use Rattle.ephemeron_table.specs.Growth.{put_capacity_by}
-use Rattle.ephemeron_table.specs.Pairs.{IsFilledAt}
+use Rattle.weak_pairs.specs.Pairs.{IsFilledAt}
 use Rattle.ephemeron_table.specs.PairLaws.{RefillsWeak, PutsOne, TablesStay, WrittenEntriesShow, IsNewValue}
-use Rattle.ephemeron_table.specs.Takings.{pairs_of}
-use Rattle.ephemeron_table.specs.declared.reading.Table.{Table}
-use Rattle.ephemeron_table.proofs.CountedPairs.{count_filled, count_kept}
+use Rattle.weak_pairs.specs.Tables.{pairs_of}
+use Rattle.weak_pairs.specs.declared.table.Table.{Table}
+use Rattle.weak_pairs.proofs.CountedPairs.{count_filled, count_kept}
 use Rattle.ephemeron_table.proofs.EntryPairs.{HasEntryPair, shown, known, entry_filled, entry_refers, entry_only}
 use Rattle.ephemeron_table.proofs.EntryPairs.{entry_pair_of}
 use Rattle.ephemeron_table.proofs.KeysFound.{key_filled}
 use Rattle.ephemeron_table.proofs.KnownTables.{KnownMap, cell, count_is}
-use Rattle.ephemeron_table.proofs.TakenPairs.{filled_elsewhere, still_filled, same_filled}
+use Rattle.weak_pairs.proofs.FilledPairs.{filled_elsewhere, still_filled, same_filled}
 
 -- with the entry of a key that has a value put there are as many, by whether the first has it
 as_many_by : (test : Bool) (entry : Entry) (entries : List Entry) (key : ℕ) (value what : Value)

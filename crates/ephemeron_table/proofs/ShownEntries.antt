@@ -1,6 +1,6 @@
 -- The cell of a weak map whose pairs were written shows its entries with that of one key put, or taken out.
-use Rattle.std.proofs.Common.{◌≡◌, ◌≢◌, ℕ, ◌⊎◌, inl, inr, Bool, List, map, Option, Some, None, slice_get}
-use Rattle.std.proofs.Common.{refl, sym, ◌∙◌, ap, subst}
+use Rattle.std.proofs.Common.{◌≡◌, ◌≢◌, ℕ, ◌⊎◌, inl, inr, Bool, List, map, Option, Some, None, slice_get, refl, sym}
+use Rattle.std.proofs.Common.{◌∙◌, ap, subst}
 use Rattle.std.specs.Prelude.{◌==◌, IsTrue, IsSome}
 use Rattle.std.specs.List.{IsDistinct}
 use Rattle.std.proofs.lemmas.Bool.{false≢true, cases_eq, cases_Bool}
@@ -21,12 +21,13 @@ use Rattle.object_cells.specs.SlotChanges.{IsNoBoxOf}
 use Rattle.object_cells.proofs.KeptCapacities.{none_made}
 use Rattle.object_cells.proofs.ReplacedObjects.{MarksReached}
 use Rattle.object_cells.proofs.WrittenPlaces.{object_box_stays}
-use Rattle.ephemeron_table.specs.Pairs.{IsFilledAt}
+use Rattle.weak_pairs.specs.Pairs.{IsFilledAt}
 use Rattle.ephemeron_table.specs.PairWrites.{PairComes, RefillsPairs}
-use Rattle.ephemeron_table.specs.PairLaws.{RefillsWeak, entries_with, PutsOne}
-use Rattle.ephemeron_table.proofs.EntryLists.{IsEntryOf, EntryComes, entry_comes, entry_stays, put_there}
+use Rattle.ephemeron_table.specs.PairLaws.{RefillsWeak, PutsOne}
+use Rattle.weak_pairs.specs.Entries.{entries_with}
+use Rattle.weak_pairs.proofs.EntryLists.{IsEntryOf, EntryComes, entry_comes, entry_stays, put_there}
 use Rattle.ephemeron_table.proofs.KeptTables.{of_pairs}
-use Rattle.ephemeron_table.proofs.PairWords.{one_pairs}
+use Rattle.weak_pairs.proofs.PairWords.{one_pairs}
 use Rattle.ephemeron_table.proofs.WovenPairs.{weak_writes, weak_places_stay}
 
 -- a pair whose key refers to an object holds something

@@ -1,6 +1,6 @@
 -- What stays where words of a weak map's own cells have changed, and what the map has where its table stays where it is.
-use Rattle.std.proofs.Common.{◌≡◌, ℕ, ◌+◌, ◌<◌, List, ◌∷◌, ◌++◌, length, drop, Contains, Some, slice_get}
-use Rattle.std.proofs.Common.{sym, ◌∙◌, ap, subst, arith}
+use Rattle.std.proofs.Common.{◌≡◌, ℕ, ◌+◌, ◌<◌, List, ◌∷◌, ◌++◌, length, drop, Contains, Some, slice_get, sym, ◌∙◌}
+use Rattle.std.proofs.Common.{ap, subst, arith}
 use Rattle.std.specs.Prelude.{option_map}
 use Rattle.std.proofs.lemmas.List.Elements.{Contains-append_left, Contains-append_right}
 use Rattle.std.proofs.lemmas.Option.{same_Some, slice_get-map}
@@ -23,13 +23,13 @@ use Rattle.object_cells.proofs.ObjectWrites.{same_count}
 use Rattle.object_cells.proofs.OwnerWrites.{weak_owns, writes_own, written_own_keeps_cells}
 use Rattle.object_cells.proofs.SlotsNow.{word_at_offset}
 use Rattle.object_cells.proofs.WrittenPlaces.{object_places_stay}
-use Rattle.ephemeron_table.specs.Pairs.{HasPairs, IsFilledAt}
+use Rattle.weak_pairs.specs.Pairs.{HasPairs, IsFilledAt}
 use Rattle.ephemeron_table.specs.PairWrites.{WritesWeak}
-use Rattle.ephemeron_table.specs.Takings.{numbers, number_of, pairs_of}
-use Rattle.ephemeron_table.specs.declared.reading.Table.{Table}
-use Rattle.ephemeron_table.proofs.KnownTables.{KnownMap, cell, cell_has, sound, within_words, slot_there}
-use Rattle.ephemeron_table.proofs.KnownTables.{of_map, number_found, probed_pair, found, other, other_long}
-use Rattle.ephemeron_table.proofs.PairLists.{pairs_are}
+use Rattle.weak_pairs.specs.Tables.{numbers, number_of, pairs_of}
+use Rattle.weak_pairs.specs.declared.table.Table.{Table}
+use Rattle.ephemeron_table.proofs.KnownTables.{KnownMap, cell, cell_has, sound, within_words, slot_there, of_map}
+use Rattle.ephemeron_table.proofs.KnownTables.{number_found, probed_pair, found, other, other_long}
+use Rattle.weak_pairs.proofs.PairLists.{pairs_are}
 use Rattle.ephemeron_table.proofs.TablesRead.{found_table, pairs_stand}
 
 -- Words of the map's cell, of these others, and newly used ones have changed.

@@ -1,7 +1,6 @@
 -- A pair that was taken out of a weak map's table refills the map.
-use Rattle.std.proofs.Common.{◌≡◌, ℕ, ◌+◌, ◌-◌, ◌<◌, inl, List, [], ◌∷◌, Contains}
-use Rattle.std.proofs.Common.{Some}
-use Rattle.std.proofs.Common.{slice_get, refl, sym, ◌∙◌, ap, subst, arith, add-zero}
+use Rattle.std.proofs.Common.{◌≡◌, ℕ, ◌+◌, ◌-◌, ◌<◌, inl, List, [], ◌∷◌, Contains, Some, slice_get, refl, sym, ◌∙◌}
+use Rattle.std.proofs.Common.{ap, subst, arith, add-zero}
 use Rattle.tagged_word.specs.declared.layout.Kind.TheVariants as kind
 use Rattle.tagged_word.specs.Cells.{store_slot}
 use Rattle.tagged_word.proofs.Members.{first_in, one_in}
@@ -9,8 +8,7 @@ use Rattle.cell_layout.specs.declared.cell.Cell.{Cell}
 use Rattle.heap_table.specs.Seats.{heap_words}
 use Rattle.heap_model.specs.Heaps.{HasCell, words_of_cell}
 use Rattle.heap_model.specs.Slots.{reference_word, RefersToPlace}
-use Rattle.heap_model.specs.Kinds.{HasWord, Pair, count_offset}
-use Rattle.heap_model.specs.Kinds.{HasNoNumber}
+use Rattle.heap_model.specs.Kinds.{HasWord, Pair, count_offset, HasNoNumber}
 use Rattle.heap_model.specs.Wholeness.{NamesFrom}
 use Rattle.heap_model.specs.Needs.{count_at}
 use Rattle.heap_model.proofs.BoundHeaps.{none_in}
@@ -20,15 +18,15 @@ use Rattle.object_cells.proofs.SlotsNow.{word_at_offset}
 use Rattle.object_cells.proofs.NothingUsed.{room_for_none, used_and_none}
 use Rattle.object_cells.proofs.OwnPuts.{PutsOwn, own_writes, one_beside}
 use Rattle.object_cells.proofs.MadeBoxes.{row_of_none}
-use Rattle.ephemeron_table.specs.Pairs.{HasPairs, IsFilledAt}
+use Rattle.weak_pairs.specs.Pairs.{HasPairs, IsFilledAt}
 use Rattle.ephemeron_table.specs.PairWrites.{WritesWeak, RefillsPairs, PairComes}
 use Rattle.ephemeron_table.specs.PairLaws.{RefillsWeak}
-use Rattle.ephemeron_table.specs.Takings.{TakesAt, pairs_of}
-use Rattle.ephemeron_table.specs.declared.reading.Table.{Table}
-use Rattle.ephemeron_table.proofs.CountedPairs.{count_filled}
-use Rattle.ephemeron_table.proofs.KnownTables.{KnownMap, cell, cell_has, sound, slot_there}
-use Rattle.ephemeron_table.proofs.KnownTables.{count_is, of_map, finds_all, found, other}
-use Rattle.ephemeron_table.proofs.KnownTables.{other_has, map_beside, other_belongs}
+use Rattle.ephemeron_table.specs.Takings.{TakesAt}
+use Rattle.weak_pairs.specs.Tables.{pairs_of}
+use Rattle.weak_pairs.specs.declared.table.Table.{Table}
+use Rattle.weak_pairs.proofs.CountedPairs.{count_filled}
+use Rattle.ephemeron_table.proofs.KnownTables.{KnownMap, cell, cell_has, sound, slot_there, count_is, of_map}
+use Rattle.ephemeron_table.proofs.KnownTables.{finds_all, found, other, other_has, map_beside, other_belongs}
 use Rattle.ephemeron_table.proofs.KnownTables.{other_number, are_before, head_apart, beside_table, table_is_no_box}
 use Rattle.ephemeron_table.proofs.StayingTables as staying
 use Rattle.ephemeron_table.proofs.StayingTables.{WritesMap, StaysTable}

@@ -1,8 +1,7 @@
 -- The pairs of one weak map of a whole heap become others: each that holds something is an entry, and each cell that
 -- came or was made is sound.
-use Rattle.std.proofs.Common.{◌≡◌, ◌≢◌, ℕ, ◌⊎◌, inl, inr, List, ◌∷◌, ◌++◌, drop, Contains, Some}
-use Rattle.std.proofs.Common.{slice_get}
-use Rattle.std.proofs.Common.{sym, ◌∙◌, ap, subst}
+use Rattle.std.proofs.Common.{◌≡◌, ◌≢◌, ℕ, ◌⊎◌, inl, inr, List, ◌∷◌, ◌++◌, drop, Contains, Some, slice_get, sym, ◌∙◌}
+use Rattle.std.proofs.Common.{ap, subst}
 use Rattle.std.proofs.lemmas.Bool.{cases_eq}
 use Rattle.std.proofs.lemmas.List.Elements.{Contains-append_cases}
 use Rattle.tagged_word.specs.declared.layout.Kind.TheVariants as kind
@@ -11,21 +10,20 @@ use Rattle.tagged_word.proofs.Members.{first_in, rest_in}
 use Rattle.cell_layout.specs.declared.cell.Cell.{Cell}
 use Rattle.heap_model.specs.Heaps.{Heap, HasCell, words_of_cell}
 use Rattle.heap_model.specs.Slots.{hole_word, RefersTo, IsSlotWord}
-use Rattle.heap_model.specs.Kinds.{Pair, free_pair, IsFilledPair, IsFoundPair, IsWeakCell, IsStoreCell}
-use Rattle.heap_model.specs.Kinds.{IsSoundOf, IsSound}
+use Rattle.heap_model.specs.Kinds.{Pair, free_pair, IsFilledPair, IsFoundPair, IsWeakCell, IsStoreCell, IsSoundOf}
+use Rattle.heap_model.specs.Kinds.{IsSound}
 use Rattle.heap_model.specs.Changes.{CellsChange}
 use Rattle.heap_model.proofs.SlotWords.{value_is_slot}
 use Rattle.heap_model.proofs.WordsStay.{PlacesStay, refers_to_place_stays, value_stays}
 use Rattle.object_cells.specs.SlotChanges.{IsNoBoxOf}
-use Rattle.object_cells.proofs.ObjectWrites.{WritesObject}
+use Rattle.object_cells.proofs.ObjectWrites.{WritesObject, owned_or_box}
 use Rattle.object_cells.proofs.OwnWritings.{OwnWriting, store_is_sound, came_sound}
 use Rattle.object_cells.proofs.WrittenPlaces.{object_places_stay, object_box_stays}
 use Rattle.object_cells.proofs.OwnerWrites.{weak_owns, writes_own, written_own_keeps_cells}
-use Rattle.object_cells.proofs.ObjectWrites.{owned_or_box}
-use Rattle.ephemeron_table.specs.Pairs.{IsFilledAt}
+use Rattle.weak_pairs.specs.Pairs.{IsFilledAt}
 use Rattle.ephemeron_table.specs.PairWrites.{PairComes}
 use Rattle.ephemeron_table.specs.PairLaws.{RefillsWeak}
-use Rattle.ephemeron_table.proofs.PairWords.{IsPairWord, is_table_of, one_pairs, pair_word, table_words}
+use Rattle.weak_pairs.proofs.PairWords.{IsPairWord, is_table_of, one_pairs, pair_word, table_words}
 
 -- a pair holds nothing, or something
 free_or_filled : (pair : Pair) → (pair ≡ free_pair) ⊎ (pair ≢ free_pair)

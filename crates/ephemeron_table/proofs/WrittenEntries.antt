@@ -1,7 +1,7 @@
 -- Where the pairs of a weak map were written so that the entry of one key was put or taken out, the heap shows the
 -- graph in which it was.
-use Rattle.std.proofs.Common.{◌≡◌, ℕ, ◌<◌, true, List, ◌∷◌, length, Option, Some, None, slice_get}
-use Rattle.std.proofs.Common.{refl, sym, ◌∙◌, ap, subst, arith}
+use Rattle.std.proofs.Common.{◌≡◌, ℕ, ◌<◌, true, List, ◌∷◌, length, Option, Some, None, slice_get, refl, sym, ◌∙◌, ap}
+use Rattle.std.proofs.Common.{subst, arith}
 use Rattle.std.specs.Prelude.{Contains, IsTrue}
 use Rattle.std.proofs.lemmas.Option.{slice_get-get_or, slice_get_within, get_or_from_slice_get}
 use Rattle.tagged_word.proofs.Members.{first_in}
@@ -23,11 +23,11 @@ use Rattle.write_barrier.specs.Mains.{heap_of}
 use Rattle.object_cells.specs.HeldValues.{IsReachedValue}
 use Rattle.object_cells.specs.Refills.{IsAtRest}
 use Rattle.object_cells.proofs.ReplacedObjects.{HasReachedLinks, ReplacesCells, replaced_shows}
-use Rattle.object_cells.proofs.WrittenPlaces.{went_object}
+use Rattle.object_cells.proofs.WrittenPlaces.{went_object, box_is_no_object}
 use Rattle.object_cells.proofs.OwnerWrites.{weak_owns, written_own_keeps_cells}
-use Rattle.object_cells.proofs.WrittenPlaces.{box_is_no_object}
-use Rattle.ephemeron_table.specs.PairLaws.{entries_with, IsNewValue, WrittenEntriesShow}
-use Rattle.ephemeron_table.proofs.EntryLists.{EntryComes, entry_comes}
+use Rattle.weak_pairs.specs.Entries.{entries_with}
+use Rattle.ephemeron_table.specs.PairLaws.{IsNewValue, WrittenEntriesShow}
+use Rattle.weak_pairs.proofs.EntryLists.{EntryComes, entry_comes}
 use Rattle.ephemeron_table.proofs.PairNames.{pairs_own}
 use Rattle.ephemeron_table.proofs.ShownEntries.{Reweaving, weak_shows}
 use Rattle.ephemeron_table.proofs.WovenPairs.{weak_writes}

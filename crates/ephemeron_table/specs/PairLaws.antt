@@ -1,13 +1,10 @@
 -- What a change of a weak map's pairs makes of the heap, and of the graph that it shows.
-use Rattle.std.specs.Prelude.{◌≡◌, ◌≢◌, ℕ, ◌+◌, ◌^◌, ◌<◌, List, ◌∷◌, length, Option, Some, None}
-use Rattle.std.specs.Prelude.{slice_get, IsTrue, IsSome}
-use Rattle.std.specs.Prelude.{Contains}
+use Rattle.std.specs.Prelude.{◌≡◌, ◌≢◌, ℕ, ◌+◌, ◌^◌, ◌<◌, List, ◌∷◌, length, Option, Some, None, slice_get, IsTrue}
+use Rattle.std.specs.Prelude.{IsSome, Contains}
 use Rattle.tagged_word.specs.declared.layout.Kind.TheVariants as kind
 use Rattle.tagged_word.specs.Cells.{store_slot}
 use Rattle.object_graph.specs.declared.value.Value.{Value}
-use Rattle.object_graph.specs.declared.object.Entry.{Entry}
 use Rattle.object_graph.specs.declared.object.Object.TheVariants.{Weak}
-use Rattle.object_graph.specs.Objects.{with_entry, without_entry}
 use Rattle.object_graph.specs.Graphs.{Graph, WeakObject}
 use Rattle.object_graph.specs.Meaning.{reweave}
 use Rattle.object_graph.specs.Reach.{is_marked, reach}
@@ -24,8 +21,9 @@ use Rattle.heap_model.specs.Needs.{capacity_at}
 use Rattle.write_barrier.specs.Mains.{Mutator, heap_of, IsTied, MainShows}
 use Rattle.object_cells.specs.HeldValues.{IsReachedValue}
 use Rattle.object_cells.specs.Capacities.{ChangesObject}
-use Rattle.ephemeron_table.specs.Pairs.{IsFilledAt}
+use Rattle.weak_pairs.specs.Pairs.{IsFilledAt}
 use Rattle.ephemeron_table.specs.PairWrites.{WritesWeak, RefillsPairs}
+use Rattle.weak_pairs.specs.Entries.{entries_with}
 
 -- Words of one weak map's own cells were written in a whole heap, pair by pair.
 pub record RefillsWeak (old new : Heap) (cell : Cell) (others made : List Cell) : Type 0 where
@@ -55,11 +53,6 @@ TablesGrow =
     → Contains made table → table.layout.kind ≡ kind.Table → table.at < 2 ^ 32
     → slice_get new.words (cell.at + store_slot) ≡ Some (reference_word table.at)
     → ChangesObject old new cell.at table.length
-
--- the entries with that of one key put, or taken out
-abbrev pub entries_with : List Entry → ℕ → Option Value → List Entry
-entries_with entries number (Some value) = with_entry entries number value
-entries_with entries number None = without_entry entries number
 
 -- The entry of one key was put, or taken out: the pairs of all other keys are kept, and its own, if there is one, is
 -- the one that was put, which shows it. Where it was taken out, no pair was put.

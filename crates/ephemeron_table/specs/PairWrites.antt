@@ -1,7 +1,6 @@
 -- A change of the entries of one weak map, pair by pair: the map's cell, its table and its boxes stay where they are,
 -- or a table and a box are made.
-use Rattle.std.specs.Prelude.{◌≡◌, ℕ, ◌⊎◌, List, ◌++◌, not, count_by, Contains}
-use Rattle.std.specs.Prelude.{Some, slice_get}
+use Rattle.std.specs.Prelude.{◌≡◌, ℕ, ◌⊎◌, List, ◌++◌, not, count_by, Contains, Some, slice_get}
 use Rattle.tagged_word.specs.declared.layout.Kind.TheVariants as kind
 use Rattle.cell_layout.specs.declared.cell.Cell.{Cell}
 use Rattle.heap_model.specs.Heaps.{Heap, words_of_cell}
@@ -11,7 +10,7 @@ use Rattle.heap_model.specs.Kinds.{count_offset}
 use Rattle.heap_model.specs.Wholeness.{NamesFrom}
 use Rattle.object_cells.specs.CellWrites.{WritesOwnCells}
 use Rattle.object_cells.specs.SlotChanges.{NamesNone, IsNoBoxOf}
-use Rattle.ephemeron_table.specs.Pairs.{HasPairs, IsFilledAt}
+use Rattle.weak_pairs.specs.Pairs.{HasPairs, IsFilledAt}
 
 -- Of the words before the layout words only those of the weak map's cell but its header have changed, pairs of these
 -- tables, integers of these boxes, and words that are newly used, in which cells were made.

@@ -1,6 +1,5 @@
 //! What words written in a weak map's own cells make of the heap and of its graph.
-ghost use Rattle.ephemeron_table.specs.PairLaws.{WrittenPairsAreOwn, TablesStay, TablesGrow};
-ghost use Rattle.ephemeron_table.specs.PairLaws.{WrittenEntriesShow};
+ghost use Rattle.ephemeron_table.specs.PairLaws.{WrittenPairsAreOwn, TablesStay, TablesGrow, WrittenEntriesShow};
 
 /// Where words of a weak map's own cells were written, and each pair comes from where it may, cells
 /// stand in rows again, the change is the map's own, and the heap is whole.

@@ -20,10 +20,10 @@ mod laws;
 mod maps;
 mod probing;
 mod putting;
-mod reading;
 mod removing;
 mod replacing;
 mod stop;
+mod table;
 
 pub use clearing::remove_at;
 pub use deleting::delete;
