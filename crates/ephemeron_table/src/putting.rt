@@ -42,7 +42,7 @@ fn fill_weak(main: &mut Main, table: u32, offset: u32, filling: Filling)
         Filling::Tagged(word) => main.store_weak(table, offset, word),
         Filling::Raw(word) => main.write_slot(table, offset, word),
         Filling::NewBox { at, v } => {
-            main.make_box(at, v);
+            make_box(main, at, v);
             main.made(at);
             main.store_weak(table, offset, Word::reference(at));
         }

@@ -3,6 +3,7 @@ pub mod Uses
 pub mod Capacities
 pub mod PlainObjects
 pub mod CellsAt
+pub mod Formats
 pub mod Contents
 pub mod Refills
 pub mod CellWrites
