@@ -13,7 +13,6 @@ ghost use Rattle.weak_pairs.specs.Tables.{IsWithin, value_in, value_offset};
 ghost use Rattle.ephemeron_table.specs.Puttings.{PutsInTable};
 
 use crate::removing::put_pair;
-use crate::table::{COUNT, TABLE_HEAD};
 use handle_roots::Held;
 use heap_model::cells::COUNT;
 use object_cells::{
