@@ -13,12 +13,12 @@ ghost use Rattle.list_store.specs.Pushes.{CanChange, PushesToStore, PushesToNewS
 ghost use Rattle.list_store.specs.Pushes.{PushesAt};
 ghost use Rattle.list_store.specs.ListChanges.{IsShownSetting, PushesElement};
 
-use crate::elements::{ELEMENTS_MOST, content_for, grown};
+use crate::elements::{ELEMENTS_MOST, grown};
 use crate::stop::PushStop;
 use handle_roots::Held;
 use object_cells::{
-    COUNT, STORE_HEAD, STORE_SLOT, Store, begin_store, boxed_word, count_of, need_of, room_for,
-    store_of,
+    COUNT, STORE_HEAD, STORE_SLOT, Store, begin_store, boxed_word, content_for, count_of, need_of,
+    room_for, store_of,
 };
 use tagged_word::Word;
 use write_barrier::{Main, NoRoom};
