@@ -14,11 +14,12 @@ ghost use Rattle.ephemeron_table.specs.Puttings.{PutsInTable};
 
 use crate::removing::put_pair;
 use handle_roots::Held;
+use heap_model::cells::COUNT;
 use object_cells::{
-    COUNT, Content, Filling, STORE_HEAD, boxed_word, content_of, filling_of, need_of, rep_of,
-    room_for,
+    Content, Filling, boxed_word, content_of, filling_of, need_of, rep_of, room_for,
 };
 use tagged_word::Word;
+use tagged_word::cell::STORE_HEAD;
 use weak_pairs::Table;
 use write_barrier::{Main, NoRoom};
 
@@ -40,7 +41,7 @@ fn fill_weak(main: &mut Main, table: u32, offset: u32, filling: Filling)
         Filling::Tagged(word) => main.store_weak(table, offset, word),
         Filling::Raw(word) => main.write_slot(table, offset, word),
         Filling::NewBox { at, v } => {
-            main.make_box(at, v);
+            make_box(main, at, v);
             main.made(at);
             main.store_weak(table, offset, Word::reference(at));
         }
