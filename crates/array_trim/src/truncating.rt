@@ -6,9 +6,10 @@ ghost use Rattle.object_cells.specs.ListObjects.{IsListAt, IsListReady, IsShownL
 ghost use Rattle.array_trim.specs.TrimWords.{PutsTruncated};
 ghost use Rattle.array_trim.specs.Trims.{TruncatesElements};
 
-use crate::cover::{LENGTH, cover};
 use crate::laws::laws_of_trims;
-use object_cells::{COUNT, Range, STORE_HEAD, count_of, place_of, store_of};
+use heap_model::cells::COUNT;
+use object_cells::{Range, count_of, place_of, put_filler, store_of};
+use tagged_word::cell::{LENGTH, STORE_HEAD};
 use write_barrier::Main;
 
 // The store of the list has so many slots. The words behind them are free.
@@ -23,7 +24,7 @@ fn truncate_store(main: &mut Main, list: u32, count: u32, kept: u32)
     main.blacken(store.at);
     main.write_slot(store.at, LENGTH, kept as u64);
     main.write_slot(list, COUNT, kept as u64);
-    cover(main, store.at + STORE_HEAD + kept, store.capacity - kept);
+    put_filler(main, store.at + STORE_HEAD + kept, store.capacity - kept);
 }
 
 /// Keeps the first `n` elements of the list at an address. Its store has `n` slots then, also where

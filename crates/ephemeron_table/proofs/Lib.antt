@@ -19,7 +19,7 @@ pub mod TableBounds
 pub mod BegunTables
 pub mod GrowingTables
 pub mod PutPairs
-pub mod PutValues
+pub mod PairComes
 pub mod PutMaps
 pub mod KeysAt
 pub mod EntryPairs

@@ -63,8 +63,8 @@ pub record ReplacesValue (old new : Mutator) {map : ℕ} {table : Table} (known 
   pub now : Pair
   pub before_is : refills.pairs.before ≡ pairs_of (heap_words old.seat) table
   pub now_is : refills.pairs.now ≡ slice_set (pairs_of (heap_words old.seat) table) place now
-  pub origin_is : (at : ℕ) → refills.pairs.origin at ≡ at
-  pub one_is : refills.pairs.one ≡ place
+  pub origin_is : (at : ℕ) → refills.pairs.refills.origin at ≡ at
+  pub one_is : refills.pairs.refills.one ≡ place
   pub key_is : now.key ≡ reference_word key
   pub shows : ShowsValue (heap_of new) now.value what
   pub places : PlacesStay (heap_of old) (heap_of new)
@@ -105,7 +105,7 @@ module _ {old new : Mutator} {graph : Graph} {map key : ℕ} {weak : WeakObject}
     own = λ at pair filled refers.
         let is : IsFilledAt (slice_set before place replaces.now) at pair =
         subst (λ all. IsFilledAt all at pair) replaces.now_is filled in
-        let same : at ≡ replaces.refills.pairs.one = elim (cases_eq at place) [
+        let same : at ≡ replaces.refills.pairs.refills.one = elim (cases_eq at place) [
           | inl same ↦ same ∙ sym replaces.one_is
           | inr apart ↦ absurd (apart (entry_only has at pair
               (filled_elsewhere before place at replaces.now pair apart is) (replaces.back pair.key number refers)))

@@ -1,9 +1,10 @@
 -- How the pairs of a table come to another one, and to a map that has that then.
-use Rattle.std.specs.Prelude.{◌≡◌, ℕ, ◌+◌, ◌*◌, ◌≤◌, ◌<◌, ◌⊎◌, Some, slice_set, not}
+use Rattle.std.specs.Prelude.{◌≡◌, ℕ, ◌+◌, ◌*◌, ◌≤◌, ◌<◌, ◌⊎◌, Some, slice_set}
 use Rattle.tagged_word.specs.Cells.{store_head, store_slot}
 use Rattle.tagged_word.specs.Readings.{reference_in}
 use Rattle.page_space.specs.Extents.{segments_start, marks_start}
 use Rattle.nursery.specs.Young.{HasRoom}
+use Rattle.object_graph.specs.Meaning.{weak_most}
 use Rattle.handle_roots.specs.declared.held.Held.{Held}
 use Rattle.linear_probing.specs.Tables.{FindsAll}
 use Rattle.heap_table.specs.Seats.{heap_words}
@@ -44,7 +45,7 @@ pub record CanGrow (main : Mutator) (map : ℕ) (table : Table) (key count : ℕ
   pub tied : IsTied main
   pub quiet : main.seat.phase ≡ Quiet
   pub within : IsWithin (heap_of main) table
-  pub few : count < 256
+  pub few : count < weak_most
   pub over : table.capacity < 2 * (count + 1)
   pub map_within : map + count_offset < marks_start main.seat.space
   pub pairs : (at : ℕ) → table.at + store_head ≤ at → at < table.at + (store_head + 2 * table.capacity) → IsUsed main at

@@ -29,6 +29,7 @@ use Rattle.weak_pairs.specs.Entries.{entries_with}
 pub record RefillsWeak (old new : Heap) (cell : Cell) (others made : List Cell) : Type 0 where
   pub whole : Whole old
   pub writes : WritesWeak old new cell others made
+  pub paths : new.paths ≡ old.paths
   pub pairs : RefillsPairs old new cell others made
 
 -- Then cells stand in rows again: the map's and these others as they were, those that were made, and all else as
@@ -60,13 +61,13 @@ pub record PutsOne (old new : Heap) {cell : Cell} {others made : List Cell}
     (pairs : RefillsPairs old new cell others made)
     (number : ℕ) (value : Option Value) : Type 0 where
   pub kept : (at : ℕ) (pair : Pair) → IsFilledAt pairs.before at pair → (RefersToPlace old pair.key number → ⊥)
-      → (place : ℕ) × IsFilledAt pairs.now place pair × (pairs.origin place ≡ at) × (place ≢ pairs.one)
+      → (place : ℕ) × IsFilledAt pairs.now place pair × (pairs.refills.origin place ≡ at) × (place ≢ pairs.refills.one)
   pub own : (at : ℕ) (pair : Pair) → IsFilledAt pairs.now at pair → RefersToPlace new pair.key number
-      → (at ≡ pairs.one) × IsSome value
+      → (at ≡ pairs.refills.one) × IsSome value
   pub shown : (what : Value) → value ≡ Some what
-      → (pair : Pair) × IsFilledAt pairs.now pairs.one pair
+      → (pair : Pair) × IsFilledAt pairs.now pairs.refills.one pair
       × ShowsEntry new pair (record { key = number; value = what })
-  pub none_put : value ≡ None → (pair : Pair) → IsFilledAt pairs.now pairs.one pair → ⊥
+  pub none_put : value ≡ None → (pair : Pair) → IsFilledAt pairs.now pairs.refills.one pair → ⊥
 
 -- the value may be an entry's: it has 64 bits or refers to an object of the graph that can be reached
 pub record IsNewValue (graph : Graph) (value : Value) : Type 0 where

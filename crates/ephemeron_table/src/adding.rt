@@ -4,6 +4,7 @@ ghost use Rattle.page_space.specs.Extents.{marks_start};
 ghost use Rattle.object_graph.specs.declared.value.Value.{Value as GraphValue};
 ghost use Rattle.object_graph.specs.Graphs.{Graph, WeakObject};
 ghost use Rattle.object_graph.specs.Objects.{entry_value};
+ghost use Rattle.object_graph.specs.Meaning.{weak_most};
 ghost use Rattle.heap_table.specs.declared.phase.Phase.TheVariants.{Quiet};
 ghost use Rattle.heap_model.specs.Kinds.{count_offset};
 ghost use Rattle.heap_model.specs.Needs.{count_at};
@@ -42,7 +43,7 @@ pub(crate) fn put_free(
     requires tied { IsTied main.old }
     requires within { IsWithin (heap_of main.old) table }
     requires place { place < table.capacity }
-    requires few { count < 256 }
+    requires few { count < weak_most }
     requires half { 2 * (count + 1) ≤ table.capacity }
     requires map { map + count_offset < marks_start main.old.seat.space }
     ensures { (graph : Graph) (weak : WeakObject) (number : ℕ) (what : GraphValue)
@@ -53,15 +54,12 @@ pub(crate) fn put_free(
         → key_in (heap_of main.old) table.at place ≡ hole_word
         → PutsBoth main.old main.new graph map key weak number value what result }
 {
-    // No address of a heap is past 32 bits.
-    let _regions = main.regions();
+    main.addresses_fit();
     laws_of_tables();
     laws_of_entries();
     laws_of_values();
-    match put_in_table(main, map, count, table, place, key, value) {
-        Ok(()) => Ok(()),
-        Err(no_room) => Err(TableStop::Full(no_room)),
-    }
+    put_in_table(main, map, count, table, place, key, value)?;
+    Ok(())
 }
 
 /// Puts the entry of a key that is new in a table that is made anew.
@@ -79,7 +77,7 @@ pub(crate) fn put_grown(
     requires shown { IsShownPutting main.old map key value }
     requires table { IsTableAt (heap_of main.old) map table }
     requires counted { count_at (heap_of main.old) map ≡ count }
-    requires few { count < 256 }
+    requires few { count < weak_most }
     requires over { table.capacity < 2 * (count + 1) }
     ensures { (graph : Graph) (weak : WeakObject) (number : ℕ) (what : GraphValue)
         → MainShows main.old graph → IsWeakAt main.old graph map weak
@@ -87,13 +85,10 @@ pub(crate) fn put_grown(
         → entry_value weak.entries number ≡ None
         → PutsBoth main.old main.new graph map key weak number value what result }
 {
-    // No address of a heap is past 32 bits.
-    let _regions = main.regions();
+    main.addresses_fit();
     laws_of_tables();
     laws_of_entries();
     laws_of_values();
-    match put_in_new_table(main, map, count, table, key, value) {
-        Ok(()) => Ok(()),
-        Err(no_room) => Err(TableStop::Full(no_room)),
-    }
+    put_in_new_table(main, map, count, table, key, value)?;
+    Ok(())
 }

@@ -15,16 +15,15 @@ ghost use Rattle.ephemeron_table.specs.PairChanges.{PutsBoth, PutsPair};
 
 use crate::adding::{put_free, put_grown};
 use crate::probing::{End, probe};
-use crate::table::{COUNT, number_at, table_of};
 use crate::replacing::put_there;
 use crate::stop::TableStop;
+use crate::table::{number_at, table_of};
 use handle_roots::Held;
+use heap_model::cells::COUNT;
+use object_graph::limits::ENTRIES_MOST;
 use tagged_word::Word;
 use weak_pairs::Table;
 use write_barrier::Main;
-
-// The most entries of a weak map.
-const ENTRIES_MOST: u32 = 256;
 
 /// Puts the entry of a key that is new: at the place where probing for it ended, or in a table that
 /// is made anew.
@@ -45,9 +44,8 @@ fn put_new(
         → IsKeyAt main.old graph key number → IsValueHeld main.old graph value what
         → PutsBoth main.old main.new graph map key weak number value what result }
 {
-    // No address of a heap is past 32 bits.
-    let _regions = main.regions();
-    let count = main.word(map + COUNT) as u32;
+    main.addresses_fit();
+    let count = main.slot(map, COUNT) as u32;
     if count >= ENTRIES_MOST {
         return Err(TableStop::TableFull { entries: count });
     }
@@ -79,8 +77,7 @@ pub fn put(main: &mut Main, map: u32, key: u32, value: Held) -> Result<(), Table
     ensures pairs { (before : List Pair) → HasPairsAt (heap_of main.old) map before
         → PutsPair main.old main.new map key value before result }
 {
-    // No address of a heap is past 32 bits.
-    let _regions = main.regions();
+    main.addresses_fit();
     let table = table_of(main, map);
     match probe(main, table, number_at(main, key), Word::reference(key)) {
         End::Key(place) => put_there(main, table, place, value),

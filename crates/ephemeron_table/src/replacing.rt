@@ -43,13 +43,10 @@ pub(crate) fn put_there(
         → key_in (heap_of main.old) table.at place ≡ reference_word key
         → PutsBoth main.old main.new graph map key weak number value what result }
 {
-    // No address of a heap is past 32 bits.
-    let _regions = main.regions();
+    main.addresses_fit();
     laws_of_tables();
     laws_of_entries();
     laws_of_values();
-    match put_value(main, table, place, value) {
-        Ok(()) => Ok(()),
-        Err(no_room) => Err(TableStop::Full(no_room)),
-    }
+    put_value(main, table, place, value)?;
+    Ok(())
 }

@@ -129,7 +129,8 @@ in_object_slot : {heap : Heap} {cell : Cell} {words : List ℕ} (path : Path) (a
     → HasWord words (plain_head + at) word → raw_bit field.rep ≡ 0 → HasSlotOf heap cell words word
 in_object_slot {cell = cell} path at word field of_kind laid there below slot tagged =
     let offset : ℕ = plain_head + at in
-    (cell.at + offset, HasSlotAt.own offset word (in_object_offset cell path at field of_kind laid there below tagged) slot)
+    let there = in_object_offset cell path at field of_kind laid there below tagged in
+    (cell.at + offset, HasSlotAt.own offset word there slot)
 
 -- a field in the object is raw where it is wide, and else in a slot
 by_rep : {heap : Heap} {cell : Cell} {words : List ℕ} {own : Bool} {field : PathField} {word : ℕ} (one : Rep)

@@ -38,7 +38,8 @@ abbrev no_field : PathField
 no_field = record { name = 0; rep = rep.Small }
 
 -- an in-object slot of a plain object that is no raw one holds a slot word
-in_object_holds : {heap : Heap} {cell : Cell} {words : List ℕ} (offset word : ℕ) → HasSizes heap → HasCell heap cell words
+in_object_holds : {heap : Heap} {cell : Cell} {words : List ℕ} (offset word : ℕ) → HasSizes heap
+    → HasCell heap cell words
     → IsPlainCell heap cell words → Contains (in_object_offsets cell.layout) offset → HasWord words offset word
     → IsSlotWord heap word
 in_object_holds {heap} {cell} {words} offset word sized has sound there slot =

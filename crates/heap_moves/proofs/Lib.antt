@@ -8,3 +8,8 @@ pub mod MovedSound
 pub mod MovedOwners
 pub mod MovedRoots
 pub mod MovedWhole
+pub mod MovedShown
+pub mod MovedLinks
+pub mod MovedReach
+pub mod MovedGraphs
+pub mod MovedRooms

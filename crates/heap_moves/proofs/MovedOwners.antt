@@ -143,7 +143,8 @@ module _ {old new : Heap} {to : ℕ → Option ℕ} (moved : IsMoved old new to)
       → IsTrue (is_object_kind owner.layout.kind) → to owner.at ≡ Some comes → AreMoved to owner words others
       → Contains (scavenge_offsets owner.layout owner.length) offset → HasWord others offset next
       → RefersTo new next cell in_cell → IsOwnedKind cell.layout.kind → NamedBefore old to (comes + offset) cell.at
-  own_named {owner} {words = words} {others} {comes = comes} {offset} {next} has object stays are there stands refers owned =
+  own_named {owner} {words = words} {others} {comes = comes} {offset} {next} has object stays are there stands refers
+      owned =
       let was = other_word words others offset next are.long stands in
       let sound = whole.sound owner words has (comes, stays) in
       let holds = own_slot_holds owner.layout.kind offset was.0 whole.sized has object sound there was.1 in
@@ -222,7 +223,8 @@ module _ {old new : Heap} {to : ℕ → Option ℕ} (moved : IsMoved old new to)
       own_named from.had object from.stays from.are
       (subst (λ (one : Cell). Contains (scavenge_offsets one.layout one.length) offset) (sym from.same) there) stands
       refers owned
-  slot_named {owner} from object (HasSlotAt.beside word store in_store offset next slot target there stands) refers owned =
+  slot_named {owner} from object (HasSlotAt.beside word store in_store offset next slot target there stands) refers
+      owned =
       beside_named from.had object (owner.at, from.stays)
       (store_before from.had object from.stays from.are slot target) there stands refers owned
 

@@ -17,7 +17,8 @@ use Rattle.heap_moves.proofs.MovedValues.{hole_stays, hole_before, value_moved}
 pub other_pair : (pairs others : List Pair) (k : ℕ) (now : Pair) → length others ≡ length pairs
     → slice_get others k ≡ Some now → (pair : Pair) × (slice_get pairs k ≡ Some pair)
 other_pair pairs others k now long there =
-    (get_or pairs k free_pair, slice_get-get_or pairs k free_pair (omega (arith, long, slice_get_within others k now there)))
+    let within = slice_get_within others k now there in
+    (get_or pairs k free_pair, slice_get-get_or pairs k free_pair (omega (arith, long, within)))
 
 -- a pair of two holes is the free one
 holes_are_free : (pair : Pair) → pair.key ≡ hole_word → pair.value ≡ hole_word → pair ≡ free_pair
@@ -48,9 +49,11 @@ probed_moved pairs others number at are probed =
       comes = rw long probed.comes;
       filled = λ before now sooner there free.
           let place : ℕ = (number + before) % length pairs in
-          let there_it : slice_get others place ≡ Some now = subst (λ n. slice_get others ((number + before) % n) ≡ Some now) long there in
+          let there_it : slice_get others place ≡ Some now =
+          subst (λ n. slice_get others ((number + before) % n) ≡ Some now) long there in
           let was = other_pair pairs others place now long there_it in
-          probed.filled before was.0 sooner was.1 (free_before was.0 now (are.each place was.0 now was.1 there_it) free);
+          let both = are.each place was.0 now was.1 there_it in
+          probed.filled before was.0 sooner was.1 (free_before was.0 now both free);
     }
 
 -- a pair is found by the same key

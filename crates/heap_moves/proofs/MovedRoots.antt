@@ -31,7 +31,7 @@ pub record MovedRoot (new : Heap) (to : ℕ → Option ℕ) (variable : ℕ) (on
   pub is : IsMovedHeld to one now
 
 -- the address at which a variable holds an object; 0 where it holds none
-abbrev address_in : Held → ℕ
+abbrev pub address_in : Held → ℕ
 address_in (held.Ref at) = at
 address_in _ = 0
 

@@ -1,5 +1,6 @@
 -- The slots of a plain object, moved: its own and those of its store, field by field.
-use Rattle.std.proofs.Common.{◌≡◌, ℕ, ◌+◌, ◌-◌, ◌<◌, ◌≤◌, inl, inr, true, false, List, ◌++◌, length, drop, get_or, Option, Some}
+use Rattle.std.proofs.Common.{◌≡◌, ℕ, ◌+◌, ◌-◌, ◌<◌, ◌≤◌, inl, inr, true, false, List, ◌++◌, length, drop, get_or}
+use Rattle.std.proofs.Common.{Option, Some}
 use Rattle.std.proofs.Common.{Contains, slice_get, nat_lt, refl, sym, ◌∙◌, ap, subst, arith, length-drop, length-append}
 use Rattle.std.proofs.lemmas.Bool.{cases_lt, false≢true}
 use Rattle.std.proofs.lemmas.Bool.Decides.{nat_tests}
@@ -84,14 +85,15 @@ wide_not_visited : (cell : Cell) (path : Path) (at : ℕ) (field : PathField) �
     → Contains (scavenge_offsets cell.layout cell.length) (plain_head + at) → field.rep ≡ rep.Wide → ⊥
 wide_not_visited cell path at field of_kind laid there below visited wide =
     let offset : ℕ = plain_head + at in
-    elim (in_cases store_slot (in_object_offsets cell.layout) offset (slots_of_kind cell kind.Plain offset of_kind visited)) [
+    let slot = slots_of_kind cell kind.Plain offset of_kind visited in
+    elim (in_cases store_slot (in_object_offsets cell.layout) offset slot) [
       | inl same ↦ absurd (omega (arith, same))
       | inr in_object ↦
           let is = in_object_is cell.layout offset in_object in
           let slot : offset - plain_head ≡ at = omega arith in
           let tagged : is_raw cell.layout at ≡ false = subst (λ n. is_raw cell.layout n ≡ false) slot is.tagged in
-          in_object_not_wide path at field there below (subst (λ (layout : LayoutWord). is_raw layout at ≡ false) laid tagged)
-          wide
+          in_object_not_wide path at field there below
+          (subst (λ (layout : LayoutWord). is_raw layout at ≡ false) laid tagged) wide
     ]
 
 -- an own field that is visited by no scavenge is wide

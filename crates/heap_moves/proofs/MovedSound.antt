@@ -98,7 +98,8 @@ module _ {old new : Heap} {to : ℕ → Option ℕ} (moved : IsMoved old new to)
         each = λ at pair there.
             let was = other_pair sound.pairs next.others at pair next.are.long there in
             found_moved moved sound.pairs next.others at was.0 pair next.are was.1 there (sound.each at was.0 was.1);
-        counted = subst (λ n. HasWord others count_offset n) (sym (count_moved sound.pairs next.others next.are)) counted;
+        counted = subst (λ n. HasWord others count_offset n) (sym (count_moved sound.pairs next.others next.are))
+            counted;
       }
 
   -- a store or a table is sound

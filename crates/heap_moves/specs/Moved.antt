@@ -8,15 +8,15 @@ use Rattle.heap_model.specs.Slots.{reference_word}
 use Rattle.heap_model.specs.Kinds.{HasWord, HasNoNumber}
 use Rattle.heap_model.specs.Wholeness.{HasSizes, HasRows}
 
--- The word is moved, where `to` tells at which address what stood at another stands afterwards, if it stays: a reference
--- to what stays has become one to where that stands, and any other word is as it was.
+-- The word is moved, where `to` tells at which address what stood at another stands afterwards, if it stays. A
+-- reference to what stays has become one to where that stands, and any other word is as it was.
 pub data IsMovedWord (to : ℕ → Option ℕ) (old new : ℕ) : Type 0 where
   reference : (at now : ℕ) → old ≡ reference_word at → to at ≡ Some now → new ≡ reference_word now
       → IsMovedWord to old new
   other : ((at : ℕ) → old ≢ reference_word at) → new ≡ old → IsMovedWord to old new
 
--- The words of a cell that stays: there are as many, each slot that a scavenge visits is moved, and any other word is as
--- it was.
+-- The words of a cell that stays: there are as many, each slot that a scavenge visits is moved, and any other word is
+-- as it was.
 pub record AreMoved (to : ℕ → Option ℕ) (cell : Cell) (words others : List ℕ) : Type 0 where
   pub long : length others ≡ length words
   pub slots : (offset word now : ℕ) → Contains (scavenge_offsets cell.layout cell.length) offset

@@ -5,13 +5,9 @@ ghost use Rattle.object_cells.specs.Made.{beside_content};
 ghost use Rattle.heap_model.specs.Needs as needs;
 
 use handle_roots::Held;
+use heap_model::cells::FIRST_CAPACITY;
 use object_cells::{Content, content_of, rep_of};
-
-/// The most elements of a list.
-pub(crate) const ELEMENTS_MOST: u32 = 1_000;
-
-// How many slots the first store of a list has.
-const FIRST_CAPACITY: u32 = 4;
+use object_graph::limits::ELEMENTS_MOST;
 
 /// How many slots the store has that takes the place of one that is full of so many elements: twice
 /// as many, but at least 4, and no more than a list may have elements.

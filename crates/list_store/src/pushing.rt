@@ -13,14 +13,14 @@ ghost use Rattle.list_store.specs.Pushes.{CanChange, PushesToStore, PushesToNewS
 ghost use Rattle.list_store.specs.Pushes.{PushesAt};
 ghost use Rattle.list_store.specs.ListChanges.{IsShownSetting, PushesElement};
 
-use crate::elements::{ELEMENTS_MOST, content_for, grown};
+use crate::elements::{content_for, grown};
 use crate::stop::PushStop;
 use handle_roots::Held;
-use object_cells::{
-    COUNT, STORE_HEAD, STORE_SLOT, Store, begin_store, boxed_word, count_of, need_of, room_for,
-    store_of,
-};
+use heap_model::cells::COUNT;
+use object_cells::{Store, begin_store, boxed_word, count_of, need_of, room_for, store_of};
+use object_graph::limits::ELEMENTS_MOST;
 use tagged_word::Word;
+use tagged_word::cell::{STORE_HEAD, STORE_SLOT};
 use write_barrier::{Main, NoRoom};
 
 // The value comes to the next slot of the list's store.

@@ -15,7 +15,8 @@ ghost use Rattle.list_store.specs.ListChanges.{IsShownSetting, PutsElement};
 use crate::elements::content_for;
 use crate::stop::PutStop;
 use handle_roots::Held;
-use object_cells::{STORE_HEAD, count_of, fill, filling_of, place_of, store_of};
+use object_cells::{count_of, fill, filling_of, place_of, store_of};
+use tagged_word::cell::STORE_HEAD;
 use write_barrier::{Main, NoRoom};
 
 // The slot at an offset of a list's store comes to hold the value: a wide one in the box that

@@ -5,8 +5,9 @@ ghost use Rattle.object_cells.specs.ListObjects.{IsListAt, IsShownList};
 ghost use Rattle.list_store.specs.ListChanges.{TellsElement};
 
 use handle_roots::Held;
-use object_cells::{Range, STORE_HEAD, count_of, place_of, store_of};
+use object_cells::{Range, count_of, place_of, store_of};
 use tagged_word::Word;
+use tagged_word::cell::STORE_HEAD;
 use write_barrier::{Main, laws_of_values};
 
 /// The element of the list at an address that an index names.

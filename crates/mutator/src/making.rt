@@ -15,21 +15,14 @@ ghost use Rattle.mutator.specs.Making.{empty_counted, empty_plain};
 use crate::stop::Stop;
 use handle_roots::Held;
 use heap_command::Command;
+use heap_model::cells::COUNT;
+use tagged_word::cell::{PLAIN_HEAD, STORE_SLOT};
 use tagged_word::{Header, Word, odd};
 use write_barrier::Main;
-
-/// The words of a plain cell before its in-object slots.
-const PLAIN_HEAD: u32 = 2;
 
 /// The words of a list's own cell, and of a weak map's: its header, the slot for its store or table, and
 /// its length or count.
 pub(crate) const COUNTED_WORDS: u32 = 3;
-
-/// The offset of the slot for the store or the table.
-const STORE_SLOT: u32 = 1;
-
-/// The offset of the length or the count.
-const COUNT: u32 = 2;
 
 /// Binds `x` to a new plain object with `cap` slots of its own and no field. `object` is the number
 /// of objects made so far, and becomes the new one's number.

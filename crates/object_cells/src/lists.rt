@@ -6,10 +6,8 @@ ghost use Rattle.heap_model.specs.Needs as needs;
 ghost use Rattle.object_cells.specs.CellsAt.{IsWhole};
 ghost use Rattle.object_cells.specs.ListObjects.{IsListCellAt};
 
+use heap_model::cells::COUNT;
 use write_barrier::Main;
-
-/// The offset of a list's length.
-pub const COUNT: u32 = 2;
 
 /// An integer is below 0 or too large: an index that is not below the length, or a number of elements
 /// that is over it.

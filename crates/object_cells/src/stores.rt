@@ -12,17 +12,10 @@ ghost use Rattle.object_cells.specs.Contents.{next_at};
 ghost use Rattle.object_cells.specs.Made.{HasBeside, IsStoreAt, PutsWords, RefusesRoom};
 ghost use Rattle.object_cells.specs.Made.{begun_store, with_store};
 
+use crate::formats::fill_store;
 use tagged_word::Word;
+use tagged_word::cell::{LENGTH, STORE_HEAD, STORE_SLOT};
 use write_barrier::{Main, NoRoom};
-
-/// The words of a store before its slots.
-pub const STORE_HEAD: u32 = 2;
-
-/// The offset of an object's slot for its store.
-pub const STORE_SLOT: u32 = 1;
-
-// The offset of the length of a store.
-const LENGTH: u32 = 1;
 
 /// A store beside an object: where it stands, and how many slots it has. One of no slots may stand
 /// for none.
@@ -83,7 +76,7 @@ pub fn begin_store(main: &mut Main, store: Store, capacity: u32, at: u32)
         PutsWords main.old main.new (begun_store words store capacity at) }
 {
     main.addresses_fit();
-    main.fill_store(at, capacity);
+    fill_store(main, at, capacity);
     main.copy_slots(store.at + STORE_HEAD, at + STORE_HEAD, store.capacity);
 }
 

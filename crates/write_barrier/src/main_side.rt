@@ -10,7 +10,7 @@ ghost use Rattle.shape_tree.specs.Shapes.{AreShapes};
 ghost use Rattle.nursery.specs.Young.{IsYoung};
 ghost use Rattle.heap_table.specs.declared.phase.Phase.TheVariants.{Quiet};
 ghost use Rattle.heap_table.specs.Seats.{heap_words};
-ghost use Rattle.write_barrier.specs.Lending.{LendsSeat, LendsShapes, LendsNursery};
+ghost use Rattle.write_barrier.specs.Lending.{LendsShapes, LendsNursery};
 ghost use Rattle.write_barrier.specs.Mains.{heap_of};
 ghost use Rattle.write_barrier.specs.Reading.{HasHeader, IsHeaderAt, stays_quiet};
 
@@ -144,14 +144,6 @@ impl Main {
         ensures paths { result.now ≡ self.old.paths }
     {
         &mut self.shapes
-    }
-
-    /// The seat. No other part changes.
-    pub fn seat_mut(&mut self) -> &mut MainSeat
-        ensures* lends { sem 𝓛 (LendsSeat self.entry result) }
-        ensures seat { result.now ≡ self.old.seat }
-    {
-        &mut self.seat
     }
 
     /// The nursery. No other part changes.

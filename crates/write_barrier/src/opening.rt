@@ -13,13 +13,11 @@ ghost use Rattle.write_barrier.specs.Opening.{HasLayouts, IsStarted, blank};
 use crate::main_side::Main;
 use heap_table::MainSeat;
 use nursery::Nursery;
-use page_space::Regions;
+use page_space::{PAGE_WORDS, Regions};
 use shape_tree::ShapeTree;
 use std::alloc::Global;
+use tagged_word::cell::LENGTH;
 use tagged_word::{Header, NoMemory, Word, odd, shape};
-
-/// The words of a page.
-const PAGE_WORDS: u32 = 2_048;
 
 impl Main {
     /// Opens a heap over words of 0: no object, each page one gap, each variable bound to nothing.
@@ -71,7 +69,7 @@ impl Main {
             object: 0,
         };
         self.set_header(at, header);
-        self.write_slot(at, 1, PAGE_WORDS as u64);
+        self.write_slot(at, LENGTH, PAGE_WORDS as u64);
     }
 
     // Makes each page one gap.

@@ -1,5 +1,5 @@
 //! The words of slots, and the values that they stand for.
-ghost use Rattle.std.specs.Prelude.{◌≡◌, ℕ, ℤ, ◌+◌, ◌<◌, ◌^◌, Some, option_map, IsTrue};
+ghost use Rattle.std.specs.Prelude.{◌≡◌, ℕ, ℤ, ◌+◌, ◌<◌, ◌^◌, Some, IsTrue};
 ghost use Rattle.tagged_word.specs.declared.word.Class.{Class};
 ghost use Rattle.tagged_word.specs.Words.{small, IsClass, bits_of};
 ghost use Rattle.tagged_word.specs.Readings.{reference_in};
@@ -11,19 +11,7 @@ ghost use Rattle.write_barrier.specs.Values as values;
 
 use crate::main_side::Main;
 use handle_roots::Held;
-use tagged_word::{Class, Header, Word, odd, shape};
-
-/// The word of a value that needs no box; none for an integer that is not small, and for nothing.
-pub fn slot_word(value: Held) -> Option<Word>
-    ensures { option_map (λ word. word.0) result ≡ values.slot_word value }
-{
-    match value {
-        Held::Unbound => None,
-        Held::Undefined => Some(Word::odd(odd::UNDEFINED)),
-        Held::Int(v) => Word::small(v),
-        Held::Ref(at) => Some(Word::reference(at)),
-    }
-}
+use tagged_word::{Class, Header, Word, shape};
 
 impl Main {
     /// Whether a word refers to a box.

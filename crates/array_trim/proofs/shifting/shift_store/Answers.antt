@@ -3,7 +3,7 @@ use Rattle.std.proofs.Common.{ℕ, ◌+◌, ◌<◌, ◌∙◌, sym, subst, arit
 use Rattle.tagged_word.specs.Headers.{header_bits}
 use Rattle.heap_table.specs.Seats.{heap_words}
 use Rattle.heap_model.specs.Slots.{reference_word}
-use Rattle.write_barrier.specs.Values.{store_header}
+use Rattle.object_cells.specs.Formats.{store_header}
 use Rattle.object_cells.specs.Made.{PutsWords}
 use Rattle.object_cells.proofs.ListCells.{list_beside, slot_within, count_within, store_has_room}
 use Rattle.array_trim.specs.TrimWords.{shifted_words}
@@ -85,8 +85,8 @@ write_slot-requires-2-clause-within c =
     (omega (arith, slot_within c.requires.ready.whole.whole c.requires.ready.there)) in
     omega (arith, count_within c.requires.ready.whole.whole c.requires.ready.there, marks_still linked)
 
-pub cover-requires-clause-within : goal.cover-requires-clause-within
-cover-requires-clause-within c =
+pub put_filler-requires-clause-within : goal.put_filler-requires-clause-within
+put_filler-requires-clause-within c =
     let is = c.store_of-store.ensures in
     let within = head_within c.store_of-store.result c.args.gone c.requires.ready is c.requires.few in
     let none = puts_none (c.made.ensures.same ∙ c.blacken.ensures.same) in
@@ -127,12 +127,12 @@ returns c =
     (omega (arith, count_within c.requires.ready.whole.whole c.requires.ready.there)) in
     let some : 0 < store.capacity =
     omega (arith, store_has_room store c.requires.ready c.store_of-store.ensures, c.requires.some, c.requires.few) in
-    let all = covers_then store.at c.args.gone counted c.cover.ensures in
+    let all = covers_then store.at c.args.gone counted c.put_filler.ensures in
     record {
       store = store.at;
       has = store_named store c.requires.ready c.store_of-store.ensures some;
       puts = subst
-          (λ capacity. PutsWords old c.cover.new.main
+          (λ capacity. PutsWords old c.put_filler.new.main
           (shifted_words (heap_words old.seat) c.args.list store.at capacity c.args.count c.args.gone))
           (sym c.store_of-store.ensures.capacity) all;
     }

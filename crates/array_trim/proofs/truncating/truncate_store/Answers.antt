@@ -3,7 +3,8 @@ use Rattle.std.proofs.Common.{◌≡◌, ℕ, ◌+◌, ◌-◌, ◌<◌, sym, su
 use Rattle.heap_table.specs.Seats.{heap_words}
 use Rattle.object_cells.specs.Made.{PutsWords}
 use Rattle.object_cells.proofs.ListCells.{list_beside, count_within, store_has_room}
-use Rattle.array_trim.specs.TrimWords.{covered, truncated_words}
+use Rattle.object_cells.specs.Formats.{with_filler}
+use Rattle.array_trim.specs.TrimWords.{truncated_words}
 use Rattle.array_trim.proofs.CoveredWords.{puts_none, puts_then, covers_then, marks_still}
 use Rattle.array_trim.proofs.OwnStores.{store_named, length_within}
 use Rattle.array_trim.proofs.truncating.truncate_store.Goals as goal
@@ -27,8 +28,8 @@ pub overflow_sub-store : goal.overflow_sub-store
 overflow_sub-store c =
     omega (arith, store_has_room c.store_of-store.result c.requires.ready c.store_of-store.ensures, c.requires.fewer)
 
-pub cover-requires-clause-within : goal.cover-requires-clause-within
-cover-requires-clause-within c =
+pub put_filler-requires-clause-within : goal.put_filler-requires-clause-within
+put_filler-requires-clause-within c =
     let none = puts_none c.blacken.ensures.same in
     let shrunk = puts_then _ _ none c.write_slot.ensures.written c.write_slot.ensures.heap
     (length_within c.store_of-store.result c.requires.ready c.store_of-store.ensures) in
@@ -51,13 +52,13 @@ returns c =
     let at : ℕ = store.at + (2 + c.args.kept) in
     let same : store.at + 2 + c.args.kept ≡ at = omega arith in
     let all = covers_then at (store.capacity - c.args.kept) counted
-    (subst (λ n. PutsWords c.write_slot-2.new.self c.cover.new.main
-    (covered (heap_words c.write_slot-2.new.self.seat) n (store.capacity - c.args.kept))) same c.cover.ensures) in
+    (subst (λ n. PutsWords c.write_slot-2.new.self c.put_filler.new.main
+    (with_filler (heap_words c.write_slot-2.new.self.seat) n (store.capacity - c.args.kept))) same c.put_filler.ensures) in
     record {
       store = store.at;
       has = store_named store c.requires.ready c.store_of-store.ensures some;
       puts = subst
-          (λ capacity. PutsWords old c.cover.new.main
+          (λ capacity. PutsWords old c.put_filler.new.main
           (truncated_words (heap_words old.seat) c.args.list store.at capacity c.args.kept))
           (sym c.store_of-store.ensures.capacity) all;
     }
