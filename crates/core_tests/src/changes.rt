@@ -106,8 +106,8 @@ then shade 20 -> sure [7, 9, 20]; owed []; grey [7, 9]; open []
 then own 2 3 -> mine [20]; owed []; open []; \
     page [6, 81, 3, 14, 2, 29, 4, 34, 3, 70, 49, 29, 14, 2, 65, 7, 22, 13, 30, 2030, 14, 4, 29, 4, 37, 7]";
 
-// From the world that other runs begin with: a raw slot is tagged when its target is sure, and not before. A tagged slot is raw in a cell that
-// the mutator made black, and in no other.
+// From the world that other runs begin with: a raw slot is tagged when its target is sure, and not
+// before. A tagged slot is raw in a cell that the mutator made black, and in no other.
 pub(crate) const SHAPES: &str = "\
 lend; shade 14; header 0 14; layout 0; slot 16 13; shade 3; head 14 70; load 0 1; settle 0 -> \
     last 74 1; slot 1 3

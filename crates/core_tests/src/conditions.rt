@@ -1,5 +1,5 @@
 //! Rows on both sides of conditions of events: one where an event is just possible, and one where it
-//! is just not. They are those on which no law rests, so that nothing else would tell a slip.
+//! is just not. On most of these conditions no law rests, so that nothing else would tell a slip.
 
 use crate::scavenging::Start;
 

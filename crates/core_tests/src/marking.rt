@@ -1,8 +1,9 @@
 //! Lists of marking events, each from a world that a cycle begins with, or from where the row before
 //! it ended if it begins with `then`. A row is a line: events, and what of their end is compared.
 
+use crate::changes::{self, SHAPES, TRIM};
+use crate::conditions::{LENGTHS, LONG, NAMELESS, ODD, ODD_CELLS, OF_MARKING};
 use crate::text::{Step, addresses, compare, padded, step_of};
-use crate::{changes, conditions};
 use mark_core::replay;
 use mark_world::{Event, HelperView, MainView, Views, World};
 use seat_steps::{Items, StepStop, empty_board, read_cell};
@@ -279,9 +280,14 @@ fn walk(
 
 #[test]
 fn lists_of_events_end_as_worked_out(rt: HostRuntime) -> Result<(), Fail> {
-    let tables = [SETTLING, BOARD, changes::SHAPES, changes::TRIM];
-    walk(&rt, rt.alloc(), WORDS, CELLS, &tables)?;
-    walk(&rt, rt.alloc(), WORDS, CELLS, &conditions::OF_MARKING)?;
+    walk(
+        &rt,
+        rt.alloc(),
+        WORDS,
+        CELLS,
+        &[SETTLING, BOARD, SHAPES, TRIM],
+    )?;
+    walk(&rt, rt.alloc(), WORDS, CELLS, &OF_MARKING)?;
     walk(
         &rt,
         rt.alloc(),
@@ -289,13 +295,6 @@ fn lists_of_events_end_as_worked_out(rt: HostRuntime) -> Result<(), Fail> {
         changes::CELLS,
         &changes::ROWS,
     )?;
-    let (odd, cells) = (conditions::ODD, conditions::ODD_CELLS);
-    walk(&rt, rt.alloc(), odd, cells, &[conditions::NAMELESS])?;
-    walk(
-        &rt,
-        rt.alloc(),
-        conditions::LONG,
-        "0 3",
-        &[conditions::LENGTHS],
-    )
+    walk(&rt, rt.alloc(), ODD, ODD_CELLS, &[NAMELESS])?;
+    walk(&rt, rt.alloc(), LONG, "0 3", &[LENGTHS])
 }
