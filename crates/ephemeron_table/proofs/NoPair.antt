@@ -12,10 +12,11 @@ use Rattle.heap_model.specs.Slots.{reference_word, RefersToPlace}
 use Rattle.heap_model.specs.Kinds.{Pair, free_pair}
 use Rattle.heap_model.specs.Showing.{IsKnownKey}
 use Rattle.write_barrier.specs.Mains.{Mutator, heap_of}
-use Rattle.ephemeron_table.specs.Probes.{IsTableAt, key_in}
+use Rattle.ephemeron_table.specs.Probes.{IsTableAt}
+use Rattle.weak_pairs.specs.Tables.{key_in}
 use Rattle.ephemeron_table.specs.WeakObjects.{IsKeyAt}
-use Rattle.ephemeron_table.specs.declared.reading.Table.{Table}
-use Rattle.ephemeron_table.proofs.EntriesFound.{entry_apart}
+use Rattle.weak_pairs.specs.declared.table.Table.{Table}
+use Rattle.weak_pairs.proofs.EntriesFound.{entry_apart}
 use Rattle.ephemeron_table.proofs.KeysFound.{WeakShown, key_filled, shown_pairs}
 use Rattle.heap_model.proofs.NewKeys.{one_number}
 

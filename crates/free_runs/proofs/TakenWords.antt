@@ -189,7 +189,8 @@ taken_from_row : (start end : ℕ) (old new : List Run) (n at : ℕ) (taken : Ru
 taken_from_row start end old new n at taken ascend takes goes free =
     let run : Run = takes.run in
     let left : List Run = left_of run n in
-    let order : AscendIn start end (takes.before ++ run ∷ takes.behind) = subst (AscendIn start end) takes.stood ascend in
+    let order : AscendIn start end (takes.before ++ run ∷ takes.behind) =
+    subst (AscendIn start end) takes.stood ascend in
     let gone : IsOfRun (front run n) at = subst (λ (one : Run). IsOfRun one at) takes.front goes in
     let from : run.at ≤ at = gone.from in
     let below : at < run.at + n = gone.below in
@@ -233,8 +234,8 @@ taken_are_apart old new n taken at are_free takes goes free =
     let ascend = are_free takes.page takes.there in
     elim (after takes free.page) [
       | inl here ↦
-          taken_from_row (page_words * takes.page) (page_words * (takes.page + 1)) (row_of old takes.page) takes.row n at
-          taken ascend takes.takes goes (subst (λ all. IsFreeIn all at) here.1 free.free)
+          taken_from_row (page_words * takes.page) (page_words * (takes.page + 1)) (row_of old takes.page) takes.row n
+          at taken ascend takes.takes goes (subst (λ all. IsFreeIn all at) here.1 free.free)
       | inr other ↦
           let stood = subst (λ all. IsFreeIn all at) other.1 free.free in
           let within_too = word_of_page old free.page at are_free stood in

@@ -12,7 +12,8 @@ use Rattle.free_runs.proofs.Bounds.{bounds_all, all_fewer, each_fewer}
 use Rattle.free_runs.proofs.Cuts.{Left, left_is}
 
 -- the longest of all is no longer than what no row's longest is
-all_least : (rows : List (List Run)) (most : ℕ) → ((page : ℕ) → page < length rows → longest_in (row_of rows page) ≤ most)
+all_least : (rows : List (List Run)) (most : ℕ)
+    → ((page : ℕ) → page < length rows → longest_in (row_of rows page) ≤ most)
     → longest_of rows ≤ most
 all_least rows most each = max_least longest_of longest_in refl (λ _ _. refl) rows [] most each
 

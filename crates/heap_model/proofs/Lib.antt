@@ -8,6 +8,7 @@ pub mod FixedShapes
 pub mod ObjectSlots
 pub mod SlotWords
 pub mod SlotsHold
+pub mod OneBeside
 pub mod OneOwner
 pub mod WordsStay
 pub mod Fates

@@ -11,8 +11,8 @@ use Rattle.tagged_word.specs.declared.layout.Kind.{Kind}
 use Rattle.tagged_word.specs.declared.layout.Kind.TheVariants as kind
 use Rattle.tagged_word.specs.declared.layout.LayoutWord.{LayoutWord}
 use Rattle.tagged_word.specs.Layouts.{is_raw}
-use Rattle.tagged_word.specs.Cells.{words_of, scavenge_offsets_of, in_object_offsets, store_head, store_slot}
-use Rattle.tagged_word.specs.Cells.{plain_head}
+use Rattle.tagged_word.specs.Cells.{words_of, scavenge_offsets, scavenge_offsets_of, in_object_offsets, store_head}
+use Rattle.tagged_word.specs.Cells.{store_slot, plain_head}
 use Rattle.tagged_word.proofs.Members.{first_in, rest_in, in_range}
 use Rattle.tagged_word.proofs.Offsets.{IsInObject, in_object_in}
 use Rattle.object_graph.specs.declared.path.Path.{Path}
@@ -103,12 +103,12 @@ pub data FieldSlot (heap : Heap) (cell : Cell) (words : List ℕ) (own : Bool) (
   raw : own ≡ true → field.rep ≡ rep.Wide → FieldSlot heap cell words own field word
   in_slot : HasSlotOf heap cell words word → FieldSlot heap cell words own field word
 
--- a field in the object that is not wide stands in an in-object slot
-in_object_slot : {heap : Heap} {cell : Cell} {words : List ℕ} (path : Path) (at word : ℕ) (field : PathField)
+-- a field in the object that is not wide has the offset of a slot
+pub in_object_offset : (cell : Cell) (path : Path) (at : ℕ) (field : PathField)
     → cell.layout.kind ≡ kind.Plain → cell.layout ≡ layout_of path → slice_get path.fields at ≡ Some field
-    → at < path.cap
-    → HasWord words (plain_head + at) word → raw_bit field.rep ≡ 0 → HasSlotOf heap cell words word
-in_object_slot {cell = cell} path at word field of_kind laid there below slot tagged =
+    → at < path.cap → raw_bit field.rep ≡ 0
+    → Contains (scavenge_offsets cell.layout cell.length) (plain_head + at)
+in_object_offset cell path at field of_kind laid there below tagged =
     let offset : ℕ = plain_head + at in
     let used = in_object_used path at field there below in
     let raw : is_raw (layout_of path) at ≡ false = in_object_raw path at field there below ∙ ap (λ n. n == 1) tagged in
@@ -120,9 +120,17 @@ in_object_slot {cell = cell} path at word field of_kind laid there below slot ta
     } in
     let own = in_object_in (layout_of path) offset own_one in
     let own_cell = subst (λ layout. Contains (in_object_offsets layout) offset) (sym laid) own in
-    let among = rest_in store_slot (in_object_offsets cell.layout) offset own_cell in
-    let slots = slots_by_kind cell kind.Plain offset of_kind among in
-    (cell.at + offset, HasSlotAt.own offset word slots slot)
+    slots_by_kind cell kind.Plain offset of_kind (rest_in store_slot (in_object_offsets cell.layout) offset own_cell)
+
+-- so it stands in an in-object slot
+in_object_slot : {heap : Heap} {cell : Cell} {words : List ℕ} (path : Path) (at word : ℕ) (field : PathField)
+    → cell.layout.kind ≡ kind.Plain → cell.layout ≡ layout_of path → slice_get path.fields at ≡ Some field
+    → at < path.cap
+    → HasWord words (plain_head + at) word → raw_bit field.rep ≡ 0 → HasSlotOf heap cell words word
+in_object_slot {cell = cell} path at word field of_kind laid there below slot tagged =
+    let offset : ℕ = plain_head + at in
+    let there = in_object_offset cell path at field of_kind laid there below tagged in
+    (cell.at + offset, HasSlotAt.own offset word there slot)
 
 -- a field in the object is raw where it is wide, and else in a slot
 by_rep : {heap : Heap} {cell : Cell} {words : List ℕ} {own : Bool} {field : PathField} {word : ℕ} (one : Rep)

@@ -63,7 +63,7 @@ table_word word pairs (HasTable.table to cell words refers of_kind power) =
     IsStoreWord.store cell words refers (inr of_kind)
 
 -- the slot of an object's store holds that, kind by kind
-store_word_of : (heap : Heap) (cell : Cell) (words : List ℕ) (k : Kind) (word : ℕ) → IsTrue (is_object_kind k)
+pub store_word_of : (heap : Heap) (cell : Cell) (words : List ℕ) (k : Kind) (word : ℕ) → IsTrue (is_object_kind k)
     → IsSoundOf k heap cell words → HasWord words store_slot word → IsStoreWord heap word
 store_word_of heap cell words kind.Plain word object sound slot =
     subst (IsStoreWord heap) (same_Some _ _ (sym sound.has.slot ∙ slot))

@@ -20,13 +20,13 @@ use Rattle.cell_layout.specs.declared.cell.Cell.{Cell}
 use Rattle.cell_layout.proofs.OneCell.{slots_lie_within}
 use Rattle.heap_model.specs.Heaps.{Heap, HasCell}
 use Rattle.heap_model.specs.Slots.{is_object_kind, RefersTo, IsSlotWord}
-use Rattle.heap_model.specs.Kinds.{HasWord, IsPlainCell, IsStoreCell, IsSoundOf}
-use Rattle.heap_model.specs.Wholeness.{HasSlotAt, Whole}
+use Rattle.heap_model.specs.Kinds.{HasWord, IsPlainCell, IsStoreCell, IsSoundOf, IsSound}
+use Rattle.heap_model.specs.Wholeness.{HasSizes, HasSlotAt, Whole}
 use Rattle.heap_model.proofs.CellsApart.{IsOfCell, has_is_cell}
 use Rattle.heap_model.proofs.CellWords.{slice_get-drop, slice_get-append_left, slots_of_kind}
 use Rattle.heap_model.proofs.PathLayouts.{layout_is}
-use Rattle.heap_model.proofs.SlotWords.{IsStoreKind, IsStoreWord, store_word, store_target, field_is_slot}
-use Rattle.heap_model.proofs.SlotWords.{in_object_not_wide, All-slice_get}
+use Rattle.heap_model.proofs.SlotWords.{IsStoreKind, IsStoreWord, store_word_of, store_word, store_target}
+use Rattle.heap_model.proofs.SlotWords.{field_is_slot, in_object_not_wide, All-slice_get}
 
 -- what a slot of an object holds: what the slot of a store or table holds, or a slot word
 pub data Holding (heap : Heap) (word : ℕ) : Type 0 where
@@ -38,12 +38,13 @@ abbrev no_field : PathField
 no_field = record { name = 0; rep = rep.Small }
 
 -- an in-object slot of a plain object that is no raw one holds a slot word
-in_object_holds : {heap : Heap} {cell : Cell} {words : List ℕ} (offset word : ℕ) → Whole heap → HasCell heap cell words
+in_object_holds : {heap : Heap} {cell : Cell} {words : List ℕ} (offset word : ℕ) → HasSizes heap
+    → HasCell heap cell words
     → IsPlainCell heap cell words → Contains (in_object_offsets cell.layout) offset → HasWord words offset word
     → IsSlotWord heap word
-in_object_holds {heap} {cell} {words} offset word whole has sound there slot =
+in_object_holds {heap} {cell} {words} offset word sized has sound there slot =
     let path : Path = shape_path heap.paths cell.header.shape in
-    let laid : cell.layout ≡ layout_of path = layout_is whole.sized has sound.shape in
+    let laid : cell.layout ≡ layout_of path = layout_is sized has sound.shape in
     let own = in_object_is cell.layout offset there in
     let at : ℕ = offset - plain_head in
     let used : at < length (in_object_fields path) = subst (λ (layout : LayoutWord). at < layout.used) laid own.used in
@@ -61,40 +62,38 @@ in_object_holds {heap} {cell} {words} offset word whole has sound there slot =
     field_is_slot field.rep word (sound.hold.each at field word field_there in_slots)
     (λ own_is_true wide. in_object_not_wide path at field field_there below tagged wide)
 
--- a slot in the cell of an object holds what one may, kind by kind
-own_slot_holds : {heap : Heap} {cell : Cell} {words : List ℕ} (k : Kind) (offset word : ℕ) → Whole heap
-    → HasCell heap cell words → IsTrue (is_object_kind cell.layout.kind) → IsTrue (is_object_kind k)
+-- a slot in the cell of an object that is sound holds what one may, kind by kind
+pub own_slot_holds : {heap : Heap} {cell : Cell} {words : List ℕ} (k : Kind) (offset word : ℕ) → HasSizes heap
+    → HasCell heap cell words → IsTrue (is_object_kind k)
     → IsSoundOf k heap cell words → Contains (scavenge_offsets_of k cell.layout cell.length) offset
     → HasWord words offset word → Holding heap word
-own_slot_holds {cell = cell} {words} kind.Plain offset word whole has object is sound there slot =
+own_slot_holds {heap} {cell} {words} kind.Plain offset word sized has is sound there slot =
     elim (in_cases store_slot (in_object_offsets cell.layout) offset there) [
       | inl same ↦
           let store = subst (λ n. HasWord words n word) (sym same) slot in
-          Holding.to_store (store_word word whole has object store)
-      | inr own ↦ Holding.as_slot (in_object_holds offset word whole has sound own slot)
+          Holding.to_store (store_word_of heap cell words kind.Plain word is sound store)
+      | inr own ↦ Holding.as_slot (in_object_holds offset word sized has sound own slot)
     ]
-own_slot_holds {words = words} kind.List offset word whole has object is sound there slot =
+own_slot_holds {heap} {cell} {words} kind.List offset word sized has is sound there slot =
     let store = subst (λ n. HasWord words n word) (sym (one_in store_slot offset there)) slot in
-    Holding.to_store (store_word word whole has object store)
-own_slot_holds {words = words} kind.Weak offset word whole has object is sound there slot =
+    Holding.to_store (store_word_of heap cell words kind.List word is sound store)
+own_slot_holds {heap} {cell} {words} kind.Weak offset word sized has is sound there slot =
     let store = subst (λ n. HasWord words n word) (sym (one_in store_slot offset there)) slot in
-    Holding.to_store (store_word word whole has object store)
-own_slot_holds _ offset word whole has object is sound there slot = absurd (false≢true is)
+    Holding.to_store (store_word_of heap cell words kind.Weak word is sound store)
+own_slot_holds _ offset word sized has is sound there slot = absurd (false≢true is)
 
--- a slot of a store or table holds a slot word
-beside_holds : {heap : Heap} {other : Cell} {others : List ℕ} (offset word : ℕ) → Whole heap → HasCell heap other others
+-- a slot of a store or table that is sound holds a slot word
+pub beside_holds : {heap : Heap} (other : Cell) (others : List ℕ) (offset word : ℕ) → IsSound heap other others
     → IsStoreKind other.layout.kind → Contains (scavenge_offsets other.layout other.length) offset
     → HasWord others offset word → IsSlotWord heap word
-beside_holds {heap} {other} {others} offset word whole has (inl is) there slot =
-    let sound : IsStoreCell heap other others =
-    subst (λ k. IsSoundOf k heap other others) is (whole.sound other others has) in
+beside_holds {heap} other others offset word is_sound (inl is) there slot =
+    let sound : IsStoreCell heap other others = subst (λ k. IsSoundOf k heap other others) is is_sound in
     let behind = (range_bounds store_head other.length offset (slots_of_kind other kind.Store offset is there)).0 in
     let at : ℕ = offset - store_head in
     All-slice_get (IsSlotWord heap) (drop store_head others) at word sound.slots
     (slice_get-drop store_head others at offset (omega (arith, behind)) ∙ slot)
-beside_holds {heap} {other} {others} offset word whole has (inr is) there slot =
-    let sound : IsStoreCell heap other others =
-    subst (λ k. IsSoundOf k heap other others) is (whole.sound other others has) in
+beside_holds {heap} other others offset word is_sound (inr is) there slot =
+    let sound : IsStoreCell heap other others = subst (λ k. IsSoundOf k heap other others) is is_sound in
     let behind = (range_bounds store_head (2 * other.length) offset
     (slots_of_kind other kind.Table offset is there)).0 in
     let at : ℕ = offset - store_head in
@@ -105,11 +104,11 @@ beside_holds {heap} {other} {others} offset word whole has (inr is) there slot =
 pub slot_holds : {heap : Heap} {cell : Cell} {words : List ℕ} {slot word : ℕ} → Whole heap → HasCell heap cell words
     → IsTrue (is_object_kind cell.layout.kind) → HasSlotAt heap cell words slot word → Holding heap word
 slot_holds {heap} {cell} {words} whole has object (HasSlotAt.own offset word there stands) =
-    own_slot_holds cell.layout.kind offset word whole has object object (whole.sound cell words has) there stands
+    own_slot_holds cell.layout.kind offset word whole.sized has object (whole.sound cell words has) there stands
 slot_holds {heap} {cell} {words} whole has object
     (HasSlotAt.beside store other others offset word slot refers there stands) =
     let is = store_target (store_word store whole has object slot) refers in
-    Holding.as_slot (beside_holds offset word whole refers.has is there stands)
+    Holding.as_slot (beside_holds other others offset word (whole.sound other others refers.has) is there stands)
 
 -- A slot of an object lies in its cell, or in that of its store or table.
 pub data SlotIn (heap : Heap) (cell : Cell) (words : List ℕ) (slot : ℕ) : Type 0 where

@@ -6,7 +6,8 @@ use Rattle.std.proofs.lemmas.Bool.Decides.{nat_tests}
 use Rattle.std.proofs.lemmas.List.Elements.{All-contains, All-contains_itself, All-weaker}
 use Rattle.std.proofs.lemmas.List.Kept.{AllPairs-cons, AllPairs-filter}
 use Rattle.tagged_word.proofs.Members.{first_in, rest_in, in_cases, in_filter, filter_from, filter_true}
-use Rattle.remembered_set.specs.Recorded.{Recorded, IsRecorded, IsAscending, IsBetween, with_slot, noted, is_between, forgotten}
+use Rattle.remembered_set.specs.Recorded.{Recorded, IsRecorded, IsAscending, IsBetween, with_slot, noted, is_between}
+use Rattle.remembered_set.specs.Recorded.{forgotten}
 
 -- the first is below those behind it
 first_below : (first : ℕ) (more : List ℕ) → IsAscending (first ∷ more) → (x : ℕ) → Contains more x → first < x
@@ -57,7 +58,8 @@ same_numbers [] (y ∷ ys) ascend ascend_too same =
 same_numbers (x ∷ xs) [] ascend ascend_too same =
     let there = (same x).0 (first_in x xs) in absurd (omega (arith, there.1))
 same_numbers (x ∷ xs) (y ∷ ys) ascend ascend_too same =
-    let first : x ≡ y = first_same x y xs ys ascend ascend_too ((same x).0 (first_in x xs)) ((same y).1 (first_in y ys)) in
+    let first : x ≡ y =
+    first_same x y xs ys ascend ascend_too ((same x).0 (first_in x xs)) ((same y).1 (first_in y ys)) in
     let there : (z : ℕ) → Contains (x ∷ xs) z → Contains (x ∷ ys) z =
     λ z in_one. subst (λ (one : ℕ). Contains (one ∷ ys) z) (sym first) ((same z).0 in_one) in
     let back : (z : ℕ) → Contains (x ∷ ys) z → Contains (x ∷ xs) z =
@@ -114,7 +116,10 @@ placed_has slot first more placed other (Placing.behind above is) rest =
     has_along placed (first ∷ with_slot slot more) (λ one. (one ≡ slot) ⊎ Contains (first ∷ more) one) other is (
       λ there. elim (in_cases first (with_slot slot more) other there) [
         | inl at ↦ inr (subst (λ one. Contains (first ∷ more) one) at (first_in first more))
-        | inr later ↦ elim (rest.0 later) [ inl is_slot ↦ inl is_slot | inr stood ↦ inr (rest_in first more other stood) ]
+        | inr later ↦ elim (rest.0 later) [
+          | inl is_slot ↦ inl is_slot
+          | inr stood ↦ inr (rest_in first more other stood)
+        ]
       ],
       λ was. elim was [
         | inl is_slot ↦ rest_in first (with_slot slot more) other (rest.1 (inl is_slot))

@@ -1,5 +1,6 @@
 -- How many flags of a stretch are set.
-use Rattle.std.proofs.Common.{◌≡◌, ℕ, zero, suc, ◌+◌, ◌<◌, ◌≤◌, ◌≢◌, Bool, true, false, List, get_or, refl, arith, inl, inr, ap}
+use Rattle.std.proofs.Common.{◌≡◌, ℕ, zero, suc, ◌+◌, ◌<◌, ◌≤◌, ◌≢◌, Bool, true, false, List, get_or, refl, arith, inl}
+use Rattle.std.proofs.Common.{inr, ap}
 use Rattle.std.proofs.lemmas.Bool.{cases_lt}
 use Rattle.remembered_set.specs.Flags.{AreClear, flag_count, set_count}
 

@@ -1,10 +1,13 @@
 -- The counts of pages, as flags change.
-use Rattle.std.proofs.Common.{◌≡◌, ℕ, ◌+◌, ◌-◌, ◌*◌, ◌<◌, ◌≤◌, Bool, true, false, List, length, get_or, set, replicate, arith, inl, inr, ap, sym, ◌∙◌}
+use Rattle.std.proofs.Common.{◌≡◌, ℕ, ◌+◌, ◌-◌, ◌*◌, ◌<◌, ◌≤◌, Bool, true, false, List, length, get_or, set, replicate}
+use Rattle.std.proofs.Common.{arith, inl, inr, ap, sym, ◌∙◌}
 use Rattle.std.proofs.lemmas.Bool.{cases_eq}
-use Rattle.std.proofs.lemmas.List.{length-set, length-replicate, get_or_default, get_or-replicate, get_or-set_same, get_or-set_other}
+use Rattle.std.proofs.lemmas.List.{length-set, length-replicate, get_or_default, get_or-replicate, get_or-set_same}
+use Rattle.std.proofs.lemmas.List.{get_or-set_other}
 use Rattle.page_space.specs.Sizes.{page_words}
 use Rattle.remembered_set.specs.Flags.{AreClear, ClearsBetween, CountsCleared, AreCounted, set_count}
-use Rattle.remembered_set.proofs.Counts.{set_count_within, set_count_agrees, set_count_clear, clear_from_count, set_count_raised}
+use Rattle.remembered_set.proofs.Counts.{set_count_within, set_count_agrees, set_count_clear, clear_from_count}
+use Rattle.remembered_set.proofs.Counts.{set_count_raised}
 use Rattle.remembered_set.proofs.Shown.{get_or-clear}
 
 -- what was read at a place within a list is what stands there

@@ -3,7 +3,8 @@ use Rattle.std.proofs.Common.{◌≡◌, ℕ, ◌+◌, ◌*◌, ◌/◌, ◌<◌
 use Rattle.std.proofs.lemmas.Bool.{cases_lt}
 use Rattle.std.proofs.lemmas.List.Elements.{All-contains}
 use Rattle.page_space.specs.Sizes.{page_words}
-use Rattle.remembered_set.specs.Recorded.{Recorded, IsRecorded, IsBetween, HasNoneFrom, IsLeastFrom, HasNoneBetween, IsLeastBetween}
+use Rattle.remembered_set.specs.Recorded.{Recorded, IsRecorded, IsBetween, HasNoneFrom, IsLeastFrom, HasNoneBetween}
+use Rattle.remembered_set.specs.Recorded.{IsLeastBetween}
 
 -- one more page of a range is forgotten
 pub forgotten_more : (first before after : Recorded) (from to page : ℕ)

@@ -1,5 +1,6 @@
 -- Flags, one for each word of the pages.
-use Rattle.std.specs.Prelude.{◌≡◌, ℕ, zero, suc, ◌+◌, ◌*◌, ◌<◌, ◌≤◌, Bool, true, false, List, length, slice_index, slice_index_or}
+use Rattle.std.specs.Prelude.{◌≡◌, ℕ, zero, suc, ◌+◌, ◌*◌, ◌<◌, ◌≤◌, Bool, true, false, List, length, slice_index}
+use Rattle.std.specs.Prelude.{slice_index_or}
 use Rattle.page_space.specs.Sizes.{page_words}
 use Rattle.remembered_set.specs.Recorded.{IsBetween}
 

@@ -15,11 +15,10 @@ ghost use Rattle.remembered_set.specs.Recorded.{HasNoneBetween, IsLeastBetween, 
 mod flags;
 
 use crate::flags::{clear, first_set};
+use page_space::PAGE_WORDS;
 use std::alloc::Global;
 use std::marker::Model;
 use tagged_word::NoMemory;
-
-const PAGE_WORDS: u32 = 2_048;
 
 /// Which slots of pages may refer to young cells.
 #[derive(Drop)]

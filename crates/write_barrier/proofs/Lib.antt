@@ -7,4 +7,4 @@ mod PutLayouts
 mod Starting
 mod Ranges
 mod ClassValues
-mod ShownHeld
+pub mod ShownHeld

@@ -60,7 +60,7 @@ object_by_class heap word number space sized refers =
     }
 
 -- a reference to a box
-box_by_class : (heap : Heap) (word : ℕ) (v : ℤ) → IsSpace heap.space → HasSizes heap → RefersToBox heap word v
+pub box_by_class : (heap : Heap) (word : ℕ) (v : ℤ) → IsSpace heap.space → HasSizes heap → RefersToBox heap word v
     → ShowsByClass heap word (Int v)
 box_by_class heap word v space sized refers =
     let cell = refers.cell in

@@ -1,17 +1,12 @@
 -- Words of slots and the values that they stand for, and the words of the cells that hold these.
-use Rattle.std.specs.Prelude.{ℕ, ◌+◌, Bool, true, false, List, ◌∷◌, ◌++◌, length, take, drop, replicate}
-use Rattle.std.specs.Prelude.{Option, Some, None, ℤ}
+use Rattle.std.specs.Prelude.{ℕ, ◌+◌, Bool, true, false, List, ◌++◌, length, take, drop}
+use Rattle.std.specs.Prelude.{Some}
 use Rattle.std.specs.Int.{cast_signed, w64}
-use Rattle.tagged_word.specs.declared.header.Header.{Header}
 use Rattle.tagged_word.specs.declared.word.Class.{Class}
 use Rattle.tagged_word.specs.declared.word.Class.TheVariants as of_class
-use Rattle.tagged_word.specs.Words.{small}
-use Rattle.tagged_word.specs.Headers.{header_bits}
-use Rattle.tagged_word.specs.Shapes.{box_shape, store_shape}
 use Rattle.handle_roots.specs.declared.held.Held.{Held}
-use Rattle.handle_roots.specs.declared.held.Held.TheVariants.{Unbound, Undefined, Int, Ref}
+use Rattle.handle_roots.specs.declared.held.Held.TheVariants.{Undefined, Int, Ref}
 use Rattle.heap_model.specs.Heaps.{Heap}
-use Rattle.heap_model.specs.Slots.{small_word, undefined_word, hole_word, reference_word}
 use Rattle.heap_model.specs.Needs.{word_at, is_box_at}
 
 -- what a reference stands for: the integer in a box, and else the object at the address
@@ -24,29 +19,6 @@ abbrev pub held_of_class : Heap → Class → Held
 held_of_class heap (of_class.Small v) = Int v
 held_of_class heap (of_class.Ref at) = held_at heap at (is_box_at heap (Some at))
 held_of_class heap (of_class.Odd code) = Undefined
-
--- the word of an integer that is small
-abbrev pub small_slot : ℤ → Bool → Option ℕ
-small_slot v true = Some (small_word v)
-small_slot v false = None
-
--- the word of a value that needs no box
-abbrev pub slot_word : Held → Option ℕ
-slot_word Unbound = None
-slot_word Undefined = Some undefined_word
-slot_word (Int v) = small_slot v (small v)
-slot_word (Ref at) = Some (reference_word at)
-
--- the header of a box, and of a store
-abbrev pub box_header : Header
-box_header = record { shape = box_shape; object = 0 }
-
-abbrev pub store_header : Header
-store_header = record { shape = store_shape; object = 0 }
-
--- the words of a store of so many slots that hold nothing
-abbrev pub empty_store : ℕ → List ℕ
-empty_store capacity = header_bits store_header ∷ capacity ∷ replicate capacity hole_word
 
 -- the words with others in place of those that stand from an address on
 abbrev pub with_range : List ℕ → ℕ → List ℕ → List ℕ

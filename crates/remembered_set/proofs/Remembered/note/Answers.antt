@@ -59,6 +59,7 @@ returns-clause-value c =
     let flags = set c.self.inside.flags.items c.args.slot true in
     let was : IsRecorded c.args.self.now = subst IsRecorded c.self.view_is c.self.invariant.recorded in
     let bound : length flags ≡ c.args.self.now.bound =
-    length-set c.self.inside.flags.items c.args.slot true ∙ ap (λ (recorded : Recorded). recorded.bound) c.self.view_is in
+    length-set c.self.inside.flags.items c.args.slot true
+    ∙ ap (λ (recorded : Recorded). recorded.bound) c.self.view_is in
     let within : length flags ≤ page_words * pages_most = omega (arith, bound, was.within) in
     is_noted c.args.self.now (shown flags) c.args.slot was (is_recorded flags within) bound (returns-clause-recorded c)

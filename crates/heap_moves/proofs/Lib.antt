@@ -1,0 +1,15 @@
+pub mod MovedWords
+pub mod MovedCells
+pub mod MovedTargets
+pub mod MovedValues
+pub mod MovedSlots
+pub mod MovedPairs
+pub mod MovedSound
+pub mod MovedOwners
+pub mod MovedRoots
+pub mod MovedWhole
+pub mod MovedShown
+pub mod MovedLinks
+pub mod MovedReach
+pub mod MovedGraphs
+pub mod MovedRooms

@@ -1,0 +1,16 @@
+use Rattle.heap_moves.proofs.MovedWhole.{moves_keep_whole}
+use Rattle.heap_moves.proofs.MovedGraphs.{moves_show, reached_stay}
+use Rattle.heap_moves.proofs.MovedRooms.{moves_keep_room}
+use Rattle.heap_moves.proofs.laws.laws_of_moves.Goals as goal
+
+pub returns-clause-whole : goal.returns-clause-whole
+returns-clause-whole c = moves_keep_whole
+
+pub returns-clause-show : goal.returns-clause-show
+returns-clause-show c = moves_show
+
+pub returns-clause-reached : goal.returns-clause-reached
+returns-clause-reached c = reached_stay
+
+pub returns-clause-room : goal.returns-clause-room
+returns-clause-room c = moves_keep_room
