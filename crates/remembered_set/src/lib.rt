@@ -12,20 +12,24 @@ ghost use Rattle.page_space.specs.Sizes.{page_words, pages_most};
 ghost use Rattle.remembered_set.specs.Recorded.{IsRecorded, IsAscending, IsBetween, HasNoneFrom, IsLeastFrom};
 ghost use Rattle.remembered_set.specs.Recorded.{HasNoneBetween, IsLeastBetween, noted, forgotten};
 
-mod flags;
+mod bits;
 
-use crate::flags::{clear, first_set};
+use crate::bits::{clear, first_set, note};
 use std::alloc::Global;
 use std::marker::Model;
 use tagged_word::NoMemory;
 
 const PAGE_WORDS: u32 = 2_048;
 
+/// The words of 64 bits that have the flags of a page.
+const PAGE_BITS: u32 = 32;
+
 /// Which slots of pages may refer to young cells.
 #[derive(Drop)]
 pub struct Remembered {
-    // A flag for each word of the pages.
-    flags: Vec<bool>,
+    // A flag for each word of the pages, 64 in a word: the first that is set is found without a look at
+    // each.
+    bits: Vec<u64>,
     // For each page the number of its flags that are set: most pages have none, and are passed
     // over at once.
     counts: Vec<u32>,
@@ -50,9 +54,9 @@ impl Remembered {
         requires { pages ≤ pages_most }
         ensures { IfOk result (λ set. set ≡ record { bound = page_words * pages; slots = [] }) }
     {
-        let flags = vec![in alloc; false; (PAGE_WORDS * pages) as usize]?;
+        let bits = vec![in alloc; 0u64; (PAGE_BITS * pages) as usize]?;
         let counts = vec![in alloc; 0u32; pages as usize]?;
-        Ok(Remembered { flags, counts })
+        Ok(Remembered { bits, counts })
     }
 
     /// Records a slot, which may be recorded already.
@@ -63,11 +67,9 @@ impl Remembered {
         ensures bound { self.new.bound ≡ self.old.bound }
         ensures value { self.new ≡ noted self.old slot }
     {
-        if self.flags[slot as usize] {
-            return;
+        if note(&mut self.bits, slot) {
+            self.counts[(slot / PAGE_WORDS) as usize] += 1;
         }
-        self.flags[slot as usize] = true;
-        self.counts[(slot / PAGE_WORDS) as usize] += 1;
     }
 
     /// Forgets the slots from `from` up to, not including, `to`.
@@ -113,7 +115,7 @@ impl Remembered {
             return;
         }
         let start = page * PAGE_WORDS;
-        let count = clear(&mut self.flags, from.max(start), to.min(start + PAGE_WORDS));
+        let count = clear(&mut self.bits, from.max(start), to.min(start + PAGE_WORDS));
         self.counts[page as usize] -= count;
     }
 
@@ -128,6 +130,6 @@ impl Remembered {
             return None;
         }
         let start = page * PAGE_WORDS;
-        first_set(&self.flags, from.max(start), start + PAGE_WORDS)
+        first_set(&self.bits, from.max(start), start + PAGE_WORDS)
     }
 }
