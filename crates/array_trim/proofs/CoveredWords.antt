@@ -7,7 +7,7 @@ use Rattle.heap_table.specs.Staying.{stays_beside_again}
 use Rattle.write_barrier.specs.Mains.{Mutator, with_word}
 use Rattle.object_cells.specs.Made.{PutsWords}
 use Rattle.object_cells.proofs.WordsBeside.{same_beside, put_beside}
-use Rattle.array_trim.specs.TrimWords.{covered}
+use Rattle.object_cells.specs.Formats.{with_filler}
 
 -- where nothing has changed, no word was put
 pub puts_none : {old new : Mutator} → new ≡ old → PutsWords old new (heap_words old.seat)
@@ -37,10 +37,10 @@ marks_still puts = ap (λ (space : Space). marks_start space) puts.beside.space
 
 -- where words were put, and then so many at an address made free, both were put
 pub covers_then : {old mid new : Mutator} {words : List ℕ} (at count : ℕ) → PutsWords old mid words
-    → PutsWords mid new (covered (heap_words mid.seat) at count) → PutsWords old new (covered words at count)
+    → PutsWords mid new (with_filler (heap_words mid.seat) at count) → PutsWords old new (with_filler words at count)
 covers_then {old} {mid} {new} at count first then = record {
   beside = stays_beside_again old.seat mid.seat new.seat first.beside then.beside;
   paths = then.paths ∙ first.paths;
   young = then.young ∙ first.young;
-  heap = then.heap ∙ ap (λ all. covered all at count) first.heap;
+  heap = then.heap ∙ ap (λ all. with_filler all at count) first.heap;
 }

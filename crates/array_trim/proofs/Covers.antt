@@ -17,22 +17,22 @@ use Rattle.heap_model.proofs.BoundHeaps.{none_in}
 use Rattle.heap_model.proofs.CellsApart.{has_is_cell}
 use Rattle.heap_model.proofs.Rewrites.{row_of_one}
 use Rattle.write_barrier.specs.Mains.{gap_header}
-use Rattle.array_trim.specs.TrimWords.{filler_header, covered}
+use Rattle.object_cells.specs.Formats.{filler_header, with_filler}
 use Rattle.array_trim.proofs.StorePieces.{HadCell, filler_cell, gap_cell, filler_read, gap_read, stands_inside}
 use Rattle.array_trim.proofs.TrimmedCells.{IsFreeCell}
 
 -- Nothing was put over no words, a filler over one, and a gap over more.
 data CoveredAs (words : List ℕ) (at count : ℕ) : Type 0 where
-  none : count ≡ 0 → covered words at count ≡ words → CoveredAs words at count
-  filler : count ≡ 1 → covered words at count ≡ slice_set words at (header_bits filler_header)
+  none : count ≡ 0 → with_filler words at count ≡ words → CoveredAs words at count
+  filler : count ≡ 1 → with_filler words at count ≡ slice_set words at (header_bits filler_header)
       → CoveredAs words at count
   gap : 2 ≤ count
-      → covered words at count ≡ slice_set (slice_set words at (header_bits gap_header)) (at + length_offset) count
+      → with_filler words at count ≡ slice_set (slice_set words at (header_bits gap_header)) (at + length_offset) count
       → CoveredAs words at count
 
 -- over more than one word a gap was put
 covered_by_gap : (words : List ℕ) (at count : ℕ) → 2 ≤ count
-    → covered words at count ≡ slice_set (slice_set words at (header_bits gap_header)) (at + length_offset) count
+    → with_filler words at count ≡ slice_set (slice_set words at (header_bits gap_header)) (at + length_offset) count
 covered_by_gap words at count some =
     let filler : List ℕ = slice_set words at (header_bits filler_header) in
     let gap : List ℕ = slice_set (slice_set words at (header_bits gap_header)) (at + length_offset) count in
@@ -43,11 +43,11 @@ covered_by_gap words at count some =
 -- each number of words is one of these
 covered_as : (words : List ℕ) (at count : ℕ) → CoveredAs words at count
 covered_as words at count = elim (cases_eq count 0) [
-  | inl is ↦ CoveredAs.none is (subst (λ n. covered words at n ≡ words) (sym is) refl)
+  | inl is ↦ CoveredAs.none is (subst (λ n. with_filler words at n ≡ words) (sym is) refl)
   | inr some ↦ elim (cases_eq count 1) [
     | inl is ↦
         CoveredAs.filler is
-        (subst (λ n. covered words at n ≡ slice_set words at (header_bits filler_header)) (sym is) refl)
+        (subst (λ n. with_filler words at n ≡ slice_set words at (header_bits filler_header)) (sym is) refl)
     | inr more ↦
         let two : 2 ≤ count = omega (arith, some, more) in
         CoveredAs.gap two (covered_by_gap words at count two)
@@ -55,7 +55,7 @@ covered_as words at count = elim (cases_eq count 0) [
 ]
 
 -- there are as many words
-pub length-covered : (words : List ℕ) (at count : ℕ) → length (covered words at count) ≡ length words
+pub length-covered : (words : List ℕ) (at count : ℕ) → length (with_filler words at count) ≡ length words
 length-covered words at count = elim (covered_as words at count) [
   | CoveredAs.none is same ↦ ap length same
   | CoveredAs.filler is same ↦ ap length same ∙ length-set words at (header_bits filler_header)
@@ -66,7 +66,7 @@ length-covered words at count = elim (covered_as words at count) [
 
 -- a word elsewhere stays
 pub covered_stays : (words : List ℕ) (at count a : ℕ) → (at ≤ a → a < at + count → ⊥)
-    → slice_get (covered words at count) a ≡ slice_get words a
+    → slice_get (with_filler words at count) a ≡ slice_get words a
 covered_stays words at count a outside = elim (covered_as words at count) [
   | CoveredAs.none is same ↦ ap (λ all. slice_get all a) same
   | CoveredAs.filler is same ↦
@@ -99,7 +99,7 @@ covered_by_one cell from to is_cell free at ends = record {
 
 -- so they do where they were put in the words of an old cell
 pub covering : {old new : Heap} {stood : Cell} (words : List ℕ) (at count : ℕ) → HadCell old new stood
-    → new.words ≡ covered words at count → length words ≡ length old.words → stood.at ≤ at
+    → new.words ≡ with_filler words at count → length words ≡ length old.words → stood.at ≤ at
     → at + count ≤ stood.at + stood.size → IsCovered new at (at + count)
 covering {old} {new} {stood} words at count had are long from below =
     let was = has_is_cell had.has in

@@ -10,7 +10,7 @@ use Rattle.heap_table.specs.Seats.{heap_words}
 use Rattle.heap_model.specs.Kinds.{count_offset}
 use Rattle.heap_model.specs.Slots.{reference_word}
 use Rattle.write_barrier.specs.Mains.{Mutator}
-use Rattle.write_barrier.specs.Values.{store_header}
+use Rattle.object_cells.specs.Formats.{store_header}
 use Rattle.array_trim.specs.TrimWords.{shifted_words, with_store_head}
 use Rattle.array_trim.proofs.Covers.{length-covered, covered_stays}
 use Rattle.array_trim.proofs.ListStores.{ListStored, words_apart, list_in_words, store_in_words}
@@ -68,7 +68,7 @@ module _ {main : Mutator} {at store : ℕ} {list : ListObject} (stored : ListSto
   apart : (a b : ℕ) → at ≤ a → a < at + 3 → store ≤ b → b < store + (store_head + capacity) → a ≡ b → ⊥
   apart a b from below from_too below_too same = words_apart stored a b from below from_too below_too same
 
-  -- a word of the list's cell is put before any is covered
+  -- a word of the list's cell is put before any is with_filler
   list_covered : (a : ℕ) → at ≤ a → a < at + 3 → slice_get shifted a ≡ slice_get counted a
   list_covered a from below =
       covered_stays counted store gone a (λ behind before.

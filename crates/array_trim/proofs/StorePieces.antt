@@ -20,8 +20,8 @@ use Rattle.heap_model.specs.Wholeness.{HasSizes}
 use Rattle.heap_model.proofs.CellsApart.{has_is_cell}
 use Rattle.write_barrier.specs.Mains.{gap_header}
 use Rattle.object_cells.proofs.NewStores.{store_cell}
-use Rattle.write_barrier.specs.Values.{store_header}
-use Rattle.array_trim.specs.TrimWords.{filler_header}
+use Rattle.object_cells.specs.Formats.{store_header}
+use Rattle.object_cells.specs.Formats.{filler_header}
 
 -- the cell of a filler
 abbrev pub filler_cell : ℕ → Cell

@@ -54,7 +54,7 @@ module _ {main : Mutator} {at store : ℕ} {list : ListObject} (stored : ListSto
   apart : (a b : ℕ) → at ≤ a → a < at + 3 → store ≤ b → b < store + (store_head + capacity) → a ≡ b → ⊥
   apart a b from below from_too below_too same = words_apart stored a b from below from_too below_too same
 
-  -- a word of the list's cell is put before any is covered
+  -- a word of the list's cell is put before any is with_filler
   list_covered : (a : ℕ) → at ≤ a → a < at + 3 → slice_get truncated a ≡ slice_get counted a
   list_covered a from below =
       covered_stays counted end (capacity - kept) a (λ behind before.

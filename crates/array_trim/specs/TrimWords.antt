@@ -9,19 +9,8 @@ use Rattle.heap_model.specs.Slots.{reference_word}
 use Rattle.heap_model.specs.Kinds.{count_offset}
 use Rattle.heap_model.specs.Needs.{capacity_at, word_at}
 use Rattle.write_barrier.specs.Mains.{Mutator, heap_of, gap_header}
-use Rattle.write_barrier.specs.Values.{store_header}
+use Rattle.object_cells.specs.Formats.{store_header, with_filler}
 use Rattle.object_cells.specs.Made.{PutsWords}
-
--- the header of a filler
-abbrev pub filler_header : Header
-filler_header = record { shape = filler_shape; object = 0 }
-
--- the words with a free cell over so many at an address: a filler over one, a gap over more, and none over none
-abbrev pub covered : List ℕ → ℕ → ℕ → List ℕ
-covered words at count =
-    if count == 0 then words
-    else (if count == 1 then slice_set words at (header_bits filler_header)
-    else slice_set (slice_set words at (header_bits gap_header)) (at + length_offset) count)
 
 -- the words with a store of so many slots that begins at an address; its slots are what stands there
 abbrev pub with_store_head : List ℕ → ℕ → ℕ → List ℕ
@@ -34,14 +23,14 @@ abbrev pub shifted_words : List ℕ → (list store capacity count gone : ℕ) �
 shifted_words words list store capacity count gone =
     let moved = with_store_head words (store + gone) (capacity - gone) in
     let linked = slice_set moved (list + store_slot) (reference_word (store + gone)) in
-    covered (slice_set linked (list + count_offset) (count - gone)) store gone
+    with_filler (slice_set linked (list + count_offset) (count - gone)) store gone
 
 -- The words once the list at an address has its first `kept` elements alone. Its store, of so many slots, has as many
 -- now; the words behind them are free.
 abbrev pub truncated_words : List ℕ → (list store capacity kept : ℕ) → List ℕ
 truncated_words words list store capacity kept =
     let shrunk = slice_set words (store + length_offset) kept in
-    covered (slice_set shrunk (list + count_offset) kept) (store + (store_head + kept)) (capacity - kept)
+    with_filler (slice_set shrunk (list + count_offset) kept) (store + (store_head + kept)) (capacity - kept)
 
 -- the list at the address has its store at another one
 abbrev pub HasStoreAt : Mutator → ℕ → ℕ → Type 0

@@ -8,7 +8,6 @@
 //! a list of it stands at the address.
 #![tactic(auto)]
 
-mod cover;
 mod laws;
 mod shifting;
 mod truncating;

@@ -6,17 +6,12 @@ ghost use Rattle.object_cells.specs.ListObjects.{IsListAt, IsListReady, IsShownL
 ghost use Rattle.array_trim.specs.TrimWords.{PutsShifted};
 ghost use Rattle.array_trim.specs.Trims.{ShiftsElements};
 
-use crate::cover::{LENGTH, cover};
 use crate::laws::laws_of_trims;
-use object_cells::{COUNT, Range, STORE_SLOT, count_of, place_of, store_of};
-use tagged_word::{Header, Word, shape};
+use heap_model::cells::COUNT;
+use object_cells::{Range, STORE, count_of, place_of, put_filler, store_of};
+use tagged_word::Word;
+use tagged_word::cell::{LENGTH, STORE_SLOT};
 use write_barrier::Main;
-
-// The header of a store.
-const STORE: Header = Header {
-    shape: shape::STORE,
-    object: 0,
-};
 
 // The store of the list begins so many words later. The words before it are free.
 fn shift_store(main: &mut Main, list: u32, count: u32, gone: u32)
@@ -25,18 +20,17 @@ fn shift_store(main: &mut Main, list: u32, count: u32, gone: u32)
     requires few { gone ≤ count }
     ensures { PutsShifted main.old main.new list count gone }
 {
-    // No address of a heap is past 32 bits.
-    let _regions = main.regions();
+    main.addresses_fit();
     let store = store_of(main, list);
     let start = store.at + gone;
     // The store may not be read by marking while it moves.
     main.blacken(store.at);
     main.made(start);
     main.set_header(start, STORE);
-    main.write(start + LENGTH, (store.capacity - gone) as u64);
+    main.write_slot(start, LENGTH, (store.capacity - gone) as u64);
     main.store(list, STORE_SLOT, Word::reference(start));
-    main.write(list + COUNT, (count - gone) as u64);
-    cover(main, store.at, gone);
+    main.write_slot(list, COUNT, (count - gone) as u64);
+    put_filler(main, store.at, gone);
 }
 
 /// Takes the first `n` elements out of the list at an address. Its store begins `n` words later; no
@@ -49,8 +43,7 @@ pub fn shift(main: &mut Main, list: u32, n: i64) -> Result<(), Range>
     ensures { (graph : Graph) (one : ListObject) → MainShows main.old graph
         → IsListAt main.old graph list one → ShiftsElements main.old main.new graph list one n result }
 {
-    // No address of a heap is past 32 bits.
-    let _regions = main.regions();
+    main.addresses_fit();
     laws_of_trims();
     let count = count_of(main, list);
     let Some(gone) = place_of(count + 1, n) else {

@@ -6,9 +6,10 @@ ghost use Rattle.object_cells.specs.ListObjects.{IsListAt, IsListReady, IsShownL
 ghost use Rattle.array_trim.specs.TrimWords.{PutsTruncated};
 ghost use Rattle.array_trim.specs.Trims.{TruncatesElements};
 
-use crate::cover::{LENGTH, cover};
 use crate::laws::laws_of_trims;
-use object_cells::{COUNT, Range, STORE_HEAD, count_of, place_of, store_of};
+use heap_model::cells::COUNT;
+use object_cells::{Range, count_of, place_of, put_filler, store_of};
+use tagged_word::cell::{LENGTH, STORE_HEAD};
 use write_barrier::Main;
 
 // The store of the list has so many slots. The words behind them are free.
@@ -17,14 +18,13 @@ fn truncate_store(main: &mut Main, list: u32, count: u32, kept: u32)
     requires fewer { kept < count }
     ensures { PutsTruncated main.old main.new list kept }
 {
-    // No address of a heap is past 32 bits.
-    let _regions = main.regions();
+    main.addresses_fit();
     let store = store_of(main, list);
     // The store may not be read by marking while it shrinks.
     main.blacken(store.at);
-    main.write(store.at + LENGTH, kept as u64);
-    main.write(list + COUNT, kept as u64);
-    cover(main, store.at + STORE_HEAD + kept, store.capacity - kept);
+    main.write_slot(store.at, LENGTH, kept as u64);
+    main.write_slot(list, COUNT, kept as u64);
+    put_filler(main, store.at + STORE_HEAD + kept, store.capacity - kept);
 }
 
 /// Keeps the first `n` elements of the list at an address. Its store has `n` slots then, also where
@@ -39,8 +39,7 @@ pub fn truncate(main: &mut Main, list: u32, n: i64) -> Result<(), Range>
         → IsListAt main.old graph list one
         → TruncatesElements main.old main.new graph list one n result }
 {
-    // No address of a heap is past 32 bits.
-    let _regions = main.regions();
+    main.addresses_fit();
     laws_of_trims();
     let count = count_of(main, list);
     let Some(kept) = place_of(count + 1, n) else {

@@ -8,11 +8,9 @@ ghost use Rattle.cell_layout.specs.Cells.{IsCell, IsNoCell, HasNoCell, HasRoom, 
 
 use crate::cell::{Cell, NotACell};
 use page_space::Regions;
+use tagged_word::shape::COUNT;
 use tagged_word::{Header, Kind, LayoutWord, Word};
 use word_store::Reads;
-
-/// How many shapes there may be.
-const SHAPES: u32 = 8_200;
 
 /// The cell at an address, in any words; where there is none, the word there. It loads at most
 /// three words: the cell's header, the layout word of its shape, and its length if it has one.
@@ -108,7 +106,7 @@ fn layout_of<W: Reads>(words: &mut W, regions: &Regions, shape: u32) -> Option<L
     ensures kept { W.words words.new ≡ W.words words.old }
     ensures rest { W.Rest words.old words.new }
 {
-    if shape >= SHAPES {
+    if shape >= COUNT {
         return None;
     }
     let at = regions.layout_at(shape);

@@ -7,12 +7,7 @@ ghost use Rattle.cell_layout.specs.Slots.{IsFirstFrom};
 
 use crate::cell::Cell;
 use tagged_word::Kind;
-
-/// The offset of the only slot of a list or a weak map: their store or table.
-const STORE_SLOT: u32 = 1;
-
-/// The offset of the first slot of a store or table.
-const STORE_HEAD: u32 = 2;
+use tagged_word::cell::{STORE_HEAD, STORE_SLOT};
 
 /// The offset of the first slot, from an offset on, that marking visits; none where there is none.
 /// It doesn't walk the slots of a store, and of a plain cell at most its 8 own.

@@ -10,28 +10,28 @@ ghost use Rattle.command_line.specs.Parser.{option_rule, parsed_rows, parser};
 use crate::invocation::WordsStop;
 use crate::number::Limits;
 use clap::{Arg, ArgAction, ArgMatches, Command};
-use page_space::Sizes;
+use page_space::{HELPERS_MOST, PAGES_MOST, Sizes, YOUNG_LEAST, YOUNG_MOST};
 use std::alloc::{AllocError, Global};
 
 /// Pages of the old generation.
 const PAGES: Limits = Limits {
     default: 64,
     least: 1,
-    most: 512,
+    most: PAGES_MOST,
 };
 
 /// Words of the young generation.
 const YOUNG: Limits = Limits {
     default: 8192,
-    least: 64,
-    most: 65536,
+    least: YOUNG_LEAST,
+    most: YOUNG_MOST,
 };
 
 /// Threads that help to collect.
 const HELPERS: Limits = Limits {
     default: 2,
     least: 0,
-    most: 7,
+    most: HELPERS_MOST,
 };
 
 /// The sizes that the words after the first give; `BadWords` where they give none.

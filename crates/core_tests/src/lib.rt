@@ -6,6 +6,10 @@
 #![tactic(auto)]
 
 #[cfg(test)]
+mod changes;
+#[cfg(test)]
+mod conditions;
+#[cfg(test)]
 mod marking;
 #[cfg(test)]
 mod probing;

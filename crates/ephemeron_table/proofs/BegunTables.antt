@@ -1,7 +1,6 @@
 -- The words with a table of pairs that hold nothing.
-use Rattle.std.proofs.Common.{◌≡◌, ℕ, ◌+◌, ◌*◌, ◌≤◌, ◌<◌, inl, inr, List, length, Some}
-use Rattle.std.proofs.Common.{slice_get, replicate}
-use Rattle.std.proofs.Common.{sym, ◌∙◌, ap, arith, length-set}
+use Rattle.std.proofs.Common.{◌≡◌, ℕ, ◌+◌, ◌*◌, ◌≤◌, ◌<◌, inl, inr, List, length, Some, slice_get, replicate, sym}
+use Rattle.std.proofs.Common.{◌∙◌, ap, arith, length-set}
 use Rattle.std.specs.Prelude.{slice_set}
 use Rattle.std.proofs.lemmas.Bool.{cases_lt}
 use Rattle.std.proofs.lemmas.List.{length-replicate, get_or-replicate}
@@ -11,12 +10,11 @@ use Rattle.tagged_word.specs.Headers.{header_bits}
 use Rattle.object_graph.proofs.Lists.{slice_get-set_same, slice_get-set_other}
 use Rattle.heap_model.specs.Slots.{hole_word}
 use Rattle.object_cells.proofs.PutRanges.{length-with_range, with_range_before, with_range_inside, with_range_behind}
-use Rattle.ephemeron_table.specs.Movings.{HoldNothing}
-use Rattle.ephemeron_table.specs.Probes.{key_offset, value_offset}
+use Rattle.weak_pairs.specs.Pairs.{HoldNothing}
+use Rattle.weak_pairs.specs.Tables.{key_offset, value_offset, pairs_of, made_pair}
 use Rattle.ephemeron_table.specs.Puttings.{begun_table, table_header}
-use Rattle.ephemeron_table.specs.Takings.{pairs_of, made_pair}
-use Rattle.ephemeron_table.specs.declared.reading.Table.{Table}
-use Rattle.ephemeron_table.proofs.PairLists.{pairs_read}
+use Rattle.weak_pairs.specs.declared.table.Table.{Table}
+use Rattle.weak_pairs.proofs.PairLists.{pairs_read}
 
 module _ (words : List ℕ) (table : Table) (within : table.at + (store_head + 2 * table.capacity) ≤ length words) where
   -- the words with its header, and with its capacity too

@@ -1,7 +1,7 @@
 -- The integer of an entry's value is put into the box to which the pair refers: so words of the map's own cells were
 -- written.
-use Rattle.std.proofs.Common.{◌≡◌, ◌≢◌, ℕ, ◌+◌, inl, inr, List, [], ◌∷◌, length}
-use Rattle.std.proofs.Common.{refl, sym, ◌∙◌, ap, subst, arith, length-set}
+use Rattle.std.proofs.Common.{◌≡◌, ◌≢◌, ℕ, ◌+◌, inl, inr, List, [], ◌∷◌, length, refl, sym, ◌∙◌, ap, subst, arith}
+use Rattle.std.proofs.Common.{length-set}
 use Rattle.std.specs.Prelude.{ℤ}
 use Rattle.tagged_word.specs.declared.layout.Kind.TheVariants as kind
 use Rattle.tagged_word.proofs.Members.{one_in, in_cases}
@@ -13,19 +13,19 @@ use Rattle.heap_model.specs.Slots.{is_object_kind, reference_word, raw_word, Ref
 use Rattle.heap_model.specs.Kinds.{Pair}
 use Rattle.heap_model.specs.Wholeness.{NamesFrom, IsOwnedKind}
 use Rattle.write_barrier.specs.Mains.{Mutator, heap_of, with_word}
-use Rattle.object_cells.specs.SlotChanges.{IsNoBoxOf}
+use Rattle.object_cells.specs.OwnSlots.{IsNoBoxOf}
 use Rattle.object_cells.proofs.OwnIntegers as integer
 use Rattle.object_cells.proofs.OwnIntegers.{PutsInteger}
 use Rattle.object_cells.proofs.OwnerWrites.{weak_owns}
 use Rattle.object_cells.proofs.SlotBoxes.{IsBoxOf}
-use Rattle.ephemeron_table.specs.Pairs.{HasPairs, IsFilledAt}
-use Rattle.ephemeron_table.specs.Takings.{pairs_of}
-use Rattle.ephemeron_table.specs.declared.reading.Table.{Table}
+use Rattle.weak_pairs.specs.Pairs.{HasPairs, IsFilledAt}
+use Rattle.weak_pairs.specs.Tables.{pairs_of}
+use Rattle.weak_pairs.specs.declared.table.Table.{Table}
 use Rattle.ephemeron_table.proofs.EntryPairs.{HasEntryPair, known, some, entry_filled}
-use Rattle.ephemeron_table.proofs.KnownTables.{cell, cell_has, sound, within_words, has_table, slot_there, found, other}
-use Rattle.ephemeron_table.proofs.KnownTables.{other_has, other_long}
-use Rattle.ephemeron_table.proofs.PairLists.{pairs_stay}
-use Rattle.ephemeron_table.proofs.PairWords.{IsValueAt, ValueSlot, value_slot_at, one_value}
+use Rattle.ephemeron_table.proofs.KnownTables.{cell, cell_has, sound, within_words, has_table, slot_there, found}
+use Rattle.ephemeron_table.proofs.KnownTables.{other, other_has, other_long}
+use Rattle.weak_pairs.proofs.PairLists.{pairs_stay}
+use Rattle.weak_pairs.proofs.PairWords.{IsValueAt, ValueSlot, value_slot_at, one_value}
 
 module _ {old new : Mutator} {graph : Graph} {map key : ℕ} {weak : WeakObject} {number place : ℕ} {table : Table}
     {box : ℕ} (v : ℤ) (has : HasEntryPair old graph map key weak number place table)

@@ -1,7 +1,6 @@
 -- An entry of a weak map was taken out.
-use Rattle.std.proofs.Common.{◌≡◌, ◌≢◌, ℕ, ◌+◌, Bool, true, false, cond, List, [], ◌∷◌, length, Some}
-use Rattle.std.proofs.Common.{None}
-use Rattle.std.proofs.Common.{slice_get, get_or, set, refl, sym, ◌∙◌, ap, subst, arith, ◌==◌}
+use Rattle.std.proofs.Common.{◌≡◌, ◌≢◌, ℕ, ◌+◌, Bool, true, false, cond, List, [], ◌∷◌, length, Some, None, slice_get}
+use Rattle.std.proofs.Common.{get_or, set, refl, sym, ◌∙◌, ap, subst, arith, ◌==◌}
 use Rattle.std.specs.Prelude.{slice_set}
 use Rattle.std.proofs.lemmas.List.{set-get_or}
 use Rattle.std.proofs.lemmas.Option.{none-some, get_or_from_slice_get}
@@ -22,17 +21,20 @@ use Rattle.heap_model.specs.Needs.{capacity_at, count_at}
 use Rattle.write_barrier.specs.Mains.{Mutator, heap_of, MainShows}
 use Rattle.object_cells.specs.Capacities.{ChangesObject}
 use Rattle.object_cells.proofs.NothingUsed.{uses_none, nothing_changes}
+use Rattle.ephemeron_table.proofs.KeptTables.{tables_stay}
 use Rattle.ephemeron_table.specs.EntryChanges.{DeletesEntry}
 use Rattle.ephemeron_table.specs.WeakObjects.{IsWeakAt}
-use Rattle.ephemeron_table.specs.Pairs.{IsFilledAt}
-use Rattle.ephemeron_table.specs.PairLaws.{PutsOne, TablesStay, WrittenEntriesShow}
-use Rattle.ephemeron_table.specs.Takings.{TakesAt, pairs_of}
-use Rattle.ephemeron_table.specs.declared.reading.Table.{Table}
-use Rattle.ephemeron_table.proofs.CountedPairs.{count_filled}
-use Rattle.ephemeron_table.proofs.EntryPairs.{HasEntryPair, shown, known, some, entry_filled, entry_refers, entry_only}
+use Rattle.weak_pairs.specs.Pairs.{IsFilledAt}
+use Rattle.ephemeron_table.specs.PairLaws.{PutsOne, WrittenEntriesShow}
+use Rattle.ephemeron_table.specs.Takings.{TakesAt}
+use Rattle.weak_pairs.specs.Tables.{pairs_of}
+use Rattle.weak_pairs.specs.declared.table.Table.{Table}
+use Rattle.weak_pairs.proofs.CountedPairs.{count_filled}
+use Rattle.ephemeron_table.proofs.EntryPairs.{HasEntryPair, shown, known, some, entry_filled, entry_refers}
+use Rattle.ephemeron_table.proofs.EntryPairs.{entry_only}
 use Rattle.ephemeron_table.proofs.KnownTables.{KnownMap, count_is}
 use Rattle.ephemeron_table.proofs.TakenMaps.{refills_weak, refers_back, slot_stays, count_after}
-use Rattle.ephemeron_table.proofs.TakenPairs.{free_not_filled, same_filled}
+use Rattle.weak_pairs.proofs.FilledPairs.{free_not_filled, same_filled}
 
 -- without an entry that has a value there is one less, by whether the first has the key
 less_by : (test : Bool) (entry : Entry) (entries : List Entry) (key : ℕ) (value : Value)
@@ -151,15 +153,15 @@ module _ {old new : Mutator} {graph : Graph} {map key : ℕ} {weak : WeakObject}
       subst (HasWord (words_of_cell (heap_of new) (shown its).cell) count_offset) same
       (count_after is_known (some its) takes one (entry_filled its))
 
-  pub deletes_entry : TablesStay → WrittenEntriesShow → DeletesEntry old new graph map weak number
-  deletes_entry tables_stay entries_show =
+  pub deletes_entry : WrittenEntriesShow → DeletesEntry old new graph map weak number
+  deletes_entry entries_show =
       let takes = deleting.takes in
       let refills = refills_weak is_known (some its) takes one (entry_filled its) in
       record {
         none = λ no_entry. absurd (none-some its.told.value (sym no_entry ∙ its.told.is_entry));
         uses = uses_none takes.rest takes.young;
         changes = subst (λ at. ChangesObject (heap_of old) (heap_of new) at (capacity_at (heap_of old) at))
-            (shown its).stands (tables_stay (heap_of old) (heap_of new) (shown its).cell _ [] refills
+            (shown its).stands (tables_stay refills
             (slot_stays is_known (some its) takes one (entry_filled its)));
         shows = entries_show old new graph weak (shown its).cell _ [] number None its.shows its.is.object its.is.reached
             its.is_key.reached (shown its).carries (shown its).shows (λ what is. absurd (none-some what is))

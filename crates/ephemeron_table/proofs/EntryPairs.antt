@@ -1,6 +1,6 @@
 -- The pair of a weak map's entry: it alone has the key, and what putting a value there takes.
-use Rattle.std.proofs.Common.{◌≡◌, ℕ, ◌+◌, ◌*◌, ◌<◌, Some, not, ◌&&◌, slice_get, get_or, unwrap_or, sym}
-use Rattle.std.proofs.Common.{◌∙◌, ap, arith}
+use Rattle.std.proofs.Common.{◌≡◌, ℕ, ◌+◌, ◌*◌, ◌<◌, Some, not, ◌&&◌, slice_get, get_or, unwrap_or, sym, ◌∙◌, ap}
+use Rattle.std.proofs.Common.{arith}
 use Rattle.std.proofs.lemmas.Option.{slice_get-get_or}
 use Rattle.page_space.specs.Sizes.{AreWithin}
 use Rattle.object_graph.specs.declared.value.Value.{Value}
@@ -18,17 +18,16 @@ use Rattle.object_cells.specs.HeldValues.{is_wide}
 use Rattle.object_cells.specs.Made.{beside_content, is_wide_held}
 use Rattle.object_cells.proofs.HeldNeeds.{wide_is}
 use Rattle.ephemeron_table.specs.WeakObjects.{IsKeyAt, IsWeakAt}
-use Rattle.ephemeron_table.specs.Pairs.{IsFilledAt}
-use Rattle.ephemeron_table.specs.Probes.{IsTableAt, ArePairsIn, key_in, value_in, value_offset}
-use Rattle.ephemeron_table.specs.Takings.{pairs_of}
-use Rattle.ephemeron_table.specs.declared.reading.Table.{Table}
+use Rattle.weak_pairs.specs.Pairs.{IsFilledAt}
+use Rattle.ephemeron_table.specs.Probes.{IsTableAt}
+use Rattle.weak_pairs.specs.Tables.{ArePairsIn, key_in, value_in, value_offset, pairs_of}
+use Rattle.weak_pairs.specs.declared.table.Table.{Table}
 use Rattle.object_cells.proofs.FilledSlots.{held_put}
 use Rattle.ephemeron_table.proofs.KeysAt.{pair_of_is, pair_word_is}
-use Rattle.ephemeron_table.proofs.KeysFound.{WeakShown, weak_shown, shown_pairs, shown_sound, key_filled}
-use Rattle.ephemeron_table.proofs.KeysFound.{one_key, TellsPair, key_told}
-use Rattle.ephemeron_table.proofs.KnownTables.{shown_known}
-use Rattle.ephemeron_table.proofs.KnownTables.{KnownMap, within_words}
-use Rattle.ephemeron_table.proofs.PairLists.{pairs_are}
+use Rattle.ephemeron_table.proofs.KeysFound.{WeakShown, weak_shown, shown_pairs, shown_sound, key_filled, one_key}
+use Rattle.ephemeron_table.proofs.KeysFound.{TellsPair, key_told}
+use Rattle.ephemeron_table.proofs.KnownTables.{shown_known, KnownMap, within_words}
+use Rattle.weak_pairs.proofs.PairLists.{pairs_are}
 
 -- The map is shown, and its entry of the key stands at the place.
 pub record HasEntryPair (old : Mutator) (graph : Graph) (map key : ℕ) (weak : WeakObject) (number place : ℕ)

@@ -1,7 +1,6 @@
 -- The pair of a key that is new came to a free place of a weak map's table: so its entry is put.
-use Rattle.std.proofs.Common.{◌≡◌, ℕ, ◌+◌, ◌<◌, inl, inr}
-use Rattle.std.proofs.Common.{List, length, None, Some, slice_get}
-use Rattle.std.proofs.Common.{sym, ◌∙◌, ap, subst, arith}
+use Rattle.std.proofs.Common.{◌≡◌, ℕ, ◌+◌, ◌<◌, inl, inr, List, length, None, Some, slice_get, sym, ◌∙◌, ap, subst}
+use Rattle.std.proofs.Common.{arith}
 use Rattle.std.specs.Prelude.{slice_set, option_map}
 use Rattle.std.proofs.lemmas.List.{map-set}
 use Rattle.std.proofs.lemmas.Option.{none-some, same_Some, slice_get-map, slice_get_within}
@@ -14,16 +13,16 @@ use Rattle.heap_model.specs.Kinds.{Pair, free_pair}
 use Rattle.heap_model.specs.Needs.{count_at}
 use Rattle.heap_model.proofs.WordClasses.{hole_refers_not}
 use Rattle.write_barrier.specs.Mains.{Mutator, heap_of}
-use Rattle.ephemeron_table.specs.Pairs.{IsFilledAt}
-use Rattle.ephemeron_table.specs.Probes.{ComesTo, IsPassed, key_in}
-use Rattle.ephemeron_table.specs.Takings.{numbers, number_of, pairs_of}
-use Rattle.ephemeron_table.specs.declared.reading.Table.{Table}
-use Rattle.ephemeron_table.proofs.ClosedPairs.{ReadsPair, reads_pair, length-numbers}
-use Rattle.ephemeron_table.proofs.CountedPairs.{count_filled, count_put}
+use Rattle.weak_pairs.specs.Pairs.{IsFilledAt}
+use Rattle.weak_pairs.specs.Probes.{ComesTo, IsPassed}
+use Rattle.weak_pairs.specs.Tables.{key_in, numbers, number_of, pairs_of}
+use Rattle.weak_pairs.specs.declared.table.Table.{Table}
+use Rattle.weak_pairs.proofs.PairNumbers.{ReadsPair, reads_pair, length-numbers, number_place}
+use Rattle.weak_pairs.proofs.CountedPairs.{count_filled, count_put}
 use Rattle.ephemeron_table.proofs.KeysFound.{key_filled}
 use Rattle.ephemeron_table.proofs.KeysProbed.{comes_within}
 use Rattle.ephemeron_table.proofs.KnownTables.{sound, pairs_same, pairs_long, within_words, each_found, number_found}
-use Rattle.ephemeron_table.proofs.KnownTables.{number_place, numbered_filled, finds_all, count_is}
+use Rattle.ephemeron_table.proofs.KnownTables.{numbered_filled, finds_all, count_is}
 use Rattle.ephemeron_table.proofs.NewKeys.{LacksKey, known, no_pair_refers}
 
 -- Probing for a key that no entry has came to a place where the table is free.

@@ -1,6 +1,5 @@
 -- Where probing passes all pairs of a weak map's table, each holds something, and the table has too few for one more.
-use Rattle.std.proofs.Common.{◌≡◌, ◌≢◌, ℕ, suc, ◌+◌, ◌*◌, ◌<◌, ◌≤◌, not, cond, List, []}
-use Rattle.std.proofs.Common.{◌∷◌, length, Some, slice_get}
+use Rattle.std.proofs.Common.{◌≡◌, ◌≢◌, ℕ, suc, ◌+◌, ◌*◌, ◌<◌, ◌≤◌, not, cond, List, [], ◌∷◌, length, Some, slice_get}
 use Rattle.std.proofs.Common.{sym, ◌∙◌, ap, refl, arith}
 use Rattle.std.proofs.lemmas.List.Sums.{count_by-le-length, sum_by-cons}
 use Rattle.std.proofs.lemmas.Option.{same_Some, slice_get_within}
@@ -13,11 +12,12 @@ use Rattle.heap_model.specs.Kinds.{Pair, free_pair, is_free_pair}
 use Rattle.heap_model.specs.Needs.{count_at}
 use Rattle.write_barrier.specs.Mains.{Mutator, heap_of}
 use Rattle.ephemeron_table.specs.WeakObjects.{IsShownPutting}
-use Rattle.ephemeron_table.specs.Probes.{IsTableAt, PassesBefore, key_in}
-use Rattle.ephemeron_table.specs.Takings.{pairs_of}
-use Rattle.ephemeron_table.specs.declared.reading.Table.{Table}
-use Rattle.ephemeron_table.proofs.ClosedPairs.{ReadsPair, reads_pair}
-use Rattle.ephemeron_table.proofs.CountedPairs.{count_filled, filled_counts, one_if}
+use Rattle.ephemeron_table.specs.Probes.{IsTableAt}
+use Rattle.weak_pairs.specs.Probes.{PassesBefore}
+use Rattle.weak_pairs.specs.Tables.{key_in, pairs_of}
+use Rattle.weak_pairs.specs.declared.table.Table.{Table}
+use Rattle.weak_pairs.proofs.PairNumbers.{ReadsPair, reads_pair}
+use Rattle.weak_pairs.proofs.CountedPairs.{count_filled, filled_counts, one_if}
 use Rattle.ephemeron_table.proofs.KnownTables.{KnownMap, shown_known, count_is, pairs_long, within_words}
 
 -- the map to which an entry is to come, and its table

@@ -1,6 +1,5 @@
 -- A table may be made in the place of a weak map's that would be too full.
-use Rattle.std.proofs.Common.{◌≡◌, ℕ, ◌+◌, ◌*◌, ◌≤◌, ◌<◌, inl, inr, List}
-use Rattle.std.proofs.Common.{subst, arith}
+use Rattle.std.proofs.Common.{◌≡◌, ℕ, ◌+◌, ◌*◌, ◌≤◌, ◌<◌, inl, inr, List, subst, arith}
 use Rattle.tagged_word.specs.Cells.{store_head}
 use Rattle.tagged_word.proofs.Readings.{reference_to}
 use Rattle.page_space.specs.Extents.{marks_start}
@@ -14,7 +13,7 @@ use Rattle.object_cells.proofs.CellsRead.{place_before_marks}
 use Rattle.object_cells.proofs.UnusedWords.{cell_apart}
 use Rattle.object_cells.proofs.WordsTold.{cell_fits}
 use Rattle.ephemeron_table.specs.Movings.{CanGrow, IsUsed, KeysUsed}
-use Rattle.ephemeron_table.specs.declared.reading.Table.{Table}
+use Rattle.weak_pairs.specs.declared.table.Table.{Table}
 use Rattle.ephemeron_table.proofs.KnownTables.{KnownMap, each_found, found, other_has, other_long}
 use Rattle.ephemeron_table.proofs.TablesRead.{count_within}
 

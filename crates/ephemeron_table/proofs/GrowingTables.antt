@@ -1,6 +1,5 @@
 -- A table that is made in the place of a map's has the next words of eden, of which no other cell has one.
-use Rattle.std.proofs.Common.{◌≡◌, ℕ, ◌+◌, ◌*◌, ◌≤◌, ◌<◌, inl, inr, length, slice_get}
-use Rattle.std.proofs.Common.{sym, ◌∙◌, ap, subst, arith}
+use Rattle.std.proofs.Common.{◌≡◌, ℕ, ◌+◌, ◌*◌, ◌≤◌, ◌<◌, inl, inr, length, slice_get, sym, ◌∙◌, ap, subst, arith}
 use Rattle.tagged_word.specs.Cells.{store_head}
 use Rattle.page_space.specs.Extents.{Space, segments_start, marks_start}
 use Rattle.nursery.specs.Young.{HasRoom}
@@ -12,15 +11,17 @@ use Rattle.object_cells.specs.Contents.{next_at}
 use Rattle.object_cells.specs.Made.{PutsWords, with_content}
 use Rattle.object_cells.proofs.MadeBoxes.{length-with_content, with_content_stays}
 use Rattle.object_cells.proofs.UnusedWords.{next_before_segments, next_before_marks}
-use Rattle.ephemeron_table.specs.Movings.{CanGrow, HoldNothing, IsBesideTable, KeysMovable, MovesPairs}
-use Rattle.ephemeron_table.specs.Pairs.{IsFilledAt}
-use Rattle.ephemeron_table.specs.Puttings.{HasFree, begun_table}
-use Rattle.ephemeron_table.specs.Takings.{pairs_of}
-use Rattle.ephemeron_table.specs.declared.reading.Table.{Table}
+use Rattle.ephemeron_table.specs.Movings.{CanGrow, MovesPairs}
+use Rattle.weak_pairs.specs.Pairs.{HoldNothing, IsFilledAt}
+use Rattle.weak_pairs.specs.Tables.{IsBesideTable, KeysMovable, pairs_of}
+use Rattle.weak_pairs.specs.Probes.{HasFree}
+use Rattle.ephemeron_table.specs.Puttings.{begun_table}
+use Rattle.weak_pairs.specs.declared.table.Table.{Table}
 use Rattle.ephemeron_table.proofs.BegunTables.{begun_beside, begun_long, begun_nothing}
-use Rattle.ephemeron_table.proofs.CountedPairs.{count_filled}
-use Rattle.ephemeron_table.proofs.PairLists.{pairs_stay}
-use Rattle.ephemeron_table.proofs.SettledPairs.{HaveKeys, has_free}
+use Rattle.weak_pairs.proofs.CountedPairs.{count_filled}
+use Rattle.weak_pairs.proofs.PairLists.{pairs_stay}
+use Rattle.weak_pairs.proofs.KeyedPairs.{HaveKeys}
+use Rattle.weak_pairs.proofs.InsertedPairs.{has_free}
 
 module _ {old : Mutator} {map key count : ℕ} {table : Table} (can : CanGrow old map table key count)
     (counted : length (heap_words old.seat) ≡ marks_start old.seat.space) (at capacity box : ℕ)
@@ -127,7 +128,7 @@ module _ {old : Mutator} {map key count : ℕ} {table : Table} (can : CanGrow ol
       -- so one is free
       pub boxed_free : HasFree (heap_of boxed) made
       boxed_free =
-          has_free boxed made boxed_within
+          has_free (heap_of boxed) made boxed_within
           (omega (arith, moves.moved.few, grown_more, ap count_filled boxed_pairs))
 
       -- and each that holds something has a key

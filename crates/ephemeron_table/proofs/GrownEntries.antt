@@ -1,6 +1,5 @@
 -- An entry whose key is new comes to a weak map in a table that is made: the map has it then.
-use Rattle.std.proofs.Common.{◌≡◌, ℕ, suc, ◌+◌, ◌*◌, ◌<◌, Bool, true, false}
-use Rattle.std.proofs.Common.{cond, List, [], ◌∷◌, length, Some, None}
+use Rattle.std.proofs.Common.{◌≡◌, ℕ, suc, ◌+◌, ◌*◌, ◌<◌, Bool, true, false, cond, List, [], ◌∷◌, length, Some, None}
 use Rattle.std.proofs.Common.{slice_get, refl, sym, ◌∙◌, ap, subst, arith, ◌==◌, nat_lt}
 use Rattle.std.proofs.lemmas.Bool.Decides.{nat_tests}
 use Rattle.std.proofs.lemmas.Option.{none-some, same_Some, slice_get_within}
@@ -27,25 +26,22 @@ use Rattle.object_cells.proofs.HeldContents.{HoldsValue}
 use Rattle.object_cells.proofs.HeldNeeds.{content_need_is, wide_is}
 use Rattle.object_cells.proofs.ContentValues.{content_shows}
 use Rattle.ephemeron_table.specs.Movings.{CanGrow, PutsInNewTable, new_table_need}
-use Rattle.ephemeron_table.specs.Pairs.{IsFilledAt}
+use Rattle.weak_pairs.specs.Pairs.{IsFilledAt}
 use Rattle.ephemeron_table.specs.PairLaws.{PutsOne}
 use Rattle.ephemeron_table.specs.Probes.{IsTableAt}
-use Rattle.ephemeron_table.specs.Takings.{pairs_of}
+use Rattle.weak_pairs.specs.Tables.{pairs_of}
 use Rattle.ephemeron_table.specs.WeakObjects.{IsKeyAt, IsWeakAt}
-use Rattle.ephemeron_table.specs.declared.reading.Table.{Table}
-use Rattle.ephemeron_table.proofs.CountedPairs.{count_filled}
+use Rattle.weak_pairs.specs.declared.table.Table.{Table}
+use Rattle.weak_pairs.proofs.CountedPairs.{count_filled}
 use Rattle.ephemeron_table.proofs.GrowableMaps.{can_grow}
-use Rattle.ephemeron_table.proofs.GrownMaps.{places, refers_back, refers_box}
-use Rattle.ephemeron_table.proofs.GrownMaps.{refills_weak}
-use Rattle.ephemeron_table.proofs.GrownPairs.{before, origin_other, moved, moved_apart}
-use Rattle.ephemeron_table.proofs.GrownPairs.{moved_stands}
-use Rattle.ephemeron_table.proofs.GrownPairs.{NowFilled, now_filled, one_stands}
+use Rattle.ephemeron_table.proofs.GrownMaps.{places, refers_back, refers_box, refills_weak}
+use Rattle.ephemeron_table.proofs.GrownPairs.{before, origin_other, moved, moved_apart, moved_stands, NowFilled}
+use Rattle.ephemeron_table.proofs.GrownPairs.{now_filled, one_stands}
 use Rattle.ephemeron_table.proofs.GrownWords.{behind, pair}
 use Rattle.ephemeron_table.proofs.KeysFound.{WeakShown, weak_shown, shown_pairs}
-use Rattle.ephemeron_table.proofs.KnownTables.{shown_known}
-use Rattle.ephemeron_table.proofs.KnownTables.{KnownMap, pairs_long, within_words}
+use Rattle.ephemeron_table.proofs.KnownTables.{shown_known, KnownMap, pairs_long, within_words}
 use Rattle.ephemeron_table.proofs.NoPair.{no_key, no_pair, pair_of_none}
-use Rattle.ephemeron_table.proofs.PairLists.{pairs_are}
+use Rattle.weak_pairs.proofs.PairLists.{pairs_are}
 
 module _ {old new : Mutator} {map key count earlier number : ℕ} {table : Table} {value : Held} {what : Value}
     (known : KnownMap old map table) (can : CanGrow old map table key earlier)

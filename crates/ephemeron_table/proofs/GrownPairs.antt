@@ -1,7 +1,7 @@
 -- The pairs of a table that was made: those of the one before, and a new one.
-use Rattle.std.proofs.Common.{◌≡◌, ◌≢◌, ℕ, zero, suc, ◌+◌, ◌≤◌, ◌<◌, inl, inr, Bool, true}
-use Rattle.std.proofs.Common.{false, List, [], ◌∷◌, length, drop}
-use Rattle.std.proofs.Common.{Option, Some, slice_get, unwrap_or, refl, sym, ◌∙◌, ap, subst, arith, ◌==◌}
+use Rattle.std.proofs.Common.{◌≡◌, ◌≢◌, ℕ, zero, suc, ◌+◌, ◌≤◌, ◌<◌, inl, inr, Bool, true, false, List, [], ◌∷◌}
+use Rattle.std.proofs.Common.{length, drop, Option, Some, slice_get, unwrap_or, refl, sym, ◌∙◌, ap, subst, arith}
+use Rattle.std.proofs.Common.{◌==◌}
 use Rattle.std.specs.Prelude.{slice_set, option_map}
 use Rattle.std.specs.Option.{option_and_then}
 use Rattle.std.proofs.lemmas.Bool.{cases_eq, eq-eqb, ne_eqb}
@@ -18,21 +18,23 @@ use Rattle.heap_model.specs.Kinds.{Pair, free_pair}
 use Rattle.write_barrier.specs.Mains.{Mutator, heap_of}
 use Rattle.object_cells.specs.Contents.{next_at}
 use Rattle.object_cells.specs.Made.{beside_content, content_need}
-use Rattle.ephemeron_table.specs.Movings.{AreMoved, CanGrow, IsUsed, PutsInNewTable}
-use Rattle.ephemeron_table.specs.Pairs.{IsFilledAt}
-use Rattle.ephemeron_table.specs.Probes.{number_at}
-use Rattle.ephemeron_table.specs.Takings.{numbers, number_of, pairs_of}
-use Rattle.ephemeron_table.specs.declared.reading.Table.{Table}
-use Rattle.ephemeron_table.proofs.CountedPairs.{count_filled, count_put}
+use Rattle.weak_pairs.specs.Rehashing.{AreRehashed}
+use Rattle.ephemeron_table.specs.Movings.{CanGrow, IsUsed, PutsInNewTable}
+use Rattle.weak_pairs.specs.Pairs.{IsFilledAt}
+use Rattle.weak_pairs.specs.Tables.{number_at, numbers, number_of, pairs_of}
+use Rattle.weak_pairs.specs.declared.table.Table.{Table}
+use Rattle.weak_pairs.proofs.CountedPairs.{count_filled, count_put}
 use Rattle.ephemeron_table.proofs.GrowingTables.{boxed_pairs, grown_pairs_stay}
 use Rattle.ephemeron_table.proofs.GrownWords.{pair, made_table, capacity, need, ends, keys_boxed, fits_boxed}
-use Rattle.ephemeron_table.proofs.GrownWords.{begun_stays}
-use Rattle.ephemeron_table.proofs.GrownWords.{boxed_stays, run_word, fits_new, settled_as_long}
+use Rattle.ephemeron_table.proofs.GrownWords.{begun_stays, boxed_stays, run_word, fits_new, settled_as_long}
 use Rattle.ephemeron_table.proofs.KeysFound.{key_filled}
 use Rattle.ephemeron_table.proofs.KnownTables.{KnownMap, pairs_long}
-use Rattle.ephemeron_table.proofs.PairLists.{at_place, pairs_stay}
-use Rattle.ephemeron_table.proofs.SettledPairs.{free_or_filled, settled_found, settled_free, settled_pairs}
-use Rattle.ephemeron_table.proofs.TakenPairs.{filled_elsewhere, free_not_filled, still_filled}
+use Rattle.weak_pairs.proofs.PairsPut.{at_place}
+use Rattle.weak_pairs.proofs.PairLists.{pairs_stay}
+use Rattle.weak_pairs.proofs.KeyedPairs.{free_or_filled}
+use Rattle.ephemeron_table.proofs.SettledPairs.{settled_found, settled_pairs}
+use Rattle.weak_pairs.proofs.InsertedPairs.{inserted_free}
+use Rattle.weak_pairs.proofs.FilledPairs.{filled_elsewhere, free_not_filled, still_filled}
 
 -- behind the last pair none is counted
 none_behind : (pairs : List Pair) (n : ℕ) → length pairs ≤ n → count_filled (drop n pairs) ≡ 0
@@ -89,7 +91,7 @@ module _ {old new : Mutator} {map key count earlier : ℕ} {table : Table} {valu
 
   settled_are : pairs_of (heap_words puts.settled.seat) (made_table known can puts) ≡ slice_set far place one
   settled_are =
-      settled_pairs (heap_of old) (fits_boxed known can puts) (keys_boxed known can puts) puts.settles
+      settled_pairs (fits_boxed known can puts) (keys_boxed known can puts) puts.settles
       ∙ ap (λ pairs. slice_set pairs place one) boxed_same
 
   -- the pairs after are those that were moved, with the new one
@@ -104,15 +106,15 @@ module _ {old new : Mutator} {map key count earlier : ℕ} {table : Table} {valu
   place_free : slice_get far place ≡ Some free_pair
   place_free =
       ap (λ all. slice_get all place) (sym boxed_same)
-      ∙ settled_free (heap_of old) (fits_boxed known can puts) (keys_boxed known can puts) puts.settles
+      ∙ inserted_free (fits_boxed known can puts) (keys_boxed known can puts) puts.settles.first
 
   one_filled : one ≢ free_pair
   one_filled = key_filled one key refl
 
   -- the others are those of the map's table
-  pub moved : AreMoved before far table.capacity
+  pub moved : AreRehashed before far table.capacity
   moved =
-      subst (λ all. AreMoved all far table.capacity)
+      subst (λ all. AreRehashed all far table.capacity)
       (grown_pairs_stay can known.whole.sized.words (next_at old) (capacity known can puts)
       (content_need (beside_content value)) puts.room refl refl refl puts.begins) puts.moves.moved
 

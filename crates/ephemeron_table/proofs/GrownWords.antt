@@ -1,7 +1,6 @@
 -- The words where an entry came to a table that was made: those of the map's own cell, and newly used ones.
-use Rattle.std.proofs.Common.{◌≡◌, ◌≢◌, ℕ, ◌+◌, ◌*◌, ◌≤◌, ◌<◌, inl, inr, List, [], ◌∷◌}
-use Rattle.std.proofs.Common.{length, Some, slice_get}
-use Rattle.std.proofs.Common.{refl, sym, ◌∙◌, ap, arith, length-set, add-zero}
+use Rattle.std.proofs.Common.{◌≡◌, ◌≢◌, ℕ, ◌+◌, ◌*◌, ◌≤◌, ◌<◌, inl, inr, List, [], ◌∷◌, length, Some, slice_get, refl}
+use Rattle.std.proofs.Common.{sym, ◌∙◌, ap, arith, length-set, add-zero}
 use Rattle.std.specs.Prelude.{slice_set}
 use Rattle.tagged_word.specs.declared.layout.Kind.TheVariants as kind
 use Rattle.tagged_word.specs.Cells.{store_head, store_slot}
@@ -21,21 +20,23 @@ use Rattle.heap_model.proofs.CellsApart.{IsOfCell, first_of_cell}
 use Rattle.write_barrier.specs.Mains.{Mutator, heap_of}
 use Rattle.object_cells.specs.Contents.{next_at}
 use Rattle.object_cells.specs.Made.{beside_content, content_need, content_word, with_content}
-use Rattle.object_cells.proofs.MadeBoxes.{made_boxes, BoxStands, with_content_stays}
-use Rattle.object_cells.proofs.MadeBoxes.{length-with_content, row_with_box}
+use Rattle.object_cells.proofs.MadeBoxes.{made_boxes, BoxStands, with_content_stays, length-with_content}
+use Rattle.object_cells.proofs.MadeBoxes.{row_with_box}
 use Rattle.object_cells.proofs.UnusedWords.{cell_is_used, next_before_segments}
 use Rattle.object_cells.proofs.OwnPuts.{PutsOwn, own_sized, own_writes, box_put}
 use Rattle.ephemeron_table.specs.Movings.{CanGrow, PutsInNewTable, new_table, new_table_need, box_behind}
 use Rattle.ephemeron_table.specs.PairWrites.{WritesWeak}
 use Rattle.ephemeron_table.specs.Puttings.{begun_table}
-use Rattle.ephemeron_table.specs.Takings.{IsBesidePairs, made_pair, pairs_of}
-use Rattle.ephemeron_table.specs.declared.reading.Table.{Table}
+use Rattle.weak_pairs.specs.Tables.{IsBesidePairs, made_pair, pairs_of}
+use Rattle.weak_pairs.specs.declared.table.Table.{Table}
 use Rattle.ephemeron_table.proofs.BegunTables.{begun_beside, begun_capacity, begun_header}
 use Rattle.ephemeron_table.proofs.GrowingTables.{begun_words, begun_words_long, boxed_keys, boxed_within}
 use Rattle.ephemeron_table.proofs.KnownTables.{KnownMap, cell, cell_has, of_map}
 use Rattle.ephemeron_table.proofs.NewTables.{table_cell, table_is_cell}
-use Rattle.ephemeron_table.proofs.PairLists.{beside_put, length-with_pair, beside_run}
-use Rattle.ephemeron_table.proofs.SettledPairs.{HaveKeys, settled_below}
+use Rattle.weak_pairs.proofs.PairsPut.{beside_put, length-with_pair}
+use Rattle.weak_pairs.proofs.PairLists.{beside_run}
+use Rattle.weak_pairs.proofs.KeyedPairs.{HaveKeys}
+use Rattle.weak_pairs.proofs.InsertedPairs.{inserted_below}
 
 module _ {old new : Mutator} {map key count earlier : ℕ} {table : Table} {value : Held} (known : KnownMap old map table)
     (can : CanGrow old map table key earlier) (puts : PutsInNewTable old new map table key count value) where
@@ -87,7 +88,7 @@ module _ {old new : Mutator} {map key count earlier : ℕ} {table : Table} {valu
 
   -- the new pair's place is one of the table
   pub place_below : puts.settles.place < capacity
-  place_below = settled_below (heap_of old) fits_boxed keys_boxed puts.settles
+  place_below = inserted_below fits_boxed keys_boxed puts.settles.first
 
   begun_long : length (heap_words puts.begun.seat) ≡ length (heap_words old.seat)
   begun_long =

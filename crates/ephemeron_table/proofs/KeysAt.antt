@@ -1,9 +1,6 @@
 -- Which pair of a weak map has the word of a key, and the words of that pair.
-use Rattle.std.proofs.Common.{◌≡◌, ◌≢◌, ℕ, zero, suc, ◌+◌, ◌*◌, ◌≤◌, ◌<◌, inl, inr, Bool, true}
-use Rattle.std.proofs.Common.{false, Option, Some}
-use Rattle.std.proofs.Common.{◌==◌}
-use Rattle.std.proofs.Common.{unwrap_or, sym, ◌∙◌, ap, refl, arith}
-use Rattle.std.specs.Prelude.{if◌then◌else◌}
+use Rattle.std.proofs.Common.{◌≡◌, ◌≢◌, ℕ, zero, suc, ◌+◌, ◌*◌, ◌≤◌, ◌<◌, inl, inr, Bool, true, false, Option, Some}
+use Rattle.std.proofs.Common.{◌==◌, unwrap_or, sym, ◌∙◌, ap, refl, arith, if◌then◌else◌}
 use Rattle.std.proofs.lemmas.Bool.{cases_eq, eqb-true, eqb-false}
 use Rattle.tagged_word.specs.Cells.{store_head, store_slot}
 use Rattle.tagged_word.specs.Readings.{reference_in}
@@ -13,8 +10,8 @@ use Rattle.heap_model.specs.Needs.{word_at, beside_by, key_word, pair_word, pair
 use Rattle.write_barrier.specs.Mains.{Mutator, heap_of}
 use Rattle.object_cells.proofs.CellsRead.{word_stands}
 use Rattle.object_cells.proofs.WordsTold.{cell_fits}
-use Rattle.ephemeron_table.specs.Probes.{key_in, value_in}
-use Rattle.ephemeron_table.specs.declared.reading.Table.{Table}
+use Rattle.weak_pairs.specs.Tables.{key_in, value_in}
+use Rattle.weak_pairs.specs.declared.table.Table.{Table}
 use Rattle.ephemeron_table.proofs.KnownTables.{KnownMap, sound, found}
 
 -- the first pair of some is the place, or it is among the others, by whether its word is the key's

@@ -1,6 +1,5 @@
 -- Which pairs of a weak map that is shown are those of its entries, by their keys.
-use Rattle.std.proofs.Common.{◌≡◌, ◌≢◌, ℕ, ◌+◌, ◌<◌, inl, inr, List, [], get_or, Option, Some, None}
-use Rattle.std.proofs.Common.{slice_get}
+use Rattle.std.proofs.Common.{◌≡◌, ◌≢◌, ℕ, ◌+◌, ◌<◌, inl, inr, List, [], get_or, Option, Some, None, slice_get}
 use Rattle.std.proofs.Common.{unwrap_or, refl, sym, ◌∙◌, ap, subst, arith}
 use Rattle.std.specs.Prelude.{option_map, IsFalse}
 use Rattle.std.specs.Option.{option_and_then}
@@ -28,11 +27,12 @@ use Rattle.heap_model.proofs.NewKeys.{one_number, one_table}
 use Rattle.heap_model.proofs.WordClasses.{hole_refers_not}
 use Rattle.write_barrier.specs.Mains.{Mutator, heap_of, MainShows}
 use Rattle.ephemeron_table.specs.WeakObjects.{IsKeyAt, IsWeakAt}
-use Rattle.ephemeron_table.specs.Pairs.{HasPairsAt}
-use Rattle.ephemeron_table.specs.Probes.{IsWeakCellAt, IsTableAt, number_at, key_in, value_offset}
-use Rattle.ephemeron_table.specs.declared.reading.Table.{Table}
+use Rattle.weak_pairs.specs.Pairs.{HasPairsAt}
+use Rattle.ephemeron_table.specs.Probes.{IsWeakCellAt, IsTableAt}
+use Rattle.weak_pairs.specs.Tables.{number_at, key_in, value_offset}
+use Rattle.weak_pairs.specs.declared.table.Table.{Table}
 use Rattle.ephemeron_table.proofs.TablesRead.{weak_sound}
-use Rattle.ephemeron_table.proofs.EntriesFound.{entry_found, entry_apart}
+use Rattle.weak_pairs.proofs.EntriesFound.{entry_found, entry_apart}
 
 -- the header at the place of an object has its number
 pub number_is : {heap : Heap} {number at : ℕ} → IsPlace heap number at → number_at heap at ≡ number

@@ -14,9 +14,11 @@ use Rattle.heap_model.specs.Kinds.{Pair, free_pair, IsFoundPair}
 use Rattle.heap_model.proofs.WordClasses.{hole_refers_not}
 use Rattle.write_barrier.specs.Mains.{Mutator, heap_of, MainShows}
 use Rattle.ephemeron_table.specs.WeakObjects.{IsKeyAt, IsWeakAt}
-use Rattle.ephemeron_table.specs.Probes.{IsTableAt, ArePairsIn, key_in, number_at, PassesBefore, ComesTo, EndsBy}
+use Rattle.ephemeron_table.specs.Probes.{IsTableAt, EndsBy}
+use Rattle.weak_pairs.specs.Tables.{ArePairsIn, key_in, number_at}
+use Rattle.weak_pairs.specs.Probes.{PassesBefore, ComesTo}
 use Rattle.ephemeron_table.specs.declared.probing.End.TheVariants as probe_end
-use Rattle.ephemeron_table.specs.declared.reading.Table.{Table}
+use Rattle.weak_pairs.specs.declared.table.Table.{Table}
 use Rattle.ephemeron_table.proofs.KeysFound.{HasKey, WeakShown, entry_has_key, number_is, shown_pairs, shown_sound}
 
 -- the key that a pair has is read
@@ -58,7 +60,7 @@ not_before {heap} {pairs} {key} {number} {place} table sound stand has comes fre
           let at : place_after (length pairs) number comes.steps ≡ place =
           ap (λ n. place_after n number comes.steps) stand.long ∙ sym comes.comes in
           let filled : pair ≢ free_pair =
-          has.probed.filled comes.steps pair later (ap (slice_get pairs) at ∙ there) in
+          λ is. has.probed.filled comes.steps later (ap (slice_get pairs) at ∙ there ∙ ap (λ p. Some p) is) in
           let refers = (sound place pair there filled).filled.key in
           hole_refers_not refers.at (sym key_is ∙ refers.refers)
     ]

@@ -1,8 +1,6 @@
 -- What is known of a weak map and its table before words of them change.
-use Rattle.std.proofs.Common.{◌≡◌, ◌≢◌, ℕ, ◌+◌, ◌*◌, ◌≤◌, ◌<◌, inl, inr, List, length, drop}
-use Rattle.std.proofs.Common.{Option, Some, None}
-use Rattle.std.proofs.Common.{slice_get}
-use Rattle.std.proofs.Common.{unwrap_or, refl, sym, ◌∙◌, ap, subst, arith, length-drop}
+use Rattle.std.proofs.Common.{◌≡◌, ◌≢◌, ℕ, ◌+◌, ◌*◌, ◌≤◌, ◌<◌, inl, inr, List, length, drop, Some, None, slice_get}
+use Rattle.std.proofs.Common.{unwrap_or, sym, ◌∙◌, ap, subst, arith, length-drop}
 use Rattle.std.specs.Prelude.{option_map}
 use Rattle.std.proofs.lemmas.Bool.{false≢true}
 use Rattle.std.proofs.lemmas.Option.{same_Some, none-some, slice_get-map}
@@ -12,14 +10,15 @@ use Rattle.tagged_word.specs.Cells.{store_head, store_slot}
 use Rattle.tagged_word.proofs.Readings.{reference_to, reference_from}
 use Rattle.page_space.specs.Sizes.{AreWithin}
 use Rattle.cell_layout.specs.declared.cell.Cell.{Cell}
-use Rattle.linear_probing.specs.Tables.{place_after, IsFree, HoldsNumber, FindsAll}
+use Rattle.linear_probing.specs.Tables.{FindsAll}
 use Rattle.linear_probing.specs.Tables as probing
+use Rattle.linear_probing.proofs.Findings.{still_probed}
 use Rattle.object_graph.specs.Graphs.{Graph, WeakObject}
 use Rattle.heap_table.specs.Seats.{heap_words}
-use Rattle.heap_model.specs.Heaps.{Heap, HasCell, words_of_cell}
+use Rattle.heap_model.specs.Heaps.{HasCell, words_of_cell}
 use Rattle.heap_model.specs.Slots.{is_object_kind, RefersToPlace}
-use Rattle.heap_model.specs.Kinds.{HasWord, Pair, free_pair, HasTable, IsWeakCell, IsFoundPair, IsProbed}
-use Rattle.heap_model.specs.Kinds.{HasNoNumber, IsSoundOf, count_offset}
+use Rattle.heap_model.specs.Kinds.{HasWord, Pair, free_pair, HasTable, IsWeakCell, IsFoundPair, IsProbed, HasNoNumber}
+use Rattle.heap_model.specs.Kinds.{IsSoundOf, count_offset}
 use Rattle.heap_model.specs.Wholeness.{Whole, NamesFrom}
 use Rattle.heap_model.specs.Needs.{count_at}
 use Rattle.heap_model.proofs.CellsApart.{IsOfCell, first_of_cell, cells_apart}
@@ -32,15 +31,16 @@ use Rattle.object_cells.proofs.CellsRead.{word_stands, cell_at_before_marks}
 use Rattle.object_cells.proofs.OwnPlaces.{has_own_words}
 use Rattle.object_cells.proofs.WordsTold.{cell_fits}
 use Rattle.ephemeron_table.specs.WeakObjects.{IsWeakAt}
-use Rattle.ephemeron_table.specs.Pairs.{HasPairs}
-use Rattle.ephemeron_table.specs.Probes.{IsWeakCellAt, IsTableAt, number_at}
-use Rattle.ephemeron_table.specs.Takings.{KeysBeside, IsKeyBeside, IsBesidePairs, numbers, number_of, pairs_of}
-use Rattle.ephemeron_table.specs.declared.reading.Table.{Table}
-use Rattle.ephemeron_table.proofs.ClosedPairs.{keyed_filled, length-numbers}
-use Rattle.ephemeron_table.proofs.CountedPairs.{count_filled}
+use Rattle.weak_pairs.specs.Pairs.{HasPairs}
+use Rattle.ephemeron_table.specs.Probes.{IsWeakCellAt, IsTableAt}
+use Rattle.weak_pairs.specs.Tables.{number_at, KeysBeside, IsKeyBeside, IsBesidePairs, numbers, number_of, pairs_of}
+use Rattle.weak_pairs.specs.declared.table.Table.{Table}
+use Rattle.weak_pairs.proofs.KeyedPairs.{free_or_filled}
+use Rattle.weak_pairs.proofs.PairNumbers.{keyed_filled, length-numbers, number_place}
+use Rattle.weak_pairs.proofs.CountedPairs.{count_filled}
 use Rattle.ephemeron_table.proofs.KeysFound.{number_is, weak_shown, shown_there}
-use Rattle.ephemeron_table.proofs.PairLists.{pairs_are, beside_run}
-use Rattle.ephemeron_table.proofs.TablesRead.{IsFoundTable, found_table, weak_sound, weak_pairs, length-pairs_in}
+use Rattle.weak_pairs.proofs.PairLists.{pairs_are, beside_run, length-pairs_in}
+use Rattle.ephemeron_table.proofs.TablesRead.{IsFoundTable, found_table, weak_sound, weak_pairs}
 
 -- The table that was read is that of the weak map at the address.
 pub record KnownMap (old : Mutator) (map : ℕ) (table : Table) : Type 0 where
@@ -67,19 +67,6 @@ shown_known shows is sizes is_table = record {
   there = shown_there (weak_shown shows is);
   is = is_table;
 }
-
--- a number that is read of what is there
-number_there : (f : Pair → Option ℕ) (found : Option Pair) (item : Option ℕ) → option_map f found ≡ Some item
-    → (pair : Pair) × (found ≡ Some pair) × (f pair ≡ item)
-number_there f None item is = absurd (none-some item is)
-number_there f (Some pair) item is = (pair, refl, same_Some (f pair) item is)
-
--- the number at a place is that of the pair there
-pub number_place : (heap : Heap) (pairs : List Pair) (at : ℕ) (item : Option ℕ)
-    → slice_get (numbers heap pairs) at ≡ Some item
-    → (pair : Pair) × (slice_get pairs at ≡ Some pair) × (number_of heap pair ≡ item)
-number_place heap pairs at item there =
-    number_there (number_of heap) (slice_get pairs at) item (sym (slice_get-map (number_of heap) pairs at) ∙ there)
 
 module _ {old : Mutator} {map : ℕ} {table : Table} (known : KnownMap old map table) where
   -- the map's cell
@@ -156,21 +143,17 @@ module _ {old : Mutator} {map : ℕ} {table : Table} (known : KnownMap old map t
 
   -- where probing comes to a pair, it comes to its number
   probed_number : (number at : ℕ) → IsProbed (pairs_of (heap_words old.seat) table) number at
-      → probing.IsProbed (numbers (heap_of old) (pairs_of (heap_words old.seat) table)) number at
+      → probing.IsProbed None (numbers (heap_of old) (pairs_of (heap_words old.seat) table)) number at
   probed_number number at probed =
       let pairs = pairs_of (heap_words old.seat) table in
-      let long = length-numbers (heap_of old) pairs in
-      record {
-        steps = probed.steps;
-        within = omega (arith, long, probed.within);
-        comes = probed.comes ∙ ap (λ n. place_after n number probed.steps) (sym long);
-        filled = λ before few free.
-            let here = number_place (heap_of old) pairs (place_after (length pairs) number before) None
-            (ap (λ n. slice_get (numbers (heap_of old) pairs) (place_after n number before)) (sym long) ∙ free) in
-            let filled = probed.filled before here.0 few here.1 in
-            let found = each_found (place_after (length pairs) number before) here.0 here.1 filled in
-            none-some found.number (sym here.2 ∙ number_found here.0 found.number found.filled.key);
-      }
+      still_probed pairs (numbers (heap_of old) pairs) number at (length-numbers (heap_of old) pairs) (λ place none.
+      let here = number_place (heap_of old) pairs place None none in
+      elim (free_or_filled here.0) [
+        | inl free ↦ here.1 ∙ ap (λ p. Some p) free
+        | inr filled ↦
+            let found = each_found place here.0 here.1 filled in
+            absurd (none-some found.number (sym here.2 ∙ number_found here.0 found.number found.filled.key))
+      ]) probed
 
   -- a pair with a number holds something
   pub numbered_filled : (pair : Pair) (number : ℕ) → number_of (heap_of old) pair ≡ Some number → pair ≢ free_pair
@@ -184,23 +167,16 @@ module _ {old : Mutator} {map : ℕ} {table : Table} (known : KnownMap old map t
       let found = each_found at here.0 here.1 (numbered_filled here.0 number here.2) in
       let same : found.number ≡ number =
       same_Some found.number number (sym (number_found here.0 found.number found.filled.key) ∙ here.2) in
-      subst (λ n. probing.IsProbed (numbers (heap_of old) pairs) n at) same
+      subst (λ n. probing.IsProbed None (numbers (heap_of old) pairs) n at) same
       (probed_number found.number at found.probed)
 
   -- where probing comes to the number of a pair, it comes to the pair
-  pub probed_pair : (pairs : List Pair) (number at : ℕ) → probing.IsProbed (numbers (heap_of old) pairs) number at
-      → IsProbed pairs number at
+  pub probed_pair : (pairs : List Pair) (number at : ℕ)
+      → probing.IsProbed None (numbers (heap_of old) pairs) number at → IsProbed pairs number at
   probed_pair pairs number at probed =
-      let long = length-numbers (heap_of old) pairs in
-      record {
-        steps = probed.steps;
-        within = omega (arith, long, probed.within);
-        comes = probed.comes ∙ ap (λ n. place_after n number probed.steps) long;
-        filled = λ before pair few there free. probed.filled before few
-            (ap (λ n. slice_get (numbers (heap_of old) pairs) (place_after n number before)) long
-            ∙ slice_get-map (number_of (heap_of old)) pairs (place_after (length pairs) number before)
-            ∙ ap (option_map (number_of (heap_of old))) (there ∙ ap Some free));
-      }
+      still_probed (numbers (heap_of old) pairs) pairs number at (sym (length-numbers (heap_of old) pairs))
+      (λ place free. slice_get-map (number_of (heap_of old)) pairs place ∙ ap (option_map (number_of (heap_of old))) free)
+      probed
 
   module _ (some : 0 < table.capacity) where
     -- the table's cell

@@ -9,7 +9,7 @@ use Rattle.heap_model.specs.Kinds.{count_offset}
 use Rattle.write_barrier.specs.Mains.{Mutator}
 use Rattle.object_cells.specs.Contents.{next_at}
 use Rattle.ephemeron_table.specs.Movings.{CanGrow, PutsInNewTable}
-use Rattle.ephemeron_table.specs.declared.reading.Table.{Table}
+use Rattle.weak_pairs.specs.declared.table.Table.{Table}
 use Rattle.ephemeron_table.proofs.GrownWords.{counted, linked, settled_long}
 use Rattle.ephemeron_table.proofs.KnownTables.{KnownMap}
 

@@ -1,7 +1,6 @@
 -- The pairs of a table come to another one, as their words are read and put.
-use Rattle.std.proofs.Common.{◌≡◌, ℕ, ◌+◌, ◌*◌, ◌≤◌, ◌<◌, List, length, Option, Some, None}
-use Rattle.std.proofs.Common.{slice_get, unwrap_or}
-use Rattle.std.proofs.Common.{sym, ◌∙◌, ap, subst, arith}
+use Rattle.std.proofs.Common.{◌≡◌, ℕ, ◌+◌, ◌*◌, ◌≤◌, ◌<◌, List, length, Option, Some, None, slice_get, unwrap_or, sym}
+use Rattle.std.proofs.Common.{◌∙◌, ap, subst, arith}
 use Rattle.std.specs.Prelude.{slice_set, option_map}
 use Rattle.std.specs.Option.{option_and_then}
 use Rattle.std.proofs.lemmas.Option.{none-some, same_Some}
@@ -14,25 +13,27 @@ use Rattle.heap_table.specs.Seats.{heap_words}
 use Rattle.heap_model.specs.Kinds.{Pair}
 use Rattle.heap_model.specs.Slots.{reference_word}
 use Rattle.write_barrier.specs.Mains.{Mutator, heap_of}
-use Rattle.ephemeron_table.specs.Movings.{AreMoved, HoldNothing, IsBesideTable, KeysMovable, MovesPairs}
-use Rattle.ephemeron_table.specs.Probes.{number_at}
-use Rattle.ephemeron_table.specs.Puttings.{HasFree, Settles}
-use Rattle.ephemeron_table.specs.Takings.{IsKeyBeside, made_pair, pairs_of}
-use Rattle.ephemeron_table.specs.declared.reading.Table.{Table}
-use Rattle.ephemeron_table.proofs.ClosedPairs.{ReadsPair, reads_pair, keyed_filled, nothing_changed, pair_changed}
-use Rattle.ephemeron_table.proofs.KnownTables.{number_place}
-use Rattle.ephemeron_table.proofs.MovedPairs.{moved_begins, moved_passes, moved_puts}
-use Rattle.ephemeron_table.proofs.PairLists.{pairs_stay}
-use Rattle.ephemeron_table.proofs.SettledPairs.{HaveKeys, free_without, has_free, settled_below, settled_free}
-use Rattle.ephemeron_table.proofs.SettledPairs.{settled_pairs}
-use Rattle.ephemeron_table.proofs.SettledPairs.{settled_found}
+use Rattle.weak_pairs.specs.Rehashing.{AreRehashed}
+use Rattle.weak_pairs.specs.Pairs.{HoldNothing}
+use Rattle.weak_pairs.specs.Tables.{IsBesideTable, KeysMovable, number_at, IsKeyBeside, made_pair, pairs_of}
+use Rattle.ephemeron_table.specs.Movings.{MovesPairs}
+use Rattle.weak_pairs.specs.Probes.{HasFree}
+use Rattle.ephemeron_table.specs.Puttings.{Settles}
+use Rattle.weak_pairs.specs.declared.table.Table.{Table}
+use Rattle.weak_pairs.proofs.PairNumbers.{ReadsPair, reads_pair, keyed_filled, number_place}
+use Rattle.ephemeron_table.proofs.ClosedPairs.{nothing_changed, pair_changed}
+use Rattle.weak_pairs.proofs.Rehashing.{rehashed_begins, rehashed_passes, rehashed_puts}
+use Rattle.weak_pairs.proofs.PairLists.{pairs_stay}
+use Rattle.weak_pairs.proofs.KeyedPairs.{HaveKeys, free_without}
+use Rattle.weak_pairs.proofs.InsertedPairs.{has_free, inserted_below, inserted_free}
+use Rattle.ephemeron_table.proofs.SettledPairs.{settled_pairs, settled_found}
 
 -- it begins with a table that holds nothing
 pub moving_begins : (main : Mutator) (from to : Table) → HoldNothing (pairs_of (heap_words main.seat) to)
     → MovesPairs main main from to 0
 moving_begins main from to nothing = record {
   changes = nothing_changed main to;
-  moved = moved_begins (pairs_of (heap_words main.seat) from) (pairs_of (heap_words main.seat) to) nothing;
+  moved = rehashed_begins (pairs_of (heap_words main.seat) from) (pairs_of (heap_words main.seat) to) nothing;
   found = λ at number holds.
       let here = number_place (heap_of main) (pairs_of (heap_words main.seat) to) at (Some number) holds in
       absurd (none-some number (ap (λ (p : Pair). option_map (number_at (heap_of main)) (reference_in p.key))
@@ -59,7 +60,7 @@ module _ {old now : Mutator} {from to : Table} {at : ℕ}
 
   -- some pair is free
   pub moving_free : HasFree (heap_of now) to
-  moving_free = has_free now to within_now (omega (arith, moves.moved.few, more, below))
+  moving_free = has_free (heap_of now) to within_now (omega (arith, moves.moved.few, more, below))
 
   -- each that came has its key
   have_keys : HaveKeys far
@@ -86,7 +87,7 @@ module _ {old now : Mutator} {from to : Table} {at : ℕ}
   pub moving_passes : reference_in next_read.pair.key ≡ None → MovesPairs old now from to (at + 1)
   moving_passes none = record {
     changes = moves.changes;
-    moved = moved_passes moves.moved next_read.pair there (free_without before at next_read.pair had_keys there none);
+    moved = rehashed_passes moves.moved next_read.pair there (free_without before at next_read.pair had_keys there none);
     found = moves.found;
   }
 
@@ -114,13 +115,13 @@ module _ {old now : Mutator} {from to : Table} {at : ℕ}
         let pair : made_pair (reference_word key) value ≡ next_read.pair =
         ap (λ v. made_pair (reference_word key) v) value_is ∙ ap (λ k. made_pair k next_read.pair.value) (sym key_is) in
         let pairs : pairs_of (heap_words new.seat) to ≡ slice_set far settles.place next_read.pair =
-        settled_pairs (heap_of old) within_now have_keys settles ∙ ap (slice_set far settles.place) pair in
+        settled_pairs within_now have_keys settles ∙ ap (slice_set far settles.place) pair in
         record {
           changes = pair_changed to settles.place (made_pair (reference_word key) value) moves.changes
-              (settled_below (heap_of old) within_now have_keys settles) settles.words;
-          moved = subst (λ all. AreMoved before all (at + 1)) (sym pairs)
-              (moved_puts moves.moved next_read.pair there settles.place
-              (settled_free (heap_of old) within_now have_keys settles) (keyed_filled next_read.pair key refers));
+              (inserted_below within_now have_keys settles.first) settles.words;
+          moved = subst (λ all. AreRehashed before all (at + 1)) (sym pairs)
+              (rehashed_puts moves.moved next_read.pair there settles.place
+              (inserted_free within_now have_keys settles.first) (keyed_filled next_read.pair key refers));
           found = settled_found (heap_of old) within_now have_keys settles number_same moves.found
               (ap reference_in (sym key_is) ∙ refers);
         }

@@ -1,6 +1,5 @@
 -- A key that no entry of a weak map has: no pair of the map's table has it.
-use Rattle.std.proofs.Common.{◌≡◌, ℕ, ◌<◌, ◌≤◌, Option, None, Some}
-use Rattle.std.proofs.Common.{slice_get, length, sym, ◌∙◌, ap, arith}
+use Rattle.std.proofs.Common.{◌≡◌, ℕ, ◌<◌, ◌≤◌, Option, None, Some, slice_get, length, sym, ◌∙◌, ap, arith}
 use Rattle.object_graph.specs.Objects.{entry_value}
 use Rattle.object_graph.specs.Graphs.{Graph, WeakObject}
 use Rattle.object_graph.specs.Meaning.{weak_most}
@@ -12,17 +11,17 @@ use Rattle.heap_model.specs.Needs.{count_at, pair_of}
 use Rattle.write_barrier.specs.Mains.{Mutator, heap_of, MainShows}
 use Rattle.ephemeron_table.specs.EntryChanges.{IsFullFor}
 use Rattle.ephemeron_table.specs.WeakObjects.{IsKeyAt, IsWeakAt}
-use Rattle.ephemeron_table.specs.Pairs.{IsFilledAt}
-use Rattle.ephemeron_table.specs.Probes.{IsTableAt, ArePairsIn, PassesBefore, EndsBy, EndsNew}
+use Rattle.weak_pairs.specs.Pairs.{IsFilledAt}
+use Rattle.ephemeron_table.specs.Probes.{IsTableAt, EndsBy, EndsNew}
+use Rattle.weak_pairs.specs.Tables.{ArePairsIn, pairs_of}
+use Rattle.weak_pairs.specs.Probes.{PassesBefore}
 use Rattle.ephemeron_table.specs.declared.probing.End.TheVariants as probe_end
-use Rattle.ephemeron_table.specs.Takings.{pairs_of}
-use Rattle.ephemeron_table.specs.declared.reading.Table.{Table}
+use Rattle.weak_pairs.specs.declared.table.Table.{Table}
 use Rattle.ephemeron_table.proofs.NoPair.{no_pair, no_key, pair_of_none}
 use Rattle.ephemeron_table.proofs.KeysFound.{WeakShown, weak_shown, shown_pairs}
 use Rattle.ephemeron_table.proofs.KeysProbed.{none_nowhere, none_where_free}
-use Rattle.ephemeron_table.proofs.KnownTables.{shown_known}
-use Rattle.ephemeron_table.proofs.KnownTables.{KnownMap, within_words}
-use Rattle.ephemeron_table.proofs.PairLists.{pairs_are}
+use Rattle.ephemeron_table.proofs.KnownTables.{shown_known, KnownMap, within_words}
+use Rattle.weak_pairs.proofs.PairLists.{pairs_are}
 
 -- The map is shown, and no entry of it has the key.
 pub record LacksKey (old : Mutator) (graph : Graph) (map key : ℕ) (weak : WeakObject) (number : ℕ) (table : Table)

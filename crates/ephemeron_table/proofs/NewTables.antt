@@ -1,8 +1,5 @@
 -- A table that was made.
-use Rattle.std.proofs.Common.{◌≡◌, ℕ, ◌+◌, ◌*◌, ◌≤◌, inl, inr, Some, slice_get, refl}
-use Rattle.std.proofs.Common.{◌∙◌, ap, arith, ◌^◌, sym}
-use Rattle.std.proofs.lemmas.Bool.{cases_lt}
-use Rattle.std.proofs.lemmas.Nat.{pow-add}
+use Rattle.std.proofs.Common.{◌≡◌, ℕ, ◌+◌, ◌*◌, ◌≤◌, Some, slice_get, refl, arith}
 use Rattle.tagged_word.specs.declared.layout.Kind.TheVariants as kind
 use Rattle.tagged_word.specs.Headers.{header_bits}
 use Rattle.tagged_word.specs.Cells.{store_head, cell_words_most}
@@ -10,8 +7,6 @@ use Rattle.page_space.specs.Extents.{eden_start, segments_start}
 use Rattle.cell_layout.specs.declared.cell.Cell.{Cell}
 use Rattle.cell_layout.specs.Cells.{IsCell}
 use Rattle.heap_model.specs.Heaps.{Heap}
-use Rattle.heap_model.specs.Kinds.{IsPowerOfTwo}
-use Rattle.heap_model.specs.Needs.{grown_table}
 use Rattle.heap_model.specs.Wholeness.{HasSizes}
 use Rattle.object_cells.proofs.EdenCells.{bare_layout, size_is, eden_cell}
 use Rattle.ephemeron_table.specs.Puttings.{table_header}
@@ -44,25 +39,3 @@ table_is_cell heap at capacity sized few header counted from below =
       from = from;
       below = below;
     })
-
--- twice a power of two is one
-doubled_power : (n : ℕ) → IsPowerOfTwo n → IsPowerOfTwo (2 * n)
-doubled_power n power =
-    let next : 2 ^ (power.0 + 1) ≡ 2 * 2 ^ power.0 = omega (arith, pow-add 2 power.0 1) in
-    (power.0 + 1, ap (λ m. 2 * m) power.1 ∙ sym next)
-
--- so the table that takes the place of one has as many pairs as a power of two
-pub grown_power : (capacity : ℕ) → IsPowerOfTwo capacity → IsPowerOfTwo (grown_table capacity)
-grown_power capacity power = elim (cases_lt (2 * capacity) 512) [
-  | inl low ↦ elim (cases_lt (2 * capacity) 4) [
-    | inl few ↦ (2, omega (arith, few))
-    | inr some ↦
-        let same : grown_table capacity ≡ 2 * capacity = omega (arith, low, some) in
-        let twice = doubled_power capacity power in (twice.0, same ∙ twice.1)
-  ]
-  | inr high ↦ (9, omega (arith, high))
-]
-
--- and so has one that is made where there is none
-pub first_power : (capacity : ℕ) → capacity ≡ 0 → IsPowerOfTwo (grown_table capacity)
-first_power capacity none = (2, omega (arith, none))

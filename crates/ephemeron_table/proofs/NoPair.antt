@@ -1,8 +1,7 @@
 -- Where a weak map has no entry of a key, no pair of its table has the key.
-use Rattle.std.proofs.Common.{◌≡◌, ◌≢◌, ℕ, zero, suc, ◌+◌, ◌<◌, ◌≤◌, Bool, true, false}
-use Rattle.std.proofs.Common.{Option, Some, None, slice_get, ◌==◌}
-use Rattle.std.proofs.Common.{refl, sym, ◌∙◌, ap, subst, arith, unwrap_or, get_or}
-use Rattle.std.specs.Prelude.{if◌then◌else◌, IsFalse}
+use Rattle.std.proofs.Common.{◌≡◌, ◌≢◌, ℕ, zero, suc, ◌+◌, ◌<◌, ◌≤◌, Bool, true, false, Option, Some, None, slice_get}
+use Rattle.std.proofs.Common.{◌==◌, refl, sym, ◌∙◌, ap, subst, arith, unwrap_or, get_or, if◌then◌else◌}
+use Rattle.std.specs.Prelude.{IsFalse}
 use Rattle.std.proofs.lemmas.Bool.{eqb-true, false≢true}
 use Rattle.std.proofs.lemmas.Option.{slice_get-get_or}
 use Rattle.object_graph.specs.Graphs.{Graph, WeakObject}
@@ -14,10 +13,11 @@ use Rattle.heap_model.specs.Kinds.{Pair, free_pair}
 use Rattle.heap_model.specs.Needs.{key_word, pair_from, pair_of}
 use Rattle.heap_model.specs.Showing.{IsKnownKey}
 use Rattle.write_barrier.specs.Mains.{Mutator, heap_of}
-use Rattle.ephemeron_table.specs.Probes.{IsTableAt, key_in}
+use Rattle.ephemeron_table.specs.Probes.{IsTableAt}
+use Rattle.weak_pairs.specs.Tables.{key_in}
 use Rattle.ephemeron_table.specs.WeakObjects.{IsKeyAt}
-use Rattle.ephemeron_table.specs.declared.reading.Table.{Table}
-use Rattle.ephemeron_table.proofs.EntriesFound.{entry_apart}
+use Rattle.weak_pairs.specs.declared.table.Table.{Table}
+use Rattle.weak_pairs.proofs.EntriesFound.{entry_apart}
 use Rattle.ephemeron_table.proofs.KeysAt.{key_word_is}
 use Rattle.ephemeron_table.proofs.KeysFound.{WeakShown, key_filled, shown_pairs}
 use Rattle.ephemeron_table.proofs.KnownTables.{KnownMap}

@@ -7,11 +7,9 @@ use Rattle.heap_model.specs.Slots.{reference_word, RefersToPlace}
 use Rattle.heap_model.specs.Kinds.{Pair}
 use Rattle.write_barrier.specs.Mains.{Mutator, heap_of, MainShows}
 use Rattle.ephemeron_table.specs.WeakObjects.{IsKeyAt}
-use Rattle.ephemeron_table.specs.Pairs.{HasPairsAt}
-use Rattle.ephemeron_table.specs.PairChanges.{IsPairOf, LacksPair}
-use Rattle.ephemeron_table.specs.declared.reading.Table.{Table}
-use Rattle.ephemeron_table.proofs.KeysFound.{WeakShown, shown_pairs, key_filled, one_key}
-use Rattle.ephemeron_table.proofs.KeysFound.{entry_has_key, TellsPair}
+use Rattle.weak_pairs.specs.Pairs.{HasPairsAt, IsPairOf, LacksPair}
+use Rattle.weak_pairs.specs.declared.table.Table.{Table}
+use Rattle.ephemeron_table.proofs.KeysFound.{WeakShown, shown_pairs, key_filled, one_key, entry_has_key, TellsPair}
 use Rattle.ephemeron_table.proofs.KnownTables.{KnownMap}
 use Rattle.ephemeron_table.proofs.NoPair.{no_pair}
 use Rattle.ephemeron_table.proofs.RemovedPairs.{pairs_known}

@@ -1,6 +1,5 @@
 -- A pair that was put in a weak map's table is the one of its key.
-use Rattle.std.proofs.Common.{◌≡◌, ◌≢◌, ℕ, ◌<◌, inl, inr, List, Some, false}
-use Rattle.std.proofs.Common.{refl, sym, subst, arith}
+use Rattle.std.proofs.Common.{◌≡◌, ◌≢◌, ℕ, ◌<◌, inl, inr, List, Some, false, refl, sym, subst, arith}
 use Rattle.std.specs.Prelude.{slice_set}
 use Rattle.std.proofs.lemmas.Bool.{cases_eq}
 use Rattle.std.proofs.lemmas.Option.{same_Some, none-some}
@@ -20,17 +19,17 @@ use Rattle.object_cells.specs.Contents.{next_at}
 use Rattle.object_cells.specs.Made.{beside_content}
 use Rattle.object_cells.proofs.HeldContents.{HoldsValue}
 use Rattle.object_cells.proofs.ContentValues.{content_shows}
-use Rattle.ephemeron_table.specs.Pairs.{IsFilledAt}
+use Rattle.weak_pairs.specs.Pairs.{IsFilledAt}
 use Rattle.ephemeron_table.specs.PairLaws.{PutsOne}
 use Rattle.ephemeron_table.specs.Puttings.{PutsInTable}
-use Rattle.ephemeron_table.specs.Takings.{numbers, pairs_of}
-use Rattle.ephemeron_table.specs.declared.reading.Table.{Table}
-use Rattle.ephemeron_table.proofs.CountedPairs.{count_filled}
+use Rattle.weak_pairs.specs.Tables.{numbers, pairs_of}
+use Rattle.weak_pairs.specs.declared.table.Table.{Table}
+use Rattle.weak_pairs.proofs.CountedPairs.{count_filled}
 use Rattle.ephemeron_table.proofs.KeysFound.{key_filled}
 use Rattle.ephemeron_table.proofs.KnownTables.{KnownMap, pairs_long}
 use Rattle.ephemeron_table.proofs.PutPairs.{pair, pairs_are_now}
 use Rattle.ephemeron_table.proofs.PutMaps.{refills_weak, refers_back, refers_box, places}
-use Rattle.ephemeron_table.proofs.TakenPairs.{filled_elsewhere, still_filled}
+use Rattle.weak_pairs.proofs.FilledPairs.{filled_elsewhere, still_filled}
 
 module _ {old new : Mutator} {map place key count number : ℕ} {table : Table} {value : Held} {what : Value}
     (known : KnownMap old map table) (below : place < table.capacity)

@@ -1,7 +1,6 @@
 -- A pair that was put at a place of a weak map's table refills the map.
-use Rattle.std.proofs.Common.{◌≡◌, ◌≢◌, ℕ, ◌+◌, ◌*◌, ◌≤◌, ◌<◌, inl, List, [], ◌∷◌, refl}
-use Rattle.std.proofs.Common.{length, slice_get}
-use Rattle.std.proofs.Common.{sym, ◌∙◌, ap, subst, arith, add-zero, length-set}
+use Rattle.std.proofs.Common.{◌≡◌, ◌≢◌, ℕ, ◌+◌, ◌*◌, ◌≤◌, ◌<◌, inl, List, [], ◌∷◌, refl, length, slice_get, sym, ◌∙◌}
+use Rattle.std.proofs.Common.{ap, subst, arith, add-zero, length-set}
 use Rattle.std.specs.Prelude.{slice_set}
 use Rattle.tagged_word.specs.declared.layout.Kind.TheVariants as kind
 use Rattle.tagged_word.specs.Cells.{store_head}
@@ -17,16 +16,15 @@ use Rattle.write_barrier.specs.Mains.{Mutator, heap_of}
 use Rattle.object_cells.specs.Contents.{next_at}
 use Rattle.object_cells.specs.Made.{with_content, content_need, content_word, beside_content}
 use Rattle.object_cells.proofs.MadeBoxes.{made_boxes, BoxStands, made_row, length-with_content, with_content_stays}
-use Rattle.object_cells.proofs.MadeBoxes.{}
 use Rattle.object_cells.proofs.OwnPuts.{PutsOwn, not_reserved, own_sized, own_writes, one_beside, box_put}
 use Rattle.ephemeron_table.specs.PairWrites.{WritesWeak}
 use Rattle.ephemeron_table.specs.Puttings.{PutsInTable}
-use Rattle.ephemeron_table.specs.Takings.{IsBesidePairs, pairs_of, with_pair, made_pair}
-use Rattle.ephemeron_table.specs.declared.reading.Table.{Table}
-use Rattle.ephemeron_table.proofs.KnownTables.{KnownMap, cell, cell_has, within_words, of_map, found, other, other_has}
-use Rattle.ephemeron_table.proofs.KnownTables.{other_long, map_beside, of_head, head_apart}
-use Rattle.ephemeron_table.proofs.KnownTables.{beside_table}
-use Rattle.ephemeron_table.proofs.PairLists.{pairs_now, pairs_stay, pairs_beside, beside_put, length-with_pair}
+use Rattle.weak_pairs.specs.Tables.{IsBesidePairs, pairs_of, with_pair, made_pair}
+use Rattle.weak_pairs.specs.declared.table.Table.{Table}
+use Rattle.ephemeron_table.proofs.KnownTables.{KnownMap, cell, cell_has, within_words, of_map, found, other}
+use Rattle.ephemeron_table.proofs.KnownTables.{other_has, other_long, map_beside, of_head, head_apart, beside_table}
+use Rattle.weak_pairs.proofs.PairsPut.{pairs_now, pairs_beside, beside_put, length-with_pair}
+use Rattle.weak_pairs.proofs.PairLists.{pairs_stay}
 
 module _ {old new : Mutator} {map place key count : ℕ} {table : Table} {value : Held} (known : KnownMap old map table)
     (below : place < table.capacity) (puts : PutsInTable old new map table place key count value) where
@@ -69,7 +67,7 @@ module _ {old new : Mutator} {map place key count : ℕ} {table : Table} {value 
       ∙ length-with_content (heap_words old.seat) (beside_content value) (next_at old)
 
   -- so words of the map's own cells were put
-  puts_weak : PutsOwn kind.Weak old new map_cell (table_cell ∷ []) need final
+  pub puts_weak : PutsOwn kind.Weak old new map_cell (table_cell ∷ []) need final
   puts_weak = record {
     tied = known.tied;
     whole = known.whole;

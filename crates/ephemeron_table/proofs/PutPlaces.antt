@@ -8,11 +8,12 @@ use Rattle.write_barrier.specs.Mains.{Mutator, heap_of}
 use Rattle.object_cells.specs.Contents.{FillsSlot}
 use Rattle.object_cells.specs.Made.{beside_content}
 use Rattle.ephemeron_table.specs.Movings.{PutsInNewTable}
-use Rattle.ephemeron_table.specs.Probes.{EndsBy, key_in, value_offset}
+use Rattle.ephemeron_table.specs.Probes.{EndsBy}
+use Rattle.weak_pairs.specs.Tables.{key_in, value_offset}
 use Rattle.ephemeron_table.specs.Puttings.{PutsInTable}
 use Rattle.ephemeron_table.specs.PutWords.{PutsAt}
 use Rattle.ephemeron_table.specs.declared.probing.End.TheVariants as probe_end
-use Rattle.ephemeron_table.specs.declared.reading.Table.{Table}
+use Rattle.weak_pairs.specs.declared.table.Table.{Table}
 use Rattle.ephemeron_table.proofs.EntryPairs.{HasEntryPair, key_stands}
 use Rattle.ephemeron_table.proofs.FreeKeys.{ComesToFree}
 use Rattle.ephemeron_table.proofs.GrownEntries.{IsGrowing, growing_can, shown}

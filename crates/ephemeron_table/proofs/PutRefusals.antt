@@ -1,6 +1,7 @@
 -- Where an entry of a weak map is put, or there is no room for it: if no pair has its key, the map has fewer entries
 -- than it may have.
-use Rattle.std.proofs.Common.{◌≡◌, ℕ, ◌<◌, inl, inr, List, Option, None, Some, Err, refl, sym, ◌∙◌, ap, arith}
+use Rattle.std.proofs.Common.{◌≡◌, ℕ, ◌<◌, inl, inr, List, Option, None, Some, Result, Ok, Err, refl, sym, ◌∙◌, ap, subst, arith}
+use Rattle.std.specs.Result.{IsErrAnd}
 use Rattle.std.proofs.lemmas.Bool.{cases_lt}
 use Rattle.object_graph.specs.declared.value.Value.{Value}
 use Rattle.object_graph.specs.Objects.{entry_value}
@@ -16,9 +17,10 @@ use Rattle.object_cells.specs.HeldValues.{IsValueHeld}
 use Rattle.object_cells.proofs.HeldNeeds.{wide_is}
 use Rattle.ephemeron_table.specs.EntryChanges.{IsFullFor, PutsEntry}
 use Rattle.ephemeron_table.specs.WeakObjects.{IsKeyAt, IsWeakAt}
-use Rattle.ephemeron_table.specs.Pairs.{HasPairsAt}
-use Rattle.ephemeron_table.specs.PairChanges.{LacksPair, PutsPair}
-use Rattle.ephemeron_table.specs.declared.reading.Table.{Table}
+use Rattle.weak_pairs.specs.Pairs.{HasPairsAt, LacksPair}
+use Rattle.ephemeron_table.specs.PairChanges.{PutsBoth, PutsPair}
+use Rattle.weak_pairs.specs.declared.table.Table.{Table}
+use Rattle.ephemeron_table.specs.declared.stop.TableStop.{TableStop}
 use Rattle.ephemeron_table.specs.declared.stop.TableStop.TheVariants as stop
 use Rattle.ephemeron_table.proofs.KeysFound.{weak_shown}
 use Rattle.ephemeron_table.proofs.KnownTables.{KnownMap}
@@ -58,3 +60,13 @@ module _ {old : Mutator} {graph : Graph} {map key : ℕ} {weak : WeakObject} {nu
     refused.2,
     refused.3,
   )
+
+  -- so a call that stops with that refuses both
+  pub both_refused : {new : Mutator} {value : Held} {what : Value} (answer : Result Unit TableStop) (room : NoRoom)
+      → IsErrAnd answer (λ one. one ≡ stop.Full room) → IsValueHeld old graph value what
+      → PutsEntry old new graph map key weak number what (Err (stop.Full room))
+      → PutsBoth old new graph map key weak number value what answer
+  both_refused (Ok done) room is held refused = absurd is
+  both_refused {new} {value} {what} (Err one) room is held refused =
+      subst (λ e. PutsBoth old new graph map key weak number value what (Err e)) (sym is)
+      (record { entry = refused; pairs = pair_refused room held refused })

@@ -1,6 +1,6 @@
 -- A pair of a weak map was taken out.
-use Rattle.std.proofs.Common.{◌≡◌, ◌+◌, ◌*◌, ◌≤◌, ◌⊎◌, inl, inr, unwrap_or, ℕ, ◌<◌, List, []}
-use Rattle.std.proofs.Common.{sym, ◌∙◌, ap, subst, arith}
+use Rattle.std.proofs.Common.{◌≡◌, ◌+◌, ◌*◌, ◌≤◌, ◌⊎◌, inl, inr, unwrap_or, ℕ, ◌<◌, List, [], sym, ◌∙◌, ap, subst}
+use Rattle.std.proofs.Common.{arith}
 use Rattle.heap_model.specs.Slots.{reference_word}
 use Rattle.std.proofs.lemmas.Option.{slice_get_within}
 use Rattle.page_space.specs.Sizes.{AreWithin}
@@ -15,14 +15,17 @@ use Rattle.object_cells.specs.CellsAt.{IsWhole}
 use Rattle.object_cells.specs.Capacities.{ChangesObject}
 use Rattle.object_cells.proofs.NothingUsed.{uses_none}
 use Rattle.object_cells.proofs.CellsRead.{word_stands}
-use Rattle.ephemeron_table.specs.Pairs.{HasPairsAt, IsFilledAt, RemovesPair, AreWithout}
-use Rattle.ephemeron_table.specs.PairLaws.{WrittenPairsAreOwn, TablesStay}
+use Rattle.weak_pairs.specs.Pairs.{HasPairsAt, IsFilledAt, AreWithout}
+use Rattle.ephemeron_table.proofs.KeptTables.{tables_stay}
+use Rattle.ephemeron_table.specs.Pairs.{RemovesPair}
+use Rattle.ephemeron_table.specs.PairLaws.{WrittenPairsAreOwn}
 use Rattle.ephemeron_table.specs.Probes.{IsTableAt}
-use Rattle.ephemeron_table.specs.Takings.{TakesAt, pairs_of, IsBesidePairs}
-use Rattle.ephemeron_table.specs.declared.reading.Table.{Table}
-use Rattle.ephemeron_table.proofs.CountedPairs.{count_freed}
+use Rattle.ephemeron_table.specs.Takings.{TakesAt}
+use Rattle.weak_pairs.specs.Tables.{pairs_of, IsBesidePairs}
+use Rattle.weak_pairs.specs.declared.table.Table.{Table}
+use Rattle.weak_pairs.proofs.CountedPairs.{count_freed}
 use Rattle.ephemeron_table.proofs.KnownTables.{KnownMap, cell, count_is, within_words}
-use Rattle.ephemeron_table.proofs.PairLists.{pairs_are}
+use Rattle.weak_pairs.proofs.PairLists.{pairs_are}
 use Rattle.ephemeron_table.proofs.TakenMaps.{refills_weak, slot_stays, map_has, are_after}
 
 -- the map whose pair is to be taken out is known
@@ -92,9 +95,9 @@ beside_pairs {table = table} known has some word (inr behind) = inr (omega (arit
 pub removes_pair : {old new : Mutator} {map place : ℕ} {table : Table} {pairs : List Pair} {pair : Pair}
     → (known : KnownMap old map table) → (before : List Pair) → HasPairsAt (heap_of old) map before
     → HasPairsAt (heap_of old) map pairs → IsFilledAt pairs place pair
-    → TakesAt old new map table place → old.seat.phase ≡ Quiet → WrittenPairsAreOwn → TablesStay
+    → TakesAt old new map table place → old.seat.phase ≡ Quiet → WrittenPairsAreOwn
     → RemovesPair old new map place before
-removes_pair {old} {new} {map} {place} {table} {pairs} {pair} known before has there filled takes quiet are_own stay =
+removes_pair {old} {new} {map} {place} {table} {pairs} {pair} known before has there filled takes quiet are_own =
     let some : 0 < table.capacity = omega (arith, place_below table known.is there filled) in
     let is = filled_place known there filled in
     let refills = refills_weak known some takes pair is in
@@ -108,7 +111,7 @@ removes_pair {old} {new} {map} {place} {table} {pairs} {pair} known before has t
       uses = uses_none takes.rest takes.young;
       paths = takes.paths;
       changes = subst (λ a. ChangesObject (heap_of old) (heap_of new) a (capacity_at (heap_of old) a)) stands
-          (stay (heap_of old) (heap_of new) (cell known) _ [] refills (slot_stays known some takes pair is));
+          (tables_stay refills (slot_stays known some takes pair is));
       stay = λ word not_count no_pair. takes.beside word
           (beside_pairs known has some word (no_pair table.at (refers_there known has some))) not_count;
       after = pairs_of (heap_words new.seat) table;

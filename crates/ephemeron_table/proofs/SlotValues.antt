@@ -1,6 +1,6 @@
 -- The word of an entry's value becomes another: so the entry has the value.
-use Rattle.std.proofs.Common.{◌≡◌, ℕ, ◌+◌, inl, inr, List, Some, false, slice_get, length, refl, sym}
-use Rattle.std.proofs.Common.{◌∙◌, ap, subst, arith}
+use Rattle.std.proofs.Common.{◌≡◌, ℕ, ◌+◌, inl, inr, List, Some, false, slice_get, length, refl, sym, ◌∙◌, ap, subst}
+use Rattle.std.proofs.Common.{arith}
 use Rattle.std.specs.Prelude.{slice_set, option_map}
 use Rattle.std.proofs.lemmas.List.{map-set}
 use Rattle.std.proofs.lemmas.Option.{slice_get-map}
@@ -29,15 +29,14 @@ use Rattle.object_cells.proofs.HeldContents.{HoldsValue}
 use Rattle.object_cells.proofs.MadeBoxes.{with_content_stays}
 use Rattle.object_cells.proofs.UnusedWords.{cell_is_used, next_before_segments}
 use Rattle.object_cells.proofs.ContentValues.{content_shows}
-use Rattle.ephemeron_table.specs.Probes.{number_at, key_offset, value_offset}
+use Rattle.weak_pairs.specs.Tables.{number_at, key_offset, value_offset, numbers, number_of, pairs_of}
 use Rattle.ephemeron_table.specs.Puttings.{PutsInTable}
-use Rattle.ephemeron_table.specs.Takings.{numbers, number_of, pairs_of}
-use Rattle.ephemeron_table.specs.declared.reading.Table.{Table}
-use Rattle.ephemeron_table.proofs.CountedPairs.{count_filled, count_kept}
+use Rattle.weak_pairs.specs.declared.table.Table.{Table}
+use Rattle.weak_pairs.proofs.CountedPairs.{count_filled, count_kept}
 use Rattle.ephemeron_table.proofs.EntryPairs.{HasEntryPair, known, some, entry_filled, key_stands}
 use Rattle.ephemeron_table.proofs.KeysFound.{key_filled}
-use Rattle.ephemeron_table.proofs.KnownTables.{cell_has, sound, pairs_same, of_map, finds_all, found}
-use Rattle.ephemeron_table.proofs.KnownTables.{other_has, other_long, map_beside}
+use Rattle.ephemeron_table.proofs.KnownTables.{cell_has, sound, pairs_same, of_map, finds_all, found, other_has}
+use Rattle.ephemeron_table.proofs.KnownTables.{other_long, map_beside}
 use Rattle.ephemeron_table.proofs.PutMaps.{refills_weak, refers_back, refers_box, places, slot_stays}
 use Rattle.ephemeron_table.proofs.PutPairs.{pair, made, pairs_are_now}
 use Rattle.ephemeron_table.proofs.ReplacedValues.{ReplacesValue}

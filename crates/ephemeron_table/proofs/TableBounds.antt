@@ -4,7 +4,7 @@ use Rattle.tagged_word.specs.Cells.{store_head}
 use Rattle.page_space.specs.Extents.{marks_start}
 use Rattle.heap_table.specs.Seats.{heap_words}
 use Rattle.write_barrier.specs.Mains.{Mutator}
-use Rattle.ephemeron_table.specs.declared.reading.Table.{Table}
+use Rattle.weak_pairs.specs.declared.table.Table.{Table}
 
 -- what is no address is nothing
 pub none_from_not_some : (item : Option ℕ) → ((at : ℕ) → item ≡ Some at → ⊥) → item ≡ None

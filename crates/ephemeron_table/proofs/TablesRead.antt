@@ -1,6 +1,5 @@
 -- The table of a weak map, as it is found by the word of the map's slot.
-use Rattle.std.proofs.Common.{◌≡◌, ℕ, suc, ◌+◌, ◌*◌, ◌/◌, ◌<◌, ◌⊎◌, inl, inr, List, [], ◌∷◌}
-use Rattle.std.proofs.Common.{length, drop, Some, None}
+use Rattle.std.proofs.Common.{◌≡◌, ℕ, suc, ◌+◌, ◌*◌, ◌<◌, ◌⊎◌, inl, inr, List, [], length, drop, Some, None}
 use Rattle.std.proofs.Common.{slice_get, unwrap_or, refl, sym, ◌∙◌, ap, subst, arith, length-drop}
 use Rattle.std.proofs.lemmas.Option.{same_Some, none-some}
 use Rattle.tagged_word.specs.declared.layout.Kind.TheVariants as kind
@@ -24,14 +23,10 @@ use Rattle.heap_model.proofs.WordClasses.{same_reference, undefined_refers_not}
 use Rattle.object_cells.proofs.CellsRead.{word_before_marks, cell_before_marks, word_is, word_stands}
 use Rattle.object_cells.proofs.WordsTold.{cell_fits}
 use Rattle.object_cells.proofs.KeptCapacities.{capacity_read, length_stands}
-use Rattle.ephemeron_table.specs.Pairs.{HasPairsAt}
-use Rattle.ephemeron_table.specs.Probes.{IsWeakCellAt, IsTableAt, ArePairsIn, key_offset, value_offset}
-
--- there are half as many pairs as words
-pub length-pairs_in : (words : List ℕ) → length (pairs_in words) ≡ length words / 2
-length-pairs_in [] = refl
-length-pairs_in (key ∷ []) = omega arith
-length-pairs_in (key ∷ value ∷ words) = omega (arith, length-pairs_in words)
+use Rattle.weak_pairs.specs.Pairs.{HasPairsAt}
+use Rattle.ephemeron_table.specs.Probes.{IsWeakCellAt, IsTableAt}
+use Rattle.weak_pairs.specs.Tables.{ArePairsIn, key_offset, value_offset}
+use Rattle.weak_pairs.proofs.PairLists.{length-pairs_in}
 
 -- a table stands at the address, to which the word refers, and these are its pairs
 pub record IsFoundTable (heap : Heap) (word : ℕ) (pairs : List Pair) (at : ℕ) : Type 0 where

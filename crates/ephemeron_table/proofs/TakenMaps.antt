@@ -1,7 +1,6 @@
 -- A pair that was taken out of a weak map's table refills the map.
-use Rattle.std.proofs.Common.{◌≡◌, ℕ, ◌+◌, ◌-◌, ◌<◌, inl, List, [], ◌∷◌, Contains}
-use Rattle.std.proofs.Common.{Some}
-use Rattle.std.proofs.Common.{slice_get, refl, sym, ◌∙◌, ap, subst, arith, add-zero}
+use Rattle.std.proofs.Common.{◌≡◌, ℕ, ◌+◌, ◌-◌, ◌<◌, inl, List, [], ◌∷◌, Contains, Some, slice_get, refl, sym, ◌∙◌}
+use Rattle.std.proofs.Common.{ap, subst, arith, add-zero}
 use Rattle.tagged_word.specs.declared.layout.Kind.TheVariants as kind
 use Rattle.tagged_word.specs.Cells.{store_slot}
 use Rattle.tagged_word.proofs.Members.{first_in, one_in}
@@ -9,8 +8,7 @@ use Rattle.cell_layout.specs.declared.cell.Cell.{Cell}
 use Rattle.heap_table.specs.Seats.{heap_words}
 use Rattle.heap_model.specs.Heaps.{HasCell, words_of_cell}
 use Rattle.heap_model.specs.Slots.{reference_word, RefersToPlace}
-use Rattle.heap_model.specs.Kinds.{HasWord, Pair, count_offset}
-use Rattle.heap_model.specs.Kinds.{HasNoNumber}
+use Rattle.heap_model.specs.Kinds.{HasWord, Pair, count_offset, HasNoNumber}
 use Rattle.heap_model.specs.Wholeness.{NamesFrom}
 use Rattle.heap_model.specs.Needs.{count_at}
 use Rattle.heap_model.proofs.BoundHeaps.{none_in}
@@ -20,15 +18,16 @@ use Rattle.object_cells.proofs.SlotsNow.{word_at_offset}
 use Rattle.object_cells.proofs.NothingUsed.{room_for_none, used_and_none}
 use Rattle.object_cells.proofs.OwnPuts.{PutsOwn, own_writes, one_beside}
 use Rattle.object_cells.proofs.MadeBoxes.{row_of_none}
-use Rattle.ephemeron_table.specs.Pairs.{HasPairs, IsFilledAt}
-use Rattle.ephemeron_table.specs.PairWrites.{WritesWeak, RefillsPairs, PairComes}
+use Rattle.weak_pairs.specs.Pairs.{HasPairs, IsFilledAt}
+use Rattle.object_cells.specs.OwnSlots.{ComesFrom}
+use Rattle.ephemeron_table.specs.PairWrites.{WritesWeak, RefillsPairs, ShowsPair}
 use Rattle.ephemeron_table.specs.PairLaws.{RefillsWeak}
-use Rattle.ephemeron_table.specs.Takings.{TakesAt, pairs_of}
-use Rattle.ephemeron_table.specs.declared.reading.Table.{Table}
-use Rattle.ephemeron_table.proofs.CountedPairs.{count_filled}
-use Rattle.ephemeron_table.proofs.KnownTables.{KnownMap, cell, cell_has, sound, slot_there}
-use Rattle.ephemeron_table.proofs.KnownTables.{count_is, of_map, finds_all, found, other}
-use Rattle.ephemeron_table.proofs.KnownTables.{other_has, map_beside, other_belongs}
+use Rattle.ephemeron_table.specs.Takings.{TakesAt}
+use Rattle.weak_pairs.specs.Tables.{pairs_of}
+use Rattle.weak_pairs.specs.declared.table.Table.{Table}
+use Rattle.weak_pairs.proofs.CountedPairs.{count_filled}
+use Rattle.ephemeron_table.proofs.KnownTables.{KnownMap, cell, cell_has, sound, slot_there, count_is, of_map}
+use Rattle.ephemeron_table.proofs.KnownTables.{finds_all, found, other, other_has, map_beside, other_belongs}
 use Rattle.ephemeron_table.proofs.KnownTables.{other_number, are_before, head_apart, beside_table, table_is_no_box}
 use Rattle.ephemeron_table.proofs.StayingTables as staying
 use Rattle.ephemeron_table.proofs.StayingTables.{WritesMap, StaysTable}
@@ -159,20 +158,25 @@ module _ {old new : Mutator} {map place : ℕ} {table : Table} (known : KnownMap
     now = after;
     are = are_after;
     counted = count_after;
-    origin = takes.taken.origin;
-    apart = takes.taken.apart;
-    one = takes.hole;
-    each_pair = λ at pair is. PairComes.kept (takes.taken.from at pair is).0
+    refills = record {
+      origin = takes.taken.origin;
+      apart = λ at other word another one two. takes.taken.apart at other one.0 two.0 one.1 two.1;
+      one = takes.hole;
+      each_slot = λ at word there. ComesFrom.moved (there.0, (takes.taken.from at there.0 there.1).0, there.2);
+      store = (sound known).store;
+      has_store = are_after.slot;
+      store_comes = inl (slot_there known);
+      belong = belong;
+      kinds = λ one among. absurd (none_in one among);
+      stores = λ one among is.
+          subst (λ (c : Cell). HasNoNumber c × ((sound known).store ≡ reference_word c.at))
+          (one_in table_cell one among) (other_number known some, (found known some).refers.refers);
+      boxes = λ one among box. absurd (table_is_no_box (is_table one among) box);
+    };
+    each_pair = λ at pair is. ShowsPair.kept (takes.taken.from at pair is).0
         (λ one among box same. table_is_no_box (is_table one among) box);
     probed = staying.probed known written after (takes.found (finds_all known));
-    table_comes = inl (slot_there known);
-    belong = belong;
-    kinds = λ one among. absurd (none_in one among);
-    tables = λ one among is.
-        subst (λ (c : Cell). HasNoNumber c × ((sound known).store ≡ reference_word c.at)) (one_in table_cell one among)
-        (other_number known some, (found known some).refers.refers);
-    boxes = λ one among box. absurd (table_is_no_box (is_table one among) box);
   }
 
   abbrev pub refills_weak : RefillsWeak (heap_of old) (heap_of new) map_cell (table_cell ∷ []) []
-  refills_weak = record { whole = known.whole; writes = writes; pairs = refills }
+  refills_weak = record { whole = known.whole; writes = writes; paths = takes.paths; pairs = refills }

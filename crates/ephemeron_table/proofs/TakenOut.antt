@@ -1,7 +1,6 @@
 -- What was taken out of a weak map's table: its pair, and one of the count.
-use Rattle.std.proofs.Common.{◌≡◌, ℕ, ◌+◌, ◌-◌, ◌*◌, ◌≤◌, ◌<◌, List, length, Some, None, slice_get}
-use Rattle.std.proofs.Common.{unwrap_or}
-use Rattle.std.proofs.Common.{sym, ◌∙◌, ap, subst, arith, length-set}
+use Rattle.std.proofs.Common.{◌≡◌, ℕ, ◌+◌, ◌-◌, ◌*◌, ◌≤◌, ◌<◌, List, length, Some, None, slice_get, unwrap_or, sym}
+use Rattle.std.proofs.Common.{◌∙◌, ap, subst, arith, length-set}
 use Rattle.std.specs.Prelude.{slice_set}
 use Rattle.std.proofs.lemmas.List.{map-set}
 use Rattle.tagged_word.specs.Cells.{store_head}
@@ -14,17 +13,18 @@ use Rattle.heap_model.specs.Needs.{count_at}
 use Rattle.write_barrier.specs.Mains.{Mutator, heap_of, with_word}
 use Rattle.object_cells.specs.Made.{PutsWords}
 use Rattle.object_cells.proofs.WordsBeside.{put_beside}
-use Rattle.ephemeron_table.specs.Takings.{ChangesPairs, ClosesAt, TakesAt, IsTaken, IsBesidePairs, pairs_of, numbers}
-use Rattle.ephemeron_table.specs.Takings.{number_of}
-use Rattle.ephemeron_table.specs.Takings.{with_pair, StaysBelow}
-use Rattle.ephemeron_table.specs.Pairs.{IsFilledAt}
-use Rattle.ephemeron_table.specs.declared.reading.Table.{Table}
+use Rattle.ephemeron_table.specs.Takings.{ChangesPairs, ClosesAt, TakesAt}
+use Rattle.weak_pairs.specs.Removals.{IsRemoved, StaysBelow}
+use Rattle.weak_pairs.specs.Tables.{IsBesidePairs, pairs_of, numbers, number_of, with_pair}
+use Rattle.weak_pairs.specs.Pairs.{IsFilledAt}
+use Rattle.weak_pairs.specs.declared.table.Table.{Table}
 use Rattle.ephemeron_table.proofs.ClosedPairs.{pair_changed}
-use Rattle.ephemeron_table.proofs.PairLists.{pairs_read, pairs_now, pairs_beside}
+use Rattle.weak_pairs.proofs.PairLists.{pairs_read}
+use Rattle.weak_pairs.proofs.PairsPut.{pairs_now, pairs_beside}
 
 -- What is left of the pairs, and that where one was free what stands below the place stood below it.
 record IsTakenBelow (before after : List Pair) (place : ℕ) : Type 0 where
-  taken : IsTaken before after place
+  taken : IsRemoved before after place
   below : (free : ℕ) → slice_get before free ≡ Some free_pair → (one : Pair) → IsFilledAt before place one
       → StaysBelow taken
 

@@ -14,10 +14,10 @@ use Rattle.std.specs.Prelude.{slice_get}
 use Rattle.write_barrier.specs.Mains.{Mutator, heap_of, MainShows}
 use Rattle.ephemeron_table.specs.WeakObjects.{IsKeyAt, IsShownKey, IsWeakAt}
 use Rattle.ephemeron_table.specs.EntryChanges.{TellsEntry}
-use Rattle.ephemeron_table.specs.Pairs.{HasPairsAt}
-use Rattle.ephemeron_table.specs.PairChanges.{IsPairOf, WordStandsFor, TellsPairValue}
+use Rattle.weak_pairs.specs.Pairs.{HasPairsAt, IsPairOf}
+use Rattle.ephemeron_table.specs.PairChanges.{WordStandsFor, TellsPairValue}
 use Rattle.ephemeron_table.specs.Probes.{IsTableAt}
-use Rattle.ephemeron_table.specs.declared.reading.Table.{Table}
+use Rattle.weak_pairs.specs.declared.table.Table.{Table}
 use Rattle.ephemeron_table.proofs.KeysFound.{WeakShown, weak_shown, TellsPair}
 use Rattle.ephemeron_table.proofs.KeysProbed.{LacksEntry}
 use Rattle.ephemeron_table.proofs.KnownTables.{shown_known}

@@ -1,5 +1,5 @@
 -- What the calls on the entries of a weak map do of the pairs of its table.
-use Rattle.std.specs.Prelude.{◌≡◌, ◌≢◌, ℕ, ◌+◌, ◌≤◌, ◌<◌, List, Result, Ok, Err}
+use Rattle.std.specs.Prelude.{◌≡◌, ℕ, ◌+◌, ◌≤◌, ◌<◌, List, Result, Ok, Err}
 use Rattle.tagged_word.specs.declared.word.Class.{Class}
 use Rattle.tagged_word.specs.Words.{IsClass, bits_of}
 use Rattle.object_graph.specs.declared.value.Value.{Value}
@@ -16,19 +16,11 @@ use Rattle.write_barrier.specs.Mains.{Mutator, heap_of}
 use Rattle.write_barrier.specs.Values.{held_of_class}
 use Rattle.object_cells.specs.Made.{is_wide_held}
 use Rattle.ephemeron_table.specs.EntryChanges.{PutsEntry}
-use Rattle.ephemeron_table.specs.Pairs.{HasPairsAt, IsFilledAt, RemovesPair}
+use Rattle.weak_pairs.specs.Pairs.{HasPairsAt, AreWith, IsPairOf, LacksPair}
+use Rattle.ephemeron_table.specs.Pairs.{RemovesPair}
 use Rattle.ephemeron_table.specs.PutWords.{PutsAt}
 use Rattle.ephemeron_table.specs.declared.stop.TableStop.{TableStop}
 use Rattle.ephemeron_table.specs.declared.stop.TableStop.TheVariants as stop
-
--- the pair at the place holds something, and has the key word
-pub record IsPairOf (pairs : List Pair) (key place : ℕ) (pair : Pair) : Type 0 where
-  pub filled : IsFilledAt pairs place pair
-  pub key_is : pair.key ≡ key
-
--- no pair that holds something has the key word
-abbrev pub LacksPair : List Pair → ℕ → Type 0
-LacksPair pairs key = (place : ℕ) (pair : Pair) → IsPairOf pairs key place pair → ⊥
 
 -- the word of a pair's value stands for what is held, by its class
 pub record WordStandsFor (heap : Heap) (word : ℕ) (held : Held) : Type 0 where
@@ -36,20 +28,6 @@ pub record WordStandsFor (heap : Heap) (word : ℕ) (held : Held) : Type 0 where
   pub is_class : IsClass class
   pub bits : word ≡ bits_of class
   pub stands : held_of_class heap class ≡ held
-
--- The pairs once that of a key word and a value word was put. Each other one that holds something stood before and has
--- another key, no two from one place; and each before that has another key stands somewhere else than the one that was
--- put.
-pub record AreWith (before after : List Pair) (key word : ℕ) : Type 0 where
-  pub place : ℕ
-  pub put : IsFilledAt after place (record { key = key; value = word })
-  pub origin : ℕ → ℕ
-  pub from : (at : ℕ) (pair : Pair) → IsFilledAt after at pair → at ≢ place
-      → IsFilledAt before (origin at) pair × (pair.key ≢ key)
-  pub apart : (at other : ℕ) (pair another : Pair) → IsFilledAt after at pair → IsFilledAt after other another
-      → at ≢ place → other ≢ place → origin at ≡ origin other → at ≡ other
-  pub kept : (at : ℕ) (pair : Pair) → IsFilledAt before at pair → pair.key ≢ key
-      → (now : ℕ) × IsFilledAt after now pair × (origin now ≡ at) × (now ≢ place)
 
 -- The pair of the key whose cell stands at an address, and of a value, was put in the weak map whose cell stands at an
 -- address, which may be the same one. Which words that puts is said; what they make of the pairs follows. The map has

@@ -8,10 +8,11 @@ use Rattle.write_barrier.specs.Mains.{Mutator, heap_of}
 use Rattle.object_cells.specs.Contents.{FillsSlot}
 use Rattle.object_cells.specs.Made.{beside_content}
 use Rattle.ephemeron_table.specs.Movings.{CanGrow, PutsInNewTable}
-use Rattle.ephemeron_table.specs.Probes.{EndsBy, IsTableAt, key_in, number_at, value_offset}
+use Rattle.ephemeron_table.specs.Probes.{EndsBy, IsTableAt}
+use Rattle.weak_pairs.specs.Tables.{key_in, number_at, value_offset}
 use Rattle.ephemeron_table.specs.Puttings.{PutsInTable}
 use Rattle.ephemeron_table.specs.declared.probing.End.TheVariants as probe_end
-use Rattle.ephemeron_table.specs.declared.reading.Table.{Table}
+use Rattle.weak_pairs.specs.declared.table.Table.{Table}
 
 -- no pair of the table has the word of the key
 abbrev pub HasNoKey : Heap → Table → ℕ → Type 0

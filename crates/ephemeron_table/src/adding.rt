@@ -4,6 +4,7 @@ ghost use Rattle.page_space.specs.Extents.{marks_start};
 ghost use Rattle.object_graph.specs.declared.value.Value.{Value as GraphValue};
 ghost use Rattle.object_graph.specs.Graphs.{Graph, WeakObject};
 ghost use Rattle.object_graph.specs.Objects.{entry_value};
+ghost use Rattle.object_graph.specs.Meaning.{weak_most};
 ghost use Rattle.heap_table.specs.declared.phase.Phase.TheVariants.{Quiet};
 ghost use Rattle.heap_model.specs.Kinds.{count_offset};
 ghost use Rattle.heap_model.specs.Needs.{count_at};
@@ -11,15 +12,17 @@ ghost use Rattle.heap_model.specs.Slots.{hole_word, reference_word};
 ghost use Rattle.write_barrier.specs.Mains.{heap_of, IsTied, MainShows};
 ghost use Rattle.object_cells.specs.HeldValues.{IsValueHeld};
 ghost use Rattle.ephemeron_table.specs.WeakObjects.{IsKeyAt, IsShownPutting, IsWeakAt};
-ghost use Rattle.ephemeron_table.specs.Probes.{ComesTo, IsTableAt, IsWithin, key_in};
+ghost use Rattle.weak_pairs.specs.Probes.{ComesTo};
+ghost use Rattle.ephemeron_table.specs.Probes.{IsTableAt};
+ghost use Rattle.weak_pairs.specs.Tables.{IsWithin, key_in};
 ghost use Rattle.ephemeron_table.specs.PairChanges.{PutsBoth};
 
 use crate::growing::put_in_new_table;
-use crate::laws::{laws_of_entries, laws_of_tables};
+use crate::laws::laws_of_entries;
 use crate::putting::put_in_table;
-use crate::reading::Table;
 use crate::stop::TableStop;
 use handle_roots::Held;
+use weak_pairs::Table;
 use write_barrier::{Main, laws_of_values};
 
 /// Puts the entry of a key that is new at the free place of the map's table where probing for it
@@ -40,7 +43,7 @@ pub(crate) fn put_free(
     requires tied { IsTied main.old }
     requires within { IsWithin (heap_of main.old) table }
     requires place { place < table.capacity }
-    requires few { count < 256 }
+    requires few { count < weak_most }
     requires half { 2 * (count + 1) ≤ table.capacity }
     requires map { map + count_offset < marks_start main.old.seat.space }
     ensures { (graph : Graph) (weak : WeakObject) (number : ℕ) (what : GraphValue)
@@ -51,15 +54,11 @@ pub(crate) fn put_free(
         → key_in (heap_of main.old) table.at place ≡ hole_word
         → PutsBoth main.old main.new graph map key weak number value what result }
 {
-    // No address of a heap is past 32 bits.
-    let _regions = main.regions();
-    laws_of_tables();
+    main.addresses_fit();
     laws_of_entries();
     laws_of_values();
-    match put_in_table(main, map, count, table, place, key, value) {
-        Ok(()) => Ok(()),
-        Err(no_room) => Err(TableStop::Full(no_room)),
-    }
+    put_in_table(main, map, count, table, place, key, value)?;
+    Ok(())
 }
 
 /// Puts the entry of a key that is new in a table that is made anew.
@@ -77,7 +76,7 @@ pub(crate) fn put_grown(
     requires shown { IsShownPutting main.old map key value }
     requires table { IsTableAt (heap_of main.old) map table }
     requires counted { count_at (heap_of main.old) map ≡ count }
-    requires few { count < 256 }
+    requires few { count < weak_most }
     requires over { table.capacity < 2 * (count + 1) }
     ensures { (graph : Graph) (weak : WeakObject) (number : ℕ) (what : GraphValue)
         → MainShows main.old graph → IsWeakAt main.old graph map weak
@@ -85,13 +84,9 @@ pub(crate) fn put_grown(
         → entry_value weak.entries number ≡ None
         → PutsBoth main.old main.new graph map key weak number value what result }
 {
-    // No address of a heap is past 32 bits.
-    let _regions = main.regions();
-    laws_of_tables();
+    main.addresses_fit();
     laws_of_entries();
     laws_of_values();
-    match put_in_new_table(main, map, count, table, key, value) {
-        Ok(()) => Ok(()),
-        Err(no_room) => Err(TableStop::Full(no_room)),
-    }
+    put_in_new_table(main, map, count, table, key, value)?;
+    Ok(())
 }

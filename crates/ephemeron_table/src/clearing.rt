@@ -3,11 +3,12 @@ ghost use Rattle.std.specs.Prelude.{List};
 ghost use Rattle.heap_model.specs.Kinds.{Pair};
 ghost use Rattle.write_barrier.specs.Mains.{heap_of, IsTied};
 ghost use Rattle.object_cells.specs.CellsAt.{IsWhole};
-ghost use Rattle.ephemeron_table.specs.Pairs.{HasPairsAt, IsFilledAt, RemovesPair};
+ghost use Rattle.weak_pairs.specs.Pairs.{HasPairsAt, IsFilledAt};
+ghost use Rattle.ephemeron_table.specs.Pairs.{RemovesPair};
 
-use crate::laws::{laws_of_pairs, laws_of_tables};
-use crate::reading::table_of;
-use crate::removing::take_out;
+use crate::laws::laws_of_pairs;
+use crate::removing::remove_pair;
+use crate::table::table_of;
 use write_barrier::Main;
 
 /// Takes the pair at a place out of the table of a weak map. Where some pair was free, what then
@@ -21,10 +22,8 @@ pub fn remove_at(main: &mut Main, map: u32, place: u32)
     ensures { (before : List Pair) → HasPairsAt (heap_of main.old) map before
         → RemovesPair main.old main.new map place before }
 {
-    // The sizes are within their limits.
-    let _regions = main.regions();
+    main.addresses_fit();
     laws_of_pairs();
-    laws_of_tables();
     let table = table_of(main, map);
-    take_out(main, map, table, place);
+    remove_pair(main, map, table, place);
 }

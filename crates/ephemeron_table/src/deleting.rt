@@ -5,13 +5,13 @@ ghost use Rattle.heap_model.specs.Kinds.{Pair};
 ghost use Rattle.write_barrier.specs.Mains.{MainShows, heap_of};
 ghost use Rattle.ephemeron_table.specs.WeakObjects.{IsKeyAt, IsShownKey, IsWeakAt};
 ghost use Rattle.ephemeron_table.specs.EntryChanges.{DeletesEntry};
-ghost use Rattle.ephemeron_table.specs.Pairs.{HasPairsAt};
+ghost use Rattle.weak_pairs.specs.Pairs.{HasPairsAt};
 ghost use Rattle.ephemeron_table.specs.PairChanges.{DeletesPair};
 
-use crate::laws::{laws_of_entries, laws_of_pairs, laws_of_tables};
+use crate::laws::{laws_of_entries, laws_of_pairs};
 use crate::probing::{End, probe};
-use crate::reading::{number_at, table_of};
-use crate::removing::take_out;
+use crate::removing::remove_pair;
+use crate::table::{number_at, table_of};
 use tagged_word::Word;
 use write_barrier::Main;
 
@@ -25,14 +25,12 @@ pub fn delete(main: &mut Main, map: u32, key: u32)
     ensures pairs { (before : List Pair) → HasPairsAt (heap_of main.old) map before
         → DeletesPair main.old main.new map key before }
 {
-    // No address of a heap is past 32 bits.
-    let _regions = main.regions();
+    main.addresses_fit();
     laws_of_pairs();
-    laws_of_tables();
     laws_of_entries();
     let table = table_of(main, map);
     match probe(main, table, number_at(main, key), Word::reference(key)) {
-        End::Key(place) => take_out(main, map, table, place),
+        End::Key(place) => remove_pair(main, map, table, place),
         End::Free(_) => (),
         End::Nowhere => (),
     }

@@ -6,13 +6,14 @@ ghost use Rattle.heap_model.specs.Kinds.{Pair};
 ghost use Rattle.write_barrier.specs.Mains.{MainShows, heap_of};
 ghost use Rattle.ephemeron_table.specs.WeakObjects.{IsKeyAt, IsShownKey, IsWeakAt};
 ghost use Rattle.ephemeron_table.specs.EntryChanges.{TellsEntry};
-ghost use Rattle.ephemeron_table.specs.Pairs.{HasPairsAt};
+ghost use Rattle.weak_pairs.specs.Pairs.{HasPairsAt};
 ghost use Rattle.ephemeron_table.specs.PairChanges.{TellsPairValue};
 
 use crate::probing::{End, probe};
-use crate::reading::{TABLE_HEAD, number_at, table_of};
+use crate::table::{number_at, table_of};
 use handle_roots::Held;
 use tagged_word::Word;
+use tagged_word::cell::STORE_HEAD;
 use write_barrier::{Main, laws_of_values};
 
 /// The value of the key's entry in a weak map; undefined where there is none.
@@ -24,13 +25,12 @@ pub fn get(main: &Main, map: u32, key: u32) -> Held
     ensures pairs { (pairs : List Pair) → HasPairsAt (heap_of main.now) map pairs
         → TellsPairValue main.now key pairs result }
 {
-    // No address of a heap is past 32 bits.
-    let _regions = main.regions();
+    main.addresses_fit();
     laws_of_values();
     let table = table_of(main, map);
     match probe(main, table, number_at(main, key), Word::reference(key)) {
         End::Key(place) => {
-            let word = main.word(table.at + (TABLE_HEAD + (2 * place + 1)));
+            let word = main.slot(table.at, STORE_HEAD + (2 * place + 1));
             main.value_of_word(Word(word))
         }
         End::Free(_) => Held::Undefined,

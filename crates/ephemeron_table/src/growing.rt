@@ -1,36 +1,33 @@
 //! Tables that are made anew, and how pairs come to them.
-ghost use Rattle.std.specs.Prelude.{◌≡◌, ◌+◌, ◌<◌, ◌≤◌, OnOk, IfErr};
+ghost use Rattle.std.specs.Prelude.{◌≡◌, ◌+◌, ◌*◌, ◌<◌, ◌≤◌, OnOk, IfErr};
+ghost use Rattle.tagged_word.specs.Cells.{store_head, cell_words_most};
 ghost use Rattle.page_space.specs.Extents.{marks_start};
 ghost use Rattle.heap_table.specs.Seats.{heap_words};
 ghost use Rattle.heap_table.specs.declared.phase.Phase.TheVariants.{Quiet};
 ghost use Rattle.heap_model.specs.Needs as needs;
 ghost use Rattle.write_barrier.specs.Mains.{heap_of};
 ghost use Rattle.object_cells.specs.Made.{PutsWords, RefusesRoom};
-ghost use Rattle.ephemeron_table.specs.Movings.{HoldNothing, IsBesideTable, KeysMovable, MovesPairs};
-ghost use Rattle.ephemeron_table.specs.Movings.{CanGrow, PutsInNewTable, new_table_need};
-ghost use Rattle.ephemeron_table.specs.Probes.{IsWithin};
-ghost use Rattle.ephemeron_table.specs.Puttings.{FreeBy, HasFree, Settles, begun_table};
-ghost use Rattle.ephemeron_table.specs.Takings.{pairs_of};
+ghost use Rattle.weak_pairs.specs.Pairs.{HoldNothing};
+ghost use Rattle.weak_pairs.specs.Tables.{IsBesideTable, KeysMovable, IsWithin, pairs_of};
+ghost use Rattle.ephemeron_table.specs.Movings.{MovesPairs, CanGrow, PutsInNewTable, new_table_need};
+ghost use Rattle.weak_pairs.specs.Probes.{FreeBy, HasFree};
+ghost use Rattle.ephemeron_table.specs.Puttings.{Settles, begun_table};
 
 use crate::probing::{key_of, place};
-use crate::putting::content_for;
-use crate::reading::{CAPACITY, COUNT, TABLE_HEAD, Table, number_at};
 use crate::removing::put_pair;
+use crate::table::number_at;
 use handle_roots::Held;
-use object_cells::{STORE_SLOT, boxed_word, need_of, room_for};
+use heap_model::cells::{COUNT, FIRST_CAPACITY, PAIRS_MOST};
+use object_cells::{boxed_word, content_for, need_of, room_for};
+use tagged_word::cell::{LENGTH, STORE_HEAD, STORE_SLOT};
 use tagged_word::{Header, Word, odd, shape};
+use weak_pairs::Table;
 use write_barrier::{Main, NoRoom};
-
-// The most pairs of a table.
-const PAIRS_MOST: u32 = 512;
-
-// How many pairs the first table of a map has.
-const FIRST_CAPACITY: u32 = 4;
 
 /// How many pairs the table has that takes the place of one of so many: twice as many, but at least
 /// 4, and no more than there may be.
 pub(crate) fn grown(capacity: u32) -> u32
-    requires { capacity ≤ 1024 }
+    requires { store_head + 2 * capacity ≤ cell_words_most }
     ensures { result ≡ needs.grown_table capacity }
 {
     PAIRS_MOST.min(FIRST_CAPACITY.max(2 * capacity))
@@ -43,15 +40,14 @@ pub(crate) fn begin_table(main: &mut Main, table: Table)
     ensures { let words = heap_words main.old.seat in
         PutsWords main.old main.new (begun_table words table) }
 {
-    // No address of a heap is past 32 bits.
-    let _regions = main.regions();
+    main.addresses_fit();
     let header = Header {
         shape: shape::TABLE,
         object: 0,
     };
     main.set_header(table.at, header);
-    main.write(table.at + CAPACITY, table.capacity as u64);
-    main.fill_holes(table.at + TABLE_HEAD, 2 * table.capacity);
+    main.write_slot(table.at, LENGTH, table.capacity as u64);
+    main.fill_holes(table.at + STORE_HEAD, 2 * table.capacity);
 }
 
 /// The first place on the way of a number where a pair is free.
@@ -70,7 +66,7 @@ fn free_place(main: &Main, table: Table, number: u32) -> Option<u32>
 }
 
 /// Puts a pair at the first free place on the way of its key's number.
-pub(crate) fn settle(main: &mut Main, table: Table, key: u32, value: Word)
+pub(crate) fn insert_rehashed(main: &mut Main, table: Table, key: u32, value: Word)
     requires quiet { main.old.seat.phase ≡ Quiet }
     requires within { IsWithin (heap_of main.old) table }
     requires key { key < marks_start main.old.seat.space }
@@ -85,7 +81,7 @@ pub(crate) fn settle(main: &mut Main, table: Table, key: u32, value: Word)
 }
 
 /// Puts the pairs of a table into another one, which has more places.
-fn move_pairs(main: &mut Main, from: Table, to: Table)
+fn rehash(main: &mut Main, from: Table, to: Table)
     requires quiet { main.old.seat.phase ≡ Quiet }
     requires from { IsWithin (heap_of main.old) from }
     requires to { IsWithin (heap_of main.old) to }
@@ -95,12 +91,11 @@ fn move_pairs(main: &mut Main, from: Table, to: Table)
     requires empty { HoldNothing (pairs_of (heap_words main.old.seat) to) }
     ensures { MovesPairs main.old main.new from to from.capacity }
 {
-    // No address of a heap is past 32 bits.
-    let _regions = main.regions();
+    main.addresses_fit();
     for at in 0..from.capacity {
         if let Some(key) = key_of(main, from, at).address() {
-            let value = Word(main.word(from.at + (TABLE_HEAD + (2 * at + 1))));
-            settle(main, to, key, value);
+            let value = Word(main.slot(from.at, STORE_HEAD + (2 * at + 1)));
+            insert_rehashed(main, to, key, value);
         }
     }
 }
@@ -122,19 +117,18 @@ pub(crate) fn put_in_new_table(
     ensures ok { OnOk result (PutsInNewTable main.old main.new map table key (count + 1) value) }
     ensures refused { IfErr result (RefusesRoom main.old main.new (new_table_need table value)) }
 {
-    // No address of a heap is past 32 bits.
-    let _regions = main.regions();
+    main.addresses_fit();
     let content = content_for(value);
     let capacity = grown(table.capacity);
-    let words = TABLE_HEAD + 2 * capacity;
+    let words = STORE_HEAD + 2 * capacity;
     let at = room_for(main, words + need_of(content))?;
     let new = Table { at, capacity };
     begin_table(main, new);
-    move_pairs(main, table, new);
+    rehash(main, table, new);
     let word = boxed_word(main, content, at + words);
-    settle(main, new, key, word);
+    insert_rehashed(main, new, key, word);
     main.made(at);
     main.store(map, STORE_SLOT, Word::reference(at));
-    main.write(map + COUNT, (count + 1) as u64);
+    main.write_slot(map, COUNT, (count + 1) as u64);
     Ok(())
 }

@@ -7,23 +7,23 @@ ghost use Rattle.heap_model.specs.Slots.{reference_word};
 ghost use Rattle.write_barrier.specs.Mains.{MainShows, heap_of};
 ghost use Rattle.object_cells.specs.HeldValues.{IsValueHeld};
 ghost use Rattle.ephemeron_table.specs.WeakObjects.{IsKeyAt, IsShownPutting, IsWeakAt};
-ghost use Rattle.ephemeron_table.specs.Probes as probes;
+ghost use Rattle.weak_pairs.specs.Tables as tables;
 ghost use Rattle.ephemeron_table.specs.Probes.{EndsNew, IsTableAt};
 ghost use Rattle.ephemeron_table.specs.EntryChanges.{PutsEntry};
-ghost use Rattle.ephemeron_table.specs.Pairs.{HasPairsAt};
+ghost use Rattle.weak_pairs.specs.Pairs.{HasPairsAt};
 ghost use Rattle.ephemeron_table.specs.PairChanges.{PutsBoth, PutsPair};
 
 use crate::adding::{put_free, put_grown};
 use crate::probing::{End, probe};
-use crate::reading::{COUNT, Table, number_at, table_of};
 use crate::replacing::put_there;
 use crate::stop::TableStop;
+use crate::table::{number_at, table_of};
 use handle_roots::Held;
+use heap_model::cells::COUNT;
+use object_graph::limits::ENTRIES_MOST;
 use tagged_word::Word;
+use weak_pairs::Table;
 use write_barrier::Main;
-
-// The most entries of a weak map.
-const ENTRIES_MOST: u32 = 256;
 
 /// Puts the entry of a key that is new: at the place where probing for it ended, or in a table that
 /// is made anew.
@@ -37,16 +37,15 @@ fn put_new(
 ) -> Result<(), TableStop>
     requires shown { IsShownPutting main.old map key value }
     requires table { IsTableAt (heap_of main.old) map table }
-    requires ends { let number = probes.number_at (heap_of main.old) key in
+    requires ends { let number = tables.number_at (heap_of main.old) key in
         EndsNew (heap_of main.old) table number (reference_word key) place }
     ensures { (graph : Graph) (weak : WeakObject) (number : ℕ) (what : GraphValue)
         → MainShows main.old graph → IsWeakAt main.old graph map weak
         → IsKeyAt main.old graph key number → IsValueHeld main.old graph value what
         → PutsBoth main.old main.new graph map key weak number value what result }
 {
-    // No address of a heap is past 32 bits.
-    let _regions = main.regions();
-    let count = main.word(map + COUNT) as u32;
+    main.addresses_fit();
+    let count = main.slot(map, COUNT) as u32;
     if count >= ENTRIES_MOST {
         return Err(TableStop::TableFull { entries: count });
     }
@@ -78,8 +77,7 @@ pub fn put(main: &mut Main, map: u32, key: u32, value: Held) -> Result<(), Table
     ensures pairs { (before : List Pair) → HasPairsAt (heap_of main.old) map before
         → PutsPair main.old main.new map key value before result }
 {
-    // No address of a heap is past 32 bits.
-    let _regions = main.regions();
+    main.addresses_fit();
     let table = table_of(main, map);
     match probe(main, table, number_at(main, key), Word::reference(key)) {
         End::Key(place) => put_there(main, table, place, value),

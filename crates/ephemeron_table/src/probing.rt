@@ -3,10 +3,12 @@ ghost use Rattle.std.specs.Prelude.{◌≡◌, ◌+◌, ◌<◌};
 ghost use Rattle.heap_table.specs.declared.phase.Phase.TheVariants.{Quiet};
 ghost use Rattle.linear_probing.specs.Tables.{place_after};
 ghost use Rattle.write_barrier.specs.Mains.{heap_of};
-ghost use Rattle.ephemeron_table.specs.Probes.{EndsBy, IsWithin, key_in};
+ghost use Rattle.ephemeron_table.specs.Probes.{EndsBy};
+ghost use Rattle.weak_pairs.specs.Tables.{IsWithin, key_in};
 
-use crate::reading::{TABLE_HEAD, Table};
+use tagged_word::cell::STORE_HEAD;
 use tagged_word::{Word, odd};
+use weak_pairs::Table;
 use write_barrier::Main;
 
 /// Where probing for a key ends.
@@ -35,9 +37,8 @@ pub(crate) fn key_of(main: &Main, table: Table, place: u32) -> Word
     requires place { place < table.capacity }
     ensures { result.0 ≡ key_in (heap_of main.now) table.at place }
 {
-    // No address of a heap is past 32 bits.
-    let _regions = main.regions();
-    Word(main.word(table.at + (TABLE_HEAD + 2 * place)))
+    main.addresses_fit();
+    Word(main.slot(table.at, STORE_HEAD + 2 * place))
 }
 
 /// Looks a key up in a table, from the number of its object on.

@@ -1,6 +1,7 @@
 //! How an entry comes to a table.
 ghost use Rattle.std.specs.Prelude.{◌≡◌, ◌+◌, ◌<◌, OnOk, IfErr};
 ghost use Rattle.page_space.specs.Extents.{marks_start};
+ghost use Rattle.object_graph.specs.Meaning.{weak_most};
 ghost use Rattle.heap_table.specs.declared.phase.Phase.TheVariants.{Quiet};
 ghost use Rattle.heap_model.specs.Kinds.{count_offset};
 ghost use Rattle.write_barrier.specs.Mains.{heap_of, IsTied};
@@ -8,24 +9,19 @@ ghost use Rattle.object_cells.specs.CellsAt.{IsWhole};
 ghost use Rattle.object_cells.specs.Contents as contents;
 ghost use Rattle.object_cells.specs.Contents.{FillsOrRefuses, HoldsSlotWord, IsBeforeMarks};
 ghost use Rattle.object_cells.specs.Made.{RefusesRoom, content_need, beside_content};
-ghost use Rattle.ephemeron_table.specs.Probes.{IsWithin, value_in, value_offset};
+ghost use Rattle.weak_pairs.specs.Tables.{IsWithin, value_in, value_offset};
 ghost use Rattle.ephemeron_table.specs.Puttings.{PutsInTable};
 
-use crate::reading::{COUNT, TABLE_HEAD, Table};
 use crate::removing::put_pair;
 use handle_roots::Held;
+use heap_model::cells::COUNT;
 use object_cells::{
-    Content, Filling, boxed_word, content_of, filling_of, need_of, rep_of, room_for,
+    Content, Filling, boxed_word, content_for, filling_of, make_box, need_of, room_for,
 };
 use tagged_word::Word;
+use tagged_word::cell::STORE_HEAD;
+use weak_pairs::Table;
 use write_barrier::{Main, NoRoom};
-
-/// What the slot of a value holds for it.
-pub(crate) fn content_for(value: Held) -> Content
-    ensures { result ≡ beside_content value }
-{
-    content_of(false, rep_of(value), value)
-}
 
 /// Fills a slot of a table, as `fill` of `object_cells` does one of a store.
 fn fill_weak(main: &mut Main, table: u32, offset: u32, filling: Filling)
@@ -34,17 +30,15 @@ fn fill_weak(main: &mut Main, table: u32, offset: u32, filling: Filling)
     requires room { IsBeforeMarks main.old.seat.space filling }
     ensures { main.new ≡ contents.filled main.old (table + offset) filling }
 {
-    // No address of a heap is past 32 bits.
-    let _regions = main.regions();
     match filling {
         Filling::Tagged(word) => main.store_weak(table, offset, word),
-        Filling::Raw(word) => main.write(table + offset, word),
+        Filling::Raw(word) => main.write_slot(table, offset, word),
         Filling::NewBox { at, v } => {
-            main.make_box(at, v);
+            make_box(main, at, v);
             main.made(at);
             main.store_weak(table, offset, Word::reference(at));
         }
-        Filling::OldBox { at, v } => main.write(at + 1, v.cast_unsigned()),
+        Filling::OldBox { at, v } => main.write_slot(at, 1, v.cast_unsigned()),
     }
 }
 
@@ -63,9 +57,8 @@ pub(crate) fn put_value(main: &mut Main, table: Table, at: u32, value: Held) -> 
     ensures { let content = beside_content value in
         FillsOrRefuses main.old main.new (table.at + value_offset at) content result }
 {
-    // No address of a heap is past 32 bits.
-    let _regions = main.regions();
-    let offset = TABLE_HEAD + (2 * at + 1);
+    main.addresses_fit();
+    let offset = STORE_HEAD + (2 * at + 1);
     let filling = filling_of(main, table.at + offset, content_for(value))?;
     fill_weak(main, table.at, offset, filling);
     Ok(())
@@ -88,18 +81,16 @@ pub(crate) fn put_in_table(
     requires tied { IsTied main.old }
     requires within { IsWithin (heap_of main.old) table }
     requires place { at < table.capacity }
-    requires few { count < 256 }
+    requires few { count < weak_most }
     requires map { map + count_offset < marks_start main.old.seat.space }
     ensures ok { OnOk result (PutsInTable main.old main.new map table at key (count + 1) value) }
     ensures refused { let need = content_need (beside_content value) in
         IfErr result (RefusesRoom main.old main.new need) }
 {
-    // No address of a heap is past 32 bits.
-    let _regions = main.regions();
     let content = content_for(value);
     let box_at = room_for(main, need_of(content))?;
     let word = boxed_word(main, content, box_at);
     put_pair(main, table, at, Word::reference(key), word);
-    main.write(map + COUNT, (count + 1) as u64);
+    main.write_slot(map, COUNT, (count + 1) as u64);
     Ok(())
 }

@@ -8,13 +8,16 @@ ghost use Rattle.heap_model.specs.Kinds.{Pair, count_offset};
 ghost use Rattle.heap_model.specs.Needs.{count_at};
 ghost use Rattle.write_barrier.specs.Mains.{heap_of};
 ghost use Rattle.object_cells.specs.Made.{PutsWords};
-ghost use Rattle.ephemeron_table.specs.Probes.{IsWithin, key_in, value_in};
-ghost use Rattle.ephemeron_table.specs.Takings.{ClosesAt, KeysBeside, TakesAt};
-ghost use Rattle.ephemeron_table.specs.Takings.{IsBesidePairs, made_pair, with_pair};
+ghost use Rattle.weak_pairs.specs.Tables.{IsWithin, key_in, value_in, KeysBeside, IsBesidePairs, made_pair};
+ghost use Rattle.weak_pairs.specs.Tables.{with_pair};
+ghost use Rattle.ephemeron_table.specs.Takings.{ClosesAt, TakesAt};
 
 use crate::probing::{key_of, place};
-use crate::reading::{COUNT, TABLE_HEAD, Table, number_at};
+use crate::table::number_at;
+use heap_model::cells::COUNT;
+use tagged_word::cell::STORE_HEAD;
 use tagged_word::{Word, odd};
+use weak_pairs::Table;
 use write_barrier::Main;
 
 /// How many steps probing for a number takes to a place.
@@ -34,10 +37,9 @@ pub(crate) fn put_pair(main: &mut Main, table: Table, at: u32, key: Word, value:
     ensures { let words = heap_words main.old.seat in
         PutsWords main.old main.new (with_pair words table.at at (made_pair key.0 value.0)) }
 {
-    // No address of a heap is past 32 bits.
-    let _regions = main.regions();
-    main.store_weak(table.at, TABLE_HEAD + 2 * at, key);
-    main.store_weak(table.at, TABLE_HEAD + (2 * at + 1), value);
+    main.addresses_fit();
+    main.store_weak(table.at, STORE_HEAD + 2 * at, key);
+    main.store_weak(table.at, STORE_HEAD + (2 * at + 1), value);
 }
 
 /// Copies a pair to another place.
@@ -51,24 +53,22 @@ fn copy_pair(main: &mut Main, table: Table, from: u32, to: u32)
         let pair = made_pair (key_in heap table.at from) (value_in heap table.at from) in
         PutsWords main.old main.new (with_pair words table.at to pair) }
 {
-    // No address of a heap is past 32 bits.
-    let _regions = main.regions();
+    main.addresses_fit();
     let key = key_of(main, table, from);
-    let value = Word(main.word(table.at + (TABLE_HEAD + (2 * from + 1))));
+    let value = Word(main.slot(table.at, STORE_HEAD + (2 * from + 1)));
     put_pair(main, table, to, key, value);
 }
 
 /// Moves back those pairs behind a place that probing would no longer find if it were free. What is
 /// to be free then is the place that is told.
-pub(crate) fn close(main: &mut Main, table: Table, at: u32) -> u32
+pub(crate) fn backward_shift(main: &mut Main, table: Table, at: u32) -> u32
     requires quiet { main.old.seat.phase ≡ Quiet }
     requires within { IsWithin (heap_of main.old) table }
     requires place { at < table.capacity }
     requires keys { KeysBeside (heap_of main.old) table }
     ensures { ClosesAt main.old main.new table at result }
 {
-    // No address of a heap is past 32 bits.
-    let _regions = main.regions();
+    main.addresses_fit();
     let mut hole = at;
     let mut passed = 0;
     while passed + 1 < table.capacity {
@@ -89,7 +89,7 @@ pub(crate) fn close(main: &mut Main, table: Table, at: u32) -> u32
 }
 
 /// Takes the pair at a place out of the table of a weak map.
-pub(crate) fn take_out(main: &mut Main, map: u32, table: Table, at: u32)
+pub(crate) fn remove_pair(main: &mut Main, map: u32, table: Table, at: u32)
     requires quiet { main.old.seat.phase ≡ Quiet }
     requires within { IsWithin (heap_of main.old) table }
     requires place { at < table.capacity }
@@ -99,11 +99,10 @@ pub(crate) fn take_out(main: &mut Main, map: u32, table: Table, at: u32)
     requires some { 0 < count_at (heap_of main.old) map }
     ensures { TakesAt main.old main.new map table at }
 {
-    // No address of a heap is past 32 bits.
-    let _regions = main.regions();
-    let hole = close(main, table, at);
+    main.addresses_fit();
+    let hole = backward_shift(main, table, at);
     let free = Word::odd(odd::HOLE);
     put_pair(main, table, hole, free, free);
-    let count = main.word(map + COUNT);
-    main.write(map + COUNT, count - 1);
+    let count = main.slot(map, COUNT);
+    main.write_slot(map, COUNT, count - 1);
 }

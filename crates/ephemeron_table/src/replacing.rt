@@ -9,14 +9,15 @@ ghost use Rattle.object_cells.specs.Contents.{HoldsSlotWord};
 ghost use Rattle.object_cells.specs.HeldValues.{IsValueHeld};
 ghost use Rattle.object_cells.specs.Made.{beside_content};
 ghost use Rattle.ephemeron_table.specs.WeakObjects.{IsKeyAt, IsWeakAt};
-ghost use Rattle.ephemeron_table.specs.Probes.{IsTableAt, IsWithin, key_in, value_in};
+ghost use Rattle.ephemeron_table.specs.Probes.{IsTableAt};
+ghost use Rattle.weak_pairs.specs.Tables.{IsWithin, key_in, value_in};
 ghost use Rattle.ephemeron_table.specs.PairChanges.{PutsBoth};
 
-use crate::laws::{laws_of_entries, laws_of_tables};
+use crate::laws::laws_of_entries;
 use crate::putting::put_value;
-use crate::reading::Table;
 use crate::stop::TableStop;
 use handle_roots::Held;
+use weak_pairs::Table;
 use write_barrier::{Main, laws_of_values};
 
 /// Gives the entry whose key stands at a place of a map's table the value.
@@ -42,13 +43,9 @@ pub(crate) fn put_there(
         → key_in (heap_of main.old) table.at place ≡ reference_word key
         → PutsBoth main.old main.new graph map key weak number value what result }
 {
-    // No address of a heap is past 32 bits.
-    let _regions = main.regions();
-    laws_of_tables();
+    main.addresses_fit();
     laws_of_entries();
     laws_of_values();
-    match put_value(main, table, place, value) {
-        Ok(()) => Ok(()),
-        Err(no_room) => Err(TableStop::Full(no_room)),
-    }
+    put_value(main, table, place, value)?;
+    Ok(())
 }

@@ -1,4 +1,5 @@
 //! Why an entry is not put.
+ghost use Rattle.std.specs.Prelude.{◌≡◌};
 
 use write_barrier::NoRoom;
 
@@ -9,4 +10,14 @@ pub enum TableStop {
     TableFull { entries: u32 },
     /// Eden has not the words for a table or a box that the entry needs.
     Full(NoRoom),
+}
+
+impl From<NoRoom> for TableStop {
+    ghost use Rattle.ephemeron_table.specs.declared.stop.TableStop.TheVariants.{Full};
+
+    ghost from_gives = { λ room stop. stop ≡ Full room };
+
+    fn from(room: NoRoom) -> TableStop {
+        TableStop::Full(room)
+    }
 }

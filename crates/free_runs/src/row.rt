@@ -4,13 +4,10 @@ ghost use Rattle.page_space.specs.Sizes.{pages_most};
 ghost use Rattle.free_runs.specs.FreeRuns.{longest_in, runs_most, whole_row, AreShort, TakesFrom};
 ghost use Rattle.free_runs.specs.Standing.{StandsAt};
 
-use page_space::Run;
+use page_space::{PAGE_WORDS, Run};
 use std::alloc::Global;
 use std::marker::Model;
 use tagged_word::NoMemory;
-
-/// The words of a page.
-const PAGE_WORDS: u32 = 2_048;
 
 /// The most runs of a page.
 const RUNS_MOST: usize = 1_024;

@@ -48,7 +48,7 @@ probed_at pairs number at steps within comes passes = record {
   steps = steps;
   within = within;
   comes = sym comes;
-  filled = λ before pair early there. (passes before early).filled pair there;
+  filled = λ before early free. (passes before early).filled free_pair free refl;
 }
 
 -- where a free pair stands before, it is not
@@ -58,7 +58,7 @@ pub not_probed_behind : (pairs : List Pair) (number at steps : ℕ) → ((number
 not_probed_behind pairs number at steps elsewhere free passes probed = elim (cases_lt probed.steps steps) [
   | inl early ↦ (passes probed.steps early).elsewhere (sym probed.comes)
   | inr late ↦ elim (cases_lt steps probed.steps) [
-    | inl before ↦ probed.filled steps free_pair before free refl
+    | inl before ↦ probed.filled steps before free
     | inr past ↦
         let same : steps ≡ probed.steps = omega arith in
         elsewhere (ap (λ n. (number + n) % length pairs) same ∙ sym probed.comes)

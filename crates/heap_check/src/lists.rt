@@ -14,16 +14,10 @@ use crate::spans::{Span, word_of};
 use crate::stores::slots_beside;
 use cell_layout::Cell;
 use heap_model::HeapImage;
+use heap_model::cells::COUNT;
+use object_graph::limits::ELEMENTS_MOST;
 use tagged_word::Kind;
-
-/// The offset of the slot of a list's store.
-const STORE: u32 = 1;
-
-/// The offset of a list's length.
-const LENGTH: u32 = 2;
-
-/// The most elements of a list.
-const ELEMENTS: u64 = 1_000;
+use tagged_word::cell::STORE_SLOT;
 
 /// Whether the first slots of a list's store hold values, as many as its length, and the others
 /// are holes.
@@ -35,9 +29,9 @@ pub(crate) fn is_list(image: &HeapImage, cell: Cell) -> bool
     ensures { let heap = image_heap image.now in IsTrue result
         ↔ IsListCell heap (words_of_cell heap cell) }
 {
-    let store = word_of(image, cell, STORE);
-    let count = word_of(image, cell, LENGTH);
-    if count > ELEMENTS {
+    let store = word_of(image, cell, STORE_SLOT);
+    let count = word_of(image, cell, COUNT);
+    if count > ELEMENTS_MOST as u64 {
         return false;
     }
     match slots_beside(image, store, Kind::Store) {

@@ -18,9 +18,7 @@ use crate::spans::word_of;
 use cell_layout::{Cell, next_scavenge_slot};
 use heap_model::HeapImage;
 use tagged_word::Word;
-
-/// The offset of the slot of an object that refers to its store or table.
-const STORE_SLOT: u32 = 1;
+use tagged_word::cell::STORE_SLOT;
 
 /// A slot of some object that refers to an address.
 pub(crate) fn naming_slot(image: &HeapImage, named: u32, known: Option<u32>) -> Option<u32>

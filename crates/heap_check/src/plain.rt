@@ -16,9 +16,7 @@ use crate::stores::slots_beside;
 use cell_layout::Cell;
 use heap_model::HeapImage;
 use tagged_word::Kind;
-
-/// The offset of the slot of an object's property store.
-const STORE: u32 = 1;
+use tagged_word::cell::STORE_SLOT;
 
 /// Whether the shape of a plain object is that of a path, and its slots hold the fields of that
 /// path.
@@ -33,7 +31,7 @@ pub(crate) fn is_plain(image: &HeapImage, cell: Cell) -> bool
     if !image.shapes.has_path(cell.header.shape) {
         return false;
     }
-    let store = word_of(image, cell, STORE);
+    let store = word_of(image, cell, STORE_SLOT);
     match slots_beside(image, store, Kind::Store) {
         Some(beside) => hold_fields(image, cell.header.shape, behind_head(image, cell), beside),
         None => false,

@@ -10,12 +10,7 @@ ghost use Rattle.heap_check.specs.Walks.{HasWords, HasLayouts};
 use crate::reads::word_at;
 use heap_model::HeapImage;
 use shape_tree::ShapeTree;
-
-/// The first shape of a path.
-const FIRST_PATH: u32 = 8;
-
-/// How many shapes there may be.
-const SHAPES: u32 = 8_200;
+use tagged_word::shape;
 
 /// Whether there are as many words as the sizes ask for, and the layout words are those of the
 /// shapes in use and else 0.
@@ -43,7 +38,7 @@ fn has_words(image: &HeapImage) -> bool
 fn has_layouts(image: &HeapImage) -> bool
     ensures { IsTrue result ↔ HasLayouts (image_heap image.now) }
 {
-    for shape in 0..SHAPES {
+    for shape in 0..shape::COUNT {
         if !has_layout(image, shape) {
             return false;
         }
@@ -69,7 +64,7 @@ fn has_layout(image: &HeapImage, shape: u32) -> bool
 fn layout_word_of(shapes: &ShapeTree, shape: u32) -> u64
     ensures { result ≡ layout_word shapes.now shape }
 {
-    if shape == 0 || shape >= FIRST_PATH + shapes.paths() {
+    if shape == 0 || shape >= shape::PATHS + shapes.paths() {
         return 0;
     }
     shapes.layout(shape).word()

@@ -9,9 +9,7 @@ ghost use Rattle.heap_check.specs.Spans.{StandsIn, span_words, IsSpan};
 
 use cell_layout::Cell;
 use heap_model::HeapImage;
-
-/// The words before the slots of a store, of a weak table and of a plain object.
-const HEAD: u32 = 2;
+use tagged_word::cell::STORE_HEAD;
 
 /// The words from an address to another.
 #[derive(Clone, Copy)]
@@ -41,7 +39,7 @@ pub fn behind_head(image: &HeapImage, cell: Cell) -> Span
     // No address of a heap is past 32 bits.
     let _words_count = image.regions.count();
     Span {
-        from: cell.at + HEAD,
+        from: cell.at + STORE_HEAD,
         end: cell.at + cell.size,
     }
 }

@@ -15,12 +15,8 @@ use crate::spans::{Span, word_of};
 use crate::tables::{KeyValue, is_free, pair_at, table_beside};
 use cell_layout::Cell;
 use heap_model::HeapImage;
-
-/// The offset of the slot of a weak map's table.
-const TABLE: u32 = 1;
-
-/// The offset of the number of its entries.
-const ENTRIES: u32 = 2;
+use heap_model::cells::COUNT;
+use tagged_word::cell::STORE_SLOT;
 
 /// Whether each pair of a weak map's table holds nothing or an entry where probing finds it, and
 /// the count is that of the entries.
@@ -32,8 +28,8 @@ pub(crate) fn is_weak(image: &HeapImage, cell: Cell) -> bool
     ensures { let heap = image_heap image.now in IsTrue result
         ↔ IsWeakCell heap (words_of_cell heap cell) }
 {
-    let store = word_of(image, cell, TABLE);
-    let count = word_of(image, cell, ENTRIES);
+    let store = word_of(image, cell, STORE_SLOT);
+    let count = word_of(image, cell, COUNT);
     match table_beside(image, store) {
         Some(table) => has_entries(image, table, count),
         None => false,

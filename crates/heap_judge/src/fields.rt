@@ -16,9 +16,7 @@ use heap_check::{Span, behind_head, slots_beside, word_at, word_of};
 use heap_model::HeapImage;
 use ideal_graph::Field;
 use tagged_word::Kind;
-
-/// The offset of the slot of an object's property store.
-const STORE: u32 = 1;
+use tagged_word::cell::STORE_SLOT;
 
 /// Whether the cell is that of a plain object with this cap and these fields.
 pub(crate) fn shows_plain(image: &HeapImage, cell: Cell, cap: u32, fields: &[Field]) -> bool
@@ -48,7 +46,7 @@ fn shows_plain_cell(image: &HeapImage, cell: Cell, cap: u32, fields: &[Field]) -
     if !is_path_of(&image.shapes, cell.header.shape, cap, fields) {
         return false;
     }
-    let store = word_of(image, cell, STORE);
+    let store = word_of(image, cell, STORE_SLOT);
     match slots_beside(image, store, Kind::Store) {
         Some(beside) => show_fields(image, cap, fields, behind_head(image, cell), beside),
         None => false,

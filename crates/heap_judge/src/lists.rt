@@ -12,14 +12,10 @@ use crate::values::shows_value;
 use cell_layout::Cell;
 use heap_check::{Span, slots_beside, word_at, word_of};
 use heap_model::HeapImage;
+use heap_model::cells::COUNT;
 use ideal_graph::Value;
 use tagged_word::Kind;
-
-/// The offset of the slot of a list's store.
-const STORE: u32 = 1;
-
-/// The offset of a list's length.
-const LENGTH: u32 = 2;
+use tagged_word::cell::STORE_SLOT;
 
 /// Whether the cell is that of a list of these elements.
 pub(crate) fn shows_list(image: &HeapImage, cell: Cell, elements: &[Value]) -> bool
@@ -44,11 +40,11 @@ fn shows_list_cell(image: &HeapImage, cell: Cell, elements: &[Value]) -> bool
     ensures { let heap = image_heap image.now in IsTrue result
         ↔ ShowsList heap cell (words_of_cell heap cell) elements.now }
 {
-    let count = word_of(image, cell, LENGTH);
+    let count = word_of(image, cell, COUNT);
     if count != elements.len() as u64 {
         return false;
     }
-    let store = word_of(image, cell, STORE);
+    let store = word_of(image, cell, STORE_SLOT);
     match slots_beside(image, store, Kind::Store) {
         Some(span) => show_elements(image, elements, span),
         None => false,

@@ -6,9 +6,7 @@ ghost use Rattle.heap_judge.specs.PathFields.{known_field, IsFieldAt};
 
 use ideal_graph::{Field, Path, PathField};
 use shape_tree::{Rep, ShapeTree};
-
-/// The shape of the first path.
-const FIRST_PATH: u32 = 8;
+use tagged_word::shape;
 
 /// Whether a tree of shapes has these paths, in this order.
 pub(crate) fn has_paths(shapes: &ShapeTree, paths: &[Path]) -> bool
@@ -19,7 +17,7 @@ pub(crate) fn has_paths(shapes: &ShapeTree, paths: &[Path]) -> bool
         return false;
     }
     for at in 0..count {
-        if !is_path(shapes, FIRST_PATH + at, &paths[at as usize]) {
+        if !is_path(shapes, shape::PATHS + at, &paths[at as usize]) {
             return false;
         }
     }

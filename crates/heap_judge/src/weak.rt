@@ -15,9 +15,7 @@ use heap_check::{Span, table_beside, word_of};
 use heap_model::HeapImage;
 use ideal_graph::Entry;
 use tagged_word::Kind;
-
-/// The offset of the slot of a weak map's table.
-const TABLE: u32 = 1;
+use tagged_word::cell::STORE_SLOT;
 
 /// Whether the cell is that of a weak map with these entries, as far as their keys can be reached.
 pub(crate) fn shows_weak(image: &HeapImage, marks: &[bool], cell: Cell, entries: &[Entry]) -> bool
@@ -43,7 +41,7 @@ fn shows_weak_cell(image: &HeapImage, marks: &[bool], cell: Cell, entries: &[Ent
     ensures { let heap = image_heap image.now in IsTrue result
         ↔ ShowsWeak heap marks.now cell (words_of_cell heap cell) entries.now }
 {
-    let store = word_of(image, cell, TABLE);
+    let store = word_of(image, cell, STORE_SLOT);
     match table_beside(image, store) {
         Some(table) => show_pairs(image, marks, table, entries),
         None => false,

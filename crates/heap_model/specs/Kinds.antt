@@ -1,11 +1,12 @@
 -- What the words of a cell hold, by its kind: of every cell, one that nothing refers to as well.
-use Rattle.std.specs.Prelude.{◌≡◌, ◌≢◌, ℕ, ◌+◌, ◌%◌, ◌<◌, ◌≤◌, ◌^◌, Bool, List, []}
+use Rattle.std.specs.Prelude.{◌≡◌, ℕ, ◌+◌, ◌<◌, ◌≤◌, ◌^◌, Bool, List, []}
 use Rattle.std.specs.Prelude.{◌∷◌, ◌++◌, length, drop, All, Some, slice_get, nat_lt, count_by, not, ◌&&◌}
 use Rattle.std.specs.Prelude.{◌==◌, ◌⊎◌, ℤ, FitsSigned}
 use Rattle.std.specs.Int.{w64}
 use Rattle.tagged_word.specs.declared.layout.Kind.{Kind}
 use Rattle.tagged_word.specs.declared.layout.Kind.TheVariants as kind
 use Rattle.tagged_word.specs.Cells.{plain_head, store_head, store_slot}
+use Rattle.linear_probing.specs.Tables as probing
 use Rattle.object_graph.specs.declared.path.Path.{Path}
 use Rattle.object_graph.specs.declared.path.PathField.{PathField}
 use Rattle.object_graph.specs.Meaning.{list_most}
@@ -85,13 +86,8 @@ pub record IsFilledPair (heap : Heap) (pair : Pair) (number : ℕ) : Type 0 wher
 
 -- Probing for the number comes to this place: from its home on, which is the number modulo the capacity, going up and
 -- round, no pair before this one is free.
-pub record IsProbed (pairs : List Pair) (number at : ℕ) : Type 0 where
-  pub steps : ℕ
-  pub within : steps < length pairs
-  pub comes : at ≡ (number + steps) % length pairs
-  pub filled : (before : ℕ) (pair : Pair) → before < steps
-      → slice_get pairs ((number + before) % length pairs) ≡ Some pair
-      → pair ≢ free_pair
+abbrev pub IsProbed : List Pair → ℕ → ℕ → Type 0
+IsProbed pairs number at = probing.IsProbed free_pair pairs number at
 
 -- a filled pair, in a place where probing finds it
 pub record IsFoundPair (heap : Heap) (pairs : List Pair) (at : ℕ) (pair : Pair) : Type 0 where

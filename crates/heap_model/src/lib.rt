@@ -11,6 +11,7 @@
 //! heap.
 #![tactic(auto)]
 
+pub mod cells;
 mod image;
 mod laws;
 

@@ -42,7 +42,7 @@ pub(crate) fn execute_line(
     requires short { AreShort script.now.fields }
     requires room { length out.old + ROOM ≤ OUTPUT_BYTES }
     requires small { at < 2 ^ 63 }
-    requires deep { length (next_of at turns.old what.now).turns ≤ 4 }
+    requires deep { length (next_of at turns.old what.now).turns ≤ open_most }
     ensures carried { (graph : Graph) → HeapShows heap.old graph →
         objects.old ≡ length graph.objects → (text : List ℕ)
         × CarriesLine script.now.fields heap.old.main heap.new.main graph (command_in what.now) text

@@ -1,6 +1,7 @@
 //! The turns left of open blocks. Where a run goes on is `next_of` of `specs/Turns.antt`; that this
 //! is the order of execution is kept in `interpreter`.
 ghost use Rattle.std.specs.Prelude.{◌≡◌, ◌<◌, ◌≤◌, ◌^◌, [], ◌∷◌, length};
+ghost use Rattle.script_text.specs.Limits.{open_most};
 ghost use Rattle.heap_script.specs.Turns.{next_of, closed};
 
 use script_text::What;
@@ -42,7 +43,7 @@ impl Turns {
     #[inline(never)]
     pub(crate) fn next(&mut self, at: usize, what: &What) -> usize
         requires small { at < 2 ^ 63 }
-        requires deep { length (next_of at self.old what.now).turns ≤ 4 }
+        requires deep { length (next_of at self.old what.now).turns ≤ open_most }
         ensures place { result ≡ (next_of at self.old what.now).at }
         ensures turns { self.new ≡ (next_of at self.old what.now).turns }
     {

@@ -7,13 +7,8 @@ ghost use Rattle.ideal_parts.specs.Lookups.{FindsAs, seen_plain, seen_list, seen
 
 use crate::keyed::value_under;
 use heap_command::FaultWord;
+use object_graph::limits::{ENTRIES_MOST, FIELDS_MOST};
 use object_graph::{Entry, Field, Object, Value};
-
-/// So many fields an object may have.
-const MOST_FIELDS: usize = 64;
-
-/// So many entries a weak map may have.
-const MOST_ENTRIES: usize = 256;
 
 /// A plain object of the graph, with its number.
 #[derive(Clone, Copy)]
@@ -94,7 +89,7 @@ pub fn has_no_room(plain: &Plain<'_>, name: u32) -> bool
     ensures { result ≡ no_room_for ideal_limits (seen_plain plain.now) name }
 {
     let is_new = value_under(plain.fields, name).is_none();
-    is_new && plain.fields.len() >= MOST_FIELDS
+    is_new && plain.fields.len() >= FIELDS_MOST as usize
 }
 
 /// Whether the key is new to the weak map, which has as many entries as it may have.
@@ -102,5 +97,5 @@ pub fn is_full_for(entries: &[Entry], key: u32) -> bool
     ensures { result ≡ no_entry_for ideal_limits [] entries.now key }
 {
     let is_new = value_under(entries, key).is_none();
-    is_new && entries.len() >= MOST_ENTRIES
+    is_new && entries.len() >= ENTRIES_MOST as usize
 }

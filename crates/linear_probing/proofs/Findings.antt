@@ -1,5 +1,5 @@
 -- What probing finds, and what stays found.
-use Rattle.std.proofs.Common.{ℕ, ◌<◌, ◌≤◌, ◌≡◌, ◌≢◌, List, length, slice_set, Option, Some, None}
+use Rattle.std.proofs.Common.{ℕ, ◌<◌, ◌≤◌, ◌≡◌, ◌≢◌, List, length, slice_get, slice_set, Option, Some, None}
 use Rattle.std.proofs.Common.{replicate, inl, inr, sym, ap, subst, ◌∙◌, arith}
 use Rattle.std.proofs.lemmas.Bool.{cases_eq, cases_order}
 use Rattle.std.proofs.lemmas.List.{length-set}
@@ -18,7 +18,7 @@ comes_everywhere capacity number at within = (
 )
 
 -- where probing comes to a place, it takes the steps to that
-pub probed_steps : (table : List (Option ℕ)) (number at : ℕ) → (probed : IsProbed table number at)
+pub probed_steps : (table : List (Option ℕ)) (number at : ℕ) → (probed : IsProbed None table number at)
     → steps_to (length table) number at ≡ probed.steps
 probed_steps table number at probed =
     ap (steps_to (length table) number) probed.comes
@@ -26,8 +26,8 @@ probed_steps table number at probed =
 
 -- in a table of as many places, none of which is newly free, probing comes to each place of its way
 pub probed_before : (old new : List (Option ℕ)) (number at : ℕ) → length new ≡ length old
-    → ((place : ℕ) → IsFree new place → IsFree old place) → (probed : IsProbed old number at) → (steps : ℕ)
-    → steps ≤ probed.steps → IsProbed new number (place_after (length old) number steps)
+    → ((place : ℕ) → IsFree new place → IsFree old place) → (probed : IsProbed None old number at) → (steps : ℕ)
+    → steps ≤ probed.steps → IsProbed None new number (place_after (length old) number steps)
 probed_before old new number at same less probed steps few =
     let far : probed.steps < length old = probed.within in
     record {
@@ -39,16 +39,22 @@ probed_before old new number at same less probed steps few =
           (subst (λ (n : ℕ). IsFree new (place_after n number before)) same free));
     }
 
--- so what was found is found
-pub still_probed : (old new : List (Option ℕ)) (number at : ℕ) → length new ≡ length old
-    → ((place : ℕ) → IsFree new place → IsFree old place) → IsProbed old number at → IsProbed new number at
-still_probed old new number at same less probed =
-    subst (IsProbed new number) (sym probed.comes)
-    (probed_before old new number at same less probed probed.steps (omega arith))
+-- in a table of as many places, each of which is free only if it was free in the other, what was found is found
+pub still_probed : {A B : Type 0} {free : A} {freed : B} (old : List A) (new : List B) (number at : ℕ)
+    → length new ≡ length old → ((place : ℕ) → slice_get new place ≡ Some freed → slice_get old place ≡ Some free)
+    → IsProbed free old number at → IsProbed freed new number at
+still_probed {freed = freed} old new number at same less probed = record {
+  steps = probed.steps;
+  within = omega (arith, same, probed.within);
+  comes = probed.comes ∙ ap (λ (n : ℕ). place_after n number probed.steps) (sym same);
+  filled = λ before sooner free. probed.filled before sooner
+      (less (place_after (length old) number before)
+      (subst (λ (n : ℕ). slice_get new (place_after n number before) ≡ Some freed) same free));
+}
 
 -- likewise where a number is put somewhere
-pub probed_with_put : (table : List (Option ℕ)) (place put number at : ℕ) → IsProbed table number at
-    → IsProbed (slice_set table place (Some put)) number at
+pub probed_with_put : (table : List (Option ℕ)) (place put number at : ℕ) → IsProbed None table number at
+    → IsProbed None (slice_set table place (Some put)) number at
 probed_with_put table place put number at probed =
     still_probed table (slice_set table place (Some put)) number at (length-set table place (Some put))
     (free_before table place put) probed
@@ -57,7 +63,7 @@ probed_with_put table place put number at probed =
 pub none_where_free : (table : List (Option ℕ)) (number at : ℕ) → FindsAll table → EndsAt table number at
     → IsFree table at → (other : ℕ) → HoldsNumber table other number → ⊥
 none_where_free table number at all ends free other holds =
-    let probed : IsProbed table number other = all other number holds in
+    let probed : IsProbed None table number other = all other number holds in
     elim (cases_order probed.steps ends.steps) [
       | inl same ↦
           holds_not_free table at number
@@ -73,7 +79,7 @@ pub empty_finds_all : (capacity : ℕ) → FindsAll (replicate capacity None)
 empty_finds_all capacity at number holds = absurd (none_holds capacity at number holds)
 
 -- where probing ends, no place before is free
-pub ends_probed : (table : List (Option ℕ)) (number at : ℕ) → EndsAt table number at → IsProbed table number at
+pub ends_probed : (table : List (Option ℕ)) (number at : ℕ) → EndsAt table number at → IsProbed None table number at
 ends_probed table number at ends =
     record { steps = ends.steps; within = ends.within; comes = ends.comes; filled = ends.filled }
 
@@ -95,16 +101,22 @@ pub at_put : (P : ℕ → ℕ → Type 0) (at put other number : ℕ) → other 
 at_put P at put other number place same holds =
     subst (λ (n : ℕ). P n other) same (subst (P put) (sym place) holds)
 
--- with the number put where probing for it ends the table finds all again
-pub put_is_found : (table : List (Option ℕ)) (number at : ℕ) → FindsAll table → EndsAt table number at
-    → IsFree table at → FindsAll (slice_set table at (Some number))
-put_is_found table number at all ends free other held holds =
+-- with the number put at a place to which probing for it comes the table finds all again
+pub put_is_probed : (table : List (Option ℕ)) (number at : ℕ) → FindsAll table → IsProbed None table number at
+    → at < length table → FindsAll (slice_set table at (Some number))
+put_is_probed table number at all probed within other held holds =
     elim (cases_eq other at) [
       | inl same ↦
-          at_put (IsProbed (slice_set table at (Some number))) at number other held same
-          (put_is_number table at number other held (free_within table at free) same holds)
-          (probed_with_put table at number number at (ends_probed table number at ends))
+          at_put (IsProbed None (slice_set table at (Some number))) at number other held same
+          (put_is_number table at number other held within same holds)
+          (probed_with_put table at number number at probed)
       | inr apart ↦
           probed_with_put table at number held other
           (all other held (holds_before table at (Some number) other held apart holds))
     ]
+
+-- so it does with the number put where probing for it ends
+pub put_is_found : (table : List (Option ℕ)) (number at : ℕ) → FindsAll table → EndsAt table number at
+    → IsFree table at → FindsAll (slice_set table at (Some number))
+put_is_found table number at all ends free =
+    put_is_probed table number at all (ends_probed table number at ends) (free_within table at free)

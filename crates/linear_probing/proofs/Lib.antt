@@ -1,7 +1,7 @@
 pub mod Rounds
 pub mod Places
 pub mod Findings
-pub mod Closings
+pub mod BackwardShifts
 pub mod Searches
 pub mod Distances
 pub mod Removals

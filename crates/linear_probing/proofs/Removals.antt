@@ -9,12 +9,12 @@ use Rattle.std.proofs.lemmas.Option.{get_or_from_slice_get}
 use Rattle.std.specs.List.{swap}
 use Rattle.std.specs.List.Sorted.{IsPermutation}
 use Rattle.linear_probing.specs.Tables.{steps_to, FindsAll, HoldsNumber, IsFree}
-use Rattle.linear_probing.specs.Closing.{IsClosing}
-use Rattle.linear_probing.specs.ClosingLaws.{next_place}
+use Rattle.linear_probing.specs.BackwardShift.{IsShifting}
+use Rattle.linear_probing.specs.ShiftLaws.{next_place}
 use Rattle.linear_probing.specs.Outcomes.{TakesOut}
 use Rattle.linear_probing.proofs.Places.{slice_get-set_other, slice_get-set_same}
 use Rattle.linear_probing.proofs.Rounds.{place_after_apart, place_after_within}
-use Rattle.linear_probing.proofs.Closings.{closing_begins, closing_ends, closing_moves, closing_passes}
+use Rattle.linear_probing.proofs.BackwardShifts.{shift_begins, shift_ends, shift_moves, shift_passes}
 use Rattle.linear_probing.proofs.Distances.{distances, moves_nearer}
 
 -- What stands at the place `at` of the table `old` is being taken out, and so far made the table `new`: with its hole
@@ -23,7 +23,7 @@ pub record IsRemoval (old : List (Option ℕ)) (at : ℕ) (new : List (Option �
   pub within : hole < length new
   pub few : passed < length new
   pub taken : TakesOut old (slice_set new hole None) at
-  pub closing : FindsAll old → IsClosing new hole passed
+  pub shifting : FindsAll old → IsShifting new hole passed
 
 -- what is left to do: each move brings the numbers nearer to their homes
 abbrev pub left : List (Option ℕ) → ℕ → ℕ → ℕ
@@ -44,7 +44,7 @@ removal_begins table at within = record {
   within = within;
   few = omega arith;
   taken = IsPermutation-refl (slice_set table at None);
-  closing = λ all. closing_begins table at all within;
+  shifting = λ all. shift_begins table at all within;
 }
 
 -- it goes on behind a number that stays
@@ -55,7 +55,7 @@ removal_passes old new at hole passed number removal few holds near = record {
   within = removal.within;
   few = few;
   taken = removal.taken;
-  closing = λ all. closing_passes new hole passed number (removal.closing all) few holds near;
+  shifting = λ all. shift_passes new hole passed number (removal.shifting all) few holds near;
 }
 
 -- a number that is put in the hole, where its own place is to be free, leaves the same in the table
@@ -89,14 +89,14 @@ removal_moves old new at hole passed number removal few holds far =
       taken = IsPermutation-trans (slice_set old at None) (slice_set new hole None)
           (slice_set (slice_set new hole (Some number)) (next_place new hole passed) None) removal.taken
           (taken_moved new hole (next_place new hole passed) number within also apart holds);
-      closing = λ all. closing_moves new hole passed number (removal.closing all) few holds far;
+      shifting = λ all. shift_moves new hole passed number (removal.shifting all) few holds far;
     }
 
 -- it ends where the next place is free, or none is left
 pub removal_ends : (old new : List (Option ℕ)) (at hole passed : ℕ) → IsRemoval old at new hole passed
     → (passed + 1 ≡ length new) ⊎ IsFree new (next_place new hole passed) → FindsAll old
     → FindsAll (slice_set new hole None)
-removal_ends old new at hole passed removal ends all = closing_ends new hole passed (removal.closing all) ends
+removal_ends old new at hole passed removal ends all = shift_ends new hole passed (removal.shifting all) ends
 
 -- a smaller number of full rounds leaves less to do
 fewer_rounds : (fewer more capacity passed : ℕ) → fewer < more → passed < capacity

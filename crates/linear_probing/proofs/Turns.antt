@@ -3,7 +3,7 @@ use Rattle.std.proofs.Common.{ℕ, ◌+◌, ◌<◌, ◌≤◌, ◌≡◌, List,
 use Rattle.std.proofs.Common.{Some, None, inl, inr, refl, sym, ap, subst, ◌∙◌, arith}
 use Rattle.std.proofs.lemmas.Option.{slice_get-get_or}
 use Rattle.linear_probing.specs.Tables.{place_after, steps_to, FindsAll}
-use Rattle.linear_probing.specs.ClosingLaws.{next_place}
+use Rattle.linear_probing.specs.ShiftLaws.{next_place}
 use Rattle.linear_probing.proofs.Rounds.{place_after_within}
 use Rattle.linear_probing.proofs.Removals.{IsRemoval, left, left_less, removal_ends, removal_moves, removal_passes}
 

@@ -1,5 +1,5 @@
 pub mod Tables
 pub mod TableLaws
-pub mod Closing
-pub mod ClosingLaws
+pub mod BackwardShift
+pub mod ShiftLaws
 pub mod Outcomes

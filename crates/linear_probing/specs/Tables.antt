@@ -18,16 +18,17 @@ IsFree table at = slice_get table at ≡ Some None
 abbrev pub HoldsNumber : List (Option ℕ) → ℕ → ℕ → Type 0
 HoldsNumber table at number = slice_get table at ≡ Some (Some number)
 
--- Probing for the number comes to the place: from its home on no place before this one is free.
-pub record IsProbed (table : List (Option ℕ)) (number at : ℕ) : Type 0 where
+-- Probing for the number comes to the place: from its home on no place before this one holds what is free.
+pub record IsProbed {A : Type 0} (free : A) (table : List A) (number at : ℕ) : Type 0 where
   pub steps : ℕ
   pub within : steps < length table
   pub comes : at ≡ place_after (length table) number steps
-  pub filled : (before : ℕ) → before < steps → IsFree table (place_after (length table) number before) → ⊥
+  pub filled : (before : ℕ) → before < steps
+      → slice_get table (place_after (length table) number before) ≡ Some free → ⊥
 
 -- Each number stands where probing finds it.
 abbrev pub FindsAll : List (Option ℕ) → Type 0
-FindsAll table = (at number : ℕ) → HoldsNumber table at number → IsProbed table number at
+FindsAll table = (at number : ℕ) → HoldsNumber table at number → IsProbed None table number at
 
 -- Probing for the number comes to the place and has met it nowhere before: from its home on no place before this one is
 -- free, or holds the number. It ends there where the place is free or holds the number.

@@ -3,17 +3,17 @@
 //!
 //! Model: a table is a list of places, each with a number or nothing. The home of a number is the
 //! number modulo the capacity, and probing goes up from there and round. `specs/Tables.antt` says
-//! where each number is found, `specs/Closing.antt` how one is taken out without a mark: those
-//! behind it that would be lost move back.
+//! where each number is found, `specs/BackwardShift.antt` how one is removed without a mark, by
+//! backward-shift deletion: those behind it that would be lost move back.
 //! Invariant: none of its own. Each law is a clause of a function here with an empty body.
-//! `place_of` and `remove` are the plain functions on a slice; what keeps a table in words of its own
-//! follows them step by step.
+//! `place_of` and `remove` are the plain functions on a slice, and run in no program: what keeps a
+//! table in words of its own follows them step by step.
 #![tactic(auto)]
 
-mod closing;
+mod backward_shift;
 mod probing;
 mod table;
 
-pub use closing::laws_of_closing;
+pub use backward_shift::laws_of_backward_shift;
 pub use probing::laws_of_probing;
 pub use table::{place_of, remove};

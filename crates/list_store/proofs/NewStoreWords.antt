@@ -20,7 +20,7 @@ use Rattle.heap_model.specs.Slots.{reference_word, hole_word}
 use Rattle.heap_model.proofs.BoundHeaps.{none_in}
 use Rattle.heap_model.proofs.CellsApart.{IsOfCell, first_of_cell}
 use Rattle.write_barrier.specs.Mains.{Mutator, heap_of}
-use Rattle.write_barrier.specs.Values.{empty_store}
+use Rattle.object_cells.specs.Formats.{empty_store}
 use Rattle.object_cells.specs.Contents.{next_at}
 use Rattle.object_cells.specs.ElementChanges.{WritesList}
 use Rattle.object_cells.specs.Made.{with_content, content_need, content_word, beside_content, begun_store}

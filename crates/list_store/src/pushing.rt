@@ -13,14 +13,16 @@ ghost use Rattle.list_store.specs.Pushes.{CanChange, PushesToStore, PushesToNewS
 ghost use Rattle.list_store.specs.Pushes.{PushesAt};
 ghost use Rattle.list_store.specs.ListChanges.{IsShownSetting, PushesElement};
 
-use crate::elements::{ELEMENTS_MOST, content_for, grown};
+use crate::elements::grown;
 use crate::stop::PushStop;
 use handle_roots::Held;
+use heap_model::cells::COUNT;
 use object_cells::{
-    COUNT, STORE_HEAD, STORE_SLOT, Store, begin_store, boxed_word, count_of, need_of, room_for,
-    store_of,
+    Store, begin_store, boxed_word, content_for, count_of, need_of, room_for, store_of,
 };
+use object_graph::limits::ELEMENTS_MOST;
 use tagged_word::Word;
+use tagged_word::cell::{STORE_HEAD, STORE_SLOT};
 use write_barrier::{Main, NoRoom};
 
 // The value comes to the next slot of the list's store.
@@ -37,13 +39,11 @@ fn push_to_store(
     ensures refused { let need = content_need (beside_content value) in
         IfErr result (RefusesRoom main.old main.new need) }
 {
-    // No address of a heap is past 32 bits.
-    let _regions = main.regions();
     let content = content_for(value);
     let at = room_for(main, need_of(content))?;
     let word = boxed_word(main, content, at);
     main.store(store.at, STORE_HEAD + count, word);
-    main.write(list + COUNT, (count + 1) as u64);
+    main.write_slot(list, COUNT, (count + 1) as u64);
     Ok(())
 }
 
@@ -63,8 +63,7 @@ fn push_to_new_store(
         let need = words + content_need (beside_content value) in
         IfErr result (RefusesRoom main.old main.new need) }
 {
-    // No address of a heap is past 32 bits.
-    let _regions = main.regions();
+    main.addresses_fit();
     let content = content_for(value);
     let capacity = grown(count);
     let words = STORE_HEAD + capacity;
@@ -75,7 +74,7 @@ fn push_to_new_store(
     main.store(at, STORE_HEAD + count, word);
     main.made(at);
     main.store(list, STORE_SLOT, Word::reference(at));
-    main.write(list + COUNT, (count + 1) as u64);
+    main.write_slot(list, COUNT, (count + 1) as u64);
     Ok(())
 }
 
@@ -107,8 +106,7 @@ pub fn push(main: &mut Main, list: u32, value: Held) -> Result<(), PushStop>
         → IsListAt main.old graph list one → IsValueHeld main.old graph value what
         → PushesElement main.old main.new graph list one what result }
 {
-    // No address of a heap is past 32 bits.
-    let _regions = main.regions();
+    main.addresses_fit();
     let count = count_of(main, list);
     if count >= ELEMENTS_MOST {
         return Err(PushStop::ListFull);

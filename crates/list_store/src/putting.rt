@@ -12,10 +12,10 @@ ghost use Rattle.object_cells.specs.ListObjects.{IsListAt};
 ghost use Rattle.object_cells.specs.Made.{beside_content};
 ghost use Rattle.list_store.specs.ListChanges.{IsShownSetting, PutsElement};
 
-use crate::elements::content_for;
 use crate::stop::PutStop;
 use handle_roots::Held;
-use object_cells::{STORE_HEAD, count_of, fill, filling_of, place_of, store_of};
+use object_cells::{content_for, count_of, fill, filling_of, place_of, store_of};
+use tagged_word::cell::STORE_HEAD;
 use write_barrier::{Main, NoRoom};
 
 // The slot at an offset of a list's store comes to hold the value: a wide one in the box that
@@ -29,8 +29,7 @@ fn fill_slot(main: &mut Main, store: u32, offset: u32, value: Held) -> Result<()
     ensures { let content = beside_content value in
         FillsOrRefuses main.old main.new (store + offset) content result }
 {
-    // No address of a heap is past 32 bits.
-    let _regions = main.regions();
+    main.addresses_fit();
     let filling = filling_of(main, store + offset, content_for(value))?;
     fill(main, store, offset, filling);
     Ok(())
@@ -47,8 +46,7 @@ pub fn put(main: &mut Main, list: u32, index: i64, value: Held) -> Result<(), Pu
         → IsListAt main.old graph list one → IsValueHeld main.old graph value what
         → PutsElement main.old main.new graph list one index what result }
 {
-    // No address of a heap is past 32 bits.
-    let _regions = main.regions();
+    main.addresses_fit();
     let Some(place) = place_of(count_of(main, list), index) else {
         return Err(PutStop::Range);
     };

@@ -5,8 +5,9 @@ ghost use Rattle.object_cells.specs.ListObjects.{IsListAt, IsShownList};
 ghost use Rattle.list_store.specs.ListChanges.{TellsElement};
 
 use handle_roots::Held;
-use object_cells::{Range, STORE_HEAD, count_of, place_of, store_of};
+use object_cells::{Range, count_of, place_of, store_of};
 use tagged_word::Word;
+use tagged_word::cell::STORE_HEAD;
 use write_barrier::{Main, laws_of_values};
 
 /// The element of the list at an address that an index names.
@@ -18,13 +19,12 @@ pub fn at(main: &Main, list: u32, index: i64) -> Result<Held, Range>
     ensures { (graph : Graph) (one : ListObject) → MainShows main.now graph
         → IsListAt main.now graph list one → TellsElement main.now one index result }
 {
-    // No address of a heap is past 32 bits.
-    let _regions = main.regions();
+    main.addresses_fit();
     laws_of_values();
     let Some(place) = place_of(count_of(main, list), index) else {
         return Err(Range);
     };
     let store = store_of(main, list);
-    let word = main.word(store.at + (STORE_HEAD + place));
+    let word = main.slot(store.at, STORE_HEAD + place);
     Ok(main.value_of_word(Word(word)))
 }

@@ -9,18 +9,17 @@ ghost use Rattle.mark_world.specs.Covering.{cell_of};
 
 use crate::lists::is_in;
 use mark_world::{MainView, World};
+use page_space::PAGE_WORDS;
 use seat_steps::read_cell;
 use tagged_word::Reading;
-
-const PAGE_WORDS: u64 = 2048;
-
-const LENGTH_OFFSET: u32 = 1;
+use tagged_word::cell::LENGTH;
 
 /// The address behind the page that an address lies in.
 pub(crate) fn page_end(at: u32) -> u64
     ensures { result ≡ page_end at }
 {
-    PAGE_WORDS * (at as u64 / PAGE_WORDS + 1)
+    let words = PAGE_WORDS as u64;
+    words * (at as u64 / words + 1)
 }
 
 /// The cell of a page at an address.
@@ -59,7 +58,7 @@ fn is_inside(start: u32, cell: Option<Reading>, at: u32) -> bool
 fn is_head(cell: Reading, offset: u32) -> bool
     ensures { result ≡ is_head cell offset }
 {
-    offset == 0 || (cell.layout.kind.has_length() && offset == LENGTH_OFFSET)
+    offset == 0 || (cell.layout.kind.has_length() && offset == LENGTH)
 }
 
 // Whether a word is the header of the cell that begins at an address, or a length that its size is

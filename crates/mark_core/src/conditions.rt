@@ -18,10 +18,8 @@ use crate::lists::{has, target};
 use crate::naming::{is_read_out, is_shape, is_to_read, is_unread};
 use crate::safety::{is_safe, is_slot_word, laid_in};
 use mark_world::{Event, HelperView, Laid, MainView, Snap, World};
+use page_space::BOARD_WORDS;
 use tagged_word::{Header, Kind, LayoutWord, Word};
-
-// How many words the board has.
-const BOARD_WORDS: u32 = 64;
 
 // Whether a word has no target, or one that a list has.
 fn has_target_in(old: u32, word: u64, list: &[u32]) -> bool

@@ -10,6 +10,7 @@ ghost use Rattle.tagged_word.specs.Cells.{tagged_offsets};
 
 use crate::cells::page_end;
 use mark_world::{Snap, SnapSlot};
+use tagged_word::cell::WORDS_MOST;
 use tagged_word::{Header, LayoutWord, Word, shape};
 
 /// What a snap names.
@@ -172,9 +173,6 @@ pub(crate) fn is_to_read(snap: &Snap, offset: u32) -> bool
         Name::NoCell => false,
     }
 }
-
-// The most words of a cell.
-const WORDS_MOST: u32 = 2048;
 
 // Whether each tagged slot of a cell was read.
 fn are_read(snap: &Snap, layout: LayoutWord, long: u64) -> bool

@@ -9,9 +9,8 @@ ghost use Rattle.mark_core.specs.Spots.{FitsSpot};
 use crate::cells::word_at;
 use mark_world::{Actor, Event, HelperView, Snap, Spot, World};
 use seat_steps::Items;
+use tagged_word::cell::LENGTH;
 use tagged_word::{Header, Word};
-
-const LENGTH_OFFSET: u64 = 1;
 
 /// Whose step an event is.
 pub(crate) fn actor(event: Event) -> Actor
@@ -69,7 +68,7 @@ pub(crate) fn helper_spot(view: &HelperView, event: Event) -> Option<Spot>
     match event {
         Event::LoadHeader { helper: _, cell } => Some(Spot::Heap(cell as u64)),
         Event::LoadLayout { helper: _ } => layout_spot(view.snap.as_ref()?),
-        Event::LoadLength { helper: _ } => snap_spot(&view.snap, LENGTH_OFFSET),
+        Event::LoadLength { helper: _ } => snap_spot(&view.snap, LENGTH as u64),
         Event::LoadSlot { helper: _, offset } => snap_spot(&view.snap, offset as u64),
         Event::Settle { helper: _ } => Some(Spot::Colour(view.snap.as_ref()?.cell)),
         Event::ShadeHelper { helper: _, at } => Some(Spot::Colour(at)),

@@ -73,4 +73,7 @@ pub mod KnownCells
 pub mod AnyCells
 pub mod Knowing
 pub mod KnowingStores
+pub mod ChangeSteps
+pub mod Changes
 pub mod BetweenRuns
+pub mod ChangesEnd

@@ -1,5 +1,5 @@
--- What soundness says of the mutator's view alone stays through the mutator's steps. A sound world stands in for all with
--- the view, the pages and the layout words: born cells are black there, and nothing waits.
+-- What soundness says of the mutator's view alone stays through the mutator's steps. A sound world stands in for all
+-- with the view, the pages and the layout words: born cells are black there, and nothing waits.
 use Rattle.std.proofs.Common.{ℕ, ◌+◌, ◌<◌, ◌≡◌, ◌≢◌, ◌∙◌, ◌==◌, ◌⊎◌, inl, inr, Bool, List, []}
 use Rattle.std.proofs.Common.{All, Contains, length, map, get_or, slice_index, IfSome}
 use Rattle.std.proofs.Common.{if◌then◌else◌, sym, ap, subst, arith}
@@ -28,7 +28,8 @@ use Rattle.mark_world.specs.Steps.{actor, black, free_slot_words, grey, joined_i
 use Rattle.mark_world.specs.Conditions.{MayMain}
 use Rattle.mark_world.specs.Moments.{IsReached, Possible, PossibleStep, after, after_main, after_step}
 use Rattle.mark_world.specs.Covering.{HasCovered, IsCovered, cell_of, colour_of}
-use Rattle.mark_world.specs.Soundness.{AreIn, HasCells, HasLists, HasSizes, HasSure, HasViewLists, IsTrueSnap, Sound, Waits}
+use Rattle.mark_world.specs.Soundness.{AreIn, HasCells, HasLists, HasSizes, HasSure, HasViewLists}
+use Rattle.mark_world.specs.Soundness.{IsTrueSnap, Sound, Waits}
 use Rattle.mark_world.specs.Lineage.{Born, HasBorn}
 use Rattle.mark_laws.specs.PageWords.{HasMainSound, MainSound, MainSoundStays}
 use Rattle.mark_laws.proofs.Joins.{all_from, of_slot, targets_from, targets_there}
@@ -177,7 +178,8 @@ sound_there world sound = record {
   black = λ start free is_black. each_slot (standing world) start (λ offset. HasCovered (standing world))
       (λ cell e offset c. target_covered world sound (slice_index world.words (start + offset))
       (of_slot world start offset cell (λ o. HasBorn world) e c
-      (sound.slots start free (coloured_born world sound start (λ is_white. absurd (omega (arith, is_black, is_white)))))));
+      (sound.slots start free
+      (coloured_born world sound start (λ is_white. absurd (omega (arith, is_black, is_white)))))));
   grey = all_from (λ at. colour_of (standing world) at ≡ grey → Waits (standing world) at) world.main.starts
       (λ at c is_grey. elim (colour_cases world sound at) [
         | inl is_white ↦ absurd (omega (arith, is_white, is_grey))
@@ -199,7 +201,8 @@ born_there world sound = record {
 
 -- what is said of the mutator's view is so after a step in the world that stands in
 after_there : (world : World) (of : Event) → HasMainSound world → actor of ≡ Actor.Mutator
-    → MayMain world.old world.words world.layouts (standing world).main of → HasMainSound (after_main (standing world) of)
+    → MayMain world.old world.words world.layouts (standing world).main of
+    → HasMainSound (after_main (standing world) of)
 after_there world of sound is may =
     let possible : Possible (standing world) of = subst (PossibleStep (standing world) of) (sym is) may in
     let whole = sound_stays (standing world) of (sound_there world sound) (born_there world sound) possible in

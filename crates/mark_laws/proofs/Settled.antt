@@ -49,7 +49,7 @@ sure_is_either world word =
     some_weaker (Contains world.main.sure) (IsSureOrOwed world) (target world.old word) (λ to c. inl c)
 
 -- and where nothing is owed, the other way round
-either_is_sure : (world : World) → world.main.owed ≡ [] → (word : ℕ) → HasSureOrOwed world word
+pub either_is_sure : (world : World) → world.main.owed ≡ [] → (word : ℕ) → HasSureOrOwed world word
     → HasSureTarget world word
 either_is_sure world none word =
     some_weaker (IsSureOrOwed world) (Contains world.main.sure) (target world.old word)
@@ -62,7 +62,7 @@ done_settling world made done =
     (λ at. reads_weaker world (HasSureTarget world) (HasSureOrOwed world) at (sure_is_either world)) done.sure
 
 -- what is under way is done where nothing is owed
-settling_done : (world : World) (made : List ℕ) → world.main.owed ≡ [] → SettlingBut world made
+pub settling_done : (world : World) (made : List ℕ) → world.main.owed ≡ [] → SettlingBut world made
     → SettledBut world made
 settling_done world made none has = record {
   owed = none;

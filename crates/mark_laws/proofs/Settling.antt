@@ -100,7 +100,7 @@ pages_settle world later made pages mine keeps has =
     has)
 
 -- a store elsewhere leaves a cell
-store_cell : (world : World) (at word a : ℕ) (cell : Reading) → is_head_of a (cell_of world a) at ≡ false
+pub store_cell : (world : World) (at word a : ℕ) (cell : Reading) → is_head_of a (cell_of world a) at ≡ false
     → cell_of world a ≡ Some cell
     → cell_at world.old (slice_set world.words at word) world.layouts a ≡ Some cell
 store_cell world at word a cell apart e =

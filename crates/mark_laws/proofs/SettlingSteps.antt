@@ -159,7 +159,7 @@ shade_settles world made at =
     ])
 
 -- what the mutator is sure of or owes once a cell is black
-black_promises : (world : World) (at : ℕ) → KeepsPromises world (after_main world (event.Blacken at))
+pub black_promises : (world : World) (at : ℕ) → KeepsPromises world (after_main world (event.Blacken at))
 black_promises world at to p =
     let words : List ℕ = free_slot_words world.old world.words world.layouts world.main at in
     elim p [
@@ -255,7 +255,7 @@ return_settles world made number (Some view) has =
     has
 
 -- a step of a helper leaves what the mutator is sure of and owes
-helper_promises : (world : World) (number : ℕ) (of : Event) (view : Option HelperView)
+pub helper_promises : (world : World) (number : ℕ) (of : Event) (view : Option HelperView)
     → KeepsPromises world (after_helper world number of view)
 helper_promises world number of view to p =
     subst (λ (main : MainView). Contains main.sure to ⊎ Contains main.owed to)

@@ -14,4 +14,6 @@ pub mod OwnAddresses
 pub mod Visits
 pub mod Growing
 pub mod Settling
+pub mod Changes
+pub mod LayoutChanges
 pub mod Knowing

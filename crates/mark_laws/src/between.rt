@@ -1,9 +1,12 @@
 //! What holds between the steps of a command, and what only grows.
+ghost use Rattle.mark_laws.specs.Changes.{ApartIsSpared, ChangesKeep, ChangesSettle, StoredIsSure, WordsAreStored};
+ghost use Rattle.mark_laws.specs.LayoutChanges.{LayoutChangesSettle};
 ghost use Rattle.mark_laws.specs.Growing.{ListsGrow, ListsGrowAlong, MomentsGrow};
 ghost use Rattle.mark_laws.specs.Growing.{LendCounts, ReturnCounts, OthersKeepCount, NoneIsZero};
 ghost use Rattle.mark_laws.specs.Knowing.{NoneMadeIsKnown, MoreMayBeUnknown, KnownLeaves, RootsMayChange};
 ghost use Rattle.mark_laws.specs.Knowing.{YoungMayJoin, KnownAlong, KnownStays};
-ghost use Rattle.mark_laws.specs.Settling.{AllDoneLeave, NoneMadeIsSettled, NoneOwedIsSettled, MoreMayBeMade, DoneLeaves};
+ghost use Rattle.mark_laws.specs.Settling.{AllDoneLeave, DoneLeaves, MoreMayBeMade, NoneMadeIsSettled};
+ghost use Rattle.mark_laws.specs.Settling.{NoneOwedIsSettled};
 ghost use Rattle.mark_laws.specs.Settling.{PaidLeaves, SettlingAlong, SettlingStays, SettledStays, ShadesSettle};
 ghost use Rattle.mark_laws.specs.Settling.{StepsSettle};
 
@@ -43,4 +46,15 @@ pub fn laws_of_knowing()
     ensures young { YoungMayJoin }
     ensures stays { KnownStays }
     ensures along { KnownAlong }
+{}
+
+/// Changes of cells among a list of events, whatever helpers do in between: what they store, and that
+/// the mutator's part is done behind them, for each change of a layout too.
+pub fn laws_of_changes()
+    ensures words { WordsAreStored }
+    ensures spared { ApartIsSpared }
+    ensures keep { ChangesKeep }
+    ensures settle { ChangesSettle }
+    ensures layouts { LayoutChangesSettle }
+    ensures stored { StoredIsSure }
 {}

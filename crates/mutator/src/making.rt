@@ -15,21 +15,14 @@ ghost use Rattle.mutator.specs.Making.{empty_counted, empty_plain};
 use crate::stop::Stop;
 use handle_roots::Held;
 use heap_command::Command;
+use heap_model::cells::COUNT;
+use tagged_word::cell::{PLAIN_HEAD, STORE_SLOT};
 use tagged_word::{Header, Word, odd};
 use write_barrier::Main;
-
-/// The words of a plain cell before its in-object slots.
-const PLAIN_HEAD: u32 = 2;
 
 /// The words of a list's own cell, and of a weak map's: its header, the slot for its store or table, and
 /// its length or count.
 pub(crate) const COUNTED_WORDS: u32 = 3;
-
-/// The offset of the slot for the store or the table.
-const STORE_SLOT: u32 = 1;
-
-/// The offset of the length or the count.
-const COUNT: u32 = 2;
 
 /// Binds `x` to a new plain object with `cap` slots of its own and no field. `object` is the number
 /// of objects made so far, and becomes the new one's number.
@@ -65,10 +58,9 @@ fn fill_plain(main: &mut Main, at: u32, header: Header, cap: u32)
     ensures heap { let words = empty_plain header cap in
         heap_words main.new.seat ≡ with_range (heap_words main.old.seat) at words }
 {
-    // No address of a heap is past 32 bits.
-    let _regions = main.regions();
+    main.addresses_fit();
     main.set_header(at, header);
-    main.write(at + STORE_SLOT, Word::odd(odd::UNDEFINED).0);
+    main.write_slot(at, STORE_SLOT, Word::odd(odd::UNDEFINED).0);
     main.fill_holes(at + PLAIN_HEAD, cap);
     main.made(at);
 }
@@ -83,10 +75,9 @@ pub(crate) fn fill_counted(main: &mut Main, at: u32, header: Header)
     ensures heap { let words = empty_counted header in
         heap_words main.new.seat ≡ with_range (heap_words main.old.seat) at words }
 {
-    // No address of a heap is past 32 bits.
-    let _regions = main.regions();
+    main.addresses_fit();
     main.set_header(at, header);
-    main.write(at + STORE_SLOT, Word::odd(odd::UNDEFINED).0);
-    main.write(at + COUNT, 0);
+    main.write_slot(at, STORE_SLOT, Word::odd(odd::UNDEFINED).0);
+    main.write_slot(at, COUNT, 0);
     main.made(at);
 }

@@ -20,7 +20,7 @@ use Rattle.heap_model.specs.Heaps.{Heap}
 use Rattle.heap_model.specs.Slots.{raw_word, reference_word, IsSlotWord}
 use Rattle.heap_model.specs.Needs.{box_need, box_words, is_box_word, word_at}
 use Rattle.write_barrier.specs.Mains.{Mutator, heap_of, reserved, with_word, IsTied}
-use Rattle.write_barrier.specs.Values.{box_header}
+use Rattle.object_cells.specs.Formats.{box_header}
 use Rattle.object_cells.specs.declared.content.Content.{Content}
 use Rattle.object_cells.specs.declared.content.Content.TheVariants as content
 use Rattle.object_cells.specs.Contents.{next_at, filling_of, filled, Allocates, box_in, filling_need, with_box}

@@ -19,7 +19,7 @@ use Rattle.heap_model.specs.Slots.{raw_word, reference_word, RefersToBox}
 use Rattle.heap_model.specs.Kinds.{HasWord, IsBoxCell}
 use Rattle.heap_model.specs.Wholeness.{HasSizes}
 use Rattle.heap_model.proofs.BoundHeaps.{none_in}
-use Rattle.write_barrier.specs.Values.{box_header}
+use Rattle.object_cells.specs.Formats.{box_header}
 use Rattle.object_cells.specs.declared.content.Content.{Content}
 use Rattle.object_cells.specs.declared.content.Content.TheVariants as content
 use Rattle.object_cells.specs.Made.{content_need, with_content}

@@ -8,7 +8,7 @@ use Rattle.cell_layout.specs.Cells.{IsCell, IsRow}
 use Rattle.heap_model.specs.Heaps.{Heap}
 use Rattle.heap_model.specs.Needs.{box_words}
 use Rattle.heap_model.specs.Wholeness.{HasSizes}
-use Rattle.write_barrier.specs.Values.{box_header}
+use Rattle.object_cells.specs.Formats.{box_header}
 use Rattle.object_cells.proofs.EdenCells.{bare_layout, eden_cell}
 
 -- the cell of a box

@@ -8,7 +8,7 @@ use Rattle.cell_layout.specs.declared.cell.Cell.{Cell}
 use Rattle.cell_layout.specs.Cells.{IsCell}
 use Rattle.heap_model.specs.Heaps.{Heap}
 use Rattle.heap_model.specs.Wholeness.{HasSizes}
-use Rattle.write_barrier.specs.Values.{store_header}
+use Rattle.object_cells.specs.Formats.{store_header}
 use Rattle.object_cells.proofs.EdenCells.{bare_layout, size_is, eden_cell}
 
 -- the cell of a store of so many slots

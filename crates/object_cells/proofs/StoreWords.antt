@@ -10,7 +10,8 @@ use Rattle.object_graph.proofs.Lists.{slice_get-set_same, slice_get-set_other}
 use Rattle.word_store.proofs.CopiedWords.{length-piece, length-copied}
 use Rattle.heap_model.specs.Slots.{hole_word, reference_word}
 use Rattle.heap_model.proofs.CellWords.{slice_get-append_right}
-use Rattle.write_barrier.specs.Values.{store_header, empty_store, with_range}
+use Rattle.write_barrier.specs.Values.{with_range}
+use Rattle.object_cells.specs.Formats.{store_header, empty_store}
 use Rattle.object_cells.specs.declared.stores.Store.{Store}
 use Rattle.object_cells.specs.Made.{begun_store, with_store}
 use Rattle.object_cells.proofs.PutRanges.{length-with_range, with_range_before, with_range_inside, with_range_behind}

@@ -16,7 +16,8 @@ use Rattle.heap_table.specs.Staying.{stays_beside_itself, stays_beside_again}
 use Rattle.heap_table.proofs.HeapWords.{stays_beside-put}
 use Rattle.heap_model.specs.Slots.{raw_word, reference_word}
 use Rattle.write_barrier.specs.Mains.{Mutator, with_word, with_table, with_variable, reserved}
-use Rattle.write_barrier.specs.Values.{box_header, with_range}
+use Rattle.write_barrier.specs.Values.{with_range}
+use Rattle.object_cells.specs.Formats.{box_header}
 use Rattle.object_cells.specs.declared.content.Filling.{Filling}
 use Rattle.object_cells.specs.declared.content.Filling.TheVariants as filling
 use Rattle.object_cells.specs.Contents.{filled, with_box, Allocates, IsBeforeMarks}

@@ -15,7 +15,7 @@ use Rattle.heap_model.specs.Heaps.{Heap}
 use Rattle.heap_model.specs.Slots.{small_word, undefined_word, reference_word, raw_word, IsSlotWord}
 use Rattle.heap_model.specs.Needs.{box_words, is_box_word, word_at}
 use Rattle.write_barrier.specs.Mains.{Mutator, heap_of, with_word, reserved}
-use Rattle.write_barrier.specs.Values.{box_header}
+use Rattle.object_cells.specs.Formats.{box_header}
 use Rattle.write_barrier.specs.declared.room.NoRoom.{NoRoom}
 use Rattle.object_cells.specs.declared.content.Content.{Content}
 use Rattle.object_cells.specs.declared.content.Content.TheVariants as content

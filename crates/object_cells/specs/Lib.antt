@@ -3,9 +3,11 @@ pub mod Uses
 pub mod Capacities
 pub mod PlainObjects
 pub mod CellsAt
+pub mod Formats
 pub mod Contents
 pub mod Refills
 pub mod CellWrites
+pub mod OwnSlots
 pub mod SlotChanges
 pub mod ListObjects
 pub mod ElementChanges

@@ -17,7 +17,8 @@ use Rattle.heap_model.specs.Kinds.{HasWord}
 use Rattle.heap_model.specs.Needs.{box_words, capacity_at}
 use Rattle.write_barrier.specs.declared.room.NoRoom.{NoRoom}
 use Rattle.write_barrier.specs.Mains.{Mutator}
-use Rattle.write_barrier.specs.Values.{box_header, empty_store, with_range}
+use Rattle.write_barrier.specs.Values.{with_range}
+use Rattle.object_cells.specs.Formats.{box_header, empty_store}
 use Rattle.object_cells.specs.declared.content.Content.{Content}
 use Rattle.object_cells.specs.declared.content.Content.TheVariants as content
 use Rattle.object_cells.specs.declared.stores.Store.{Store}

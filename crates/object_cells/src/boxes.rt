@@ -13,11 +13,10 @@ ghost use Rattle.object_cells.specs.Contents.{HoldsSlotWord};
 ghost use Rattle.object_cells.specs.Made.{PutsWords, content_need, content_word, with_content};
 
 use crate::content::{Content, Filling};
+use crate::formats::make_box;
+use heap_model::cells::BOX_WORDS;
 use tagged_word::Word;
 use write_barrier::{Main, NoRoom};
-
-// The words of a box.
-const BOX_WORDS: u32 = 2;
 
 /// How many words of a box that takes which a slot comes to hold.
 pub fn need_of(content: Content) -> u32
@@ -43,7 +42,7 @@ pub fn boxed_word(main: &mut Main, content: Content, at: u32) -> Word
         Content::Tagged(word) => word,
         Content::Raw(word) => Word(word),
         Content::Boxed(v) => {
-            main.make_box(at, v);
+            make_box(main, at, v);
             main.made(at);
             Word::reference(at)
         }
@@ -128,16 +127,14 @@ pub fn fill(main: &mut Main, cell: u32, offset: u32, filling: Filling)
     requires room { IsBeforeMarks main.old.seat.space filling }
     ensures { main.new ≡ contents.filled main.old (cell + offset) filling }
 {
-    // No address of a heap is past 32 bits.
-    let _regions = main.regions();
     match filling {
         Filling::Tagged(word) => main.store(cell, offset, word),
-        Filling::Raw(word) => main.write(cell + offset, word),
+        Filling::Raw(word) => main.write_slot(cell, offset, word),
         Filling::NewBox { at, v } => {
-            main.make_box(at, v);
+            make_box(main, at, v);
             main.made(at);
             main.store(cell, offset, Word::reference(at));
         }
-        Filling::OldBox { at, v } => main.write(at + 1, v.cast_unsigned()),
+        Filling::OldBox { at, v } => main.write_slot(at, 1, v.cast_unsigned()),
     }
 }

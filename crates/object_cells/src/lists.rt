@@ -6,10 +6,8 @@ ghost use Rattle.heap_model.specs.Needs as needs;
 ghost use Rattle.object_cells.specs.CellsAt.{IsWhole};
 ghost use Rattle.object_cells.specs.ListObjects.{IsListCellAt};
 
+use heap_model::cells::COUNT;
 use write_barrier::Main;
-
-/// The offset of a list's length.
-pub const COUNT: u32 = 2;
 
 /// An integer is below 0 or too large: an index that is not below the length, or a number of elements
 /// that is over it.
@@ -23,9 +21,7 @@ pub fn count_of(main: &Main, list: u32) -> u32
     ensures counted { result ≡ needs.count_at (heap_of main.now) list }
     ensures few { result ≤ list_most }
 {
-    // No address of a heap is past 32 bits.
-    let _regions = main.regions();
-    main.word(list + COUNT) as u32
+    main.slot(list, COUNT) as u32
 }
 
 /// The number that an integer is, if it is below a count: which of so many elements an index names.

@@ -12,17 +12,10 @@ ghost use Rattle.object_cells.specs.Contents.{next_at};
 ghost use Rattle.object_cells.specs.Made.{HasBeside, IsStoreAt, PutsWords, RefusesRoom};
 ghost use Rattle.object_cells.specs.Made.{begun_store, with_store};
 
+use crate::formats::fill_store;
 use tagged_word::Word;
+use tagged_word::cell::{LENGTH, STORE_HEAD, STORE_SLOT};
 use write_barrier::{Main, NoRoom};
-
-/// The words of a store before its slots.
-pub const STORE_HEAD: u32 = 2;
-
-/// The offset of an object's slot for its store.
-pub const STORE_SLOT: u32 = 1;
-
-// The offset of the length of a store.
-const LENGTH: u32 = 1;
 
 /// A store beside an object: where it stands, and how many slots it has. One of no slots may stand
 /// for none.
@@ -40,12 +33,11 @@ pub fn store_of(main: &Main, object: u32) -> Store
     requires there { HasBeside (heap_of main.now) object }
     ensures { IsStoreAt (heap_of main.now) object result }
 {
-    // No address of a heap is past 32 bits.
-    let _regions = main.regions();
-    match Word(main.word(object + STORE_SLOT)).address() {
+    main.addresses_fit();
+    match Word(main.slot(object, STORE_SLOT)).address() {
         Some(at) => Store {
             at,
-            capacity: main.word(at + LENGTH) as u32,
+            capacity: main.slot(at, LENGTH) as u32,
         },
         None => Store { at: 0, capacity: 0 },
     }
@@ -63,15 +55,12 @@ pub fn room_for(main: &mut Main, need: u32) -> Result<u32, NoRoom>
     ensures room { OnOk result (HasRoom main.old.young need) }
     ensures refused { IfErr result (RefusesRoom main.old main.new need) }
 {
-    // What is used fits.
-    let _used = main.used();
+    main.used_fits();
     if need == 0 {
         return Ok(0);
     }
-    match main.reserve(need) {
-        Ok(run) => Ok(run.at),
-        Err(no_room) => Err(no_room),
-    }
+    let run = main.reserve(need)?;
+    Ok(run.at)
 }
 
 /// Makes the words at an address a store of so many slots, which is no object's so far. The slots of
@@ -86,9 +75,8 @@ pub fn begin_store(main: &mut Main, store: Store, capacity: u32, at: u32)
     ensures { let words = heap_words main.old.seat in
         PutsWords main.old main.new (begun_store words store capacity at) }
 {
-    // No address of a heap is past 32 bits.
-    let _regions = main.regions();
-    main.fill_store(at, capacity);
+    main.addresses_fit();
+    fill_store(main, at, capacity);
     main.copy_slots(store.at + STORE_HEAD, at + STORE_HEAD, store.capacity);
 }
 

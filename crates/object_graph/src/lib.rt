@@ -7,6 +7,7 @@
 //! Invariant: `IsGraph` of `specs/Invariants.antt` holds of each graph that a script makes.
 #![tactic(auto)]
 
+pub mod limits;
 mod object;
 mod path;
 mod value;

@@ -15,6 +15,9 @@ mod sizes;
 
 pub use laws::laws_of_regions;
 pub use region::Region;
-pub use regions::Regions;
+pub use regions::{BOARD_WORDS, Regions, board_words_are_those_of_its_region};
 pub use run::Run;
-pub use sizes::Sizes;
+pub use sizes::{
+    HELPERS_MOST, PAGE_WORDS, PAGES_MOST, Sizes, VARIABLES_MOST, YOUNG_LEAST, YOUNG_MOST,
+    limits_are_those_of_sizes,
+};

@@ -5,27 +5,27 @@ ghost use Rattle.tagged_word.specs.Shapes.{shapes_most};
 ghost use Rattle.page_space.specs.declared.region.Region.TheVariants.{Layout, Mark, Outside, Root};
 ghost use Rattle.page_space.specs.declared.region.Region.TheVariants.{Segment};
 ghost use Rattle.page_space.specs.Sizes.{page_words, young_most, helpers_most, AreWithin};
-ghost use Rattle.page_space.specs.Extents.{root_words, mark_number, words_count, segments_start};
+ghost use Rattle.page_space.specs.Extents.{root_words, board_words, mark_number, words_count, segments_start};
 ghost use Rattle.page_space.specs.Extents.{roots_start, layouts_start, marks_start, IsNumberOf};
 ghost use Rattle.page_space.specs.Extents.{IsIn, StartsAt};
 ghost use Rattle.page_space.specs.Extents.{IsRegion, IsInOne, CellsEndAt, is_page_region};
 ghost use Rattle.page_space.specs.Extents.{is_young_region, is_cell_region};
 
 use crate::region::Region;
-use crate::sizes::Sizes;
+use crate::sizes::{PAGE_WORDS, Sizes};
 use std::marker::Model;
-
-/// The words of a page.
-const PAGE_WORDS: u32 = 2_048;
+use tagged_word::shape;
 
 /// The words of a root.
 const ROOT_WORDS: u32 = 2;
 
-/// How many shapes there may be.
-const SHAPES: u32 = 8_200;
-
 /// The words of the board.
-const BOARD_WORDS: u32 = 64;
+pub const BOARD_WORDS: u32 = 64;
+
+/// The words of the board are those of its region.
+pub fn board_words_are_those_of_its_region()
+    ensures { BOARD_WORDS ≡ board_words }
+{}
 
 /// Where the regions of a heap stand, and how many words there are.
 #[derive(Clone, Copy)]
@@ -69,7 +69,7 @@ impl Regions {
         let segments = eden + sizes.young;
         let roots = segments + 2 * half_words(sizes);
         let layouts = roots + ROOT_WORDS * variables;
-        let marks = layouts + SHAPES;
+        let marks = layouts + shape::COUNT;
         let board = marks + eden;
         Regions {
             sizes,
@@ -136,7 +136,7 @@ impl Regions {
             Region::Eden => true,
             Region::Segment { half, worker } => half < 2 && worker <= self.sizes.helpers,
             Region::Root(variable) => variable < self.variables,
-            Region::Layout(shape) => shape < SHAPES,
+            Region::Layout(shape) => shape < shape::COUNT,
             Region::Mark(mark) => mark < self.eden,
             Region::Board(place) => place < BOARD_WORDS,
             Region::Outside => false,

@@ -2,8 +2,8 @@
 //!
 //! Model: a `Recorded` of `specs/Recorded.antt`: the addresses of the recorded slots in ascending
 //! order, and the bound that all addresses of pages are below. It reads no word of the heap.
-//! Invariant: the slots ascend, and each is below the bound. Inside, there is a count for each page
-//! of its recorded slots.
+//! Invariant: the slots ascend, and each is below the bound. Inside, there is a bit for each word of
+//! the pages, and a count for each page of its recorded slots.
 //! Below: `page_space`, for the words of a page. Above: no crate so far.
 #![tactic(auto)]
 
@@ -15,14 +15,13 @@ ghost use Rattle.remembered_set.specs.Recorded.{HasNoneBetween, IsLeastBetween, 
 mod bits;
 
 use crate::bits::{clear, first_set, note};
+use page_space::PAGE_WORDS;
 use std::alloc::Global;
 use std::marker::Model;
 use tagged_word::NoMemory;
 
-const PAGE_WORDS: u32 = 2_048;
-
 /// The words of 64 bits that have the flags of a page.
-const PAGE_BITS: u32 = 32;
+const PAGE_BITS: u32 = PAGE_WORDS / 64;
 
 /// Which slots of pages may refer to young cells.
 #[derive(Drop)]

@@ -13,15 +13,13 @@ use crate::places::{is_free, is_in_own_room, is_live};
 use crate::step::{word_or_0, worker_of};
 use crate::workers::{Job, WorkerView};
 use crate::world::World;
+use page_space::BOARD_WORDS;
 use scav_copy::Home;
 use seat_steps::layout_of;
 use tagged_word::{Header, LayoutWord, Word};
 
 // The most workers that may be at work at a time.
 const WORKERS_MOST: usize = 7;
-
-// The words of the board.
-const BOARD_WORDS: u32 = 64;
 
 /// Whether an event is possible in a world.
 pub fn is_possible(world: &World, event: Event) -> bool

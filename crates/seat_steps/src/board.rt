@@ -8,17 +8,15 @@ ghost use Rattle.seat_steps.specs.Boards.{empty_board, EmptyIsBoard};
 use crate::items::Items;
 use crate::list::{join, leave};
 use crate::note::Note;
+use page_space::BOARD_WORDS;
 use std::alloc::Global;
 use tagged_word::{NoMemory, Word};
-
-// How many words there are.
-const BOARD_WORDS: usize = 64;
 
 /// A board with no cell: 64 words that are 0.
 pub fn empty_board(alloc: Global) -> Result<Items<u64>, NoMemory>
     ensures { IfOk result (λ board. board ≡ empty_board) }
 {
-    let words = vec![in alloc; 0u64; BOARD_WORDS]?;
+    let words = vec![in alloc; 0u64; BOARD_WORDS as usize]?;
     Ok(Items::from_vec(words))
 }
 

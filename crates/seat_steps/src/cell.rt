@@ -2,10 +2,8 @@
 ghost use Rattle.std.specs.Prelude.{◌≡◌};
 ghost use Rattle.tagged_word.specs.Readings.{is_within, shape_layout, length_at, header_at, laid_cell, read_cell};
 
+use tagged_word::cell::LENGTH;
 use tagged_word::{Header, LayoutWord, Reading, Word, shape};
-
-// The offset of the word that is the length, in the kinds that have one.
-const LENGTH_OFFSET: u64 = 1;
 
 /// What words read as at an address, with one layout word for each shape; none where no cell stands
 /// there that ends at the bound or before. Any words will do, and any layouts.
@@ -72,7 +70,7 @@ fn length_of(words: &[u64], at: u32, layout: LayoutWord) -> Option<u64>
     ensures { result ≡ length_at words.now at layout }
 {
     if layout.kind.has_length() {
-        words.get((at as u64 + LENGTH_OFFSET) as usize).copied()
+        words.get((at as u64 + LENGTH as u64) as usize).copied()
     } else {
         Some(0)
     }

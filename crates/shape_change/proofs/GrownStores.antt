@@ -17,7 +17,7 @@ use Rattle.heap_model.specs.Slots.{hole_word}
 use Rattle.heap_model.specs.Needs.{grown}
 use Rattle.heap_model.proofs.CellsApart.{IsOfCell, first_of_cell}
 use Rattle.write_barrier.specs.Mains.{Mutator, heap_of}
-use Rattle.write_barrier.specs.Values.{empty_store}
+use Rattle.object_cells.specs.Formats.{empty_store}
 use Rattle.object_cells.specs.declared.content.Content.TheVariants as content
 use Rattle.object_cells.specs.declared.stores.Store.{Store}
 use Rattle.object_cells.specs.Contents.{next_at}

@@ -13,7 +13,7 @@ use Rattle.heap_model.specs.Needs.{box_words}
 use Rattle.heap_model.specs.Wholeness.{HasSizes}
 use Rattle.write_barrier.specs.Mains.{Mutator, heap_of, IsTied, reserved}
 use Rattle.write_barrier.specs.Opening.{ChangesWithin}
-use Rattle.write_barrier.specs.Values.{box_header}
+use Rattle.object_cells.specs.Formats.{box_header}
 use Rattle.object_cells.specs.declared.content.Filling.{Filling}
 use Rattle.object_cells.specs.declared.content.Filling.TheVariants as filling
 use Rattle.object_cells.specs.Contents.{next_at, with_box, Allocates, filling_need}

@@ -24,7 +24,7 @@ use Rattle.write_barrier.specs.Mains.{Mutator, heap_of, with_word}
 use Rattle.object_cells.specs.declared.content.Content.{Content}
 use Rattle.object_cells.specs.declared.content.Filling.{Filling}
 use Rattle.object_cells.specs.declared.content.Filling.TheVariants as filling
-use Rattle.shape_change.specs.declared.place.Place.{Place}
+use Rattle.shape_change.specs.declared.slots.Place.{Place}
 use Rattle.object_cells.specs.HeldValues.{is_wide}
 use Rattle.object_cells.specs.Uses.{UsesMore}
 use Rattle.object_cells.specs.Capacities.{ChangesObject, set_capacity_at, set_capacity_by}

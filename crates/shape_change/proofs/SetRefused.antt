@@ -15,7 +15,7 @@ use Rattle.heap_model.specs.Needs.{set_need_at}
 use Rattle.write_barrier.specs.Mains.{Mutator, heap_of}
 use Rattle.write_barrier.specs.declared.room.NoRoom.{NoRoom}
 use Rattle.object_cells.specs.declared.content.Content.{Content}
-use Rattle.shape_change.specs.declared.place.Place.{Place}
+use Rattle.shape_change.specs.declared.slots.Place.{Place}
 use Rattle.shape_change.specs.declared.stop.FieldStop.{FieldStop}
 use Rattle.shape_change.specs.declared.stop.FieldStop.TheVariants as stop
 use Rattle.object_cells.specs.HeldValues.{is_wide}

@@ -4,22 +4,35 @@ ghost use Rattle.std.specs.List.{Contains, range_with_len};
 ghost use Rattle.tagged_word.specs.Layouts.{is_raw};
 ghost use Rattle.tagged_word.specs.Cells.{is_object_kind, is_free_kind, marks_by_length};
 ghost use Rattle.tagged_word.specs.Cells.{has_length, words_of, words_least, cell_size};
-ghost use Rattle.tagged_word.specs.Cells.{cell_words_most, store_slot, store_head};
+ghost use Rattle.tagged_word.specs.Cells.{cell_words_most, store_slot, store_head, plain_head, length_offset};
 ghost use Rattle.tagged_word.specs.Cells.{in_object_offsets, tagged_offsets, scavenge_offsets};
 
 use crate::layout::{Kind, LayoutWord};
 
-// The most words of a cell, which are those of a page.
-const WORDS_MOST: u64 = 2048;
+/// The most words of a cell, which are those of a page.
+pub const WORDS_MOST: u32 = 2048;
 
-// The words of a plain cell before its in-object slots.
-const PLAIN_HEAD: u32 = 2;
+/// The words of a plain cell before its in-object slots.
+pub const PLAIN_HEAD: u32 = 2;
 
-// The words of a store or table before its slots.
-const STORE_HEAD: u32 = 2;
+/// The words of a store or table before its slots.
+pub const STORE_HEAD: u32 = 2;
 
-// The slot for a store or table of the cells that have one beside them.
-const STORE_SLOT: u32 = 1;
+/// The offset of the slot for a store or table, in the cells that have one beside them.
+pub const STORE_SLOT: u32 = 1;
+
+/// The offset of the length, in the cells that have one: the capacity of a store or table, and the
+/// size of a gap.
+pub const LENGTH: u32 = 1;
+
+/// The numbers are those of the table in `specs/Cells.antt`.
+pub fn numbers_are_those_of_cells()
+    ensures most { WORDS_MOST ≡ cell_words_most }
+    ensures plain { PLAIN_HEAD ≡ plain_head }
+    ensures head { STORE_HEAD ≡ store_head }
+    ensures slot { STORE_SLOT ≡ store_slot }
+    ensures length { LENGTH ≡ length_offset }
+{}
 
 impl Kind {
     /// Whether a cell of this kind is an object.
@@ -97,8 +110,8 @@ impl LayoutWord {
     pub fn size(self, length: u64) -> Option<u32>
         ensures { result ≡ cell_size self length }
     {
-        let words = self.kind.words(self.cap, length.min(WORDS_MOST + 1));
-        if words >= self.kind.words_least() && words <= WORDS_MOST {
+        let words = self.kind.words(self.cap, length.min(WORDS_MOST as u64 + 1));
+        if words >= self.kind.words_least() && words <= WORDS_MOST as u64 {
             Some(words as u32)
         } else {
             None

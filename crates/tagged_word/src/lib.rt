@@ -10,7 +10,7 @@
 //! Invariant: none of its own. A layout may be any: what asks for one of `IsLayout` says so.
 #![tactic(auto)]
 
-mod cell;
+pub mod cell;
 mod header;
 mod layout;
 mod no_memory;

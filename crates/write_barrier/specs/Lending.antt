@@ -2,17 +2,11 @@
 use Rattle.std.specs.Prelude.{List}
 use Rattle.std.specs.Borrow.{Lends, MutBor, Fml}
 use Rattle.object_graph.specs.declared.path.Path.{Path}
-use Rattle.heap_table.specs.Seats.{Seat}
 use Rattle.nursery.specs.Young.{Young}
-use Rattle.heap_table.specs.contracts.main_seat.MainSeat.{the_row as seat_row}
 use Rattle.shape_tree.specs.contracts.tree.ShapeTree.{the_row as tree_row}
 use Rattle.nursery.specs.contracts.Nursery.{the_row as nursery_row}
 use Rattle.write_barrier.specs.contracts.main_side.Main.{the_row}
 use Rattle.write_barrier.specs.Mains.{Mutator}
-
--- the mutator ends with the last seat behind the reference
-abbrev pub LendsSeat : MutBor Mutator → MutBor Seat → Fml
-LendsSeat main seat = Lends the_row seat_row main seat (λ last. record main.now { seat = last })
 
 -- the mutator ends with the last paths behind the reference
 abbrev pub LendsShapes : MutBor Mutator → MutBor (List Path) → Fml

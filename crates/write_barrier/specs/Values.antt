@@ -25,29 +25,6 @@ held_of_class heap (of_class.Small v) = Int v
 held_of_class heap (of_class.Ref at) = held_at heap at (is_box_at heap (Some at))
 held_of_class heap (of_class.Odd code) = Undefined
 
--- the word of an integer that is small
-abbrev pub small_slot : ℤ → Bool → Option ℕ
-small_slot v true = Some (small_word v)
-small_slot v false = None
-
--- the word of a value that needs no box
-abbrev pub slot_word : Held → Option ℕ
-slot_word Unbound = None
-slot_word Undefined = Some undefined_word
-slot_word (Int v) = small_slot v (small v)
-slot_word (Ref at) = Some (reference_word at)
-
--- the header of a box, and of a store
-abbrev pub box_header : Header
-box_header = record { shape = box_shape; object = 0 }
-
-abbrev pub store_header : Header
-store_header = record { shape = store_shape; object = 0 }
-
--- the words of a store of so many slots that hold nothing
-abbrev pub empty_store : ℕ → List ℕ
-empty_store capacity = header_bits store_header ∷ capacity ∷ replicate capacity hole_word
-
 -- the words with others in place of those that stand from an address on
 abbrev pub with_range : List ℕ → ℕ → List ℕ → List ℕ
 with_range words at others = take at words ++ others ++ drop (at + length others) words

@@ -1,60 +1,17 @@
 //! Words that are put or copied many at a time, as those of stores.
-ghost use Rattle.std.specs.Prelude.{◌≡◌, ◌+◌, ◌≤◌, ◌<◌, slice_set, replicate};
-ghost use Rattle.tagged_word.specs.Headers.{header_bits};
+ghost use Rattle.std.specs.Prelude.{◌≡◌, ◌+◌, ◌≤◌, replicate};
 ghost use Rattle.page_space.specs.Extents.{marks_start};
 ghost use Rattle.word_store.specs.Copies.{AreApart, copied};
 ghost use Rattle.heap_table.specs.declared.phase.Phase.TheVariants.{Quiet};
 ghost use Rattle.heap_table.specs.Seats.{heap_words};
-ghost use Rattle.heap_model.specs.Slots.{hole_word, raw_word};
-ghost use Rattle.write_barrier.specs.Mains.{with_word, with_table};
-ghost use Rattle.write_barrier.specs.Values.{box_header, empty_store, with_range};
+ghost use Rattle.heap_model.specs.Slots.{hole_word};
+ghost use Rattle.write_barrier.specs.Mains.{with_table};
+ghost use Rattle.write_barrier.specs.Values.{with_range};
 
 use crate::main_side::Main;
-use tagged_word::{Header, Word, odd, shape};
+use tagged_word::{Word, odd};
 
 impl Main {
-    /// Makes two words at an address a box of an integer.
-    #[inline(never)]
-    pub fn make_box(&mut self, at: u32, v: i64)
-        requires quiet { self.old.seat.phase ≡ Quiet }
-        requires within { at + 1 < marks_start self.old.seat.space }
-        ensures made { let headed = with_word self.old at (header_bits box_header) in
-            self.new ≡ with_word headed (at + 1) (raw_word v) }
-        ensures heap { let words = heap_words self.old.seat in
-            let headed = slice_set words at (header_bits box_header) in
-            heap_words self.new.seat ≡ slice_set headed (at + 1) (raw_word v) }
-    {
-        // No address of a heap is past 32 bits.
-        let _regions = self.regions();
-        let header = Header {
-            shape: shape::BOX,
-            object: 0,
-        };
-        self.set_header(at, header);
-        self.write(at + 1, v.cast_unsigned());
-    }
-
-    /// Makes the words at an address a store of so many slots that hold nothing: its header, its
-    /// capacity and the slots, each word put once.
-    pub fn fill_store(&mut self, at: u32, capacity: u32)
-        requires quiet { self.old.seat.phase ≡ Quiet }
-        requires within { at + 2 + capacity ≤ marks_start self.old.seat.space }
-        ensures filled { let table = with_range self.old.seat.table at (empty_store capacity) in
-            self.new ≡ with_table self.old table }
-        ensures heap { let words = heap_words self.old.seat in
-            heap_words self.new.seat ≡ with_range words at (empty_store capacity) }
-    {
-        // No address of a heap is past 32 bits.
-        let _regions = self.regions();
-        let header = Header {
-            shape: shape::STORE,
-            object: 0,
-        };
-        self.set_header(at, header);
-        self.write(at + 1, capacity as u64);
-        self.fill_holes(at + 2, capacity);
-    }
-
     /// Makes so many words at an address holes.
     pub fn fill_holes(&mut self, at: u32, count: u32)
         requires quiet { self.old.seat.phase ≡ Quiet }
@@ -65,11 +22,11 @@ impl Main {
         ensures heap { let words = heap_words self.old.seat in
             heap_words self.new.seat ≡ with_range words at (replicate count hole_word) }
     {
-        // No address of a heap is past 32 bits, and the table has a word for each.
-        let _regions = self.regions();
+        // The table has a word for each address.
+        self.addresses_fit();
         let hole = Word::odd(odd::HOLE).0;
         for i in 0..count {
-            self.write(at + i, hole);
+            self.write_slot(at, i, hole);
         }
     }
 
@@ -85,11 +42,11 @@ impl Main {
         ensures heap { let words = heap_words self.old.seat in
             heap_words self.new.seat ≡ copied words from to count }
     {
-        // No address of a heap is past 32 bits, and the table has a word for each.
-        let _regions = self.regions();
+        // The table has a word for each address.
+        self.addresses_fit();
         for i in 0..count {
-            let word = self.word(from + i);
-            self.write(to + i, word);
+            let word = self.slot(from, i);
+            self.write_slot(to, i, word);
         }
     }
 }

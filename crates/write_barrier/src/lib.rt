@@ -18,4 +18,3 @@ mod values;
 pub use laws::laws_of_values;
 pub use main_side::Main;
 pub use room::NoRoom;
-pub use values::slot_word;

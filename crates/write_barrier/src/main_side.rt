@@ -6,10 +6,11 @@ ghost use Rattle.std.proofs.Common.{◌∙◌, subst, sym};
 ghost use Rattle.tagged_word.specs.Readings.{header_at};
 ghost use Rattle.page_space.specs.Sizes.{AreWithin};
 ghost use Rattle.page_space.specs.Extents.{words_count, marks_start};
+ghost use Rattle.shape_tree.specs.Shapes.{AreShapes};
 ghost use Rattle.nursery.specs.Young.{IsYoung};
 ghost use Rattle.heap_table.specs.declared.phase.Phase.TheVariants.{Quiet};
 ghost use Rattle.heap_table.specs.Seats.{heap_words};
-ghost use Rattle.write_barrier.specs.Lending.{LendsSeat, LendsShapes, LendsNursery};
+ghost use Rattle.write_barrier.specs.Lending.{LendsShapes, LendsNursery};
 ghost use Rattle.write_barrier.specs.Mains.{heap_of};
 ghost use Rattle.write_barrier.specs.Reading.{HasHeader, IsHeaderAt, stays_quiet};
 
@@ -99,9 +100,27 @@ impl Main {
         ensures counted { length self.now.seat.table ≡ words_count self.now.seat.space }
         ensures heap_counted { length (heap_words self.now.seat) ≡ marks_start self.now.seat.space }
         ensures within { AreWithin self.now.seat.space.sizes self.now.seat.space.variables }
-        ensures fit { words_count self.now.seat.space < 2 ^ 32 }
+        ensures fit { marks_start self.now.seat.space < 2 ^ 32 }
     {
         let _regions = self.regions();
+    }
+
+    /// There are no more paths than shapes, and their layouts are as they should be. The call says
+    /// so, and does nothing else.
+    #[inline(always)]
+    pub fn paths_fit(&self)
+        ensures good { AreShapes self.now.paths }
+    {
+        let _paths = self.shapes.paths();
+    }
+
+    /// Survivors and used words are no more than the words of the young generation. The call says so,
+    /// and does nothing else.
+    #[inline(always)]
+    pub fn used_fits(&self)
+        ensures is_young { IsYoung self.now.young }
+    {
+        let _used = self.nursery.used();
     }
 
     /// How many words of eden are used.
@@ -125,14 +144,6 @@ impl Main {
         ensures paths { result.now ≡ self.old.paths }
     {
         &mut self.shapes
-    }
-
-    /// The seat. No other part changes.
-    pub fn seat_mut(&mut self) -> &mut MainSeat
-        ensures* lends { sem 𝓛 (LendsSeat self.entry result) }
-        ensures seat { result.now ≡ self.old.seat }
-    {
-        &mut self.seat
     }
 
     /// The nursery. No other part changes.
@@ -166,7 +177,7 @@ impl Reads for Main {
     #[inline(always)]
     fn load(&mut self, a: u32) -> u64 {
         // There are as many of these words as addresses before the marks.
-        let _regions = self.regions();
+        self.addresses_fit();
         self.word(a)
     }
 }

@@ -13,13 +13,11 @@ ghost use Rattle.write_barrier.specs.Opening.{HasLayouts, IsStarted, blank};
 use crate::main_side::Main;
 use heap_table::MainSeat;
 use nursery::Nursery;
-use page_space::Regions;
+use page_space::{PAGE_WORDS, Regions};
 use shape_tree::ShapeTree;
 use std::alloc::Global;
+use tagged_word::cell::LENGTH;
 use tagged_word::{Header, NoMemory, Word, odd, shape};
-
-/// The words of a page.
-const PAGE_WORDS: u32 = 2_048;
 
 impl Main {
     /// Opens a heap over words of 0: no object, each page one gap, each variable bound to nothing.
@@ -48,12 +46,11 @@ impl Main {
         ensures started { IsStarted self.new }
         ensures space { self.new.seat.space ≡ regions.now }
     {
-        // There are as many words as addresses.
-        let _regions = self.regions();
         self.put_gaps();
         self.put_unbound();
         self.put_layouts();
-        let _regions_at_last = self.regions();
+        // There are as many words as addresses.
+        self.addresses_fit();
     }
 
     // Makes a page one gap.
@@ -65,14 +62,14 @@ impl Main {
             ChangesWithin self.old self.new at (at + page_words) }
     {
         // There are as many words as addresses before the marks, and pages are among them.
-        let _regions = self.regions();
+        self.addresses_fit();
         let at = page * PAGE_WORDS;
         let header = Header {
             shape: shape::GAP,
             object: 0,
         };
         self.set_header(at, header);
-        self.write(at + 1, PAGE_WORDS as u64);
+        self.write_slot(at, LENGTH, PAGE_WORDS as u64);
     }
 
     // Makes each page one gap.

@@ -87,7 +87,7 @@ impl Main {
             Holds self.old.seat.space (heap_words self.new.seat) to held }
     {
         // The table has a word for each address.
-        let _regions = self.seat.regions();
+        self.addresses_fit();
         copy_in(&mut self.seat, from, to);
     }
 
@@ -103,7 +103,7 @@ impl Main {
             Holds self.old.seat.space words variable value }
     {
         // The table has a word for each address.
-        let _regions = self.seat.regions();
+        self.addresses_fit();
         hold_in(&mut self.seat, variable, value);
     }
 }

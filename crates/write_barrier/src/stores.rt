@@ -49,9 +49,7 @@ impl Main {
         ensures heap { let words = heap_words self.old.seat in
             heap_words self.new.seat ≡ slice_set words (cell + offset) value.0 }
     {
-        // No address of a heap is past 32 bits.
-        let _regions = self.regions();
-        self.write(cell + offset, value.0);
+        self.write_slot(cell, offset, value.0);
     }
 
     /// Puts a value in the slot of a weak table at an offset. No other word changes. It keeps nothing
@@ -64,10 +62,7 @@ impl Main {
         ensures heap { let words = heap_words self.old.seat in
             heap_words self.new.seat ≡ slice_set words (cell + offset) value.0 }
     {
-        // No address of a heap is past 32 bits.
-        let _regions = self.regions();
-        let slot = cell + offset;
-        self.write(slot, value.0);
+        self.write_slot(cell, offset, value.0);
     }
 
     /// Puts the header of a cell at an address. No other word changes.
@@ -97,8 +92,7 @@ impl Main {
             let words = heap_words self.old.seat in
             heap_words self.new.seat ≡ slice_set words at (layout_word self.old.paths shape) }
     {
-        // There are no more paths than shapes.
-        let _paths = self.shapes.paths();
+        self.paths_fit();
         let word = self.shapes.layout(shape).word();
         let at = self.regions().layout_at(shape);
         self.write(at, word);
@@ -116,7 +110,7 @@ impl Main {
             ChangesWithin self.old self.new (layouts_start space) (marks_start space) }
     {
         // There are as many words as addresses before the marks.
-        let _regions = self.regions();
+        self.addresses_fit();
         let paths = self.shapes().paths();
         for shape in first..shape::PATHS + paths {
             self.set_layout(shape);
@@ -130,9 +124,7 @@ impl Main {
         requires quiet { self.old.seat.phase ≡ Quiet }
         requires within { a < marks_start self.old.seat.space }
         ensures same { self.new ≡ self.old }
-    {
-        let _ = a;
-    }
+    {}
 
     /// Tells the marking that the slots of a cell are about to move or go: nothing while the phase
     /// is quiet.
@@ -141,7 +133,5 @@ impl Main {
         requires quiet { self.old.seat.phase ≡ Quiet }
         requires within { cell < marks_start self.old.seat.space }
         ensures same { self.new ≡ self.old }
-    {
-        let _ = cell;
-    }
+    {}
 }

@@ -10,9 +10,7 @@ use super::{Ideal, IdealStop, Said};
 use heap_command::{FaultWord, Operand};
 use ideal_parts::{bind, count_of, element_at, integer, place_in};
 use object_graph::{Elements, Object, Value};
-
-/// So many elements a list may have.
-const MOST_ELEMENTS: usize = 1000;
+use object_graph::limits::ELEMENTS_MOST;
 
 impl Ideal {
     /// Puts the value last in the list `x`.
@@ -22,7 +20,7 @@ impl Ideal {
         let target = self.bound(x)?;
         let value = self.value(v)?;
         let list = self.list(target)?;
-        if list.elements.len() >= MOST_ELEMENTS {
+        if list.elements.len() >= ELEMENTS_MOST as usize {
             return Err(IdealStop::ScriptFault(FaultWord::ListFull));
         }
         let mut elements = Vec::from_slice(self.alloc, list.elements)?;

@@ -14,9 +14,7 @@ use ideal_parts::{
 };
 use object_graph::{Field, Fields, Object, Path, Value};
 use std::alloc::Global;
-
-/// So many field paths there may be.
-const MOST_PATHS: usize = 8192;
+use object_graph::limits::PATHS_MOST;
 
 impl Ideal {
     /// Gives the field `f` of `x` the value.
@@ -104,7 +102,7 @@ fn add_path(alloc: Global, paths: &mut Vec<Path>, path: &Path) -> Result<(), Ide
     ensures { AddsPath ideal_limits.paths paths.old.items paths.new.items path.now result }
 {
     let mut more = missing(alloc, paths, path)?;
-    if paths.len() + more.len() > MOST_PATHS {
+    if paths.len() + more.len() > PATHS_MOST as usize {
         return Err(IdealStop::ScriptFault(FaultWord::ShapesFull));
     }
     paths.append(&mut more)?;

@@ -31,7 +31,7 @@ returns-then-gone-ne0 c graph one shows is =
       gone,
       number_named one c.count_of-count.result c.args.n c.place_of.result shows is c.count_of-count.ensures.counted
           fits c.place_of.ensures ∙ c.in-Some.is,
-      some_shifted one c.count_of-count.result gone c.laws_of_trims.ensures.shift c.regions-regions.ensures.within
+      some_shifted one c.count_of-count.result gone c.laws_of_trims.ensures.shift c.addresses_fit.ensures.within
           shows is counted (omega (arith, c.if-gone-ne0.true)) (omega (arith, within)) c.shift_store.ensures,
     )
 

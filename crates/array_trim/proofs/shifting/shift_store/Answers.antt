@@ -3,10 +3,8 @@ use Rattle.std.proofs.Common.{ℕ, ◌+◌, ◌<◌, ◌∙◌, sym, subst, arit
 use Rattle.tagged_word.specs.Headers.{header_bits}
 use Rattle.heap_table.specs.Seats.{heap_words}
 use Rattle.heap_model.specs.Slots.{reference_word}
-use Rattle.write_barrier.specs.Values.{store_header}
+use Rattle.object_cells.specs.Formats.{store_header}
 use Rattle.object_cells.specs.Made.{PutsWords}
-use Rattle.object_cells.proofs.CellsRead.{fits_address}
-use Rattle.object_cells.proofs.UnusedWords.{marks_fit}
 use Rattle.object_cells.proofs.ListCells.{list_beside, slot_within, count_within, store_has_room}
 use Rattle.array_trim.specs.TrimWords.{shifted_words}
 use Rattle.array_trim.proofs.CoveredWords.{puts_none, puts_then, covers_then, marks_still}
@@ -20,7 +18,7 @@ pub overflow_add-start : goal.overflow_add-start
 overflow_add-start c =
     let is = c.store_of-store.ensures in
     let within = head_within c.store_of-store.result c.args.gone c.requires.ready is c.requires.few in
-    omega (arith, within, marks_fit c.args.main.now.seat.space c.regions-regions.ensures.within)
+    omega (arith, within, c.addresses_fit.ensures.fit)
 
 pub made-requires-clause-within : goal.made-requires-clause-within
 made-requires-clause-within c =
@@ -34,18 +32,12 @@ set_header-requires-clause-within c =
     let within = head_within c.store_of-store.result c.args.gone c.requires.ready is c.requires.few in
     omega (arith, within, marks_still (puts_none (c.made.ensures.same ∙ c.blacken.ensures.same)))
 
-pub overflow_add-start-2 : goal.overflow_add-start-2
-overflow_add-start-2 c =
-    let is = c.store_of-store.ensures in
-    let within = head_within c.store_of-store.result c.args.gone c.requires.ready is c.requires.few in
-    omega (arith, within, marks_fit c.args.main.now.seat.space c.regions-regions.ensures.within)
-
 pub overflow_sub-store : goal.overflow_sub-store
 overflow_sub-store c =
     omega (arith, store_has_room c.store_of-store.result c.requires.ready c.store_of-store.ensures, c.requires.few)
 
-pub write-requires-clause-within : goal.write-requires-clause-within
-write-requires-clause-within c =
+pub write_slot-requires-clause-within : goal.write_slot-requires-clause-within
+write_slot-requires-clause-within c =
     let is = c.store_of-store.ensures in
     let within = head_within c.store_of-store.result c.args.gone c.requires.ready is c.requires.few in
     let none = puts_none (c.made.ensures.same ∙ c.blacken.ensures.same) in
@@ -66,7 +58,7 @@ store-requires-clause-within c =
       head_within c.store_of-store.result c.args.gone c.requires.ready c.store_of-store.ensures
           c.requires.few,
     )) in
-    let moved = puts_then _ _ headed c.write.ensures.written c.write.ensures.heap
+    let moved = puts_then _ _ headed c.write_slot.ensures.written c.write_slot.ensures.heap
     (omega (
       arith,
       head_within c.store_of-store.result c.args.gone c.requires.ready c.store_of-store.ensures
@@ -74,12 +66,8 @@ store-requires-clause-within c =
     )) in
     omega (arith, slot_within c.requires.ready.whole.whole c.requires.ready.there, marks_still moved)
 
-pub overflow_add-list : goal.overflow_add-list
-overflow_add-list c =
-    fits_address (count_within c.requires.ready.whole.whole c.requires.ready.there) c.regions-regions.ensures.within
-
-pub write-requires-2-clause-within : goal.write-requires-2-clause-within
-write-requires-2-clause-within c =
+pub write_slot-requires-2-clause-within : goal.write_slot-requires-2-clause-within
+write_slot-requires-2-clause-within c =
     let none = puts_none (c.made.ensures.same ∙ c.blacken.ensures.same) in
     let headed = puts_then _ _ none c.set_header.ensures.written c.set_header.ensures.heap
     (omega (
@@ -87,7 +75,7 @@ write-requires-2-clause-within c =
       head_within c.store_of-store.result c.args.gone c.requires.ready c.store_of-store.ensures
           c.requires.few,
     )) in
-    let moved = puts_then _ _ headed c.write.ensures.written c.write.ensures.heap
+    let moved = puts_then _ _ headed c.write_slot.ensures.written c.write_slot.ensures.heap
     (omega (
       arith,
       head_within c.store_of-store.result c.args.gone c.requires.ready c.store_of-store.ensures
@@ -97,8 +85,8 @@ write-requires-2-clause-within c =
     (omega (arith, slot_within c.requires.ready.whole.whole c.requires.ready.there)) in
     omega (arith, count_within c.requires.ready.whole.whole c.requires.ready.there, marks_still linked)
 
-pub cover-requires-clause-within : goal.cover-requires-clause-within
-cover-requires-clause-within c =
+pub put_filler-requires-clause-within : goal.put_filler-requires-clause-within
+put_filler-requires-clause-within c =
     let is = c.store_of-store.ensures in
     let within = head_within c.store_of-store.result c.args.gone c.requires.ready is c.requires.few in
     let none = puts_none (c.made.ensures.same ∙ c.blacken.ensures.same) in
@@ -108,7 +96,7 @@ cover-requires-clause-within c =
       head_within c.store_of-store.result c.args.gone c.requires.ready c.store_of-store.ensures
           c.requires.few,
     )) in
-    let moved = puts_then _ _ headed c.write.ensures.written c.write.ensures.heap
+    let moved = puts_then _ _ headed c.write_slot.ensures.written c.write_slot.ensures.heap
     (omega (
       arith,
       head_within c.store_of-store.result c.args.gone c.requires.ready c.store_of-store.ensures
@@ -116,7 +104,7 @@ cover-requires-clause-within c =
     )) in
     let linked = puts_then _ _ moved c.store.ensures.stored c.store.ensures.heap
     (omega (arith, slot_within c.requires.ready.whole.whole c.requires.ready.there)) in
-    let counted = puts_then _ _ linked c.write-2.ensures.written c.write-2.ensures.heap
+    let counted = puts_then _ _ linked c.write_slot-2.ensures.written c.write_slot-2.ensures.heap
     (omega (arith, count_within c.requires.ready.whole.whole c.requires.ready.there)) in
     omega (arith, within, marks_still counted)
 
@@ -130,21 +118,21 @@ returns c =
     let head = c.set_header.ensures in
     let headed = puts_then start (header_bits store_header) none head.written head.heap
     (omega (arith, within)) in
-    let moved = puts_then (start + 1) _ headed c.write.ensures.written c.write.ensures.heap
+    let moved = puts_then (start + 1) _ headed c.write_slot.ensures.written c.write_slot.ensures.heap
     (omega (arith, within)) in
     let linked = puts_then (c.args.list + 1) (reference_word start) moved
     (rw c.reference.ensures at c.store.ensures.stored) (rw c.reference.ensures at c.store.ensures.heap)
     (omega (arith, slot_within c.requires.ready.whole.whole c.requires.ready.there)) in
-    let counted = puts_then (c.args.list + 2) _ linked c.write-2.ensures.written c.write-2.ensures.heap
+    let counted = puts_then (c.args.list + 2) _ linked c.write_slot-2.ensures.written c.write_slot-2.ensures.heap
     (omega (arith, count_within c.requires.ready.whole.whole c.requires.ready.there)) in
     let some : 0 < store.capacity =
     omega (arith, store_has_room store c.requires.ready c.store_of-store.ensures, c.requires.some, c.requires.few) in
-    let all = covers_then store.at c.args.gone counted c.cover.ensures in
+    let all = covers_then store.at c.args.gone counted c.put_filler.ensures in
     record {
       store = store.at;
       has = store_named store c.requires.ready c.store_of-store.ensures some;
       puts = subst
-          (λ capacity. PutsWords old c.cover.new.main
+          (λ capacity. PutsWords old c.put_filler.new.main
           (shifted_words (heap_words old.seat) c.args.list store.at capacity c.args.count c.args.gone))
           (sym c.store_of-store.ensures.capacity) all;
     }

@@ -32,7 +32,7 @@ returns-then-kept-count c graph one shows is =
       kept,
       number_named one c.count_of-count.result c.args.n c.place_of.result shows is c.count_of-count.ensures.counted
           fits c.place_of.ensures ∙ c.in-Some.is,
-      some_truncated one kept c.laws_of_trims.ensures.truncate c.regions-regions.ensures.within shows is
+      some_truncated one kept c.laws_of_trims.ensures.truncate c.addresses_fit.ensures.within shows is
           (omega (arith, counted, within, c.if-kept-count.true)) c.truncate_store.ensures,
     )
 

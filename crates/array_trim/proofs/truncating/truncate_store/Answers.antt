@@ -2,10 +2,9 @@
 use Rattle.std.proofs.Common.{◌≡◌, ℕ, ◌+◌, ◌-◌, ◌<◌, sym, subst, arith}
 use Rattle.heap_table.specs.Seats.{heap_words}
 use Rattle.object_cells.specs.Made.{PutsWords}
-use Rattle.object_cells.proofs.CellsRead.{fits_address}
-use Rattle.object_cells.proofs.UnusedWords.{marks_fit}
 use Rattle.object_cells.proofs.ListCells.{list_beside, count_within, store_has_room}
-use Rattle.array_trim.specs.TrimWords.{covered, truncated_words}
+use Rattle.object_cells.specs.Formats.{with_filler}
+use Rattle.array_trim.specs.TrimWords.{truncated_words}
 use Rattle.array_trim.proofs.CoveredWords.{puts_none, puts_then, covers_then, marks_still}
 use Rattle.array_trim.proofs.OwnStores.{store_named, length_within}
 use Rattle.array_trim.proofs.truncating.truncate_store.Goals as goal
@@ -13,38 +12,28 @@ use Rattle.array_trim.proofs.truncating.truncate_store.Goals as goal
 pub store_of-store-requires-clause-there : goal.store_of-store-requires-clause-there
 store_of-store-requires-clause-there c = list_beside c.requires.ready.whole.whole c.requires.ready.there
 
-pub overflow_add-list : goal.overflow_add-list
-overflow_add-list c =
-    fits_address (count_within c.requires.ready.whole.whole c.requires.ready.there) c.regions-regions.ensures.within
-
-pub write-requires-2-clause-within : goal.write-requires-2-clause-within
-write-requires-2-clause-within c =
+pub write_slot-requires-2-clause-within : goal.write_slot-requires-2-clause-within
+write_slot-requires-2-clause-within c =
     let none = puts_none c.blacken.ensures.same in
-    let shrunk = puts_then _ _ none c.write.ensures.written c.write.ensures.heap
+    let shrunk = puts_then _ _ none c.write_slot.ensures.written c.write_slot.ensures.heap
     (length_within c.store_of-store.result c.requires.ready c.store_of-store.ensures) in
     omega (arith, count_within c.requires.ready.whole.whole c.requires.ready.there, marks_still shrunk)
 
-pub overflow_add-store-3 : goal.overflow_add-store-3
-overflow_add-store-3 c =
+pub overflow_add-store-2 : goal.overflow_add-store-2
+overflow_add-store-2 c =
     let room = store_has_room c.store_of-store.result c.requires.ready c.store_of-store.ensures in
-    omega (
-      arith,
-      room,
-      c.requires.fewer,
-      c.store_of-store.ensures.within,
-      marks_fit c.args.main.now.seat.space c.regions-regions.ensures.within,
-    )
+    omega (arith, room, c.requires.fewer, c.store_of-store.ensures.within, c.addresses_fit.ensures.fit)
 
 pub overflow_sub-store : goal.overflow_sub-store
 overflow_sub-store c =
     omega (arith, store_has_room c.store_of-store.result c.requires.ready c.store_of-store.ensures, c.requires.fewer)
 
-pub cover-requires-clause-within : goal.cover-requires-clause-within
-cover-requires-clause-within c =
+pub put_filler-requires-clause-within : goal.put_filler-requires-clause-within
+put_filler-requires-clause-within c =
     let none = puts_none c.blacken.ensures.same in
-    let shrunk = puts_then _ _ none c.write.ensures.written c.write.ensures.heap
+    let shrunk = puts_then _ _ none c.write_slot.ensures.written c.write_slot.ensures.heap
     (length_within c.store_of-store.result c.requires.ready c.store_of-store.ensures) in
-    let counted = puts_then _ _ shrunk c.write-2.ensures.written c.write-2.ensures.heap
+    let counted = puts_then _ _ shrunk c.write_slot-2.ensures.written c.write_slot-2.ensures.heap
     (omega (arith, count_within c.requires.ready.whole.whole c.requires.ready.there)) in
     let room = store_has_room c.store_of-store.result c.requires.ready c.store_of-store.ensures in
     omega (arith, room, c.requires.fewer, c.store_of-store.ensures.within, marks_still counted)
@@ -54,22 +43,22 @@ returns c =
     let old = c.args.main.now in
     let store = c.store_of-store.result in
     let none = puts_none c.blacken.ensures.same in
-    let shrunk = puts_then (store.at + 1) c.args.kept none c.write.ensures.written c.write.ensures.heap
+    let shrunk = puts_then (store.at + 1) c.args.kept none c.write_slot.ensures.written c.write_slot.ensures.heap
     (length_within store c.requires.ready c.store_of-store.ensures) in
-    let counted = puts_then (c.args.list + 2) c.args.kept shrunk c.write-2.ensures.written c.write-2.ensures.heap
+    let counted = puts_then (c.args.list + 2) c.args.kept shrunk c.write_slot-2.ensures.written c.write_slot-2.ensures.heap
     (omega (arith, count_within c.requires.ready.whole.whole c.requires.ready.there)) in
     let some : 0 < store.capacity =
     omega (arith, store_has_room store c.requires.ready c.store_of-store.ensures, c.requires.fewer) in
     let at : ℕ = store.at + (2 + c.args.kept) in
     let same : store.at + 2 + c.args.kept ≡ at = omega arith in
     let all = covers_then at (store.capacity - c.args.kept) counted
-    (subst (λ n. PutsWords c.write-2.new.self c.cover.new.main
-    (covered (heap_words c.write-2.new.self.seat) n (store.capacity - c.args.kept))) same c.cover.ensures) in
+    (subst (λ n. PutsWords c.write_slot-2.new.self c.put_filler.new.main
+    (with_filler (heap_words c.write_slot-2.new.self.seat) n (store.capacity - c.args.kept))) same c.put_filler.ensures) in
     record {
       store = store.at;
       has = store_named store c.requires.ready c.store_of-store.ensures some;
       puts = subst
-          (λ capacity. PutsWords old c.cover.new.main
+          (λ capacity. PutsWords old c.put_filler.new.main
           (truncated_words (heap_words old.seat) c.args.list store.at capacity c.args.kept))
           (sym c.store_of-store.ensures.capacity) all;
     }

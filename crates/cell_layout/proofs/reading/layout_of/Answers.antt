@@ -2,9 +2,9 @@ use Rattle.cell_layout.proofs.CellsThere.{no_layout_past, no_layout_behind, layo
 use Rattle.cell_layout.proofs.reading.layout_of.Goals as goal
 use Rattle.std.proofs.Common.{arith}
 
-pub returns-then-shape-ge-SHAPES-clause-layout : goal.returns-then-shape-ge-SHAPES-clause-layout
-returns-then-shape-ge-SHAPES-clause-layout g c =
-    no_layout_past c.args.regions.now (g.W.Reads.words c.args.words.now) c.args.shape c.if-shape-ge-SHAPES.true
+pub returns-then-shape-ge-COUNT-clause-layout : goal.returns-then-shape-ge-COUNT-clause-layout
+returns-then-shape-ge-COUNT-clause-layout g c =
+    no_layout_past c.args.regions.now (g.W.Reads.words c.args.words.now) c.args.shape c.if-shape-ge-COUNT.true
 
 pub returns-then-at-count-clause-layout : goal.returns-then-at-count-clause-layout
 returns-then-at-count-clause-layout g c =

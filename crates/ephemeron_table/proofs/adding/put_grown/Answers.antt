@@ -7,7 +7,7 @@ use Rattle.ephemeron_table.proofs.GrowableMaps.{can_grow}
 use Rattle.ephemeron_table.proofs.GrownEntries.{IsGrowing}
 use Rattle.ephemeron_table.proofs.NewTableEntries.{growing_refused, grown_entry, grown_pair}
 use Rattle.ephemeron_table.proofs.KnownTables.{shown_known}
-use Rattle.ephemeron_table.proofs.PutRefusals.{pair_refused}
+use Rattle.ephemeron_table.proofs.PutRefusals.{both_refused}
 use Rattle.ephemeron_table.proofs.PutShown.{has_put_pair}
 use Rattle.ephemeron_table.proofs.adding.put_grown.Goals as goal
 
@@ -15,17 +15,17 @@ pub put_in_new_table-requires : goal.put_in_new_table-requires
 put_in_new_table-requires c =
     let shown = c.requires.shown in
     record {
-      can = can_grow (put_known shown c.regions-regions.ensures.within c.requires.table) c.args.key c.args.count
+      can = can_grow (put_known shown c.addresses_fit.ensures.within c.requires.table) c.args.key c.args.count
           shown.is_key.place shown.shows.quiet c.requires.few c.requires.over;
     }
 
-pub returns-in-Ok : goal.returns-in-Ok
-returns-in-Ok c graph weak number what shows is is_key held fresh =
+pub returns : goal.returns
+returns c graph weak number what shows is is_key held fresh =
     let growing : IsGrowing c.args.main.now graph c.args.map c.args.key weak number c.args.table = record {
       shows = shows;
       is = is;
       is_key = is_key;
-      sizes = c.regions-regions.ensures.within;
+      sizes = c.addresses_fit.ensures.within;
       is_table = c.requires.table;
       fresh = fresh;
       few = omega (arith, c.requires.counted, c.requires.few);
@@ -33,25 +33,26 @@ returns-in-Ok c graph weak number what shows is is_key held fresh =
     } in
     let fits : FitsHeld c.args.value = search rules in
     let puts = subst (λ n. PutsInNewTable c.args.main.now c.put_in_new_table.new.main c.args.map c.args.table c.args.key
-    (n + 1) c.args.value) (sym c.requires.counted) c.in-Ok.ensures.ok in
-    let grow = c.laws_of_tables.ensures.grow in
+    (n + 1) c.args.value) (sym c.requires.counted) c.in_ok-put_in_new_table.ensures.ok in
     record {
-      entry = grown_entry growing fits held puts grow c.laws_of_entries.ensures.show;
-      pairs = has_put_pair (grown_pair growing fits held puts grow) c.laws_of_values.ensures;
+      entry = grown_entry growing fits held puts c.laws_of_entries.ensures.show;
+      pairs = has_put_pair (grown_pair growing fits held puts) c.laws_of_values.ensures;
     }
 
-pub returns-in-Err : goal.returns-in-Err
-returns-in-Err c graph weak number what shows is is_key held fresh =
+pub returns-in_err-put_in_new_table : goal.returns-in_err-put_in_new_table
+returns-in_err-put_in_new_table c graph weak number what shows is is_key held fresh =
     let growing : IsGrowing c.args.main.now graph c.args.map c.args.key weak number c.args.table = record {
       shows = shows;
       is = is;
       is_key = is_key;
-      sizes = c.regions-regions.ensures.within;
+      sizes = c.addresses_fit.ensures.within;
       is_table = c.requires.table;
       fresh = fresh;
       few = omega (arith, c.requires.counted, c.requires.few);
       over = omega (arith, c.requires.counted, c.requires.over);
     } in
-    let refused = growing_refused growing c.args.value what c.in-Err.no_room held c.in-Err.ensures.refused in
-    let known = shown_known shows is c.regions-regions.ensures.within c.requires.table in
-    record { entry = refused; pairs = pair_refused known shows is is_key c.in-Err.no_room held refused }
+    let room = c.in_err-put_in_new_table.field-0.0 in
+    let refused =
+    growing_refused growing c.args.value what room held c.in_err-put_in_new_table.ensures.refused in
+    let known = shown_known shows is c.addresses_fit.ensures.within c.requires.table in
+    both_refused known shows is is_key c.from_residual.result room c.from_residual.ensures.1 held refused

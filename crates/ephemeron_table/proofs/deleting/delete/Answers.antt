@@ -4,8 +4,7 @@ use Rattle.object_cells.proofs.CellsRead.{place_before_marks}
 use Rattle.ephemeron_table.proofs.EntryPairs.{entry_pair}
 use Rattle.ephemeron_table.proofs.KeysFound.{weak_shown, shown_there, key_told}
 use Rattle.ephemeron_table.proofs.KeysProbed.{comes_within, none_at_free, none_passed}
-use Rattle.ephemeron_table.proofs.KnownTables.{keys_beside, map_beside}
-use Rattle.ephemeron_table.proofs.KnownTables.{shown_known}
+use Rattle.ephemeron_table.proofs.KnownTables.{keys_beside, map_beside, shown_known}
 use Rattle.ephemeron_table.proofs.TablesRead.{count_within}
 use Rattle.ephemeron_table.proofs.DeletedPairs.{deletes_nothing, deletes_pair}
 use Rattle.ephemeron_table.proofs.DeletedEntries.{deletes_entry, IsDeleting, length-without_entry}
@@ -18,30 +17,30 @@ pub number_at-requires-clause-within : goal.number_at-requires-clause-within
 number_at-requires-clause-within c =
     place_before_marks c.requires.shown.shows.shows.whole.sized c.requires.shown.is_key.place
 
-pub take_out-requires-clause-place : goal.take_out-requires-clause-place
-take_out-requires-clause-place c = comes_within c.in-Key.ensures.0
+pub remove_pair-requires-clause-place : goal.remove_pair-requires-clause-place
+remove_pair-requires-clause-place c = comes_within c.in-Key.ensures.0
 
-pub take_out-requires-clause-keys : goal.take_out-requires-clause-keys
-take_out-requires-clause-keys c =
+pub remove_pair-requires-clause-keys : goal.remove_pair-requires-clause-keys
+remove_pair-requires-clause-keys c =
     let shown = c.requires.shown in
-    let known = shown_known shown.shows shown.is c.regions-regions.ensures.within c.table_of-table.ensures in
+    let known = shown_known shown.shows shown.is c.addresses_fit.ensures.within c.table_of-table.ensures in
     let below = comes_within c.in-Key.ensures.0 in
     keys_beside known (omega (arith, below))
 
-pub take_out-requires-clause-map : goal.take_out-requires-clause-map
-take_out-requires-clause-map c =
+pub remove_pair-requires-clause-map : goal.remove_pair-requires-clause-map
+remove_pair-requires-clause-map c =
     let shown = c.requires.shown in
     count_within shown.shows.shows.whole (shown_there (weak_shown shown.shows shown.is))
 
-pub take_out-requires-clause-beside : goal.take_out-requires-clause-beside
-take_out-requires-clause-beside c =
+pub remove_pair-requires-clause-beside : goal.remove_pair-requires-clause-beside
+remove_pair-requires-clause-beside c =
     let shown = c.requires.shown in
-    let known = shown_known shown.shows shown.is c.regions-regions.ensures.within c.table_of-table.ensures in
+    let known = shown_known shown.shows shown.is c.addresses_fit.ensures.within c.table_of-table.ensures in
     let below = comes_within c.in-Key.ensures.0 in
     map_beside known (omega (arith, below)) 2 (omega arith)
 
-pub take_out-requires-clause-some : goal.take_out-requires-clause-some
-take_out-requires-clause-some c =
+pub remove_pair-requires-clause-some : goal.remove_pair-requires-clause-some
+remove_pair-requires-clause-some c =
     let shown = c.requires.shown in
     let weak = weak_shown shown.shows shown.is in
     let told = key_told c.table_of-table.result c.in-Key.place weak shown.is_key c.table_of-table.ensures
@@ -57,32 +56,32 @@ returns-in-Key c =
     let place = c.in-Key.place in
     let within = comes_within c.in-Key.ensures.0 in
     let key_read = c.in-Key.ensures.1 ∙ c.reference.ensures in
-    let sizes = c.regions-regions.ensures.within in
+    let sizes = c.addresses_fit.ensures.within in
     let is_table = c.table_of-table.ensures in
     let asked = c.requires.shown in
     record {
       entry = λ graph weak number shows is is_key.
           let has = entry_pair table place shows is is_key sizes is_table within key_read in
-          let deleting : IsDeleting c.args.main.now c.take_out.new.main graph c.args.map c.args.key weak number place
-          table = record { has = has; takes = c.take_out.ensures } in
-          deletes_entry deleting c.laws_of_tables.ensures.stay c.laws_of_entries.ensures.show;
+          let deleting : IsDeleting c.args.main.now c.remove_pair.new.main graph c.args.map c.args.key weak number place
+          table = record { has = has; takes = c.remove_pair.ensures } in
+          deletes_entry deleting c.laws_of_entries.ensures.show;
       pairs = λ before has_pairs.
           let told = key_told table place (weak_shown asked.shows asked.is) asked.is_key is_table within key_read in
-          deletes_pair asked.shows asked.is asked.is_key sizes is_table told has_pairs c.take_out.ensures
-          c.laws_of_pairs.ensures.own c.laws_of_tables.ensures.stay;
+          deletes_pair asked.shows asked.is asked.is_key sizes is_table told has_pairs c.remove_pair.ensures
+          c.laws_of_pairs.ensures.own;
     }
 
 -- where no entry has the key, nothing changes
 pub returns-in-Free : goal.returns-in-Free
 returns-in-Free c =
     let is_table = c.table_of-table.ensures in
-    let left = deletes_nothing c.requires.shown c.regions-regions.ensures.within is_table (λ graph weak number shows is is_key.
+    let left = deletes_nothing c.requires.shown c.addresses_fit.ensures.within is_table (λ graph weak number shows is is_key.
     none_at_free _ _ shows (weak_shown shows is) is_key is_table c.number_at.ensures c.reference.ensures c.in-Free.ensures) in
     record { entry = left.0; pairs = left.1 }
 
 pub returns-in-Nowhere : goal.returns-in-Nowhere
 returns-in-Nowhere c =
     let is_table = c.table_of-table.ensures in
-    let left = deletes_nothing c.requires.shown c.regions-regions.ensures.within is_table (λ graph weak number shows is is_key.
+    let left = deletes_nothing c.requires.shown c.addresses_fit.ensures.within is_table (λ graph weak number shows is is_key.
     none_passed _ _ shows (weak_shown shows is) is_key is_table c.number_at.ensures c.reference.ensures c.in-Nowhere.ensures) in
     record { entry = left.0; pairs = left.1 }

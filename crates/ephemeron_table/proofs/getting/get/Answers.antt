@@ -25,9 +25,9 @@ value_of_word-requires-clause-within c =
     let comes = c.in-Key.ensures.0 in
     let told = key_told c.table_of-table.result c.in-Key.place (weak_shown shows c.requires.shown.is)
     c.requires.shown.is_key c.table_of-table.ensures (comes_within comes) (c.in-Key.ensures.1 ∙ c.reference.ensures) in
-    let read : told.pair.value ≡ c.word-word.result = same_Some _ _ (sym told.stands ∙ c.word-word.ensures.of_heap) in
+    let read : told.pair.value ≡ c.slot-word.result = same_Some _ _ (sym told.stands ∙ c.slot-word.ensures.of_heap) in
     let heap = heap_of c.args.main.now in
-    (c.laws_of_values.ensures heap c.word-word.result told.value c.regions-regions.ensures.within
+    (c.laws_of_values.ensures heap c.slot-word.result told.value c.addresses_fit.ensures.within
     shows.shows.whole.sized
     (subst (λ word. ShowsValue heap word told.value) read told.shows)).within
 
@@ -37,15 +37,15 @@ returns-in-Key c =
     let place = c.in-Key.place in
     let within = comes_within c.in-Key.ensures.0 in
     let key_read = c.in-Key.ensures.1 ∙ c.reference.ensures in
-    let sizes = c.regions-regions.ensures.within in
+    let sizes = c.addresses_fit.ensures.within in
     let is_table = c.table_of-table.ensures in
     let heap = heap_of c.args.main.now in
     record {
       entry = λ graph weak number shows is is_key.
           let told = key_told table place (weak_shown shows is) is_key is_table within key_read in
-          let read : told.pair.value ≡ c.word-word.result =
-          same_Some _ _ (sym told.stands ∙ c.word-word.ensures.of_heap) in
-          let by = c.laws_of_values.ensures heap c.word-word.result told.value sizes shows.shows.whole.sized
+          let read : told.pair.value ≡ c.slot-word.result =
+          same_Some _ _ (sym told.stands ∙ c.slot-word.ensures.of_heap) in
+          let by = c.laws_of_values.ensures heap c.slot-word.result told.value sizes shows.shows.whole.sized
           (subst (λ word. ShowsValue heap word told.value) read told.shows) in
           let value : told.value ≡ unwrap_or (entry_value weak.entries number) Undefined =
           sym (ap (λ found. unwrap_or found Undefined) told.is_entry) in
@@ -55,9 +55,9 @@ returns-in-Key c =
       pairs = λ pairs has.
           let asked = c.requires.shown in
           let told = key_told table place (weak_shown asked.shows asked.is) asked.is_key is_table within key_read in
-          let read : told.pair.value ≡ c.word-word.result =
-          same_Some _ _ (sym told.stands ∙ c.word-word.ensures.of_heap) in
-          let by = c.laws_of_values.ensures heap c.word-word.result told.value sizes asked.shows.shows.whole.sized
+          let read : told.pair.value ≡ c.slot-word.result =
+          same_Some _ _ (sym told.stands ∙ c.slot-word.ensures.of_heap) in
+          let by = c.laws_of_values.ensures heap c.slot-word.result told.value sizes asked.shows.shows.whole.sized
           (subst (λ word. ShowsValue heap word told.value) read told.shows) in
           tells_pair_value asked.shows asked.is asked.is_key sizes is_table told has (record {
             class = by.class;
@@ -71,13 +71,13 @@ returns-in-Key c =
 pub returns-in-Free : goal.returns-in-Free
 returns-in-Free c =
     let is_table = c.table_of-table.ensures in
-    let told = tells_none c.requires.shown c.regions-regions.ensures.within is_table (λ graph weak number shows is is_key.
+    let told = tells_none c.requires.shown c.addresses_fit.ensures.within is_table (λ graph weak number shows is is_key.
     none_at_free _ _ shows (weak_shown shows is) is_key is_table c.number_at.ensures c.reference.ensures c.in-Free.ensures) in
     record { entry = told.0; pairs = told.1 }
 
 pub returns-in-Nowhere : goal.returns-in-Nowhere
 returns-in-Nowhere c =
     let is_table = c.table_of-table.ensures in
-    let told = tells_none c.requires.shown c.regions-regions.ensures.within is_table (λ graph weak number shows is is_key.
+    let told = tells_none c.requires.shown c.addresses_fit.ensures.within is_table (λ graph weak number shows is is_key.
     none_passed _ _ shows (weak_shown shows is) is_key is_table c.number_at.ensures c.reference.ensures c.in-Nowhere.ensures) in
     record { entry = told.0; pairs = told.1 }

@@ -17,7 +17,7 @@ pub returns : goal.returns
 returns c =
     let old : Mutator = c.args.main.now in
     let headed : Mutator = c.set_header.new.self in
-    let sized : Mutator = c.write.new.self in
+    let sized : Mutator = c.write_slot.new.self in
     let filled : Mutator = c.fill_holes.new.self in
     let at = c.args.table.at in
     let capacity = c.args.table.capacity in
@@ -25,14 +25,14 @@ returns c =
     let first : StaysBeside old.seat headed.seat =
     put_beside at _ (stays_beside_itself old.seat) c.set_header.ensures.written (omega (arith, c.requires.within)) in
     let then : StaysBeside old.seat sized.seat =
-    put_beside (at + 1) _ first c.write.ensures.written
+    put_beside (at + 1) _ first c.write_slot.ensures.written
     (omega (arith, c.requires.within, ap (λ (s : Space). marks_start s) first.space)) in
     let marks = ap (λ (s : Space). marks_start s) then.space in
-    let words = c.write.ensures.heap ∙ ap (λ all. slice_set all (at + 1) capacity) c.set_header.ensures.heap in
+    let words = c.write_slot.ensures.heap ∙ ap (λ all. slice_set all (at + 1) capacity) c.set_header.ensures.heap in
     let long : length (heap_words sized.seat) ≡ marks_start sized.seat.space =
-    ap length c.write.ensures.heap ∙ length-set (heap_words headed.seat) (at + 1) capacity
+    ap length c.write_slot.ensures.heap ∙ length-set (heap_words headed.seat) (at + 1) capacity
     ∙ ap length c.set_header.ensures.heap ∙ length-set (heap_words old.seat) at (header_bits table_header)
-    ∙ c.regions-regions.ensures.heap_counted ∙ sym marks in
+    ∙ c.addresses_fit.ensures.heap_counted ∙ sym marks in
     let last : StaysBeside sized.seat filled.seat =
     subst (λ (main : Mutator). StaysBeside sized.seat main.seat) (sym c.fill_holes.ensures.filled)
     (range_beside sized (at + 2) holes long
@@ -40,10 +40,10 @@ returns c =
     record {
       beside = stays_beside_again old.seat sized.seat filled.seat then last;
       paths = ap (λ (main : Mutator). main.paths) c.fill_holes.ensures.filled
-          ∙ ap (λ (main : Mutator). main.paths) c.write.ensures.written
+          ∙ ap (λ (main : Mutator). main.paths) c.write_slot.ensures.written
           ∙ ap (λ (main : Mutator). main.paths) c.set_header.ensures.written;
       young = ap (λ (main : Mutator). main.young) c.fill_holes.ensures.filled
-          ∙ ap (λ (main : Mutator). main.young) c.write.ensures.written
+          ∙ ap (λ (main : Mutator). main.young) c.write_slot.ensures.written
           ∙ ap (λ (main : Mutator). main.young) c.set_header.ensures.written;
       heap = c.fill_holes.ensures.heap ∙ ap (λ all. with_range all (at + 2) holes) words;
     }

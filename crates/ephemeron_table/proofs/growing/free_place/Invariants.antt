@@ -1,6 +1,6 @@
 -- No pair so far is free.
 use Rattle.write_barrier.specs.Mains.{heap_of}
-use Rattle.ephemeron_table.specs.Puttings.{FilledBefore}
+use Rattle.weak_pairs.specs.Probes.{FilledBefore}
 use Rattle.ephemeron_table.proofs.growing.free_place.Given as goal
 
 abbrev pub invariant-loop-steps : goal.invariant-loop-steps

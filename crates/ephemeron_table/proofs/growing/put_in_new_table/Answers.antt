@@ -7,8 +7,8 @@ use Rattle.heap_table.specs.Staying.{stays_beside_again}
 use Rattle.write_barrier.specs.Mains.{Mutator}
 use Rattle.object_cells.specs.Made.{content_need}
 use Rattle.object_cells.proofs.WordsBeside.{same_beside, reserved_beside, put_beside}
-use Rattle.ephemeron_table.proofs.GrowingTables.{begun_within, boxed_free, grown_apart, grown_before_marks, grown_keys}
-use Rattle.ephemeron_table.proofs.GrowingTables.{grown_more, grown_nothing}
+use Rattle.ephemeron_table.proofs.GrowingTables.{begun_within, boxed_free, grown_apart, grown_before_marks}
+use Rattle.ephemeron_table.proofs.GrowingTables.{grown_keys, grown_more, grown_nothing}
 use Rattle.ephemeron_table.proofs.growing.put_in_new_table.Goals as goal
 
 -- some words are asked for
@@ -24,7 +24,7 @@ slot_before map marks within = omega arith
 
 pub begin_table-requires-clause-within : goal.begin_table-requires-clause-within
 begin_table-requires-clause-within c =
-    let counted = c.regions-regions.ensures.heap_counted in
+    let counted = c.addresses_fit.ensures.heap_counted in
     let space = ap (λ (main : Mutator). marks_start main.seat.space) c.in_ok-at.ensures.reserved in
     let before = grown_before_marks c.requires.can counted c.in_ok-at.at c.grown-capacity.result c.need_of.result
     c.in_ok-at.ensures.room
@@ -32,9 +32,9 @@ begin_table-requires-clause-within c =
     c.grown-capacity.ensures in
     omega (arith, before, space)
 
-pub move_pairs-requires-clause-to : goal.move_pairs-requires-clause-to
-move_pairs-requires-clause-to c =
-    let counted = c.regions-regions.ensures.heap_counted in
+pub rehash-requires-clause-to : goal.rehash-requires-clause-to
+rehash-requires-clause-to c =
+    let counted = c.addresses_fit.ensures.heap_counted in
     begun_within c.requires.can counted c.in_ok-at.at c.grown-capacity.result c.need_of.result c.in_ok-at.ensures.room
     (c.in_ok-at.ensures.at (some_words c.grown-capacity.result c.need_of.result))
     c.grown-capacity.ensures c.in_ok-at.ensures.reserved
@@ -44,43 +44,43 @@ pub begin_table-requires-clause-quiet : goal.begin_table-requires-clause-quiet
 begin_table-requires-clause-quiet c =
     ap (λ (main : Mutator). main.seat.phase) c.in_ok-at.ensures.reserved ∙ c.requires.can.quiet
 
-pub move_pairs-requires-clause-quiet : goal.move_pairs-requires-clause-quiet
-move_pairs-requires-clause-quiet c =
+pub rehash-requires-clause-quiet : goal.rehash-requires-clause-quiet
+rehash-requires-clause-quiet c =
     c.begin_table.ensures.beside.phase ∙ ap (λ (main : Mutator). main.seat.phase) c.in_ok-at.ensures.reserved
     ∙ c.requires.can.quiet
 
-pub move_pairs-requires-clause-from : goal.move_pairs-requires-clause-from
-move_pairs-requires-clause-from c =
+pub rehash-requires-clause-from : goal.rehash-requires-clause-from
+rehash-requires-clause-from c =
     let space = c.begin_table.ensures.beside.space
     ∙ ap (λ (main : Mutator). main.seat.space) c.in_ok-at.ensures.reserved in
     subst (λ (s : Space). c.args.table.at + (store_head + 2 * c.args.table.capacity) ≤ marks_start s) (sym space)
     c.requires.can.within
 
-pub move_pairs-requires-clause-more : goal.move_pairs-requires-clause-more
-move_pairs-requires-clause-more c =
-    let counted = c.regions-regions.ensures.heap_counted in
+pub rehash-requires-clause-more : goal.rehash-requires-clause-more
+rehash-requires-clause-more c =
+    let counted = c.addresses_fit.ensures.heap_counted in
     grown_more c.requires.can counted c.in_ok-at.at c.grown-capacity.result c.need_of.result c.in_ok-at.ensures.room
     (c.in_ok-at.ensures.at (some_words c.grown-capacity.result c.need_of.result))
     c.grown-capacity.ensures
 
-pub move_pairs-requires-clause-apart : goal.move_pairs-requires-clause-apart
-move_pairs-requires-clause-apart c =
-    let counted = c.regions-regions.ensures.heap_counted in
+pub rehash-requires-clause-apart : goal.rehash-requires-clause-apart
+rehash-requires-clause-apart c =
+    let counted = c.addresses_fit.ensures.heap_counted in
     grown_apart c.requires.can counted c.in_ok-at.at c.grown-capacity.result c.need_of.result c.in_ok-at.ensures.room
     (c.in_ok-at.ensures.at (some_words c.grown-capacity.result c.need_of.result))
     c.grown-capacity.ensures
 
-pub move_pairs-requires-clause-keys : goal.move_pairs-requires-clause-keys
-move_pairs-requires-clause-keys c =
-    let counted = c.regions-regions.ensures.heap_counted in
+pub rehash-requires-clause-keys : goal.rehash-requires-clause-keys
+rehash-requires-clause-keys c =
+    let counted = c.addresses_fit.ensures.heap_counted in
     grown_keys c.requires.can counted c.in_ok-at.at c.grown-capacity.result c.need_of.result c.in_ok-at.ensures.room
     (c.in_ok-at.ensures.at (some_words c.grown-capacity.result c.need_of.result))
     c.grown-capacity.ensures c.in_ok-at.ensures.reserved
     c.begin_table.ensures
 
-pub move_pairs-requires-clause-empty : goal.move_pairs-requires-clause-empty
-move_pairs-requires-clause-empty c =
-    let counted = c.regions-regions.ensures.heap_counted in
+pub rehash-requires-clause-empty : goal.rehash-requires-clause-empty
+rehash-requires-clause-empty c =
+    let counted = c.addresses_fit.ensures.heap_counted in
     grown_nothing c.requires.can counted c.in_ok-at.at c.grown-capacity.result c.need_of.result c.in_ok-at.ensures.room
     (c.in_ok-at.ensures.at (some_words c.grown-capacity.result c.need_of.result))
     c.grown-capacity.ensures c.in_ok-at.ensures.reserved
@@ -88,9 +88,9 @@ move_pairs-requires-clause-empty c =
 
 pub boxed_word-word-requires-clause-within : goal.boxed_word-word-requires-clause-within
 boxed_word-word-requires-clause-within c v boxed =
-    let counted = c.regions-regions.ensures.heap_counted in
+    let counted = c.addresses_fit.ensures.heap_counted in
     let two : c.need_of.result ≡ 2 = c.need_of.ensures ∙ ap content_need boxed in
-    let space = c.move_pairs.ensures.changes.rest.space ∙ c.begin_table.ensures.beside.space
+    let space = c.rehash.ensures.changes.rest.space ∙ c.begin_table.ensures.beside.space
     ∙ ap (λ (main : Mutator). main.seat.space) c.in_ok-at.ensures.reserved in
     let before = grown_before_marks c.requires.can counted c.in_ok-at.at c.grown-capacity.result c.need_of.result
     c.in_ok-at.ensures.room
@@ -100,96 +100,96 @@ boxed_word-word-requires-clause-within c v boxed =
 
 pub boxed_word-word-requires-clause-quiet : goal.boxed_word-word-requires-clause-quiet
 boxed_word-word-requires-clause-quiet c =
-    c.move_pairs.ensures.changes.rest.phase ∙ c.begin_table.ensures.beside.phase
+    c.rehash.ensures.changes.rest.phase ∙ c.begin_table.ensures.beside.phase
     ∙ ap (λ (main : Mutator). main.seat.phase) c.in_ok-at.ensures.reserved ∙ c.requires.can.quiet
 
-pub settle-requires-clause-quiet : goal.settle-requires-clause-quiet
-settle-requires-clause-quiet c =
-    c.boxed_word-word.ensures.made.beside.phase ∙ c.move_pairs.ensures.changes.rest.phase
+pub insert_rehashed-requires-clause-quiet : goal.insert_rehashed-requires-clause-quiet
+insert_rehashed-requires-clause-quiet c =
+    c.boxed_word-word.ensures.made.beside.phase ∙ c.rehash.ensures.changes.rest.phase
     ∙ c.begin_table.ensures.beside.phase ∙ ap (λ (main : Mutator). main.seat.phase) c.in_ok-at.ensures.reserved
     ∙ c.requires.can.quiet
 
-pub settle-requires-clause-within : goal.settle-requires-clause-within
-settle-requires-clause-within c =
-    let counted = c.regions-regions.ensures.heap_counted in
+pub insert_rehashed-requires-clause-within : goal.insert_rehashed-requires-clause-within
+insert_rehashed-requires-clause-within c =
+    let counted = c.addresses_fit.ensures.heap_counted in
     let within = begun_within c.requires.can counted c.in_ok-at.at c.grown-capacity.result c.need_of.result
     c.in_ok-at.ensures.room
     (c.in_ok-at.ensures.at (some_words c.grown-capacity.result c.need_of.result))
     c.grown-capacity.ensures c.in_ok-at.ensures.reserved
     c.begin_table.ensures in
     subst (λ (s : Space). c.in_ok-at.at + (store_head + 2 * c.grown-capacity.result) ≤ marks_start s)
-    (sym (c.boxed_word-word.ensures.made.beside.space ∙ c.move_pairs.ensures.changes.rest.space)) within
+    (sym (c.boxed_word-word.ensures.made.beside.space ∙ c.rehash.ensures.changes.rest.space)) within
 
-pub settle-requires-clause-key : goal.settle-requires-clause-key
-settle-requires-clause-key c =
-    let space = c.boxed_word-word.ensures.made.beside.space ∙ c.move_pairs.ensures.changes.rest.space
+pub insert_rehashed-requires-clause-key : goal.insert_rehashed-requires-clause-key
+insert_rehashed-requires-clause-key c =
+    let space = c.boxed_word-word.ensures.made.beside.space ∙ c.rehash.ensures.changes.rest.space
     ∙ c.begin_table.ensures.beside.space ∙ ap (λ (main : Mutator). main.seat.space) c.in_ok-at.ensures.reserved in
     subst (λ (s : Space). c.args.key < marks_start s) (sym space) c.requires.can.key_within
 
 pub made-requires-clause-quiet : goal.made-requires-clause-quiet
 made-requires-clause-quiet c =
-    c.settle.ensures.words.beside.phase ∙ c.boxed_word-word.ensures.made.beside.phase
-    ∙ c.move_pairs.ensures.changes.rest.phase ∙ c.begin_table.ensures.beside.phase
+    c.insert_rehashed.ensures.words.beside.phase ∙ c.boxed_word-word.ensures.made.beside.phase
+    ∙ c.rehash.ensures.changes.rest.phase ∙ c.begin_table.ensures.beside.phase
     ∙ ap (λ (main : Mutator). main.seat.phase) c.in_ok-at.ensures.reserved ∙ c.requires.can.quiet
 
 pub made-requires-clause-within : goal.made-requires-clause-within
 made-requires-clause-within c =
-    let counted = c.regions-regions.ensures.heap_counted in
+    let counted = c.addresses_fit.ensures.heap_counted in
     let within = begun_within c.requires.can counted c.in_ok-at.at c.grown-capacity.result c.need_of.result
     c.in_ok-at.ensures.room
     (c.in_ok-at.ensures.at (some_words c.grown-capacity.result c.need_of.result))
     c.grown-capacity.ensures c.in_ok-at.ensures.reserved
     c.begin_table.ensures in
-    let space = c.settle.ensures.words.beside.space ∙ c.boxed_word-word.ensures.made.beside.space
-    ∙ c.move_pairs.ensures.changes.rest.space in
+    let space = c.insert_rehashed.ensures.words.beside.space ∙ c.boxed_word-word.ensures.made.beside.space
+    ∙ c.rehash.ensures.changes.rest.space in
     subst (λ (s : Space). c.in_ok-at.at < marks_start s) (sym space) (begins_before _ _ _ within)
 
 pub store-requires-clause-quiet : goal.store-requires-clause-quiet
 store-requires-clause-quiet c =
-    ap (λ (main : Mutator). main.seat.phase) c.made.ensures.same ∙ c.settle.ensures.words.beside.phase
-    ∙ c.boxed_word-word.ensures.made.beside.phase ∙ c.move_pairs.ensures.changes.rest.phase
+    ap (λ (main : Mutator). main.seat.phase) c.made.ensures.same ∙ c.insert_rehashed.ensures.words.beside.phase
+    ∙ c.boxed_word-word.ensures.made.beside.phase ∙ c.rehash.ensures.changes.rest.phase
     ∙ c.begin_table.ensures.beside.phase ∙ ap (λ (main : Mutator). main.seat.phase) c.in_ok-at.ensures.reserved
     ∙ c.requires.can.quiet
 
 pub store-requires-clause-within : goal.store-requires-clause-within
 store-requires-clause-within c =
-    let space = ap (λ (main : Mutator). main.seat.space) c.made.ensures.same ∙ c.settle.ensures.words.beside.space
-    ∙ c.boxed_word-word.ensures.made.beside.space ∙ c.move_pairs.ensures.changes.rest.space
+    let space = ap (λ (main : Mutator). main.seat.space) c.made.ensures.same ∙ c.insert_rehashed.ensures.words.beside.space
+    ∙ c.boxed_word-word.ensures.made.beside.space ∙ c.rehash.ensures.changes.rest.space
     ∙ c.begin_table.ensures.beside.space ∙ ap (λ (main : Mutator). main.seat.space) c.in_ok-at.ensures.reserved in
     subst (λ (s : Space). c.args.map + 1 < marks_start s) (sym space) (slot_before _ _ c.requires.can.map_within)
 
-pub write-requires-clause-quiet : goal.write-requires-clause-quiet
-write-requires-clause-quiet c =
+pub write_slot-requires-clause-quiet : goal.write_slot-requires-clause-quiet
+write_slot-requires-clause-quiet c =
     ap (λ (main : Mutator). main.seat.phase) c.store.ensures.stored
-    ∙ ap (λ (main : Mutator). main.seat.phase) c.made.ensures.same ∙ c.settle.ensures.words.beside.phase
-    ∙ c.boxed_word-word.ensures.made.beside.phase ∙ c.move_pairs.ensures.changes.rest.phase
+    ∙ ap (λ (main : Mutator). main.seat.phase) c.made.ensures.same ∙ c.insert_rehashed.ensures.words.beside.phase
+    ∙ c.boxed_word-word.ensures.made.beside.phase ∙ c.rehash.ensures.changes.rest.phase
     ∙ c.begin_table.ensures.beside.phase ∙ ap (λ (main : Mutator). main.seat.phase) c.in_ok-at.ensures.reserved
     ∙ c.requires.can.quiet
 
-pub write-requires-clause-within : goal.write-requires-clause-within
-write-requires-clause-within c =
+pub write_slot-requires-clause-within : goal.write_slot-requires-clause-within
+write_slot-requires-clause-within c =
     let space = ap (λ (main : Mutator). main.seat.space) c.store.ensures.stored
-    ∙ ap (λ (main : Mutator). main.seat.space) c.made.ensures.same ∙ c.settle.ensures.words.beside.space
-    ∙ c.boxed_word-word.ensures.made.beside.space ∙ c.move_pairs.ensures.changes.rest.space
+    ∙ ap (λ (main : Mutator). main.seat.space) c.made.ensures.same ∙ c.insert_rehashed.ensures.words.beside.space
+    ∙ c.boxed_word-word.ensures.made.beside.space ∙ c.rehash.ensures.changes.rest.space
     ∙ c.begin_table.ensures.beside.space ∙ ap (λ (main : Mutator). main.seat.space) c.in_ok-at.ensures.reserved in
     subst (λ (s : Space). c.args.map + 2 < marks_start s) (sym space) c.requires.can.map_within
 
-pub settle-requires-clause-free : goal.settle-requires-clause-free
-settle-requires-clause-free c =
-    let counted = c.regions-regions.ensures.heap_counted in
+pub insert_rehashed-requires-clause-free : goal.insert_rehashed-requires-clause-free
+insert_rehashed-requires-clause-free c =
+    let counted = c.addresses_fit.ensures.heap_counted in
     boxed_free c.requires.can counted c.in_ok-at.at c.grown-capacity.result c.need_of.result c.in_ok-at.ensures.room
     (c.in_ok-at.ensures.at (some_words c.grown-capacity.result c.need_of.result))
     c.grown-capacity.ensures c.in_ok-at.ensures.reserved
     c.begin_table.ensures c.content_for-content.result
-    c.move_pairs.ensures c.boxed_word-word.ensures.made
+    c.rehash.ensures c.boxed_word-word.ensures.made
 
 pub returns-clause-ok : goal.returns-clause-ok
 returns-clause-ok c =
     let old : Mutator = c.args.main.now in
     let begun : Mutator = c.begin_table.new.main in
-    let moved : Mutator = c.move_pairs.new.main in
+    let moved : Mutator = c.rehash.new.main in
     let boxed : Mutator = c.boxed_word-word.new.main in
-    let settled : Mutator = c.settle.new.main in
+    let settled : Mutator = c.insert_rehashed.new.main in
     let told : Mutator = c.made.new.self in
     let linked : Mutator = c.store.new.self in
     let reached : StaysBeside old.seat settled.seat =
@@ -198,7 +198,7 @@ returns-clause-ok c =
     (stays_beside_again old.seat begun.seat moved.seat
     (stays_beside_again old.seat c.room_for.new.main.seat begun.seat
     (reserved_beside old _ c.in_ok-at.ensures.reserved) c.begin_table.ensures.beside)
-    c.move_pairs.ensures.changes.rest) c.boxed_word-word.ensures.made.beside) c.settle.ensures.words.beside in
+    c.rehash.ensures.changes.rest) c.boxed_word-word.ensures.made.beside) c.insert_rehashed.ensures.words.beside in
     let still : StaysBeside settled.seat told.seat = same_beside c.made.ensures.same in
     let marks = ap (λ (s : Space). marks_start s) reached.space in
     let named : StaysBeside settled.seat linked.seat =
@@ -215,7 +215,7 @@ returns-clause-ok c =
       settled = settled;
       settles = search rules;
       words = record {
-        beside = put_beside (c.args.map + 2) _ named c.write.ensures.written
+        beside = put_beside (c.args.map + 2) _ named c.write_slot.ensures.written
             (omega (arith, c.requires.can.map_within, marks, ap (λ (s : Space). marks_start s) named.space));
         paths = search rules;
         young = search rules;

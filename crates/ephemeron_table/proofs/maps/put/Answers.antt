@@ -18,7 +18,7 @@ pub put_there-requires-clause-held : goal.put_there-requires-clause-held
 put_there-requires-clause-held c =
     let shown = c.requires.shown in
     let has = entry_pair c.table_of-table.result c.in-Key.place shown.shows shown.is shown.is_key
-    c.regions-regions.ensures.within c.table_of-table.ensures (comes_within c.in-Key.ensures.0)
+    c.addresses_fit.ensures.within c.table_of-table.ensures (comes_within c.in-Key.ensures.0)
     (c.in-Key.ensures.1 ∙ c.reference.ensures) in
     value_before has c.args.value
 

@@ -3,8 +3,7 @@ use Rattle.std.proofs.Common.{◌≡◌, Some, unwrap_or, ap, subst, arith}
 use Rattle.heap_model.specs.Needs.{count_at}
 use Rattle.heap_model.specs.Slots.{reference_word}
 use Rattle.write_barrier.specs.Mains.{heap_of}
-use Rattle.object_cells.proofs.CellsRead.{fits_address}
-use Rattle.ephemeron_table.specs.Probes as probes
+use Rattle.weak_pairs.specs.Tables as tables
 use Rattle.ephemeron_table.specs.Probes.{EndsNew}
 use Rattle.ephemeron_table.proofs.FullTables.{put_known, over_nowhere, counted_within}
 use Rattle.ephemeron_table.proofs.KeysFound.{weak_shown, shown_there, number_is}
@@ -13,36 +12,30 @@ use Rattle.ephemeron_table.proofs.NewKeys.{lacks_new}
 use Rattle.ephemeron_table.proofs.TablesRead.{count_within}
 use Rattle.ephemeron_table.proofs.maps.put_new.Goals as goal
 
-pub overflow_add-map : goal.overflow_add-map
-overflow_add-map c =
-    let shown = c.requires.shown in
-    fits_address (count_within shown.shows.shows.whole (shown_there (weak_shown shown.shows shown.is)))
-    c.regions-regions.ensures.within
-
-pub word-count-requires-clause-within : goal.word-count-requires-clause-within
-word-count-requires-clause-within c =
+pub slot-count-requires-clause-within : goal.slot-count-requires-clause-within
+slot-count-requires-clause-within c =
     let shown = c.requires.shown in
     count_within shown.shows.shows.whole (shown_there (weak_shown shown.shows shown.is))
 
 pub overflow_cast-count : goal.overflow_cast-count
 overflow_cast-count c =
-    let read : count_at (heap_of c.args.main.now) c.args.map ≡ c.word-count.result =
-    ap (λ found. unwrap_or found 0) c.word-count.ensures.of_heap in
-    let within = counted_within (put_known c.requires.shown c.regions-regions.ensures.within c.requires.table) in
+    let read : count_at (heap_of c.args.main.now) c.args.map ≡ c.slot-count.result =
+    ap (λ found. unwrap_or found 0) c.slot-count.ensures.of_heap in
+    let within = counted_within (put_known c.requires.shown c.addresses_fit.ensures.within c.requires.table) in
     omega (arith, read, within, c.requires.table.small)
 
 pub returns-then-count-ge-ENTRIES_MOST : goal.returns-then-count-ge-ENTRIES_MOST
 returns-then-count-ge-ENTRIES_MOST c graph weak number what shows is is_key held =
     let heap = heap_of c.args.main.now in
-    let read : count_at heap c.args.map ≡ c.word-count.result =
-    ap (λ found. unwrap_or found 0) c.word-count.ensures.of_heap in
+    let read : count_at heap c.args.map ≡ c.slot-count.result =
+    ap (λ found. unwrap_or found 0) c.slot-count.ensures.of_heap in
     let ends = subst (λ n. EndsNew heap c.args.table n (reference_word c.args.key) c.args.place)
     (number_is is_key.place) c.requires.ends in
-    let lacks = lacks_new c.args.place shows is is_key c.regions-regions.ensures.within c.requires.table ends in
+    let lacks = lacks_new c.args.place shows is is_key c.addresses_fit.ensures.within c.requires.table ends in
     let many = c.if-count-ge-ENTRIES_MOST.true in
     record {
-      entry = refuses_entry what c.word-count.result lacks read many;
-      pairs = λ before has. refuses_pair c.args.value c.word-count.result lacks read many has;
+      entry = refuses_entry what c.slot-count.result lacks read many;
+      pairs = λ before has. refuses_pair c.args.value c.slot-count.result lacks read many has;
     }
 
 pub put_free-requires-clause-map : goal.put_free-requires-clause-map
@@ -53,11 +46,11 @@ put_free-requires-clause-map c =
 pub put_grown-requires-in-None-clause-over : goal.put_grown-requires-in-None-clause-over
 put_grown-requires-in-None-clause-over c =
     let heap = heap_of c.args.main.now in
-    let read : count_at heap c.args.map ≡ c.word-count.result =
-    ap (λ found. unwrap_or found 0) c.word-count.ensures.of_heap in
-    let number = probes.number_at heap c.args.key in
+    let read : count_at heap c.args.map ≡ c.slot-count.result =
+    ap (λ found. unwrap_or found 0) c.slot-count.ensures.of_heap in
+    let number = tables.number_at heap c.args.key in
     let passes = subst (EndsNew heap c.args.table number (reference_word c.args.key)) c.in-None.is c.requires.ends in
-    let over = over_nowhere (put_known c.requires.shown c.regions-regions.ensures.within c.requires.table) number
+    let over = over_nowhere (put_known c.requires.shown c.addresses_fit.ensures.within c.requires.table) number
     (reference_word c.args.key) passes in
     omega (arith, over, read)
 
@@ -66,17 +59,17 @@ returns-then-count-table c graph weak number what shows is is_key held =
     let heap = heap_of c.args.main.now in
     let ends = subst (λ n. EndsNew heap c.args.table n (reference_word c.args.key) (Some c.in-Some.at))
     (number_is is_key.place)
-    (subst (EndsNew heap c.args.table (probes.number_at heap c.args.key) (reference_word c.args.key)) c.in-Some.is
+    (subst (EndsNew heap c.args.table (tables.number_at heap c.args.key) (reference_word c.args.key)) c.in-Some.is
     c.requires.ends) in
     c.put_free.ensures graph weak number what shows is is_key held c.requires.table
-    (ap (λ found. unwrap_or found 0) c.word-count.ensures.of_heap) ends.0 ends.1
+    (ap (λ found. unwrap_or found 0) c.slot-count.ensures.of_heap) ends.0 ends.1
 
 pub returns-else-count-table : goal.returns-else-count-table
 returns-else-count-table c graph weak number what shows is is_key held =
     let heap = heap_of c.args.main.now in
     let ends = subst (λ n. EndsNew heap c.args.table n (reference_word c.args.key) c.args.place)
     (number_is is_key.place) c.requires.ends in
-    let lacks = lacks_new c.args.place shows is is_key c.regions-regions.ensures.within c.requires.table ends in
+    let lacks = lacks_new c.args.place shows is is_key c.addresses_fit.ensures.within c.requires.table ends in
     c.put_grown.ensures graph weak number what shows is is_key held lacks.fresh
 
 pub returns-in-None : goal.returns-in-None
@@ -84,5 +77,5 @@ returns-in-None c graph weak number what shows is is_key held =
     let heap = heap_of c.args.main.now in
     let ends = subst (λ n. EndsNew heap c.args.table n (reference_word c.args.key) c.args.place)
     (number_is is_key.place) c.requires.ends in
-    let lacks = lacks_new c.args.place shows is is_key c.regions-regions.ensures.within c.requires.table ends in
+    let lacks = lacks_new c.args.place shows is is_key c.addresses_fit.ensures.within c.requires.table ends in
     c.put_grown-in-None.ensures graph weak number what shows is is_key held lacks.fresh

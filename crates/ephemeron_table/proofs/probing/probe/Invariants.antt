@@ -1,6 +1,6 @@
 -- All pairs so far hold something, and have other keys.
 use Rattle.write_barrier.specs.Mains.{heap_of}
-use Rattle.ephemeron_table.specs.Probes.{PassesBefore}
+use Rattle.weak_pairs.specs.Probes.{PassesBefore}
 use Rattle.ephemeron_table.proofs.probing.probe.Given as goal
 
 abbrev pub invariant-loop-steps : goal.invariant-loop-steps

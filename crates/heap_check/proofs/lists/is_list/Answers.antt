@@ -23,7 +23,7 @@ returns-in-Some c =
     let count = c.word_of-count.result in
     let span = c.in-Some.span in (
       λ yes. list_from heap words store count span c.word_of-store.ensures c.word_of-count.ensures
-          (omega (arith, c.if-count-gt-ELEMENTS.false)) c.in-Some.ensures (c.hold_values.ensures.0 yes),
+          (omega (arith, c.if-count.false)) c.in-Some.ensures (c.hold_values.ensures.0 yes),
       λ list. c.hold_values.ensures.1
           (list_to heap words store count span c.word_of-store.ensures c.word_of-count.ensures c.in-Some.ensures list),
     )

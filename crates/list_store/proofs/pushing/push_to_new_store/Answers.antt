@@ -7,7 +7,6 @@ use Rattle.heap_table.specs.Seats.{StaysBeside}
 use Rattle.heap_table.specs.Staying.{stays_beside_again}
 use Rattle.write_barrier.specs.Mains.{Mutator}
 use Rattle.object_cells.specs.Made.{content_need}
-use Rattle.object_cells.proofs.CellsRead.{fits_address}
 use Rattle.object_cells.proofs.WordsBeside.{same_beside, put_beside, reserved_beside}
 use Rattle.object_cells.proofs.UnusedWords.{run_before_marks, run_apart, marks_fit}
 use Rattle.object_cells.proofs.ListCells.{count_within, slot_within}
@@ -81,8 +80,8 @@ store-requires-2-clause-quiet c =
     ∙ c.boxed_word-word.ensures.made.beside.phase ∙ c.begin_store.ensures.beside.phase
     ∙ ap (λ (main : Mutator). main.seat.phase) c.in_ok-at.ensures.reserved ∙ c.requires.can.ready.whole.quiet
 
-pub write-requires-clause-quiet : goal.write-requires-clause-quiet
-write-requires-clause-quiet c =
+pub write_slot-requires-clause-quiet : goal.write_slot-requires-clause-quiet
+write_slot-requires-clause-quiet c =
     ap (λ (main : Mutator). main.seat.phase) c.store-2.ensures.stored
     ∙ ap (λ (main : Mutator). main.seat.phase) c.made.ensures.same
     ∙ ap (λ (main : Mutator). main.seat.phase) c.store.ensures.stored
@@ -114,7 +113,7 @@ overflow_add-at c =
     let space = c.args.main.now.seat.space in
     let before = run_before_marks c.args.main.now need c.in_ok-at.at space c.requires.can.ready.tied
     c.in_ok-at.ensures.room (c.in_ok-at.ensures.at (omega arith)) refl in
-    omega (arith, before, marks_fit space c.regions-regions.ensures.within)
+    omega (arith, before, marks_fit space c.addresses_fit.ensures.within)
 
 pub store-requires-2-clause-within : goal.store-requires-2-clause-within
 store-requires-2-clause-within c =
@@ -124,13 +123,8 @@ store-requires-2-clause-within c =
     ∙ c.begin_store.ensures.beside.space ∙ ap (λ (main : Mutator). main.seat.space) c.in_ok-at.ensures.reserved in
     omega (arith, within, ap (λ (s : Space). marks_start s) space)
 
-pub overflow_add-list : goal.overflow_add-list
-overflow_add-list c =
-    fits_address (count_within c.requires.can.ready.whole.whole c.requires.can.ready.there)
-    c.regions-regions.ensures.within
-
-pub write-requires-clause-within : goal.write-requires-clause-within
-write-requires-clause-within c =
+pub write_slot-requires-clause-within : goal.write_slot-requires-clause-within
+write_slot-requires-clause-within c =
     let within = count_within c.requires.can.ready.whole.whole c.requires.can.ready.there in
     let space = ap (λ (main : Mutator). main.seat.space) c.store-2.ensures.stored
     ∙ ap (λ (main : Mutator). main.seat.space) c.made.ensures.same
@@ -166,7 +160,7 @@ returns-clause-ok c =
     record {
       room = search rules;
       words = record {
-        beside = put_beside (c.args.list + 2) _ named c.write.ensures.written
+        beside = put_beside (c.args.list + 2) _ named c.write_slot.ensures.written
             (omega (arith, count_within ready.whole.whole ready.there, ap (λ (s : Space). marks_start s) named.space));
         paths = search rules;
         young = search rules;

@@ -5,7 +5,6 @@ use Rattle.heap_table.specs.Seats.{StaysBeside}
 use Rattle.heap_table.specs.Staying.{stays_beside_again}
 use Rattle.write_barrier.specs.Mains.{Mutator}
 use Rattle.object_cells.specs.Made.{content_need}
-use Rattle.object_cells.proofs.CellsRead.{fits_address}
 use Rattle.object_cells.proofs.WordsBeside.{put_beside, reserved_beside}
 use Rattle.object_cells.proofs.UnusedWords.{run_before_marks}
 use Rattle.object_cells.proofs.ListCells.{count_within}
@@ -19,13 +18,8 @@ boxed_word-word-requires-clause-within c v boxed =
     c.requires.can.ready.tied c.in_ok-at.ensures.room (c.in_ok-at.ensures.at (omega arith)) space in
     omega (arith, before, need)
 
-pub overflow_add-list : goal.overflow_add-list
-overflow_add-list c =
-    fits_address (count_within c.requires.can.ready.whole.whole c.requires.can.ready.there)
-    c.regions-regions.ensures.within
-
-pub write-requires-clause-within : goal.write-requires-clause-within
-write-requires-clause-within c =
+pub write_slot-requires-clause-within : goal.write_slot-requires-clause-within
+write_slot-requires-clause-within c =
     let within = count_within c.requires.can.ready.whole.whole c.requires.can.ready.there in
     let space = ap (λ (main : Mutator). main.seat.space) c.store.ensures.stored
     ∙ c.boxed_word-word.ensures.made.beside.space
@@ -53,7 +47,7 @@ returns-clause-ok c =
     record {
       room = search rules;
       words = record {
-        beside = put_beside (c.args.list + 2) _ filled c.write.ensures.written
+        beside = put_beside (c.args.list + 2) _ filled c.write_slot.ensures.written
             (omega (arith, count_within ready.whole.whole ready.there, ap (λ (s : Space). marks_start s) filled.space));
         paths = search rules;
         young = search rules;

@@ -75,7 +75,7 @@ returns-in-Ok c graph one what shows is holds =
       has_put store place known c.store_of-store.ensures stands.below (omega (arith, below, counted))
           (omega (arith, counted, c.count_of.ensures.few))
           (omega (arith, counted, store_has_room store ready c.store_of-store.ensures))
-          c.regions-regions.ensures.within fills by,
+          c.addresses_fit.ensures.within fills by,
     )
 
 pub returns-in-Err : goal.returns-in-Err
@@ -96,7 +96,7 @@ returns-in-Err c graph one what shows is holds =
       place,
       index_named c.count_of.result c.args.index c.place_of.result shown c.count_of.ensures.counted index
           c.place_of.ensures ∙ c.in-Some.is,
-      lacks.0 ∙ put_need store place known c.store_of-store.ensures stands.below c.regions-regions.ensures.within,
+      lacks.0 ∙ put_need store place known c.store_of-store.ensures stands.below c.addresses_fit.ensures.within,
       lacks.1,
       c.in-Err.ensures.1,
     )

@@ -7,7 +7,6 @@ use Rattle.object_graph.specs.declared.value.Value.TheVariants.{Undefined}
 use Rattle.handle_roots.specs.declared.held.Held.{Held}
 use Rattle.heap_model.specs.Showing.{ShowsHeld}
 use Rattle.write_barrier.specs.Mains.{heap_of}
-use Rattle.object_cells.proofs.CellsRead.{fits_address}
 use Rattle.object_cells.proofs.ListCells.{list_shown, shown_there, shown_beside, count_shown, shown_ready}
 use Rattle.object_cells.proofs.ElementsRead.{place_below}
 use Rattle.object_cells.proofs.NamedPlaces.{index_named, place_stands, element_shown}
@@ -25,15 +24,8 @@ returns-in_default c graph one shows is =
 pub store_of-store-requires-clause-there : goal.store_of-store-requires-clause-there
 store_of-store-requires-clause-there c = shown_beside (list_shown c.requires.shows c.requires.is)
 
-pub overflow_add-store : goal.overflow_add-store
-overflow_add-store c =
-    let ready = shown_ready c.requires.shows (list_shown c.requires.shows c.requires.is) c.count_of.ensures.counted in
-    let below = place_below c.count_of.result c.in-Some.place _ (sym c.place_of.ensures ∙ c.in-Some.is) in
-    fits_address (place_stands c.store_of-store.result c.in-Some.place ready c.store_of-store.ensures below).within
-    c.regions-regions.ensures.within
-
-pub word-word-requires-clause-within : goal.word-word-requires-clause-within
-word-word-requires-clause-within c =
+pub slot-word-requires-clause-within : goal.slot-word-requires-clause-within
+slot-word-requires-clause-within c =
     let ready = shown_ready c.requires.shows (list_shown c.requires.shows c.requires.is) c.count_of.ensures.counted in
     let below = place_below c.count_of.result c.in-Some.place _ (sym c.place_of.ensures ∙ c.in-Some.is) in
     (place_stands c.store_of-store.result c.in-Some.place ready c.store_of-store.ensures below).within
@@ -48,10 +40,10 @@ value_of_word-requires-clause-within c =
     let room = (place_stands c.store_of-store.result place ready c.store_of-store.ensures below).below in
     let few : place < length c.requires.list.elements =
     omega (arith, below, c.count_of.ensures.counted, count_shown shown) in
-    let value = element_shown c.store_of-store.result place c.word-word.result shows.shows.whole shown
-    c.store_of-store.ensures few room c.word-word.ensures.of_heap in
-    (c.laws_of_values.ensures (heap_of c.args.main.now) c.word-word.result
-    (get_or c.requires.list.elements place Undefined) c.regions-regions.ensures.within shows.shows.whole.sized
+    let value = element_shown c.store_of-store.result place c.slot-word.result shows.shows.whole shown
+    c.store_of-store.ensures few room c.slot-word.ensures.of_heap in
+    (c.laws_of_values.ensures (heap_of c.args.main.now) c.slot-word.result
+    (get_or c.requires.list.elements place Undefined) c.addresses_fit.ensures.within shows.shows.whole.sized
     value).within
 
 pub returns : goal.returns
@@ -65,10 +57,10 @@ returns c graph one shows is =
     let room = (place_stands c.store_of-store.result place ready c.store_of-store.ensures below).below in
     let few : place < length one.elements = omega (arith, below, c.count_of.ensures.counted, count_shown shown) in
     let value = get_or one.elements place Undefined in
-    let by = c.laws_of_values.ensures heap c.word-word.result value c.regions-regions.ensures.within
+    let by = c.laws_of_values.ensures heap c.slot-word.result value c.addresses_fit.ensures.within
     shows.shows.whole.sized
-    (element_shown c.store_of-store.result place c.word-word.result shows.shows.whole shown c.store_of-store.ensures
-    few room c.word-word.ensures.of_heap) in (
+    (element_shown c.store_of-store.result place c.slot-word.result shows.shows.whole shown c.store_of-store.ensures
+    few room c.slot-word.ensures.of_heap) in (
       value,
       record {
         place = place;

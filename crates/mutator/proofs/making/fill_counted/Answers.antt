@@ -15,9 +15,9 @@ returns-clause-filled c =
     let space = main.seat.space in
     let header = header_bits c.args.header in
     let odd : c.odd.result.0 ≡ undefined_word = c.odd.ensures in
-    c.made.ensures.same ∙ c.write-2.ensures.written
+    c.made.ensures.same ∙ c.write_slot-2.ensures.written
     ∙ ap (λ (now : Mutator). with_word now (at + 2) 0)
-    (c.write.ensures.written
+    (c.write_slot.ensures.written
     ∙ ap (λ (now : Mutator). with_word now (at + 1) c.odd.result.0) c.set_header.ensures.written
     ∙ ap (λ (word : ℕ). with_word (with_word main at header) (at + 1) word) odd)
     ∙ ap (λ (table : List ℕ). with_table main table)
@@ -25,7 +25,7 @@ returns-clause-filled c =
     (omega (
       arith,
       c.requires.within,
-      c.regions-regions.ensures.counted,
+      c.addresses_fit.ensures.counted,
       marks_start_is space,
       board_start_is space,
       words_count_is space,
@@ -37,9 +37,9 @@ returns-clause-heap c =
     let at = c.args.at in
     let header = header_bits c.args.header in
     let odd : c.odd.result.0 ≡ undefined_word = c.odd.ensures in
-    ap (λ (now : Mutator). heap_words now.seat) c.made.ensures.same ∙ c.write-2.ensures.heap
+    ap (λ (now : Mutator). heap_words now.seat) c.made.ensures.same ∙ c.write_slot-2.ensures.heap
     ∙ ap (λ (words : List ℕ). slice_set words (at + 2) 0)
-    (c.write.ensures.heap ∙ ap (λ (words : List ℕ). slice_set words (at + 1) c.odd.result.0) c.set_header.ensures.heap
+    (c.write_slot.ensures.heap ∙ ap (λ (words : List ℕ). slice_set words (at + 1) c.odd.result.0) c.set_header.ensures.heap
     ∙ ap (λ (word : ℕ). slice_set (slice_set (heap_words main.seat) at header) (at + 1) word) odd)
     ∙ three_in_a_row (heap_words main.seat) at header undefined_word 0
-    (omega (arith, c.requires.within, c.regions-regions.ensures.heap_counted))
+    (omega (arith, c.requires.within, c.addresses_fit.ensures.heap_counted))

@@ -5,7 +5,7 @@ use Rattle.word_store.specs.Copies.{copied}
 use Rattle.heap_table.specs.Seats.{heap_words, StaysBeside}
 use Rattle.heap_table.specs.Staying.{stays_beside_again}
 use Rattle.write_barrier.specs.Mains.{Mutator}
-use Rattle.write_barrier.specs.Values.{empty_store}
+use Rattle.object_cells.specs.Formats.{empty_store}
 use Rattle.object_cells.proofs.PutRanges.{length-with_range}
 use Rattle.object_cells.proofs.StoreWords.{length-empty_store}
 use Rattle.object_cells.proofs.WordsBeside.{range_beside, copy_beside}
@@ -14,12 +14,12 @@ use Rattle.object_cells.proofs.stores.begin_store.Goals as goal
 pub returns : goal.returns
 returns c =
     let old : Mutator = c.args.main.now in
-    let mid : Mutator = c.fill_store.new.self in
+    let mid : Mutator = c.fill_store.new.main in
     let new : Mutator = c.copy_slots.new.self in
     let at = c.args.at in
     let store = c.args.store in
     let capacity = c.args.capacity in
-    let counted = c.regions-regions.ensures.heap_counted in
+    let counted = c.addresses_fit.ensures.heap_counted in
     let within : at + length (empty_store capacity) ≤ marks_start old.seat.space =
     omega (arith, c.requires.within, length-empty_store capacity) in
     let inside : at + length (empty_store capacity) ≤ length (heap_words old.seat) = omega (arith, within, counted) in

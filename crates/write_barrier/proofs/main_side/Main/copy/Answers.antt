@@ -11,7 +11,7 @@ returns-clause-heap c =
     let target_known : c.args.to < seat.space.variables = rw (← c.self.view_is) at c.requires.target_known in
     rw (← c.self.view_is) (λ held holds.
     ap heap_words (c.copy_in.ensures.copied held
-    (holds_in_table seat c.args.from held c.regions-regions.ensures.counted known holds))
+    (holds_in_table seat c.args.from held (rw (← c.self.view_is) at c.addresses_fit.ensures.counted) known holds))
     ∙ heap_words-with_root seat c.args.to held target_known)
 
 pub returns-clause-holds : goal.returns-clause-holds
@@ -20,6 +20,6 @@ returns-clause-holds c =
     let known : c.args.from < seat.space.variables = rw (← c.self.view_is) at c.requires.known in
     let target_known : c.args.to < seat.space.variables = rw (← c.self.view_is) at c.requires.target_known in
     rw (← c.self.view_is) (λ held holds.
-    let table = holds_in_table seat c.args.from held c.regions-regions.ensures.counted known holds in
+    let table = holds_in_table seat c.args.from held (rw (← c.self.view_is) at c.addresses_fit.ensures.counted) known holds in
     held_before_marks seat c.copy_in.new.seat c.args.to held (c.copy_in.ensures.copied held table)
-    c.regions-regions.ensures.counted target_known (c.copy_in.ensures.holds held table))
+    (rw (← c.self.view_is) at c.addresses_fit.ensures.counted) target_known (c.copy_in.ensures.holds held table))

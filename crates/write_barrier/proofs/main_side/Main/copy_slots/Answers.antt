@@ -16,16 +16,16 @@ loop-i-preserved c =
     let from = c.args.from in
     let to = c.args.to in
     let i = c.loop-i.i in
-    let word = c.word-word.result in
+    let word = c.slot-word.result in
     let few : marks_start first.seat.space ≤ length table =
-    omega (arith, c.regions-regions.ensures.counted, marks_within first.seat.space) in
+    omega (arith, c.addresses_fit.ensures.counted, marks_within first.seat.space) in
     let within : from + c.args.count ≤ length table = omega (arith, few) in
     let room : to + c.args.count ≤ length table = omega (arith, few) in
     let stood : slice_get (copied table from to i) (from + i) ≡ Some word =
     ap (λ (main : Mutator). slice_get main.seat.table (from + i)) (sym c.loop-i.invariant)
-    ∙ c.word-word.ensures.of_table in
-    put_more first c.loop-i.self c.write.new.self (copied table from to i) (copied table from to (i + 1)) (to + i) word
-    c.loop-i.invariant c.write.ensures.written
+    ∙ c.slot-word.ensures.of_table in
+    put_more first c.loop-i.self c.write_slot.new.self (copied table from to i) (copied table from to (i + 1)) (to + i) word
+    c.loop-i.invariant c.write_slot.ensures.written
     (copied_more table from to c.args.count i word within room c.loop-i-test.true
     (slice_get-copied_next table from to c.args.count i word within room c.requires.apart c.loop-i-test.true stood))
 
@@ -34,5 +34,5 @@ returns-clause-heap c =
     let first = c.args.self.now in
     let all : c.loop-i.i ≡ c.args.count = omega arith in
     heap_copied first c.loop-i.self c.args.from c.args.to c.loop-i.i c.loop-i.invariant (omega arith) (omega arith)
-    c.regions-regions.ensures.counted
+    c.addresses_fit.ensures.counted
     ∙ ap (λ (n : ℕ). copied (heap_words first.seat) c.args.from c.args.to n) all

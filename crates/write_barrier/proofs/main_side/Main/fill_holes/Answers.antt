@@ -15,10 +15,10 @@ loop-i-preserved c =
     let first = c.args.self.now in
     let i = c.loop-i.i in
     let written =
-    c.write.ensures.written ∙ ap (λ (word : ℕ). with_word c.loop-i.self (c.args.at + i) word) c.odd-hole.ensures in
+    c.write_slot.ensures.written ∙ ap (λ (word : ℕ). with_word c.loop-i.self (c.args.at + i) word) c.odd-hole.ensures in
     let within : c.args.at + i < length first.seat.table =
-    omega (arith, c.regions-regions.ensures.counted, marks_within first.seat.space) in
-    put_more first c.loop-i.self c.write.new.self (with_range first.seat.table c.args.at (replicate i hole_word))
+    omega (arith, c.addresses_fit.ensures.counted, marks_within first.seat.space) in
+    put_more first c.loop-i.self c.write_slot.new.self (with_range first.seat.table c.args.at (replicate i hole_word))
     (with_range first.seat.table c.args.at (replicate (i + 1) hole_word))
     (c.args.at + i) hole_word c.loop-i.invariant written
     (fill_more first.seat.table c.args.at i hole_word within)
@@ -31,5 +31,5 @@ returns-clause-heap c =
     let within : c.args.at + length (replicate i hole_word) ≤ marks_start first.seat.space =
     omega (arith, length-replicate i hole_word) in
     heap_with_range first c.loop-i.self (replicate i hole_word) c.args.at c.loop-i.invariant within
-    c.regions-regions.ensures.counted
+    c.addresses_fit.ensures.counted
     ∙ ap (λ (n : ℕ). with_range (heap_words first.seat) c.args.at (replicate n hole_word)) all

@@ -29,7 +29,7 @@ loop-shape-preserved c =
     let few : shape < shapes_most =
     omega (arith, c.paths-paths.ensures.counted, c.paths-paths.ensures.good.few) in
     let within : layouts_start old.seat.space + shape < length (heap_words old.seat) =
-    omega (arith, marks_start_is space, changes.count, c.regions-regions.ensures.heap_counted) in
+    omega (arith, marks_start_is space, changes.count, c.addresses_fit.ensures.heap_counted) in
     record {
       changes = changes_then c.args.self.now old new (layouts_start space) (marks_start space) (layouts_start space)
           (marks_start space) changes

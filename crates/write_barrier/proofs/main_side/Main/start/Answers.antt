@@ -1,6 +1,7 @@
 -- What stands in the heap at last.
 use Rattle.std.proofs.Common.{subst, ap, ◌∙◌}
 use Rattle.page_space.specs.Sizes.{AreWithin}
+use Rattle.page_space.specs.Extents.{Space}
 use Rattle.write_barrier.specs.Mains.{Mutator}
 use Rattle.write_barrier.proofs.Starting.{put_to, put_all, layouts_zero, all_started}
 use Rattle.write_barrier.proofs.main_side.Main.start.Goals as goal
@@ -27,9 +28,8 @@ returns-clause-started c =
     let bound = c.put_unbound.new.self in
     let put = put_to space first gaps bound c.requires c.put_gaps.ensures.changes c.put_unbound.ensures.changes in
     let within : AreWithin space.sizes space.variables =
-    subst (λ (main : Mutator). AreWithin main.seat.space.sizes main.seat.space.variables) c.requires
-    c.regions-regions.ensures.within in
+    subst (λ (s : Space). AreWithin s.sizes s.variables) (returns-clause-space c) c.addresses_fit.ensures.within in
     all_started space first gaps bound c.put_layouts.new.self
     (put_all space first gaps bound c.put_layouts.new.self put c.put_gaps.ensures.gaps c.put_unbound.ensures.firsts
     c.put_unbound.ensures.seconds c.put_layouts.ensures.changes c.put_layouts.ensures.layouts)
-    within c.regions-regions_at_last.ensures.heap_counted
+    within c.addresses_fit.ensures.heap_counted

@@ -1,6 +1,0 @@
--- The pairs so far stand in the other table.
-use Rattle.ephemeron_table.specs.Movings.{MovesPairs}
-use Rattle.ephemeron_table.proofs.growing.move_pairs.Given as goal
-
-abbrev pub invariant-loop-at : goal.invariant-loop-at
-invariant-loop-at l = MovesPairs l.fn.main l.main l.from l.to l.at

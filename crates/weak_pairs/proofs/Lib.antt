@@ -1,0 +1,16 @@
+pub mod PairLists
+pub mod PairsPut
+pub mod PairWords
+pub mod CountedPairs
+pub mod FreePairs
+pub mod FilledPairs
+pub mod KeyedPairs
+pub mod PairNumbers
+pub mod Removals
+pub mod FirstRounds
+pub mod BackwardShifts
+pub mod InsertedPairs
+pub mod Rehashing
+pub mod GrownPowers
+pub mod EntriesFound
+pub mod EntryLists
