@@ -35,7 +35,8 @@ not_outside start cell at from to outside =
 pair_inside : (world : World) (start : ℕ) (table : Reading) (pair : ℕ) → any_cell world start ≡ Some table
     → table.layout.kind ≡ kind.Table → pair < table.length → key_place start pair + 1 < start + table.size
 pair_inside world start table pair e is_table within =
-    let reads = cell_from world.words world.layouts start (bound_by world.old world.words start (nat_lt start world.old))
+    let reads = cell_from world.words world.layouts start
+    (bound_by world.old world.words start (nat_lt start world.old))
     table (sym (any_read world start) ∙ e) in
     let size = size_is (words_least table.layout.kind) (words_of table.layout.kind table.layout.cap table.length)
     table.size reads.sized in
@@ -47,7 +48,8 @@ pair_inside world start table pair e is_table within =
 slot_inside : (world : World) (start : ℕ) (cell : Reading) (offset : ℕ) → any_cell world start ≡ Some cell
     → Contains (slots_of cell) offset → offset < cell.size
 slot_inside world start cell offset e c =
-    let reads = cell_from world.words world.layouts start (bound_by world.old world.words start (nat_lt start world.old))
+    let reads = cell_from world.words world.layouts start
+    (bound_by world.old world.words start (nat_lt start world.old))
     cell (sym (any_read world start) ∙ e) in
     (slot_within cell.layout cell.length cell.size offset reads.is_layout reads.sized
     (tagged_is_scavenged cell.layout cell.length offset c)).1
