@@ -29,12 +29,13 @@ use Rattle.object_cells.specs.Made.{beside_content, content_need, RefusesRoom}
 use Rattle.object_cells.specs.Uses.{UsesMore}
 use Rattle.object_cells.proofs.HeldContents.{HoldsValue}
 use Rattle.object_cells.proofs.HeldNeeds.{new_value_held, content_need_is, wide_is}
+use Rattle.ephemeron_table.proofs.KeptTables.{tables_stay}
 use Rattle.ephemeron_table.specs.EntryChanges.{HasPutEntry, PutsEntry}
 use Rattle.ephemeron_table.specs.declared.stop.TableStop.TheVariants as stop
 use Rattle.ephemeron_table.specs.Growth.{put_capacity_at, put_capacity_by}
 use Rattle.weak_pairs.specs.Pairs.{HasPairsAt}
 use Rattle.ephemeron_table.specs.PairChanges.{PutsPair}
-use Rattle.ephemeron_table.specs.PairLaws.{PutsOne, RefillsWeak, TablesStay, WrittenEntriesShow, IsNewValue}
+use Rattle.ephemeron_table.specs.PairLaws.{PutsOne, RefillsWeak, WrittenEntriesShow, IsNewValue}
 use Rattle.ephemeron_table.specs.WeakObjects.{IsKeyAt, IsWeakAt}
 use Rattle.ephemeron_table.specs.Probes.{EndsBy, IsTableAt}
 use Rattle.ephemeron_table.specs.declared.probing.End.TheVariants as probe_end
@@ -186,25 +187,24 @@ module _ {old : Mutator} {graph : Graph} {map key : ℕ} {weak : WeakObject} {nu
           (count_after map_known (below ends) puts (length graph.objects) ends.lacks.is_key.place holds is all counted)
 
       -- only words of the map have changed, and its table stays
-      changes : TablesStay → ChangesObject (heap_of old) (heap_of new) map (capacity_at (heap_of old) map)
-      changes tables_stay =
+      changes : ChangesObject (heap_of old) (heap_of new) map (capacity_at (heap_of old) map)
+      changes =
           let heap = heap_of old in
           subst (λ at. ChangesObject heap (heap_of new) at (capacity_at heap at)) (shown ends.lacks).stands
-          (tables_stay heap (heap_of new) (cell map_known) _ _ refills
+          (tables_stay refills
           (slot_stays map_known (below ends) puts (length graph.objects) ends.lacks.is_key.place holds is all
           counted))
 
       -- so the entry is put
-      pub puts_new_entry : TablesStay → WrittenEntriesShow → HasPutEntry old new graph map key weak number what
-      puts_new_entry tables_stay entries_show =
+      pub puts_new_entry : WrittenEntriesShow → HasPutEntry old new graph map key weak number what
+      puts_new_entry entries_show =
           let heap = heap_of old in
           let weak_is = shown ends.lacks in
-          let same = changes tables_stay in
           record {
             few = not_full_for ends.lacks not_full;
             room = subst (HasRoom old.young) need_is puts.room;
             uses = subst (UsesMore old new) need_is (record { beside = puts.words.beside; young = puts.words.young });
-            changes = subst (ChangesObject heap (heap_of new) map) capacity_is same;
+            changes = subst (ChangesObject heap (heap_of new) map) capacity_is changes;
             shows = entries_show old new graph weak (cell map_known) _ _ number (Some what) ends.lacks.shows
                 ends.lacks.is.object ends.lacks.is.reached ends.lacks.is_key.reached weak_is.carries weak_is.shows
                 (λ one is_one. subst (IsNewValue graph) (same_Some what one is_one)
@@ -214,8 +214,8 @@ module _ {old : Mutator} {graph : Graph} {map key : ℕ} {weak : WeakObject} {nu
           }
 
       -- and its pair
-      pub puts_new_pair : TablesStay → PutsShown old new graph map key weak number value what
-      puts_new_pair tables_stay = record {
+      pub puts_new_pair : PutsShown old new graph map key weak number value what
+      puts_new_pair = record {
         shows = ends.lacks.shows;
         is = ends.lacks.is;
         is_key = ends.lacks.is_key;
@@ -232,7 +232,7 @@ module _ {old : Mutator} {graph : Graph} {map key : ℕ} {weak : WeakObject} {nu
         refills = refills;
         one = one;
         capacity = _;
-        changes = changes tables_stay;
+        changes = changes;
         counted = CountsPut.fresh ends.lacks.fresh filled_more;
       }
 
@@ -268,7 +268,7 @@ ends_free shows is is_key held is_value sizes is_table ends counted few fits = r
 pub free_key_put : {old new : Mutator} {graph : Graph} {map key : ℕ} {weak : WeakObject} {number count place : ℕ}
     {table : Table} {value : Held} {what : Value}
     → EndsFree old graph map key weak number count place table value what
-    → PutsInTable old new map table place key (count + 1) value → TablesStay → WrittenEntriesShow
+    → PutsInTable old new map table place key (count + 1) value → WrittenEntriesShow
     → HasPutEntry old new graph map key weak number what
 free_key_put free puts =
     puts_new_entry free.fitting (record { lacks = free.fitting.lacks; comes = free.ends.0; free = free.ends.1 })
@@ -278,7 +278,7 @@ free_key_put free puts =
 pub free_key_pair : {old new : Mutator} {graph : Graph} {map key : ℕ} {weak : WeakObject} {number count place : ℕ}
     {table : Table} {value : Held} {what : Value}
     → EndsFree old graph map key weak number count place table value what
-    → PutsInTable old new map table place key (count + 1) value → TablesStay
+    → PutsInTable old new map table place key (count + 1) value
     → PutsShown old new graph map key weak number value what
 free_key_pair free puts =
     puts_new_pair free.fitting (record { lacks = free.fitting.lacks; comes = free.ends.0; free = free.ends.1 })

@@ -25,11 +25,12 @@ use Rattle.object_cells.specs.Uses.{UsesMore}
 use Rattle.object_cells.proofs.HeldContents.{HoldsValue}
 use Rattle.object_cells.proofs.HeldNeeds.{held_is_value, new_value_held}
 use Rattle.object_cells.proofs.UnusedWords.{marks_fit, next_before_marks}
+use Rattle.ephemeron_table.proofs.KeptTables.{tables_grow}
 use Rattle.ephemeron_table.specs.EntryChanges.{HasPutEntry, IsFullFor, PutsEntry}
 use Rattle.ephemeron_table.specs.declared.stop.TableStop.TheVariants as stop
 use Rattle.ephemeron_table.specs.Growth.{put_capacity_by}
 use Rattle.ephemeron_table.specs.Movings.{CanGrow, PutsInNewTable, new_table_need}
-use Rattle.ephemeron_table.specs.PairLaws.{RefillsWeak, TablesGrow, WrittenEntriesShow, IsNewValue}
+use Rattle.ephemeron_table.specs.PairLaws.{RefillsWeak, WrittenEntriesShow, IsNewValue}
 use Rattle.weak_pairs.specs.declared.table.Table.{Table}
 use Rattle.weak_pairs.proofs.CountedPairs.{count_filled}
 use Rattle.ephemeron_table.proofs.GrownEntries.{IsGrowing, growing_can, growing_need, known, length-with_entry_new}
@@ -106,13 +107,11 @@ module _ {old : Mutator} {graph : Graph} {map key : ℕ} {weak : WeakObject} {nu
         (count_now k can puts objects growing.is_key.place holds is_value counted)
 
     -- the map has as many pairs as the table that was made
-    grows : TablesGrow → ChangesObject (heap_of old) (heap_of new) map (grown_table table.capacity)
-    grows tables_grow =
+    grows : ChangesObject (heap_of old) (heap_of new) map (grown_table table.capacity)
+    grows =
         let ends = next_before_marks old (new_table_need table value) k.tied puts.room in
         subst (λ at. ChangesObject (heap_of old) (heap_of new) at (grown_table table.capacity)) k.there.stands
-        (tables_grow (heap_of old) (heap_of new) (cell k) []
-        (all_made k can puts objects growing.is_key.place holds is_value counted)
-        (table_made k can puts objects growing.is_key.place holds is_value counted) refills
+        (tables_grow refills (table_made k can puts objects growing.is_key.place holds is_value counted)
         (first_in (table_made k can puts objects growing.is_key.place holds is_value counted)
         (boxes_made k can puts objects growing.is_key.place holds is_value counted)) refl
         (omega (arith, ends, marks_fit old.seat.space growing.sizes))
@@ -128,15 +127,15 @@ module _ {old : Mutator} {graph : Graph} {map key : ℕ} {weak : WeakObject} {nu
         ∙ ap (put_capacity_by (heap_of old) map) (sym (no_pair_of growing))
 
     -- so the entry has the value
-    pub grown_entry : TablesGrow → WrittenEntriesShow → HasPutEntry old new graph map key weak number what
-    grown_entry tables_grow entries_show =
+    pub grown_entry : WrittenEntriesShow → HasPutEntry old new graph map key weak number what
+    grown_entry entries_show =
         let need_is = growing_need growing value what held in
         let words = (puts_weak k can puts).puts in
         record {
           few = growing_few;
           room = subst (HasRoom old.young) need_is puts.room;
           uses = subst (UsesMore old new) need_is (record { beside = words.beside; young = words.young });
-          changes = subst (ChangesObject (heap_of old) (heap_of new) map) capacity_is (grows tables_grow);
+          changes = subst (ChangesObject (heap_of old) (heap_of new) map) capacity_is grows;
           shows = entries_show old new graph weak (cell k) []
               (all_made k can puts objects growing.is_key.place holds is_value counted) number (Some what)
               growing.shows growing.is.object growing.is.reached growing.is_key.reached (shown growing).carries
@@ -149,8 +148,8 @@ module _ {old : Mutator} {graph : Graph} {map key : ℕ} {weak : WeakObject} {nu
         }
 
     -- and its pair was put
-    pub grown_pair : TablesGrow → PutsShown old new graph map key weak number value what
-    grown_pair tables_grow = record {
+    pub grown_pair : PutsShown old new graph map key weak number value what
+    grown_pair = record {
       shows = growing.shows;
       is = growing.is;
       is_key = growing.is_key;
@@ -167,6 +166,6 @@ module _ {old : Mutator} {graph : Graph} {map key : ℕ} {weak : WeakObject} {nu
       refills = refills;
       one = puts_one k can puts objects growing.is_key.place holds is_value counted (none growing);
       capacity = grown_table table.capacity;
-      changes = grows tables_grow;
+      changes = grows;
       counted = CountsPut.fresh growing.fresh (omega (arith, one_more k can puts, count_is k));
     }

@@ -20,7 +20,7 @@ use Rattle.object_cells.proofs.HeldNeeds.{held_is_value, new_value_held}
 use Rattle.object_cells.proofs.SlotBoxes.{box_of_word, lacks_need}
 use Rattle.ephemeron_table.specs.EntryChanges.{HasPutEntry, IsFullFor, PutsEntry}
 use Rattle.ephemeron_table.specs.declared.stop.TableStop.TheVariants as stop
-use Rattle.ephemeron_table.specs.PairLaws.{TablesStay, WrittenEntriesShow}
+use Rattle.ephemeron_table.specs.PairLaws.{WrittenEntriesShow}
 use Rattle.weak_pairs.specs.Tables.{value_in, value_offset}
 use Rattle.weak_pairs.specs.declared.table.Table.{Table}
 use Rattle.ephemeron_table.proofs.BoxedMaps.{box_replaces}
@@ -90,21 +90,21 @@ replaces_value {old} {new} {place = place} {table} value what has is_value held 
 -- and so the entry has the value
 pub has_put_value : {old new : Mutator} {graph : Graph} {map key : ℕ} {weak : WeakObject} {number place : ℕ}
     {table : Table} (value : Held) (what : Value) (has : HasEntryPair old graph map key weak number place table)
-    → FitsHeld value → IsValueHeld old graph value what → TablesStay → WrittenEntriesShow
+    → FitsHeld value → IsValueHeld old graph value what → WrittenEntriesShow
     → FillsSlot old new (table.at + value_offset place) (beside_content value)
     → HasPutEntry old new graph map key weak number what
-has_put_value value what has fits held tables_stay entries_show fills =
+has_put_value value what has fits held entries_show fills =
     let is_value = held_is_value value what has.shows fits held.shows in
     let replaces = replaces_value value what has is_value held fills in
-    replaces_entry has replaces.1 tables_stay entries_show is_value held.reached replaces.2
+    replaces_entry has replaces.1 entries_show is_value held.reached replaces.2
 
 -- and its pair was put
 pub puts_value_pair : {old new : Mutator} {graph : Graph} {map key : ℕ} {weak : WeakObject} {number place : ℕ}
     {table : Table} (value : Held) (what : Value) (has : HasEntryPair old graph map key weak number place table)
-    → FitsHeld value → IsValueHeld old graph value what → TablesStay
+    → FitsHeld value → IsValueHeld old graph value what
     → FillsSlot old new (table.at + value_offset place) (beside_content value)
     → PutsShown old new graph map key weak number value what
-puts_value_pair {old} {new} {table = table} value what has fits held tables_stay fills =
+puts_value_pair {old} {new} {table = table} value what has fits held fills =
     let is_value = held_is_value value what has.shows fits held.shows in
     let by = replaces_value value what has is_value held fills in
     let replaces = by.1 in
@@ -125,6 +125,6 @@ puts_value_pair {old} {new} {table = table} value what has fits held tables_stay
       refills = replaces.refills;
       one = puts_one has replaces;
       capacity = _;
-      changes = changes has replaces tables_stay;
+      changes = changes has replaces;
       counted = CountsPut.there has.told.value has.told.is_entry (filled_as_many has replaces);
     }

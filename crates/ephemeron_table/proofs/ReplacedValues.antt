@@ -24,10 +24,11 @@ use Rattle.write_barrier.specs.Mains.{Mutator, heap_of}
 use Rattle.object_cells.specs.HeldValues.{IsReachedValue, is_wide}
 use Rattle.object_cells.specs.Capacities.{ChangesObject}
 use Rattle.object_cells.specs.Uses.{UsesMore}
+use Rattle.ephemeron_table.proofs.KeptTables.{tables_stay}
 use Rattle.ephemeron_table.specs.EntryChanges.{HasPutEntry}
 use Rattle.ephemeron_table.specs.Growth.{put_capacity_by}
 use Rattle.weak_pairs.specs.Pairs.{IsFilledAt}
-use Rattle.ephemeron_table.specs.PairLaws.{RefillsWeak, PutsOne, TablesStay, WrittenEntriesShow, IsNewValue}
+use Rattle.ephemeron_table.specs.PairLaws.{RefillsWeak, PutsOne, WrittenEntriesShow, IsNewValue}
 use Rattle.weak_pairs.specs.Tables.{pairs_of}
 use Rattle.weak_pairs.specs.declared.table.Table.{Table}
 use Rattle.weak_pairs.proofs.CountedPairs.{count_filled, count_kept}
@@ -141,25 +142,24 @@ module _ {old new : Mutator} {graph : Graph} {map key : ℕ} {weak : WeakObject}
       subst (HasWord (words_of_cell (heap_of new) (cell (known has))) count_offset) same replaces.refills.pairs.counted
 
   -- only words of the map have changed, and its table stays
-  pub changes : TablesStay → ChangesObject (heap_of old) (heap_of new) map (capacity_at (heap_of old) map)
-  changes tables_stay =
+  pub changes : ChangesObject (heap_of old) (heap_of new) map (capacity_at (heap_of old) map)
+  changes =
       let heap = heap_of old in
       subst (λ at. ChangesObject heap (heap_of new) at (capacity_at heap at)) (known has).there.stands
-      (tables_stay heap (heap_of new) (cell (known has)) replaces.others replaces.made replaces.refills
-      replaces.slot_stays)
+      (tables_stay replaces.refills replaces.slot_stays)
 
   -- so the entry has the value
-  pub replaces_entry : TablesStay → WrittenEntriesShow → IsValue (length graph.objects) what → IsReachedValue graph what
+  pub replaces_entry : WrittenEntriesShow → IsValue (length graph.objects) what → IsReachedValue graph what
       → need ≡ wput_need_at (heap_of old) map (reference_word key) (is_wide what)
       → HasPutEntry old new graph map key weak number what
-  replaces_entry tables_stay entries_show fits reached need_is =
+  replaces_entry entries_show fits reached need_is =
       let heap = heap_of old in
       record {
         few = λ lacks. none-some has.told.value (sym lacks.fresh ∙ has.told.is_entry);
         room = subst (HasRoom old.young) need_is replaces.room;
         uses = subst (UsesMore old new) need_is (record { beside = replaces.beside; young = replaces.young });
         changes = subst (λ found. ChangesObject heap (heap_of new) map (put_capacity_by heap map found))
-            (sym (entry_pair_of has)) (changes tables_stay);
+            (sym (entry_pair_of has)) changes;
         shows = entries_show old new graph weak (cell (known has)) replaces.others replaces.made number (Some what)
             has.shows has.is.object has.is.reached has.is_key.reached
             (shown has).carries (shown has).shows

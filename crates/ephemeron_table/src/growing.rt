@@ -14,12 +14,11 @@ ghost use Rattle.weak_pairs.specs.Probes.{FreeBy, HasFree};
 ghost use Rattle.ephemeron_table.specs.Puttings.{Settles, begun_table};
 
 use crate::probing::{key_of, place};
-use crate::putting::content_for;
 use crate::removing::put_pair;
 use crate::table::number_at;
 use handle_roots::Held;
 use heap_model::cells::{COUNT, FIRST_CAPACITY, PAIRS_MOST};
-use object_cells::{boxed_word, need_of, room_for};
+use object_cells::{boxed_word, content_for, need_of, room_for};
 use tagged_word::cell::{LENGTH, STORE_HEAD, STORE_SLOT};
 use tagged_word::{Header, Word, odd, shape};
 use weak_pairs::Table;

@@ -13,11 +13,13 @@ ghost use Rattle.list_store.specs.Pushes.{CanChange, PushesToStore, PushesToNewS
 ghost use Rattle.list_store.specs.Pushes.{PushesAt};
 ghost use Rattle.list_store.specs.ListChanges.{IsShownSetting, PushesElement};
 
-use crate::elements::{content_for, grown};
+use crate::elements::grown;
 use crate::stop::PushStop;
 use handle_roots::Held;
 use heap_model::cells::COUNT;
-use object_cells::{Store, begin_store, boxed_word, count_of, need_of, room_for, store_of};
+use object_cells::{
+    Store, begin_store, boxed_word, content_for, count_of, need_of, room_for, store_of,
+};
 use object_graph::limits::ELEMENTS_MOST;
 use tagged_word::Word;
 use tagged_word::cell::{STORE_HEAD, STORE_SLOT};

@@ -101,10 +101,6 @@ pub owned_or_box : {owned k : Kind} → (k ≡ owned) ⊎ (k ≡ kind.Boxed) →
 owned_or_box (inl same) own = subst IsOwnedKind (sym same) own
 owned_or_box (inr boxed) own = subst IsOwnedKind (sym boxed) tt
 
--- so does a store or a box
-pub beside_is_owned : {k : Kind} → (k ≡ kind.Store) ⊎ (k ≡ kind.Boxed) → IsOwnedKind k
-beside_is_owned is = owned_or_box is tt
-
 -- so one of which neither the header nor the length changed was written as what an object owns may be
 pub owned_of_kind : {owned : Kind} {old new : Heap} {other : Cell} → IsWrittenOfKind owned old new other
     → IsOwnedKind owned → IsWrittenOwned old new other

@@ -35,18 +35,6 @@ abbrev pub IsHeaderAt : Heap → ℕ → Header → Type 0
 IsHeaderAt heap at header =
     (cell : Cell) (words : List ℕ) → HasCell heap cell words → cell.at ≡ at → cell.header ≡ header
 
--- of a box at the address it is the integer
-abbrev pub TellsBox : Heap → ℕ → Held → Type 0
-TellsBox heap at result =
-    (cell : Cell) (words : List ℕ) (v : ℤ) → HasCell heap cell words → cell.at ≡ at → cell.layout.kind ≡ kind.Boxed
-    → HasWord words 1 (raw_word v) → FitsSigned w64 v → result ≡ held.Int v
-
--- of an object's cell at the address it is that object
-abbrev pub TellsObject : Heap → ℕ → Held → Type 0
-TellsObject heap at result =
-    (cell : Cell) (words : List ℕ) → HasCell heap cell words → cell.at ≡ at → IsTrue (is_object_kind cell.layout.kind)
-    → result ≡ held.Ref at
-
 -- the cell at the address has so many in-object slots
 abbrev pub IsCapAt : Heap → ℕ → ℕ → Type 0
 IsCapAt heap at cap = (cell : Cell) (words : List ℕ) → HasCell heap cell words → cell.at ≡ at → cell.layout.cap ≡ cap

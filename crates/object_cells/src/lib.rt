@@ -20,7 +20,7 @@ mod lists;
 mod stores;
 
 pub use boxes::{boxed_word, fill, filling_of, need_of};
-pub use content::{Content, Filling, content_of, rep_of};
+pub use content::{Content, Filling, content_for, content_of, rep_of};
 pub use formats::{STORE, make_box, put_filler};
 pub use laws::{
     laws_of_capacities, laws_of_elements, laws_of_refills, laws_of_slots, laws_of_writes,

@@ -1,14 +1,12 @@
 -- What the slot of a new field comes to hold shows the value, and names nothing but a box that was made.
-use Rattle.std.proofs.Common.{◌≡◌, ℕ, Bool, true, List, Contains, refl, sym, ap, subst}
+use Rattle.std.proofs.Common.{◌≡◌, ℕ, Bool, true, refl, sym, subst}
 use Rattle.std.specs.Prelude.{ℤ}
 use Rattle.tagged_word.specs.Words.{small}
-use Rattle.tagged_word.specs.declared.layout.Kind.TheVariants as kind
 use Rattle.object_graph.specs.declared.value.Value.{Value}
 use Rattle.object_graph.specs.declared.value.Value.TheVariants as value
 use Rattle.object_graph.specs.declared.value.Rep.{Rep}
 use Rattle.object_graph.specs.declared.value.Rep.TheVariants as rep
 use Rattle.object_graph.specs.Invariants.{IsValue}
-use Rattle.cell_layout.specs.declared.cell.Cell.{Cell}
 use Rattle.heap_model.specs.Heaps.{Heap}
 use Rattle.heap_model.specs.Slots.{raw_word, reference_word, IsPlace, RefersToBox, RefersToPlace}
 use Rattle.heap_model.specs.Showing.{ShowsValue, ShowsWide, ShowsField}
@@ -17,7 +15,6 @@ use Rattle.object_cells.specs.declared.content.Content.{Content}
 use Rattle.object_cells.specs.declared.content.Content.TheVariants as content
 use Rattle.object_cells.specs.Made.{content_word}
 use Rattle.object_cells.proofs.HeldContents.{HoldsValue}
-use Rattle.object_cells.proofs.WrittenPlaces.{small_names_none, undefined_names_none, object_names_none}
 use Rattle.shape_change.proofs.ContentsShown.{small_shows}
 
 -- the reference to an object's place, where places stay

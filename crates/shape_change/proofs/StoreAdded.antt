@@ -1,5 +1,5 @@
 -- A field that comes to a slot that the property store has is shown, in a box where it needs one.
-use Rattle.std.proofs.Common.{◌≡◌, ◌≢◌, ℕ, ◌+◌, ◌≤◌, ◌<◌, false, List, ◌∷◌, length, refl, sym}
+use Rattle.std.proofs.Common.{◌≡◌, ◌≢◌, ℕ, ◌+◌, ◌≤◌, ◌<◌, false, List, ◌∷◌, length, sym}
 use Rattle.std.proofs.Common.{◌∙◌, ap, subst, arith, inl, inr, nat_lt, slice_get, Contains}
 use Rattle.std.specs.Prelude.{ℤ, slice_set}
 use Rattle.std.proofs.lemmas.Bool.{false≢true}

@@ -21,24 +21,20 @@ ghost use Rattle.shape_change.specs.Additions.{ComesBehind};
 ghost use Rattle.object_cells.specs.Made.{PutsWords, IsStoreAt, RefusesRoom, is_wide_held};
 ghost use Rattle.object_cells.specs.Made.{with_content, content_need, content_word, beside_content};
 
-use crate::slots::PLAIN_HEAD;
 use crate::stop::FieldStop;
 use crate::transitions::{set_shape, step_to};
 use handle_roots::Held;
+use heap_model::cells::FIRST_CAPACITY;
 use object_cells::{
     Content, STORE_HEAD, Store, boxed_word, content_of, make_store, need_of, rep_of, room_for,
     store_of,
 };
 use object_graph::PathField;
+use object_graph::limits::FIELDS_MOST;
 use shape_tree::Step;
+use tagged_word::cell::PLAIN_HEAD;
 use tagged_word::Header;
 use write_barrier::{Main, NoRoom};
-
-/// The most fields of an object.
-const FIELDS_MOST: u32 = 64;
-
-// How many slots the first property store of an object has.
-const FIRST_CAPACITY: u32 = 4;
 
 /// A field of a new name, as it comes to an object.
 #[derive(Clone, Copy)]

@@ -1,22 +1,17 @@
 //! The slots of plain objects: where a field stands, what is read of it, and how it is filled. How a
 //! field comes to an object, and how it goes, is in `add_field.rt` and `delete_field.rt`.
-ghost use Rattle.object_graph.specs.declared.value.Value.TheVariants as value;
 ghost use Rattle.object_graph.specs.declared.value.Rep.TheVariants as rep_of;
-ghost use Rattle.handle_roots.specs.declared.held.Held.TheVariants as held;
 ghost use Rattle.object_cells.specs.Contents as contents;
 ghost use Rattle.std.specs.Prelude.{◌≡◌, ◌≢◌, ◌+◌, ◌<◌, ◌≤◌, ℕ, ℤ, IsTrue, Some, length, slice_get};
 ghost use Rattle.std.specs.Prelude.{nat_lt, true, false, OnErr, IfOk, IfErr};
 ghost use Rattle.shape_change.specs.Places.{is_own, place_at, IsPlaceOf, StandsSlot};
-ghost use Rattle.tagged_word.specs.Words.{small};
 ghost use Rattle.page_space.specs.Extents.{marks_start};
 ghost use Rattle.object_graph.specs.declared.value.Value.{Value};
 ghost use Rattle.shape_tree.specs.Shapes.{IsPathShape, shape_path};
-ghost use Rattle.heap_model.specs.Slots.{IsSlotWord, IsFieldWord, small_word, undefined_word};
-ghost use Rattle.heap_model.specs.Slots.{RefersToBox, RefersToPlace};
+ghost use Rattle.heap_model.specs.Slots.{IsFieldWord};
 ghost use Rattle.heap_model.specs.Showing.{ShowsHeld, ShowsField};
 ghost use Rattle.write_barrier.specs.Mains.{heap_of, IsTied};
 ghost use Rattle.object_cells.specs.CellsAt.{IsWhole, HasCellAt, HasPlainSlot, IsHeaderAt, IsCapAt};
-ghost use Rattle.object_cells.specs.CellsAt.{TellsBox, TellsObject};
 ghost use Rattle.heap_table.specs.declared.phase.Phase.TheVariants.{Quiet};
 ghost use Rattle.heap_model.specs.Needs.{word_at};
 ghost use Rattle.object_cells.specs.Contents.{Allocates, LacksRoom, HoldsSlotWord, IsBeforeMarks};
@@ -24,7 +19,8 @@ ghost use Rattle.object_cells.specs.Contents.{Allocates, LacksRoom, HoldsSlotWor
 use handle_roots::Held;
 use object_cells::{Content, Filling, STORE_HEAD, STORE_SLOT};
 use object_graph::Rep;
-use tagged_word::{Class, Header, Word, shape};
+use tagged_word::cell::PLAIN_HEAD;
+use tagged_word::{Header, Word};
 use write_barrier::{Main, NoRoom};
 
 /// Where a field of a plain object stands.
@@ -45,9 +41,6 @@ impl Place {
     }
 }
 
-// The words of a plain cell before its in-object slots.
-pub(crate) const PLAIN_HEAD: u32 = 2;
-
 /// The header of the cell at an address.
 #[inline(always)]
 pub fn header_at(main: &Main, at: u32) -> Header
@@ -56,41 +49,6 @@ pub fn header_at(main: &Main, at: u32) -> Header
     ensures { IsHeaderAt (heap_of main.now) at result }
 {
     main.header(at)
-}
-
-// What a reference to a cell stands for: the integer of a box, or the object.
-#[inline(never)]
-fn value_at(main: &Main, at: u32) -> Held
-    requires whole { IsWhole main.now }
-    requires there { HasCellAt (heap_of main.now) at }
-    ensures boxed { TellsBox (heap_of main.now) at result }
-    ensures object { TellsObject (heap_of main.now) at result }
-{
-    if main.header(at).shape == shape::BOX {
-        Held::Int(main.slot(at, 1).cast_signed())
-    } else {
-        Held::Ref(at)
-    }
-}
-
-/// What the word of a slot stands for; of a hole, `undefined`.
-#[inline(always)]
-pub(crate) fn value_of_word(main: &Main, word: Word) -> Held
-    requires whole { IsWhole main.now }
-    requires slot { IsSlotWord (heap_of main.now) word.0 }
-    ensures small { (v : ℤ) → IsTrue (small v) → word.0 ≡ small_word v → result ≡ held.Int v }
-    ensures undefined { word.0 ≡ undefined_word → result ≡ held.Undefined }
-    ensures boxed { (v : ℤ) → RefersToBox (heap_of main.now) word.0 v → result ≡ held.Int v }
-    ensures object { (number : ℕ) → RefersToPlace (heap_of main.now) word.0 number
-        → ShowsHeld (heap_of main.now) result (Some (value.Ref number)) }
-{
-    main.addresses_fit();
-    match word.class() {
-        Some(Class::Small(v)) => Held::Int(v as i64),
-        Some(Class::Ref(at)) => value_at(main, at),
-        Some(Class::Odd(_)) => Held::Undefined,
-        None => unreachable!(),
-    }
 }
 
 // Whether a slot is raw, by where it stands and its representation.
@@ -114,10 +72,11 @@ pub(crate) fn value_of_field(main: &Main, own: bool, rep: Rep, word: u64) -> Hel
     ensures { (value : Value) → ShowsField (heap_of main.now) own word rep value
         → ShowsHeld (heap_of main.now) result (Some value) }
 {
+    main.addresses_fit();
     if is_raw(own, rep) {
         Held::Int(word.cast_signed())
     } else {
-        value_of_word(main, Word(word))
+        main.value_of_word(Word(word))
     }
 }
 

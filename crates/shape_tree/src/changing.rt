@@ -8,10 +8,11 @@ ghost use Rattle.shape_tree.specs.Shapes.{IsPathShape, shape_path, has_name, ste
 ghost use Rattle.shape_tree.specs.Shapes.{without, IsShapeOf, Leads, IsFullFor};
 ghost use Rattle.shape_tree.specs.Growth.{extended, IsStep};
 
-use crate::full::{PATHS_MOST, ShapesFull};
+use crate::full::ShapesFull;
 use crate::route::{Route, Tail};
 use crate::transition::Step;
 use crate::tree::ShapeTree;
+use object_graph::limits::PATHS_MOST;
 use object_graph::{PathField, Rep};
 
 impl ShapeTree {

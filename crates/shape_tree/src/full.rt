@@ -1,8 +1,5 @@
 //! The refusal of a tree of shapes.
 
-/// How many field paths there may be.
-pub const PATHS_MOST: u32 = 8192;
-
 /// There may not be as many field paths as a change needs: 8,192.
 #[derive(Clone, Copy, Debug, PartialEq, Eq)]
 pub struct ShapesFull {

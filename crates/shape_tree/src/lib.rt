@@ -19,7 +19,7 @@ mod transition;
 mod tree;
 mod walking;
 
-pub use full::{PATHS_MOST, ShapesFull};
+pub use full::ShapesFull;
 pub use object_graph::{PathField, Rep};
 pub use transition::Step;
 pub use tree::ShapeTree;

@@ -11,10 +11,10 @@ ghost use Rattle.shape_tree.specs.Nodes.{cache_entries};
 ghost use Rattle.shape_tree.specs.declared.transition.Transition.{Transition};
 
 use crate::cached::{CACHE_ENTRIES, Cached};
-use crate::full::PATHS_MOST;
 use crate::node::Node;
 use crate::transition::Transition;
 use object_graph::PathField;
+use object_graph::limits::{self, PATHS_MOST};
 use std::alloc::{AllocError, Global};
 use std::collections::HashMap;
 use std::marker::Model;
@@ -23,7 +23,7 @@ use tagged_word::{Kind, LayoutWord, NoMemory, shape};
 /// The shape of the first path.
 pub(crate) const FIRST: u32 = shape::PATHS;
 /// The most fields of a path.
-pub(crate) const FIELDS_MOST: usize = 64;
+pub(crate) const FIELDS_MOST: usize = limits::FIELDS_MOST as usize;
 /// How many paths have no field: one for each cap.
 const ROOTS: u32 = 9;
 

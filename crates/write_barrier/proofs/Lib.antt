@@ -8,4 +8,4 @@ mod Starting
 mod Ranges
 mod ClassValues
 mod BoxShapes
-mod ShownHeld
+pub mod ShownHeld

@@ -36,7 +36,7 @@ small_fits : (v : ℤ) → IsTrue (small v) → FitsSigned w64 v
 small_fits v is = grind (arith, ints)
 
 -- the words of a cell's address and of the one behind it are before the marks, and the address has 32 bits
-cell_before : {heap : Heap} {cell : Cell} {words : List ℕ} → HasCell heap cell words
+pub cell_before : {heap : Heap} {cell : Cell} {words : List ℕ} → HasCell heap cell words
     → cell.at + 1 < marks_start heap.space
 cell_before {heap} {cell} has =
     let is_cell = has_is_cell has in
@@ -88,7 +88,7 @@ object_by_class heap word number space sized refers =
     }
 
 -- a reference to a box
-box_by_class : (heap : Heap) (word : ℕ) (v : ℤ) → IsSpace heap.space → HasSizes heap → RefersToBox heap word v
+pub box_by_class : (heap : Heap) (word : ℕ) (v : ℤ) → IsSpace heap.space → HasSizes heap → RefersToBox heap word v
     → ShowsByClass heap word (Int v)
 box_by_class heap word v space sized refers =
     let cell = refers.cell in

@@ -1,15 +1,15 @@
 -- What a field's word stands for, by its representation.
 use Rattle.std.proofs.Common.{ap, ◌∙◌}
-use Rattle.handle_roots.specs.declared.held.Held.TheVariants as held
 use Rattle.std.specs.Int.{w64, cast_signed, cast_unsigned}
+use Rattle.handle_roots.specs.declared.held.Held.TheVariants as held
 use Rattle.heap_model.proofs.SlotWords.{field_is_slot}
-use Rattle.object_cells.proofs.WordsTold.{field_told, raw_field_told, raw_back, TellsWord}
-use Rattle.write_barrier.specs.Mains.{heap_of}
+use Rattle.object_cells.proofs.WordsTold.{field_told, raw_field_told, raw_back, slot_within}
 use Rattle.shape_change.proofs.slots.value_of_field.Goals as goal
 
-pub value_of_word-requires-clause-slot : goal.value_of_word-requires-clause-slot
-value_of_word-requires-clause-slot c =
-    field_is_slot c.args.rep c.args.word c.requires.field (c.is_raw.ensures.tagged c.if-is_raw.false)
+pub value_of_word-requires-clause-within : goal.value_of_word-requires-clause-within
+value_of_word-requires-clause-within c = λ at refers.
+    slot_within c.args.word at
+    (field_is_slot c.args.rep c.args.word c.requires.field (c.is_raw.ensures.tagged c.if-is_raw.false)) refers
 
 pub returns-then-is_raw : goal.returns-then-is_raw
 returns-then-is_raw c value shows =
@@ -20,11 +20,5 @@ returns-then-is_raw c value shows =
 
 pub returns-else-is_raw : goal.returns-else-is_raw
 returns-else-is_raw c value shows =
-    let tells : TellsWord (heap_of c.args.main.now) c.args.word c.value_of_word.result = record {
-      small_integer = c.value_of_word.ensures.small;
-      undefined = c.value_of_word.ensures.undefined;
-      boxed = c.value_of_word.ensures.boxed;
-      object = c.value_of_word.ensures.object;
-    } in
-    field_told c.args.word c.value_of_word.result c.args.rep value
-    (c.is_raw.ensures.tagged c.if-is_raw.false) tells shows
+    field_told c.addresses_fit.ensures.within c.requires.whole.whole.sized
+    (c.is_raw.ensures.tagged c.if-is_raw.false) c.value_of_word.ensures shows
