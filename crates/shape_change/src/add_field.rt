@@ -27,14 +27,14 @@ use crate::transitions::{set_shape, step_to};
 use handle_roots::Held;
 use heap_model::cells::FIRST_CAPACITY;
 use object_cells::{
-    Content, STORE_HEAD, Store, boxed_word, content_of, make_store, need_of, rep_of, room_for,
+    Content, Store, boxed_word, content_of, make_store, need_of, rep_of, room_for,
     store_of,
 };
 use object_graph::PathField;
 use object_graph::limits::FIELDS_MOST;
 use shape_tree::Step;
-use tagged_word::cell::PLAIN_HEAD;
 use tagged_word::Header;
+use tagged_word::cell::{PLAIN_HEAD, STORE_HEAD};
 use write_barrier::{Main, NoRoom};
 
 /// A field of a new name, as it comes to an object.
