@@ -18,9 +18,9 @@ use Rattle.heap_model.specs.Slots.{RefersToPlace, IsPlace}
 use Rattle.heap_model.specs.Kinds.{Pair}
 use Rattle.heap_model.specs.Showing.{ShowsEntry}
 use Rattle.heap_model.specs.Needs.{box_need, capacity_at, count_at, grown_table, table_need}
-use Rattle.heap_model.specs.Rooms.{wput_need, wput_need_by}
+use Rattle.heap_model.specs.Rooms.{is_wide, wput_need, wput_need_by}
 use Rattle.write_barrier.specs.Mains.{Mutator, heap_of, MainShows}
-use Rattle.object_cells.specs.HeldValues.{IsValueHeld, is_wide}
+use Rattle.object_cells.specs.HeldValues.{IsValueHeld}
 use Rattle.object_cells.specs.Made.{beside_content}
 use Rattle.object_cells.proofs.HeldContents.{HoldsValue}
 use Rattle.object_cells.proofs.HeldNeeds.{content_need_is, wide_is}

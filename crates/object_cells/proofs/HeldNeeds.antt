@@ -14,7 +14,7 @@ use Rattle.heap_model.specs.Heaps.{Heap}
 use Rattle.heap_model.specs.Needs.{box_need}
 use Rattle.heap_model.specs.Showing.{ShowsHeld}
 use Rattle.write_barrier.specs.Mains.{Mutator, heap_of, MainShows}
-use Rattle.object_cells.specs.HeldValues.{is_wide}
+use Rattle.heap_model.specs.Rooms.{is_wide}
 use Rattle.object_cells.specs.Contents.{held_rep, content_of}
 use Rattle.object_cells.specs.Made.{is_wide_held, content_need, beside_content}
 use Rattle.object_cells.proofs.HeldContents.{HoldsValue, held_rep_is, value_held}

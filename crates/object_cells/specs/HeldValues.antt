@@ -1,8 +1,7 @@
 -- What is held of the values of a graph.
-use Rattle.std.specs.Prelude.{Bool, false, not, Some, IsTrue}
-use Rattle.tagged_word.specs.Words.{small}
+use Rattle.std.specs.Prelude.{Some, IsTrue}
 use Rattle.object_graph.specs.declared.value.Value.{Value}
-use Rattle.object_graph.specs.declared.value.Value.TheVariants.{Int, Ref}
+use Rattle.object_graph.specs.declared.value.Value.TheVariants.{Ref}
 use Rattle.object_graph.specs.Graphs.{Graph}
 use Rattle.object_graph.specs.Reach.{is_marked, reach}
 use Rattle.handle_roots.specs.declared.held.Held.{Held}
@@ -18,8 +17,3 @@ IsReachedValue graph _ = Unit {0}
 pub record IsValueHeld (main : Mutator) (graph : Graph) (held : Held) (value : Value) : Type 0 where
   pub shows : ShowsHeld (heap_of main) held (Some value)
   pub reached : IsReachedValue graph value
-
--- whether a value is an integer that is not small
-abbrev pub is_wide : Value → Bool
-is_wide (Int v) = not (small v)
-is_wide _ = false

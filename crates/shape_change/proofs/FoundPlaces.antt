@@ -1,16 +1,14 @@
--- The place of a slot is the address of its number, and the word there is that of its field.
-use Rattle.std.proofs.Common.{◌≡◌, ℕ, ◌+◌, ◌-◌, ◌<◌, ◌≤◌, true, false, List, length, Some, nat_lt, cond}
+-- The place of a slot is the address of its number.
+use Rattle.std.proofs.Common.{◌≡◌, ℕ, ◌+◌, ◌-◌, ◌<◌, ◌≤◌, List, length, Some}
 use Rattle.std.proofs.Common.{refl, sym, ◌∙◌, ap, arith, length-drop}
-use Rattle.std.proofs.lemmas.Bool.Decides.{nat_tests}
 use Rattle.tagged_word.specs.declared.layout.Kind.TheVariants as kind
-use Rattle.tagged_word.specs.Cells.{plain_head, store_head, store_slot}
+use Rattle.tagged_word.specs.Cells.{store_head, store_slot}
 use Rattle.tagged_word.specs.Readings.{reference_in}
 use Rattle.tagged_word.proofs.Readings.{reference_from}
 use Rattle.cell_layout.specs.declared.cell.Cell.{Cell}
 use Rattle.heap_model.specs.Heaps.{Heap, HasCell}
 use Rattle.heap_model.specs.Slots.{IsBeside}
 use Rattle.heap_model.specs.Kinds.{HasWord, HasSlots}
-use Rattle.heap_model.specs.Needs.{word_at, field_word, beside_by}
 use Rattle.heap_model.proofs.CellsApart.{IsOfCell}
 use Rattle.heap_model.proofs.CellWords.{words_are_size}
 use Rattle.heap_model.proofs.WordClasses.{same_reference}
@@ -52,19 +50,3 @@ place_numbered {cell = cell} slot (Beside store offset) has plain are below is =
     let read = word_of_cell store_slot are.store has are.slot in
     place_beside are.store are.beside slot store offset are.slot are.stands is.0
     (behind_cap_below slot cell.layout.cap has plain are refl is.0 below) (ap reference_in (sym read) ∙ is.1) is.2
-
--- the word there is that of the field of this number
-pub field_word_at : (heap : Heap) (object cap slot : ℕ) (place : Place) → IsPlaceOf heap object cap slot place
-    → field_word heap object cap slot ≡ word_at heap (place_at object place)
-field_word_at heap object cap slot (InObject offset) is =
-    let test : nat_lt slot cap ≡ true = grind (arith, nat_tests, is.0) in
-    let other : ℕ = beside_by heap (reference_in (word_at heap (object + store_slot))) (slot - cap) in
-    let same : object + plain_head + slot ≡ object + offset = omega (arith, is.1) in
-    ap (λ t. cond t (word_at heap (object + plain_head + slot)) other) test ∙ ap (word_at heap) same
-field_word_at heap object cap slot (Beside store offset) is =
-    let test : nat_lt slot cap ≡ false = grind (arith, nat_tests, is.0) in
-    let own : ℕ = word_at heap (object + plain_head + slot) in
-    let found = reference_in (word_at heap (object + store_slot)) in
-    let same : store + store_head + (slot - cap) ≡ store + offset = omega (arith, is.2) in
-    ap (λ t. cond t own (beside_by heap found (slot - cap))) test
-    ∙ ap (λ to. beside_by heap to (slot - cap)) is.1 ∙ ap (word_at heap) same

@@ -5,7 +5,6 @@ use Rattle.heap_model.specs.Images.{image_heap}
 use Rattle.write_barrier.specs.Mains.{heap_of}
 use Rattle.collector.proofs.ImagesShow.{images_show, images_are_blank}
 use Rattle.collector.proofs.ImageStores.{images_keep_stores, images_have_rooms}
-
 use Rattle.heap_run.proofs.Concluding.{IsKeepable, Runs-finished}
 use Rattle.heap_run.proofs.Imaged.{Laws, finishes_imaged}
 use Rattle.heap_run.proofs.program.run_on_heap.Goals as goal
