@@ -15,8 +15,8 @@ ghost use Rattle.ephemeron_table.specs.Puttings.{PutsInTable};
 use crate::removing::put_pair;
 use handle_roots::Held;
 use object_cells::{
-    COUNT, Content, Filling, STORE_HEAD, boxed_word, content_of, filling_of, need_of, rep_of,
-    room_for,
+    COUNT, Content, Filling, STORE_HEAD, boxed_word, content_of, filling_of, make_box, need_of,
+    rep_of, room_for,
 };
 use tagged_word::Word;
 use weak_pairs::Table;
