@@ -28,7 +28,8 @@ use Rattle.object_cells.proofs.ReplacedObjects.{ReplacesCells, replaced_shows}
 use Rattle.object_cells.proofs.ListCells.{ListShown}
 use Rattle.array_trim.specs.Trims.{HasTrimmed}
 use Rattle.array_trim.proofs.TrimmedCells.{Trimming, trimmed_cells}
-use Rattle.array_trim.proofs.TrimmedSlots.{went_object}
+use Rattle.object_cells.proofs.OwnSteps.{went_object}
+use Rattle.array_trim.proofs.TrimmedSlots.{trim_step}
 use Rattle.array_trim.proofs.TrimmedLists.{list_shows, trimmed_own}
 use Rattle.array_trim.proofs.TrimmedCapacities.{trimmed_capacities}
 
@@ -91,7 +92,7 @@ module _ {old new : Mutator} {graph : Graph} {at : ℕ} {list : ListObject} {aft
     cells = (trimmed_cells trimmed.trim).1;
     own = trimmed_own trimmed.trim;
     only = λ one among object.
-        ap (λ (c : Cell). c.header.object) (sym (went_object trimmed.trim one among object)) ∙ trimmed.shown.carries;
+        ap (λ (c : Cell). c.header.object) (sym (went_object (trim_step trimmed.trim) one among object)) ∙ trimmed.shown.carries;
     no_object = λ one among. absurd (none_in one among);
     cell = trimmed.shown.cell;
     among = first_in trimmed.shown.cell trimmed.pieces;

@@ -1,35 +1,31 @@
--- The slots of a list that was trimmed: each slot of its store is one of the old store, and names what that named.
--- Objects keep their places.
+-- The slots of a list that was trimmed: each slot of its store is one of the old store. And what stands beside it is its
+-- own.
 use Rattle.std.proofs.Common.{◌≡◌, ℕ, ◌+◌, ◌<◌, ◌⊎◌, List, []}
 use Rattle.std.proofs.Common.{◌∷◌, ◌++◌, drop, Contains, slice_get, IsTrue, false}
 use Rattle.std.proofs.Common.{inl, inr, refl, sym, ◌∙◌, ap, subst, arith}
-use Rattle.std.proofs.lemmas.Bool.{false≢true}
 use Rattle.std.proofs.lemmas.List.Elements.{Contains-append_cases}
 use Rattle.tagged_word.specs.declared.layout.Kind.{Kind}
 use Rattle.tagged_word.specs.declared.layout.Kind.TheVariants as kind
 use Rattle.tagged_word.specs.Cells.{store_slot, store_head}
-use Rattle.tagged_word.proofs.Members.{first_in, one_in, in_cases}
+use Rattle.tagged_word.proofs.Members.{one_in}
 use Rattle.object_graph.specs.declared.value.Value.{Value}
 use Rattle.cell_layout.specs.declared.cell.Cell.{Cell}
 use Rattle.heap_model.specs.Heaps.{Heap, words_of_cell}
 use Rattle.heap_model.specs.Slots.{is_object_kind, reference_word, IsBeside}
 use Rattle.heap_model.specs.Kinds.{HasWord}
-use Rattle.heap_model.specs.Wholeness.{NamesFrom, IsOwnedKind}
+use Rattle.heap_model.specs.Wholeness.{NamesFrom}
 use Rattle.heap_model.specs.Slots.{RefersTo}
 use Rattle.heap_model.specs.Changes.{IsNewPlace}
 use Rattle.heap_model.proofs.BoundHeaps.{none_in}
 use Rattle.heap_model.proofs.CellsApart.{IsOfCell, cells_apart, first_of_cell}
 use Rattle.heap_model.proofs.CellWords.{words_by_kind, words_are_size}
-use Rattle.heap_model.proofs.Fates.{cells_move, places_stay, boxes_stay, ObjectsStay}
-use Rattle.heap_model.proofs.NamedBefore.{slot_named_before}
 use Rattle.heap_model.proofs.OneOwner.{names_store}
-use Rattle.heap_model.proofs.WordsStay.{PlacesStay, BoxStays}
 use Rattle.object_cells.specs.ElementChanges.{HasElements}
-use Rattle.object_cells.proofs.ListSlots.{element_of_number}
-use Rattle.object_cells.proofs.NumberedSlots.{SlotOfNumber, is_store_of}
+use Rattle.object_cells.proofs.NumberedSlots.{is_store_of}
 use Rattle.object_cells.proofs.OwnCells.{list_size}
 use Rattle.object_cells.proofs.SlotsNow.{word_at_offset}
 use Rattle.object_cells.proofs.ListChanging.{slot_stands, slot_few}
+use Rattle.object_cells.proofs.OwnSteps.{OwnStep, OwnWriting}
 use Rattle.array_trim.proofs.TrimmedCells.{IsFreeCell, Trimming, trimmed_cells, list_now, store_now}
 
 -- a free cell is no object's
@@ -43,75 +39,33 @@ module _ {old new : Heap} {cell store came : Cell} {pieces : List Cell} {before 
   pub is_object : IsTrue (is_object_kind cell.layout.kind)
   is_object = ap is_object_kind trim.shown.of_kind
 
+  -- what came beside it is the store that came, or free
+  pub came_cases : (one : Cell) → Contains (pieces ++ []) one → (came ≡ one) ⊎ IsFreeCell one
+  came_cases one there = elim (Contains-append_cases pieces [] one there) [
+    | inl among ↦ trim.each one among
+    | inr none ↦ absurd (none_in one none)
+  ]
+
+  -- none of the cells that went beside it is a box
+  pub went_no_box : (one : Cell) → Contains (store ∷ []) one → one.layout.kind ≡ kind.Boxed → ⊥
+  went_no_box one there box =
+      let apart : kind.Store ≡ kind.Boxed =
+      sym trim.of_kind ∙ ap (λ (c : Cell). c.layout.kind) (one_in store one there) ∙ box in
+      cc
+
   -- of the cells that went, only the list's is an object's
-  pub went_object : (one : Cell) → Contains (cell ∷ store ∷ []) one → IsTrue (is_object_kind one.layout.kind)
-      → cell ≡ one
-  went_object one there object = elim (in_cases cell (store ∷ []) one there) [
-    | inl same ↦ same
-    | inr among ↦
-        let store_object : is_object_kind one.layout.kind ≡ false =
-        ap (λ (c : Cell). is_object_kind c.layout.kind) (sym (one_in store one among))
-        ∙ ap is_object_kind trim.of_kind in
-        absurd (false≢true (sym store_object ∙ object))
-  ]
-
-  -- none is a box
-  pub went_no_box : (one : Cell) → Contains (cell ∷ store ∷ []) one → one.layout.kind ≡ kind.Boxed → ⊥
-  went_no_box one there box = elim (in_cases cell (store ∷ []) one there) [
-    | inl same ↦
-        let apart : kind.List ≡ kind.Boxed =
-        sym trim.shown.of_kind ∙ ap (λ (c : Cell). c.layout.kind) same ∙ box in
-        cc
-    | inr among ↦
-        let apart : kind.Store ≡ kind.Boxed =
-        sym trim.of_kind ∙ ap (λ (c : Cell). c.layout.kind) (one_in store one among) ∙ box in
-        cc
-  ]
-
-  -- what came is the list's cell, the store that came, or free
-  pub came_cases : (one : Cell) → Contains (cell ∷ (pieces ++ [])) one → (cell ≡ one)
-      ⊎ ((came ≡ one) ⊎ IsFreeCell one)
-  came_cases one there = elim (in_cases cell (pieces ++ []) one there) [
-    | inl same ↦ inl same
-    | inr later ↦ elim (Contains-append_cases pieces [] one later) [
-      | inl among ↦ inr (trim.each one among)
-      | inr none ↦ absurd (none_in one none)
-    ]
-  ]
-
-  -- of the cells that came, only the list's is an object's
-  pub came_object : (one : Cell) → Contains (cell ∷ (pieces ++ [])) one → IsTrue (is_object_kind one.layout.kind)
-      → cell ≡ one
-  came_object one there object = elim (came_cases one there) [
-    | inl same ↦ same
-    | inr rest ↦ elim rest [
-      | inl same ↦
-          let store_object : is_object_kind one.layout.kind ≡ false =
-          ap (λ (c : Cell). is_object_kind c.layout.kind) (sym same) ∙ ap is_object_kind trim.still_store in
-          absurd (false≢true (sym store_object ∙ object))
-      | inr free ↦ absurd (false≢true (sym (free_is_no_object free.of_kind) ∙ object))
-    ]
-  ]
-
-  -- the list's cell stands where it stood
-  pub objects_stay : ObjectsStay (cell ∷ store ∷ []) (cell ∷ pieces)
-  objects_stay one there object =
-      let same : cell ≡ one = went_object one there object in
-      record {
-        other = cell;
-        among = first_in cell pieces;
-        place = ap (λ (c : Cell). c.at) same;
-        object = is_object;
-        number = ap (λ (c : Cell). c.header.object) same;
-      }
-
-  -- so objects keep their places
-  pub places_are_kept : PlacesStay old new
-  places_are_kept = places_stay (cells_move (trimmed_cells trim).1) objects_stay
-
-  -- and each word its box
-  pub boxes_are_kept : (word : ℕ) → BoxStays old new word
-  boxes_are_kept word = boxes_stay word (cells_move (trimmed_cells trim).1) went_no_box
+  pub trim_step : OwnStep old new cell cell (store ∷ []) pieces []
+  trim_step = record {
+    whole = trim.whole;
+    cells = (trimmed_cells trim).1;
+    object = is_object;
+    still_object = is_object;
+    place = refl;
+    number = refl;
+    went_none = λ one there. ap (λ (c : Cell). is_object_kind c.layout.kind) (sym (one_in store one there))
+        ∙ ap is_object_kind trim.of_kind;
+    boxes = λ one there box. absurd (went_no_box one there box);
+  }
 
   -- the slots of the store that came
   abbrev pub slots_now : List ℕ
@@ -146,19 +100,6 @@ module _ {old new : Heap} {cell store came : Cell} {pieces : List Cell} {before 
       ∙ slot_stands (from + k) trim.refers.has trim.of_kind (omega (arith, below, trim.room))
       ∙ sym (trim.slots k below) ∙ sym (slot_stands k (store_now trim) trim.still_store below) ∙ there
 
-  -- so it has an address in the old heap
-  pub number_was : (k word : ℕ) → HasWord slots_now k word
-      → SlotOfNumber old cell (words_of_cell old cell) (from + k) word
-  number_was k word there =
-      element_of_number (from + k) word trim.has trim.shown.of_kind slots_were (slot_was k word there)
-
-  -- what a slot of the old heap holds that names something named the same before
-  pub named_before : {named : Cell} {words : List ℕ} (k word : ℕ)
-      → (was : SlotOfNumber old cell (words_of_cell old cell) k word) → RefersTo new word named words
-      → IsOwnedKind named.layout.kind → NamesFrom old cell was.at named.at
-  named_before k word was refers owned =
-      slot_named_before trim.whole places_are_kept trim.has is_object was.slot refers owned
-
   -- the list named its store
   pub store_named : NamesFrom old cell (cell.at + store_slot) store.at
   store_named = names_store trim.shown.store trim.has is_object trim.shown.slot trim.refers (inl trim.of_kind)
@@ -175,3 +116,17 @@ module _ {old new : Heap} {cell store came : Cell} {pieces : List Cell} {before 
       let of_other : IsOfCell other came.at = subst (IsOfCell other) same (first_of_cell has) in
       let one : other ≡ store = cells_apart came.at trim.whole.rows has trim.refers.has of_other inside in
       omega (arith, some, trim.place, same, ap (λ (c : Cell). c.at) one)
+
+  -- so the store that went is the list's own, and of those that came only its own is an object's
+  pub trim_writing : OwnWriting old new cell cell (store ∷ []) pieces []
+  trim_writing = record {
+    step = trim_step;
+    belong = λ one there. (
+      cell.at + store_slot,
+      subst (λ (c : Cell). NamesFrom old cell (cell.at + store_slot) c.at) (one_in store one there) store_named,
+    );
+    came_none = λ one there. elim (came_cases one there) [
+      | inl same ↦ ap (λ (c : Cell). is_object_kind c.layout.kind) (sym same) ∙ ap is_object_kind trim.still_store
+      | inr free ↦ free_is_no_object free.of_kind
+    ];
+  }

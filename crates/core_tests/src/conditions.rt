@@ -1,9 +1,7 @@
 //! Rows on both sides of conditions of events: one where an event is just possible, and one where it
-//! is just not. They are those on which no law rests, so that nothing else would tell a slip.
+//! is just not. On most of these conditions no law rests, so that nothing else would tell a slip.
 
-use crate::marking;
-use crate::scavenging::{self, Start};
-use std::test::Fail;
+use crate::scavenging::Start;
 
 // What a slot may hold: a small integer, a reference, undefined, the hole. A place that there is, and
 // no header or length of a cell.
@@ -104,10 +102,12 @@ take_main 63; take_main 64 -> stops at 1";
 
 // A table of one pair at 0, whose length marking does not ask for; at 4 and 5 headers of the last
 // shape that there may be, which has no layout, and of the shape behind it.
-const ODD: &str = "18 1 13 13 32798 32802";
+pub(crate) const ODD: &str = "18 1 13 13 32798 32802";
+
+pub(crate) const ODD_CELLS: &str = "0 4 5 2046 2047";
 
 // A header that names no cell is all that is read of one. That is settled at once.
-const NAMELESS: &str = "\
+pub(crate) const NAMELESS: &str = "\
 lend; shade 0; header 0 0; layout 0; length 0 -> stops at 4
 lend; shade 0; header 0 0; layout 0; load 0 2 -> stops at 4
 lend; shade 0; header 0 0; layout 0; settle 0 -> visit []; last 18 0
@@ -120,8 +120,32 @@ own 2046 14; lend; shade 2046; header 0 2046; layout 0; settle 0 -> stops at 5
 own 2047 14; lend; shade 2047; header 0 2047; layout 0; length 0 -> stops at 5
 own 2047 14; lend; shade 2047; header 0 2047; layout 0; settle 0 -> visit []; last 14 0";
 
+// The ends of the board, of the words, of the shapes and of the seats.
+const ENDS: &str = "\
+shade 0; give_main 63 0 -> grey []
+shade 0; give_main 64 0 -> stops at 1
+take_main 63 -> seats 0
+take_main 64 -> stops at 0
+own 2047 5 -> seats 0
+own 2048 5 -> stops at 0
+lay 8199 1 -> seats 0
+lay 8200 1 -> stops at 0
+lay 7 1 -> stops at 0
+look -> words [6, 13, 0, 14, 0, 6, 33, 2, 14, 2, 49, 3, 34, 3, 74, 3, 5000000000, 70, 3, 13]; seats 0
+lend; lend; lend; lend; lend; lend; lend -> seats 7
+lend; lend; lend; lend; lend; lend; lend; lend -> stops at 7";
+
+// A list at 0, and its store at 3 with a length past the page.
+pub(crate) const LONG: &str = "6 13 0 14 18446744073709551615";
+
+// Such a length names no cell: no slot is to be read, and the cell turns black.
+pub(crate) const LENGTHS: &str = "\
+lend; shade 3; header 0 3; layout 0; length 0; load 0 2 -> stops at 5
+lend; shade 3; header 0 3; layout 0; length 0; settle 0 -> \
+    colours [0, 0, 0, 2, 0, 0, 0, 0, 0, 0, 0, 0, 0, 0, 0, 0, 0, 0, 0, 0]";
+
 // Two boxes with the same words, a slot for each, and a room.
-const BOXES: Start<'static> = Start {
+pub(crate) const BOXES: Start<'static> = Start {
     words: "22 77 22 77 1 9 0 0 0 0 0 0",
     layouts: "0 2 3 4 5 6",
     cells: "0 2",
@@ -130,12 +154,13 @@ const BOXES: Start<'static> = Start {
 };
 
 // The first is copied, and the second was read.
-const COPIED: &str = "lend; load 0 4; header 0; body 0; copy 0 6 22; copy 0 7 77; forward 0 6; \
+pub(crate) const COPIED: &str =
+    "lend; load 0 4; header 0; body 0; copy 0 6 22; copy 0 7 77; forward 0 6; \
     redirect 0; load 0 5; header 0; body 0; ";
 
 // The copy of the second is beside that of the first, also where the words are the same. A header is
 // read once, and a seat that was taken back takes nothing.
-const ROOMS: &str = "\
+pub(crate) const ROOMS: &str = "\
 forward 0 6 -> stops at 11
 copy 0 8 22; copy 0 9 77; forward 0 8 -> homes 2
 copy 0 8 22; copy 0 9 77; forward 0 7 -> stops at 13
@@ -153,15 +178,19 @@ give 0 0 6; return 0 -> todo 0 []; out 0
 return 0; return 0 -> stops at 12
 return 1 -> stops at 11";
 
-#[test]
-fn marking_stops_at_each_condition(rt: HostRuntime) -> Result<(), Fail> {
-    for rows in [SLOTS, LAYOUTS, PLACES, READINGS] {
-        marking::walk(&rt, rt.alloc(), marking::WORDS, marking::CELLS, rows)?;
-    }
-    marking::walk(&rt, rt.alloc(), ODD, "0 4 5 2046 2047", NAMELESS)
-}
+// A slot, and words of a room, are no places of the words.
+pub(crate) const PAST: Start<'static> = Start {
+    words: "6 0 0 0",
+    layouts: "0 2",
+    cells: "0",
+    slots: "9",
+    rooms: "room 0 2 6",
+};
 
-#[test]
-fn scavenging_stops_at_each_condition(rt: HostRuntime) -> Result<(), Fail> {
-    scavenging::walk(&rt, rt.alloc(), BOXES, COPIED, ROOMS)
-}
+// What is no place is not touched.
+pub(crate) const NOWHERE: &str = "\
+lend; load 0 9 -> stops at 1
+lend; copy 0 5 1 -> stops at 1";
+
+/// Those of marking, each row from the world that its runs begin with.
+pub(crate) const OF_MARKING: [&str; 5] = [SLOTS, LAYOUTS, PLACES, READINGS, ENDS];

@@ -1,6 +1,7 @@
 //! Lists of events of a scavenge by workers, each from a fresh world. A row is a line: events that
 //! come behind others, and what of their end is compared.
 
+use crate::conditions;
 use crate::text::{Step, addresses, compare, padded, step_of};
 use scav_copy::Room;
 use scav_core::{Event, Workers, World, replay};
@@ -37,15 +38,6 @@ const RAW: Start<'static> = Start {
     cells: "2",
     slots: "0",
     rooms: "room 0 7 11",
-};
-
-// A slot, and words of a room, are no places of the words.
-const PAST: Start<'static> = Start {
-    words: "6 0 0 0",
-    layouts: "0 2",
-    cells: "0",
-    slots: "9",
-    rooms: "room 0 2 6",
 };
 
 // Both workers read the slots and the cell, and copy it.
@@ -117,11 +109,6 @@ const KEPT: &str = "\
 lend; load 0 0; header 0; body 0; body 0; body 0; copy 0 7 6; copy 0 8 3; copy 0 9 9; copy 0 10 9; \
     forward 0 7; redirect 0; load 0 8; load 0 10; header 0; redirect 0 -> \
     words [29, 0, 29, 3, 9, 9, 0, 6, 3, 9, 29, 0]";
-
-// What is no place is not touched.
-const PLACES: &str = "\
-lend; load 0 9 -> stops at 1
-lend; copy 0 5 1 -> stops at 1";
 
 // The event that a step says.
 fn event(step: Step<'_>) -> Option<Event> {
@@ -275,7 +262,7 @@ fn hold_all(
 }
 
 // Each row ends as it says, behind these events, from a world of this start.
-pub(crate) fn walk(
+fn walk(
     rt: &impl Abort,
     alloc: Global,
     start: Start<'_>,
@@ -292,5 +279,12 @@ fn lists_of_events_end_as_worked_out(rt: HostRuntime) -> Result<(), Fail> {
     walk(&rt, rt.alloc(), WORKED, COPIES, "redirect 0 -> stops at 16")?;
     walk(&rt, rt.alloc(), WORKED, "", EARLY)?;
     walk(&rt, rt.alloc(), RAW, "", KEPT)?;
-    walk(&rt, rt.alloc(), PAST, "", PLACES)
+    walk(
+        &rt,
+        rt.alloc(),
+        conditions::BOXES,
+        conditions::COPIED,
+        conditions::ROOMS,
+    )?;
+    walk(&rt, rt.alloc(), conditions::PAST, "", conditions::NOWHERE)
 }

@@ -35,7 +35,9 @@ use Rattle.object_cells.proofs.SlotBoxes.{IsBoxOf}
 use Rattle.object_cells.proofs.ContentValues.{box_shows}
 use Rattle.object_cells.proofs.FieldWords.{value_word}
 use Rattle.weak_pairs.specs.Pairs.{IsFilledAt}
-use Rattle.ephemeron_table.specs.PairWrites.{RefillsPairs, PairComes, ValueComes}
+use Rattle.object_cells.specs.OwnSlots.{ComesFrom}
+use Rattle.ephemeron_table.proofs.PairComes.{PairComes, value_comes, pair_shows}
+use Rattle.ephemeron_table.specs.PairWrites.{RefillsPairs, HasValue}
 use Rattle.weak_pairs.specs.Tables.{pairs_of, numbers}
 use Rattle.weak_pairs.specs.declared.table.Table.{Table}
 use Rattle.weak_pairs.proofs.CountedPairs.{count_filled}
@@ -145,7 +147,7 @@ module _ {old new : Mutator} {graph : Graph} {map key : ℕ} {weak : WeakObject}
             same_Some has.told.pair one
             (sym (entry_filled has).stands ∙ ap (slice_get before) (sym same) ∙ was.stands) in
             PairComes.put number same (subst (λ (p : Pair). IsFilledPair (heap_of new) p number) entry pair_is)
-            (ValueComes.moved one was.stands refl)
+            (ComesFrom.moved (one, was, refl))
         | inr apart ↦ PairComes.kept was (of_box.no_box v has box_of puts_it at one apart was)
       ]
 
@@ -176,17 +178,23 @@ module _ {old new : Mutator} {graph : Graph} {map key : ℕ} {weak : WeakObject}
     now = after;
     are = staying.are_after (known has) (some has) stays;
     counted = count_now;
-    origin = λ at. at;
-    apart = λ at other pair another one two same. same;
-    one = place;
-    each_pair = comes;
+    refills = record {
+      origin = λ at. at;
+      apart = λ at other word another one two same. same;
+      one = place;
+      each_slot = λ at word there. subst (ComesFrom (heap_of new) (HasValue before) [] at place at) there.2
+          (value_comes (comes at there.0 there.1));
+      store = (sound (known has)).store;
+      has_store = staying.slot_now (known has) (some has) stays;
+      store_comes = inl (slot_there (known has));
+      belong = belong;
+      kinds = λ one among. absurd (none_in one among);
+      stores = tables_told;
+      boxes = integer.boxes_told put_it fits;
+    };
+    each_pair = λ at one is. pair_shows (comes at one is);
     probed = staying.probed (known has) written after
         (subst (λ pairs. FindsAll (numbers (heap_of old) pairs)) (sym same_pairs) (finds_all (known has)));
-    table_comes = inl (slot_there (known has));
-    belong = belong;
-    kinds = λ one among. absurd (none_in one among);
-    tables = tables_told;
-    boxes = integer.boxes_told put_it fits;
   }
 
   -- and the entry has the value
@@ -194,7 +202,7 @@ module _ {old new : Mutator} {graph : Graph} {map key : ℕ} {weak : WeakObject}
   box_replaces = record {
     others = both;
     made = [];
-    refills = record { whole = (known has).whole; writes = integer.writes put_it; pairs = refills };
+    refills = record { whole = (known has).whole; writes = integer.writes put_it; paths = ap (λ (m : Mutator). m.paths) puts_it; pairs = refills };
     now = has.told.pair;
     before_is = refl;
     now_is = same_pairs ∙ sym (set_there before place has.told.pair (entry_filled has).stands);

@@ -13,7 +13,7 @@ use Rattle.heap_model.specs.Slots.{is_object_kind, reference_word, raw_word, Ref
 use Rattle.heap_model.specs.Kinds.{Pair}
 use Rattle.heap_model.specs.Wholeness.{NamesFrom, IsOwnedKind}
 use Rattle.write_barrier.specs.Mains.{Mutator, heap_of, with_word}
-use Rattle.object_cells.specs.SlotChanges.{IsNoBoxOf}
+use Rattle.object_cells.specs.OwnSlots.{IsNoBoxOf}
 use Rattle.object_cells.proofs.OwnIntegers as integer
 use Rattle.object_cells.proofs.OwnIntegers.{PutsInteger}
 use Rattle.object_cells.proofs.OwnerWrites.{weak_owns}

@@ -21,10 +21,11 @@ use Rattle.heap_model.specs.Needs.{capacity_at, count_at}
 use Rattle.write_barrier.specs.Mains.{Mutator, heap_of, MainShows}
 use Rattle.object_cells.specs.Capacities.{ChangesObject}
 use Rattle.object_cells.proofs.NothingUsed.{uses_none, nothing_changes}
+use Rattle.ephemeron_table.proofs.KeptTables.{tables_stay}
 use Rattle.ephemeron_table.specs.EntryChanges.{DeletesEntry}
 use Rattle.ephemeron_table.specs.WeakObjects.{IsWeakAt}
 use Rattle.weak_pairs.specs.Pairs.{IsFilledAt}
-use Rattle.ephemeron_table.specs.PairLaws.{PutsOne, TablesStay, WrittenEntriesShow}
+use Rattle.ephemeron_table.specs.PairLaws.{PutsOne, WrittenEntriesShow}
 use Rattle.ephemeron_table.specs.Takings.{TakesAt}
 use Rattle.weak_pairs.specs.Tables.{pairs_of}
 use Rattle.weak_pairs.specs.declared.table.Table.{Table}
@@ -152,15 +153,15 @@ module _ {old new : Mutator} {graph : Graph} {map key : ℕ} {weak : WeakObject}
       subst (HasWord (words_of_cell (heap_of new) (shown its).cell) count_offset) same
       (count_after is_known (some its) takes one (entry_filled its))
 
-  pub deletes_entry : TablesStay → WrittenEntriesShow → DeletesEntry old new graph map weak number
-  deletes_entry tables_stay entries_show =
+  pub deletes_entry : WrittenEntriesShow → DeletesEntry old new graph map weak number
+  deletes_entry entries_show =
       let takes = deleting.takes in
       let refills = refills_weak is_known (some its) takes one (entry_filled its) in
       record {
         none = λ no_entry. absurd (none-some its.told.value (sym no_entry ∙ its.told.is_entry));
         uses = uses_none takes.rest takes.young;
         changes = subst (λ at. ChangesObject (heap_of old) (heap_of new) at (capacity_at (heap_of old) at))
-            (shown its).stands (tables_stay (heap_of old) (heap_of new) (shown its).cell _ [] refills
+            (shown its).stands (tables_stay refills
             (slot_stays is_known (some its) takes one (entry_filled its)));
         shows = entries_show old new graph weak (shown its).cell _ [] number None its.shows its.is.object its.is.reached
             its.is_key.reached (shown its).carries (shown its).shows (λ what is. absurd (none-some what is))

@@ -11,7 +11,7 @@ use Rattle.ephemeron_table.specs.EntryChanges.{DeletesEntry}
 use Rattle.weak_pairs.specs.Pairs.{HasPairsAt, IsPairOf}
 use Rattle.ephemeron_table.specs.Pairs.{RemovesPair}
 use Rattle.ephemeron_table.specs.PairChanges.{DeletesPair}
-use Rattle.ephemeron_table.specs.PairLaws.{WrittenPairsAreOwn, TablesStay}
+use Rattle.ephemeron_table.specs.PairLaws.{WrittenPairsAreOwn}
 use Rattle.ephemeron_table.specs.Probes.{IsTableAt}
 use Rattle.ephemeron_table.specs.Takings.{TakesAt}
 use Rattle.weak_pairs.specs.declared.table.Table.{Table}
@@ -28,11 +28,11 @@ pub deletes_pair : {old new : Mutator} {graph : Graph} {map key : ℕ} {weak : W
     → IsKeyAt old graph key number
     → AreWithin old.seat.space.sizes old.seat.space.variables → IsTableAt (heap_of old) map table
     → TellsPair old (weak_shown shows is).shows.pairs table place key weak.entries number
-    → HasPairsAt (heap_of old) map before → TakesAt old new map table place → WrittenPairsAreOwn → TablesStay
+    → HasPairsAt (heap_of old) map before → TakesAt old new map table place → WrittenPairsAreOwn
     → DeletesPair old new map key before
 deletes_pair {old} {new} {graph} {map} {key} {weak} {number} {place} {table} {before} shows is is_key sizes is_table
     told
-    has takes are_own stay =
+    has takes are_own =
     let shown : WeakShown old graph map weak = weak_shown shows is in
     let known : KnownMap old map table = shown_known shows is sizes is_table in
     let same = pairs_shown known shown has in
@@ -41,7 +41,7 @@ deletes_pair {old} {new} {graph} {map} {key} {weak} {number} {place} {table} {be
       there = λ at pair theirs.
           let one = one_pair_of shown is_key same told.value told.is_entry place at told.pair pair its theirs in
           subst (λ n. RemovesPair old new map n before) one
-          (removes_pair known before has has its.filled takes shows.quiet are_own stay);
+          (removes_pair known before has has its.filled takes shows.quiet are_own);
       none = λ lacks. absurd (lacks place told.pair its);
     }
 

@@ -2,7 +2,7 @@
 use Rattle.std.proofs.Common.{◌≡◌, ℕ, ◌+◌, ◌<◌, ◌⊎◌, inl, inr, List, [], drop, Contains, Some, false, slice_get, refl}
 use Rattle.std.proofs.Common.{sym, ◌∙◌, ap, subst, arith}
 use Rattle.std.specs.Prelude.{ℤ}
-use Rattle.std.proofs.lemmas.Bool.{cases_lt}
+use Rattle.std.proofs.lemmas.Bool.{cases_lt, false≢true}
 use Rattle.std.proofs.lemmas.Option.{same_Some}
 use Rattle.tagged_word.specs.declared.layout.Kind.TheVariants as kind
 use Rattle.tagged_word.specs.Cells.{store_head, store_slot}
@@ -25,32 +25,32 @@ use Rattle.heap_model.proofs.WordsStay.{PlacesStay}
 use Rattle.write_barrier.specs.Mains.{Mutator, heap_of}
 use Rattle.object_cells.specs.declared.content.Content.TheVariants as content
 use Rattle.object_cells.specs.Contents.{next_at}
-use Rattle.object_cells.specs.Made.{beside_content}
+use Rattle.object_cells.specs.Made.{beside_content, content_word}
 use Rattle.object_cells.proofs.HeldContents.{HoldsValue}
 use Rattle.object_cells.proofs.MadeBoxes.{made_box, boxed_integer, refers_to_made, made_boxed, only_first}
 use Rattle.object_cells.proofs.MadeBoxes.{boxes_sound}
 use Rattle.object_cells.proofs.NewBoxes.{box_cell}
 use Rattle.object_cells.proofs.SlotsNow.{word_at_offset}
 use Rattle.object_cells.proofs.WordsTold.{cell_fits}
-use Rattle.object_cells.proofs.ContentValues.{content_shows}
+use Rattle.object_cells.proofs.ContentValues.{content_shows, content_comes, is_made_box}
 use Rattle.object_cells.proofs.FieldWords.{value_word}
-use Rattle.object_cells.proofs.ObjectWrites.{owned_or_box}
+use Rattle.ephemeron_table.proofs.PairComes.{PairComes, value_comes, pair_shows}
 use Rattle.ephemeron_table.specs.Movings.{CanGrow, PutsInNewTable}
 use Rattle.weak_pairs.specs.Pairs.{HasPairs, IsFilledAt}
-use Rattle.ephemeron_table.specs.PairWrites.{RefillsPairs, PairComes}
+use Rattle.ephemeron_table.specs.PairWrites.{RefillsPairs, HasValue}
 use Rattle.ephemeron_table.specs.PairLaws.{RefillsWeak}
 use Rattle.weak_pairs.specs.declared.table.Table.{Table}
 use Rattle.weak_pairs.proofs.CountedPairs.{count_filled}
 use Rattle.ephemeron_table.proofs.GrownPairs.{before, after, place, origin, origin_other, all_apart, all_found, moved}
 use Rattle.ephemeron_table.proofs.GrownPairs.{one_more, NowFilled, now_filled}
-use Rattle.ephemeron_table.proofs.GrownWords.{pair, made, made_table, other, boxes, behind, capacity, box_stands}
+use Rattle.ephemeron_table.proofs.GrownWords.{pair, made, made_table, other, boxes, behind, capacity, box_stands, puts_weak}
 use Rattle.ephemeron_table.proofs.GrownWords.{writes, capacity_word, fits_new}
 use Rattle.ephemeron_table.proofs.LinkedMaps.{count_word, slot_word}
 use Rattle.weak_pairs.proofs.GrownPowers.{first_power, grown_power}
 use Rattle.weak_pairs.proofs.PairLists.{pairs_are}
 use Rattle.ephemeron_table.proofs.TablesRead.{found_table, pairs_stand}
 use Rattle.ephemeron_table.proofs.KnownTables.{table_is_no_box, are_before, KnownMap, cell, of_map, found, other_long}
-use Rattle.ephemeron_table.proofs.PutValues.{value_comes}
+use Rattle.object_cells.specs.OwnSlots.{ComesFrom}
 use Rattle.ephemeron_table.proofs.StayingTables as staying
 use Rattle.ephemeron_table.proofs.StayingTables.{WritesMap}
 
@@ -88,7 +88,7 @@ module _ {old new : Mutator} {map key count earlier number : ℕ} {table : Table
   written = record {
     writes = writes known can puts;
     belong = λ one among. absurd (none_in one among);
-    kinds = λ one among. owned_or_box (made_kinds one among) tt;
+    kinds = made_kinds;
   }
 
   -- they stand in the new heap
@@ -184,9 +184,13 @@ module _ {old new : Mutator} {map key count earlier number : ℕ} {table : Table
         subst (PairComes (heap_of new) (before known can puts) [] all_made (origin known can puts at)
         (place known can puts) at) put_is
         (PairComes.put number same pair_filled
-        (value_comes (before known can puts) all_made (origin known can puts at) (behind known can puts) holds places
-        (λ v is_box. rest_in table_made boxes_made (box_cell (behind known can puts))
-        (made_box (beside_content value) (behind known can puts) v is_box))))
+        (subst (λ n. ComesFrom (heap_of new) (HasValue (before known can puts)) all_made (origin known can puts at) n at
+        (content_word (beside_content value) (behind known can puts))) same
+        (content_comes (HasValue (before known can puts)) all_made (origin known can puts at) at (behind known can puts)
+        holds places (λ own wide. false≢true own)
+        (λ v is_box. is_made_box (behind known can puts)
+        (rest_in table_made boxes_made (box_cell (behind known can puts))
+        (made_box (beside_content value) (behind known can puts) v is_box))))))
     | NowFilled.elsewhere apart now ↦
         PairComes.kept
         (subst (λ n. IsFilledAt (before known can puts) n one) (sym (origin_other known can puts at apart))
@@ -215,17 +219,23 @@ module _ {old new : Mutator} {map key count earlier number : ℕ} {table : Table
     now = pairs_after;
     are = are_after;
     counted = count_now;
-    origin = origin known can puts;
-    apart = all_apart known can puts;
-    one = place known can puts;
-    each_pair = comes;
+    refills = record {
+      origin = origin known can puts;
+      apart = λ at other word another one two. all_apart known can puts at other one.0 two.0 one.1 two.1;
+      one = place known can puts;
+      each_slot = λ at word there. subst (ComesFrom (heap_of new) (HasValue (before known can puts)) all_made
+          (origin known can puts at) (place known can puts) at) there.2 (value_comes (comes at there.0 there.1));
+      store = reference_word (next_at old);
+      has_store = slot_now;
+      store_comes = inr (table_made, first_in table_made boxes_made, refl, refl);
+      belong = λ one among. absurd (none_in one among);
+      kinds = made_kinds;
+      stores = tables_told;
+      boxes = boxes_told;
+    };
+    each_pair = λ at one is. pair_shows (comes at one is);
     probed = staying.probed known written pairs_after (all_found known can puts key_refers);
-    table_comes = inr (table_made, first_in table_made boxes_made, refl, refl);
-    belong = λ one among. absurd (none_in one among);
-    kinds = made_kinds;
-    tables = tables_told;
-    boxes = boxes_told;
   }
 
   abbrev pub refills_weak : RefillsWeak (heap_of old) (heap_of new) map_cell [] all_made
-  refills_weak = record { whole = known.whole; writes = writes known can puts; pairs = refills }
+  refills_weak = record { whole = known.whole; writes = writes known can puts; paths = (puts_weak known can puts).puts.paths; pairs = refills }

@@ -1,27 +1,35 @@
 -- How many pairs the tables of weak maps have once words of one map's own cells were written.
-use Rattle.std.proofs.Common.{List, inr}
+use Rattle.std.proofs.Common.{◌≡◌, ◌+◌, ◌<◌, ◌^◌, List, Contains, Some, slice_get}
+use Rattle.tagged_word.specs.declared.layout.Kind.TheVariants as kind
+use Rattle.tagged_word.specs.Cells.{store_slot}
 use Rattle.cell_layout.specs.declared.cell.Cell.{Cell}
 use Rattle.heap_model.specs.Heaps.{Heap}
-use Rattle.object_cells.proofs.KeptCapacities.{WritesOwn, object_keeps, object_grows}
-use Rattle.object_cells.proofs.OwnerWrites.{weak_owns, writes_own}
-use Rattle.object_cells.proofs.ObjectWrites.{owned_or_box}
-use Rattle.ephemeron_table.specs.PairLaws.{RefillsWeak, TablesStay, TablesGrow}
+use Rattle.heap_model.specs.Slots.{reference_word}
+use Rattle.heap_model.specs.Needs.{capacity_at}
+use Rattle.object_cells.specs.Capacities.{ChangesObject, WritesBeside}
+use Rattle.object_cells.proofs.OwnCapacities.{object_keeps, object_grows}
+use Rattle.object_cells.proofs.OwnerWrites.{weak_owns}
+use Rattle.ephemeron_table.specs.PairLaws.{RefillsWeak}
 
 -- words of a weak map's own cells were so written
 pub of_pairs : {old new : Heap} {cell : Cell} {others made : List Cell} → RefillsWeak old new cell others made
-    → WritesOwn old new cell cell others made
+    → WritesBeside kind.Weak kind.Table old new cell cell others made
 of_pairs refills = record {
+  owns = weak_owns;
   whole = refills.whole;
-  writes = writes_own weak_owns refills.whole refills.writes;
-  belong = refills.pairs.belong;
-  kinds = λ other among. owned_or_box (refills.pairs.kinds other among) tt;
+  writes = refills.writes;
+  belong = refills.pairs.refills.belong;
+  kinds = refills.pairs.refills.kinds;
 }
 
--- so the map keeps its table's pairs where the word for the table stays
-pub tables_stay : TablesStay
-tables_stay old new cell others made refills stays = object_keeps (of_pairs refills) stays
+module _ {old new : Heap} {cell : Cell} {others made : List Cell} (refills : RefillsWeak old new cell others made) where
+  -- so the map keeps its table's pairs where the word for the table stays
+  pub tables_stay : slice_get new.words (cell.at + store_slot) ≡ slice_get old.words (cell.at + store_slot)
+      → ChangesObject old new cell.at (capacity_at old cell.at)
+  tables_stay stays = object_keeps (of_pairs refills) stays
 
--- and has as many as a table that was made, where it refers to this
-pub tables_grow : TablesGrow
-tables_grow old new cell others made table refills among of_kind fits there =
-    object_grows table (of_pairs refills) among (inr of_kind) fits there
+  -- and has as many as a table that was made, where it refers to this
+  pub tables_grow : (table : Cell) → Contains made table → table.layout.kind ≡ kind.Table → table.at < 2 ^ 32
+      → slice_get new.words (cell.at + store_slot) ≡ Some (reference_word table.at)
+      → ChangesObject old new cell.at table.length
+  tables_grow table among of_kind fits there = object_grows (of_pairs refills) table among of_kind fits there

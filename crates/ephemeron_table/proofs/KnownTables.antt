@@ -10,7 +10,7 @@ use Rattle.tagged_word.specs.Cells.{store_head, store_slot}
 use Rattle.tagged_word.proofs.Readings.{reference_to, reference_from}
 use Rattle.page_space.specs.Sizes.{AreWithin}
 use Rattle.cell_layout.specs.declared.cell.Cell.{Cell}
-use Rattle.linear_probing.specs.Tables.{place_after, FindsAll}
+use Rattle.linear_probing.specs.Tables.{FindsAll}
 use Rattle.linear_probing.specs.Tables as probing
 use Rattle.linear_probing.proofs.Findings.{still_probed}
 use Rattle.object_graph.specs.Graphs.{Graph, WeakObject}

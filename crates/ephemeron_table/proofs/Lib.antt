@@ -19,9 +19,8 @@ pub mod TableBounds
 pub mod BegunTables
 pub mod GrowingTables
 pub mod PutPairs
-pub mod PutValues
+pub mod PairComes
 pub mod PutMaps
-pub mod KeysAt
 pub mod EntryPairs
 pub mod ReplacedValues
 pub mod PutEntries

@@ -13,9 +13,10 @@ use Rattle.object_graph.specs.Invariants.{IsValue}
 use Rattle.handle_roots.specs.Roots.{FitsHeld}
 use Rattle.handle_roots.specs.declared.held.Held.{Held}
 use Rattle.heap_model.specs.Heaps.{words_of_cell}
-use Rattle.heap_model.specs.Slots.{reference_word}
 use Rattle.heap_model.specs.Kinds.{HasWord, count_offset}
-use Rattle.heap_model.specs.Needs.{capacity_at, count_at, grown_table, pair_of}
+use Rattle.heap_model.specs.Needs.{capacity_at, count_at, grown_table}
+use Rattle.heap_model.specs.Rooms.{room_put}
+use Rattle.object_graph.specs.Objects.{entry_value}
 use Rattle.write_barrier.specs.Mains.{Mutator, heap_of}
 use Rattle.write_barrier.specs.declared.room.NoRoom.{NoRoom}
 use Rattle.object_cells.specs.HeldValues.{IsValueHeld}
@@ -25,15 +26,15 @@ use Rattle.object_cells.specs.Uses.{UsesMore}
 use Rattle.object_cells.proofs.HeldContents.{HoldsValue}
 use Rattle.object_cells.proofs.HeldNeeds.{held_is_value, new_value_held}
 use Rattle.object_cells.proofs.UnusedWords.{marks_fit, next_before_marks}
-use Rattle.ephemeron_table.specs.EntryChanges.{HasPutEntry, IsFullFor, PutsEntry}
+use Rattle.ephemeron_table.proofs.KeptTables.{tables_grow}
+use Rattle.ephemeron_table.specs.EntryChanges.{map_room, HasPutEntry, IsFullFor, PutsEntry}
 use Rattle.ephemeron_table.specs.declared.stop.TableStop.TheVariants as stop
-use Rattle.ephemeron_table.specs.Growth.{put_capacity_by}
 use Rattle.ephemeron_table.specs.Movings.{CanGrow, PutsInNewTable, new_table_need}
-use Rattle.ephemeron_table.specs.PairLaws.{RefillsWeak, TablesGrow, WrittenEntriesShow, IsNewValue}
+use Rattle.ephemeron_table.specs.PairLaws.{RefillsWeak, WrittenEntriesShow, IsNewValue}
 use Rattle.weak_pairs.specs.declared.table.Table.{Table}
 use Rattle.weak_pairs.proofs.CountedPairs.{count_filled}
 use Rattle.ephemeron_table.proofs.GrownEntries.{IsGrowing, growing_can, growing_need, known, length-with_entry_new}
-use Rattle.ephemeron_table.proofs.GrownEntries.{no_pair_of, none, over_test, puts_one, shown}
+use Rattle.ephemeron_table.proofs.GrownEntries.{none, over_test, puts_one, shown}
 use Rattle.ephemeron_table.proofs.GrownMaps.{all_made, boxes_made, count_now, refills_weak, slot_there_now}
 use Rattle.ephemeron_table.proofs.GrownMaps.{table_made}
 use Rattle.ephemeron_table.proofs.GrownPairs.{after, before, one_more}
@@ -106,37 +107,35 @@ module _ {old : Mutator} {graph : Graph} {map key : ℕ} {weak : WeakObject} {nu
         (count_now k can puts objects growing.is_key.place holds is_value counted)
 
     -- the map has as many pairs as the table that was made
-    grows : TablesGrow → ChangesObject (heap_of old) (heap_of new) map (grown_table table.capacity)
-    grows tables_grow =
+    grows : ChangesObject (heap_of old) (heap_of new) map (grown_table table.capacity)
+    grows =
         let ends = next_before_marks old (new_table_need table value) k.tied puts.room in
         subst (λ at. ChangesObject (heap_of old) (heap_of new) at (grown_table table.capacity)) k.there.stands
-        (tables_grow (heap_of old) (heap_of new) (cell k) []
-        (all_made k can puts objects growing.is_key.place holds is_value counted)
-        (table_made k can puts objects growing.is_key.place holds is_value counted) refills
+        (tables_grow refills (table_made k can puts objects growing.is_key.place holds is_value counted)
         (first_in (table_made k can puts objects growing.is_key.place holds is_value counted)
         (boxes_made k can puts objects growing.is_key.place holds is_value counted)) refl
         (omega (arith, ends, marks_fit old.seat.space growing.sizes))
         (slot_there_now k can puts objects growing.is_key.place holds is_value counted))
 
     -- which is as many as the table has once an entry of the key was put
-    capacity_is : grown_table table.capacity ≡ put_capacity_by (heap_of old) map
-        (pair_of (heap_of old) map (reference_word key))
+    capacity_is : grown_table table.capacity ≡ (room_put (map_room old map weak)
+        (entry_value weak.entries number)).capacity
     capacity_is =
         let capacity : ℕ = capacity_at (heap_of old) map in
         ap grown_table (sym growing.is_table.capacity)
         ∙ ap (λ t. cond t (grown_table capacity) capacity) (sym (over_test growing))
-        ∙ ap (put_capacity_by (heap_of old) map) (sym (no_pair_of growing))
+        ∙ ap (λ found. (room_put (map_room old map weak) found).capacity) (sym growing.fresh)
 
     -- so the entry has the value
-    pub grown_entry : TablesGrow → WrittenEntriesShow → HasPutEntry old new graph map key weak number what
-    grown_entry tables_grow entries_show =
+    pub grown_entry : WrittenEntriesShow → HasPutEntry old new graph map key weak number what
+    grown_entry entries_show =
         let need_is = growing_need growing value what held in
         let words = (puts_weak k can puts).puts in
         record {
           few = growing_few;
           room = subst (HasRoom old.young) need_is puts.room;
           uses = subst (UsesMore old new) need_is (record { beside = words.beside; young = words.young });
-          changes = subst (ChangesObject (heap_of old) (heap_of new) map) capacity_is (grows tables_grow);
+          changes = subst (ChangesObject (heap_of old) (heap_of new) map) capacity_is grows;
           shows = entries_show old new graph weak (cell k) []
               (all_made k can puts objects growing.is_key.place holds is_value counted) number (Some what)
               growing.shows growing.is.object growing.is.reached growing.is_key.reached (shown growing).carries
@@ -149,8 +148,8 @@ module _ {old : Mutator} {graph : Graph} {map key : ℕ} {weak : WeakObject} {nu
         }
 
     -- and its pair was put
-    pub grown_pair : TablesGrow → PutsShown old new graph map key weak number value what
-    grown_pair tables_grow = record {
+    pub grown_pair : PutsShown old new graph map key weak number value what
+    grown_pair = record {
       shows = growing.shows;
       is = growing.is;
       is_key = growing.is_key;
@@ -167,6 +166,6 @@ module _ {old : Mutator} {graph : Graph} {map key : ℕ} {weak : WeakObject} {nu
       refills = refills;
       one = puts_one k can puts objects growing.is_key.place holds is_value counted (none growing);
       capacity = grown_table table.capacity;
-      changes = grows tables_grow;
+      changes = grows;
       counted = CountsPut.fresh growing.fresh (omega (arith, one_more k can puts, count_is k));
     }

@@ -6,21 +6,22 @@ use Rattle.object_graph.specs.Graphs.{Graph, WeakObject}
 use Rattle.object_graph.specs.Invariants.{IsValue}
 use Rattle.handle_roots.specs.Roots.{FitsHeld}
 use Rattle.handle_roots.specs.declared.held.Held.{Held}
-use Rattle.heap_model.specs.Slots.{reference_word, IsSlotWord}
-use Rattle.heap_model.specs.Needs.{word_at, wput_need_at}
+use Rattle.heap_model.specs.Slots.{IsSlotWord}
+use Rattle.heap_model.specs.Needs.{word_at}
+use Rattle.heap_model.specs.Rooms.{wput_need}
 use Rattle.write_barrier.specs.Mains.{Mutator, heap_of}
 use Rattle.write_barrier.specs.declared.room.NoRoom.{NoRoom}
 use Rattle.object_cells.specs.Contents.{next_at, box_in, filling_at, filling_of, filling_need, HoldsSlotWord}
 use Rattle.object_cells.specs.Contents.{LacksRoom, FillsSlot}
-use Rattle.object_cells.specs.HeldValues.{IsValueHeld, is_wide}
+use Rattle.object_cells.specs.HeldValues.{IsValueHeld}
 use Rattle.object_cells.specs.Made.{beside_content}
 use Rattle.object_cells.proofs.NothingUsed.{room_for_none}
 use Rattle.object_cells.proofs.FilledSlots.{FilledBy, slot_filled, held_before, no_raw}
 use Rattle.object_cells.proofs.HeldNeeds.{held_is_value, new_value_held}
 use Rattle.object_cells.proofs.SlotBoxes.{box_of_word, lacks_need}
-use Rattle.ephemeron_table.specs.EntryChanges.{HasPutEntry, IsFullFor, PutsEntry}
+use Rattle.ephemeron_table.specs.EntryChanges.{map_room, HasPutEntry, IsFullFor, PutsEntry}
 use Rattle.ephemeron_table.specs.declared.stop.TableStop.TheVariants as stop
-use Rattle.ephemeron_table.specs.PairLaws.{TablesStay, WrittenEntriesShow}
+use Rattle.ephemeron_table.specs.PairLaws.{WrittenEntriesShow}
 use Rattle.weak_pairs.specs.Tables.{value_in, value_offset}
 use Rattle.weak_pairs.specs.declared.table.Table.{Table}
 use Rattle.ephemeron_table.proofs.BoxedMaps.{box_replaces}
@@ -59,7 +60,7 @@ replaces_by : {old new : Mutator} {graph : Graph} {map key : ℕ} {weak : WeakOb
     → FilledBy old new (table.at + value_offset place) (word_at (heap_of old) (table.at + value_offset place))
     (beside_content value)
     → (need : ℕ) × ReplacesValue old new (known has) place key what need
-    × (need ≡ wput_need_at (heap_of old) map (reference_word key) (is_wide what))
+    × (need ≡ wput_need (map_room old map weak) weak what number)
 replaces_by {old} value what has is_value held (FilledBy.slot room words needs) =
     let holds = new_value_held false value what held.shows in
     (_, slot_replaces value has holds is_value room words, sym needs ∙ entry_need has value what held.shows)
@@ -80,7 +81,7 @@ replaces_value : {old new : Mutator} {graph : Graph} {map key : ℕ} {weak : Wea
     → IsValue (length graph.objects) what → IsValueHeld old graph value what
     → FillsSlot old new (table.at + value_offset place) (beside_content value)
     → (need : ℕ) × ReplacesValue old new (known has) place key what need
-    × (need ≡ wput_need_at (heap_of old) map (reference_word key) (is_wide what))
+    × (need ≡ wput_need (map_room old map weak) weak what number)
 replaces_value {old} {new} {place = place} {table} value what has is_value held fills =
     let room = room_for_none old has.shows.tied has.shows.shows.whole in
     replaces_by value what has is_value held
@@ -90,21 +91,21 @@ replaces_value {old} {new} {place = place} {table} value what has is_value held 
 -- and so the entry has the value
 pub has_put_value : {old new : Mutator} {graph : Graph} {map key : ℕ} {weak : WeakObject} {number place : ℕ}
     {table : Table} (value : Held) (what : Value) (has : HasEntryPair old graph map key weak number place table)
-    → FitsHeld value → IsValueHeld old graph value what → TablesStay → WrittenEntriesShow
+    → FitsHeld value → IsValueHeld old graph value what → WrittenEntriesShow
     → FillsSlot old new (table.at + value_offset place) (beside_content value)
     → HasPutEntry old new graph map key weak number what
-has_put_value value what has fits held tables_stay entries_show fills =
+has_put_value value what has fits held entries_show fills =
     let is_value = held_is_value value what has.shows fits held.shows in
     let replaces = replaces_value value what has is_value held fills in
-    replaces_entry has replaces.1 tables_stay entries_show is_value held.reached replaces.2
+    replaces_entry has replaces.1 entries_show is_value held.reached replaces.2
 
 -- and its pair was put
 pub puts_value_pair : {old new : Mutator} {graph : Graph} {map key : ℕ} {weak : WeakObject} {number place : ℕ}
     {table : Table} (value : Held) (what : Value) (has : HasEntryPair old graph map key weak number place table)
-    → FitsHeld value → IsValueHeld old graph value what → TablesStay
+    → FitsHeld value → IsValueHeld old graph value what
     → FillsSlot old new (table.at + value_offset place) (beside_content value)
     → PutsShown old new graph map key weak number value what
-puts_value_pair {old} {new} {table = table} value what has fits held tables_stay fills =
+puts_value_pair {old} {new} {table = table} value what has fits held fills =
     let is_value = held_is_value value what has.shows fits held.shows in
     let by = replaces_value value what has is_value held fills in
     let replaces = by.1 in
@@ -125,6 +126,6 @@ puts_value_pair {old} {new} {table = table} value what has fits held tables_stay
       refills = replaces.refills;
       one = puts_one has replaces;
       capacity = _;
-      changes = changes has replaces tables_stay;
+      changes = changes has replaces;
       counted = CountsPut.there has.told.value has.told.is_entry (filled_as_many has replaces);
     }

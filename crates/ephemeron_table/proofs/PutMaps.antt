@@ -2,7 +2,7 @@
 use Rattle.std.proofs.Common.{◌≡◌, ℕ, ◌+◌, ◌<◌, inl, inr, List, [], ◌∷◌, ◌++◌, length, Contains, Some, false}
 use Rattle.std.proofs.Common.{slice_get, refl, sym, ◌∙◌, ap, subst, arith}
 use Rattle.std.specs.Prelude.{slice_set, ℤ}
-use Rattle.std.proofs.lemmas.Bool.{cases_eq}
+use Rattle.std.proofs.lemmas.Bool.{cases_eq, false≢true}
 use Rattle.tagged_word.specs.declared.layout.Kind.TheVariants as kind
 use Rattle.tagged_word.specs.Cells.{store_slot}
 use Rattle.tagged_word.proofs.Members.{first_in, one_in}
@@ -19,22 +19,23 @@ use Rattle.heap_table.specs.Seats.{heap_words}
 use Rattle.heap_model.specs.Heaps.{words_of_cell}
 use Rattle.heap_model.specs.Slots.{reference_word, RefersToBox, RefersToPlace, IsPlace}
 use Rattle.heap_model.specs.Kinds.{HasWord, Pair, IsFilledPair, count_offset, HasNoNumber, IsBoxCell}
-use Rattle.heap_model.specs.Wholeness.{NamesFrom, IsOwnedKind}
+use Rattle.heap_model.specs.Wholeness.{NamesFrom}
 use Rattle.heap_model.proofs.WordsStay.{PlacesStay}
 use Rattle.write_barrier.specs.Mains.{Mutator, heap_of}
 use Rattle.object_cells.specs.declared.content.Content.TheVariants as content
 use Rattle.object_cells.specs.Contents.{next_at}
-use Rattle.object_cells.specs.Made.{beside_content, with_content}
+use Rattle.object_cells.specs.Made.{beside_content, with_content, content_word}
 use Rattle.object_cells.proofs.HeldContents.{HoldsValue}
 use Rattle.object_cells.proofs.MadeBoxes.{made_box, boxed_integer, refers_to_made, made_boxed, only_first}
 use Rattle.object_cells.proofs.MadeBoxes.{length-with_content, boxes_sound}
 use Rattle.object_cells.proofs.NewBoxes.{box_cell}
 use Rattle.object_cells.proofs.OwnCells.{cell_below_layouts}
 use Rattle.object_cells.proofs.SlotsNow.{word_at_offset}
-use Rattle.object_cells.proofs.ContentValues.{content_shows}
+use Rattle.object_cells.proofs.ContentValues.{content_shows, content_comes, is_made_box}
 use Rattle.object_cells.proofs.FieldWords.{value_word}
 use Rattle.weak_pairs.specs.Pairs.{IsFilledAt}
-use Rattle.ephemeron_table.specs.PairWrites.{RefillsPairs, PairComes}
+use Rattle.ephemeron_table.proofs.PairComes.{PairComes, value_comes, pair_shows}
+use Rattle.ephemeron_table.specs.PairWrites.{RefillsPairs, HasValue}
 use Rattle.ephemeron_table.specs.PairLaws.{RefillsWeak}
 use Rattle.ephemeron_table.specs.Puttings.{PutsInTable}
 use Rattle.weak_pairs.specs.Tables.{numbers, pairs_of, with_pair}
@@ -43,8 +44,8 @@ use Rattle.weak_pairs.proofs.CountedPairs.{count_filled}
 use Rattle.ephemeron_table.proofs.KnownTables.{table_is_no_box, are_before, KnownMap, cell, cell_has, sound}
 use Rattle.ephemeron_table.proofs.KnownTables.{slot_there, of_map, found, other, other_belongs, other_number}
 use Rattle.weak_pairs.proofs.PairsPut.{at_place, length-with_pair}
-use Rattle.ephemeron_table.proofs.PutPairs.{pair, made, pairs_are_now, box_stands, writes, some, map_stays}
-use Rattle.ephemeron_table.proofs.PutValues.{value_comes}
+use Rattle.ephemeron_table.proofs.PutPairs.{pair, made, pairs_are_now, box_stands, writes, some, map_stays, puts_weak}
+use Rattle.object_cells.specs.OwnSlots.{ComesFrom}
 use Rattle.weak_pairs.proofs.FilledPairs.{filled_elsewhere}
 use Rattle.ephemeron_table.proofs.StayingTables as staying
 use Rattle.ephemeron_table.proofs.StayingTables.{WritesMap, StaysTable}
@@ -95,7 +96,7 @@ module _ {old new : Mutator} {map place key count number : ℕ} {table : Table} 
   written = record {
     writes = writes known below puts;
     belong = belong;
-    kinds = λ one among. subst IsOwnedKind (sym (made_boxed (beside_content value) (next_at old) one among)) tt;
+    kinds = λ one among. inr (made_boxed (beside_content value) (next_at old) one among);
   }
 
   -- and the table stays where it is
@@ -171,8 +172,10 @@ module _ {old new : Mutator} {map place key count number : ℕ} {table : Table} 
             (ap (slice_get (slice_set before place (pair known below puts))) (sym same) ∙ now.stands) in
             subst (PairComes (heap_of new) before (table_cell ∷ []) boxes_made at place at) put_is
             (PairComes.put number same pair_filled
-            (value_comes before boxes_made at (next_at old) holds places
-            (λ v is_box. made_box (beside_content value) (next_at old) v is_box)))
+            (subst (λ n. ComesFrom (heap_of new) (HasValue before) boxes_made at n at
+            (content_word (beside_content value) (next_at old))) same
+            (content_comes (HasValue before) boxes_made at at (next_at old) holds places (λ own wide. false≢true own)
+            (λ v is_box. is_made_box (next_at old) (made_box (beside_content value) (next_at old) v is_box)))))
         | inr apart ↦
             PairComes.kept (filled_elsewhere before place at (pair known below puts) one apart now)
             (λ other among box same. table_is_no_box (is_table other among) box)
@@ -199,17 +202,23 @@ module _ {old new : Mutator} {map place key count number : ℕ} {table : Table} 
     now = after;
     are = staying.are_after known (some known below puts) stays;
     counted = count_after;
-    origin = λ at. at;
-    apart = λ at other pair another one two same. same;
-    one = place;
-    each_pair = comes;
+    refills = record {
+      origin = λ at. at;
+      apart = λ at other word another one two same. same;
+      one = place;
+      each_slot = λ at word there. subst (ComesFrom (heap_of new) (HasValue before) boxes_made at place at) there.2
+          (value_comes (comes at there.0 there.1));
+      store = (sound known).store;
+      has_store = staying.slot_now known (some known below puts) stays;
+      store_comes = inl (slot_there known);
+      belong = belong;
+      kinds = λ one among. inr (made_boxed (beside_content value) (next_at old) one among);
+      stores = tables_told;
+      boxes = boxes_told;
+    };
+    each_pair = λ at one is. pair_shows (comes at one is);
     probed = staying.probed known written after finds_after;
-    table_comes = inl (slot_there known);
-    belong = belong;
-    kinds = λ one among. inr (made_boxed (beside_content value) (next_at old) one among);
-    tables = tables_told;
-    boxes = boxes_told;
   }
 
   abbrev pub refills_weak : RefillsWeak (heap_of old) (heap_of new) map_cell (table_cell ∷ []) boxes_made
-  refills_weak = record { whole = known.whole; writes = writes known below puts; pairs = refills }
+  refills_weak = record { whole = known.whole; writes = writes known below puts; paths = (puts_weak known below puts).puts.paths; pairs = refills }

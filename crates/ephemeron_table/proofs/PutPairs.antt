@@ -67,7 +67,7 @@ module _ {old new : Mutator} {map place key count : ℕ} {table : Table} {value 
       ∙ length-with_content (heap_words old.seat) (beside_content value) (next_at old)
 
   -- so words of the map's own cells were put
-  puts_weak : PutsOwn kind.Weak old new map_cell (table_cell ∷ []) need final
+  pub puts_weak : PutsOwn kind.Weak old new map_cell (table_cell ∷ []) need final
   puts_weak = record {
     tied = known.tied;
     whole = known.whole;

@@ -28,7 +28,7 @@ use Rattle.weak_pairs.specs.Pairs.{HasPairsAt, IsFilledAt, AreWith, IsPairOf, La
 use Rattle.ephemeron_table.specs.PairChanges.{HasPutPair, WordStandsFor}
 use Rattle.ephemeron_table.specs.EntryChanges.{IsFullFor}
 use Rattle.ephemeron_table.specs.PairLaws.{RefillsWeak, PutsOne}
-use Rattle.ephemeron_table.specs.PairWrites.{PairComes}
+use Rattle.ephemeron_table.specs.PairWrites.{ShowsPair}
 use Rattle.ephemeron_table.specs.Probes.{IsTableAt}
 use Rattle.ephemeron_table.specs.PutWords.{PutsAt}
 use Rattle.weak_pairs.specs.declared.table.Table.{Table}
@@ -123,32 +123,33 @@ module _ {old new : Mutator} {graph : Graph} {map key : ℕ} {weak : WeakObject}
       })
 
   -- so it is the pair of the word of the key
-  put_filled : IsFilledAt after puts.refills.pairs.one (record { key = reference_word key; value = put.value })
+  put_filled : IsFilledAt after puts.refills.pairs.refills.one (record { key = reference_word key; value = put.value })
   put_filled =
       let same : put ≡ record { key = reference_word key; value = put.value } =
       ap (λ k. record { key = k; value = put.value }) put_key in
-      subst (IsFilledAt after puts.refills.pairs.one) same (puts.one.shown what refl).1
+      subst (IsFilledAt after puts.refills.pairs.refills.one) same (puts.one.shown what refl).1
 
   -- each other pair stood before
-  was_there : (at : ℕ) (pair : Pair) → IsFilledAt after at pair → at ≢ puts.refills.pairs.one
-      → IsFilledAt before (puts.refills.pairs.origin at) pair
+  was_there : (at : ℕ) (pair : Pair) → IsFilledAt after at pair → at ≢ puts.refills.pairs.refills.one
+      → IsFilledAt before (puts.refills.pairs.refills.origin at) pair
   was_there at pair filled apart = elim (puts.refills.pairs.each_pair at pair filled) [
-    | PairComes.kept was none ↦ was
-    | PairComes.put n same is comes ↦ absurd (apart same)
+    | ShowsPair.kept was none ↦ was
+    | ShowsPair.put n same is ↦ absurd (apart same)
   ]
 
   -- so the pairs are those before with that which was put
   are_with : AreWith before after (reference_word key) put.value
   are_with = record {
-    place = puts.refills.pairs.one;
+    place = puts.refills.pairs.refills.one;
     put = put_filled;
-    origin = puts.refills.pairs.origin;
+    origin = puts.refills.pairs.refills.origin;
     from = λ at pair filled apart. (
       was_there at pair filled apart,
       λ is. apart (puts.one.own at pair filled (refers_now pair is)).0,
     );
     apart = λ at other pair another filled filled_too not_put not_put_too same.
-        puts.refills.pairs.apart at other pair another filled filled_too same;
+        puts.refills.pairs.refills.apart at other pair.value another.value (pair, filled, refl) (another, filled_too, refl)
+        same;
     kept = λ at pair filled other. puts.one.kept at pair filled (λ refers. other (key_word pair refers));
   }
 

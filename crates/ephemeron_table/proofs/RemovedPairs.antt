@@ -16,8 +16,9 @@ use Rattle.object_cells.specs.Capacities.{ChangesObject}
 use Rattle.object_cells.proofs.NothingUsed.{uses_none}
 use Rattle.object_cells.proofs.CellsRead.{word_stands}
 use Rattle.weak_pairs.specs.Pairs.{HasPairsAt, IsFilledAt, AreWithout}
+use Rattle.ephemeron_table.proofs.KeptTables.{tables_stay}
 use Rattle.ephemeron_table.specs.Pairs.{RemovesPair}
-use Rattle.ephemeron_table.specs.PairLaws.{WrittenPairsAreOwn, TablesStay}
+use Rattle.ephemeron_table.specs.PairLaws.{WrittenPairsAreOwn}
 use Rattle.ephemeron_table.specs.Probes.{IsTableAt}
 use Rattle.ephemeron_table.specs.Takings.{TakesAt}
 use Rattle.weak_pairs.specs.Tables.{pairs_of, IsBesidePairs}
@@ -94,9 +95,9 @@ beside_pairs {table = table} known has some word (inr behind) = inr (omega (arit
 pub removes_pair : {old new : Mutator} {map place : ℕ} {table : Table} {pairs : List Pair} {pair : Pair}
     → (known : KnownMap old map table) → (before : List Pair) → HasPairsAt (heap_of old) map before
     → HasPairsAt (heap_of old) map pairs → IsFilledAt pairs place pair
-    → TakesAt old new map table place → old.seat.phase ≡ Quiet → WrittenPairsAreOwn → TablesStay
+    → TakesAt old new map table place → old.seat.phase ≡ Quiet → WrittenPairsAreOwn
     → RemovesPair old new map place before
-removes_pair {old} {new} {map} {place} {table} {pairs} {pair} known before has there filled takes quiet are_own stay =
+removes_pair {old} {new} {map} {place} {table} {pairs} {pair} known before has there filled takes quiet are_own =
     let some : 0 < table.capacity = omega (arith, place_below table known.is there filled) in
     let is = filled_place known there filled in
     let refills = refills_weak known some takes pair is in
@@ -110,7 +111,7 @@ removes_pair {old} {new} {map} {place} {table} {pairs} {pair} known before has t
       uses = uses_none takes.rest takes.young;
       paths = takes.paths;
       changes = subst (λ a. ChangesObject (heap_of old) (heap_of new) a (capacity_at (heap_of old) a)) stands
-          (stay (heap_of old) (heap_of new) (cell known) _ [] refills (slot_stays known some takes pair is));
+          (tables_stay refills (slot_stays known some takes pair is));
       stay = λ word not_count no_pair. takes.beside word
           (beside_pairs known has some word (no_pair table.at (refers_there known has some))) not_count;
       after = pairs_of (heap_words new.seat) table;

@@ -18,21 +18,21 @@ use Rattle.heap_model.specs.Heaps.{words_of_cell}
 use Rattle.heap_model.specs.Slots.{reference_word, RefersToPlace}
 use Rattle.heap_model.specs.Kinds.{HasWord, Pair, count_offset}
 use Rattle.heap_model.specs.Showing.{ShowsValue}
-use Rattle.heap_model.specs.Needs.{capacity_at, count_at, wput_need_at}
+use Rattle.heap_model.specs.Needs.{capacity_at, count_at}
+use Rattle.heap_model.specs.Rooms.{room_put, wput_need}
 use Rattle.heap_model.proofs.WordsStay.{PlacesStay}
 use Rattle.write_barrier.specs.Mains.{Mutator, heap_of}
-use Rattle.object_cells.specs.HeldValues.{IsReachedValue, is_wide}
+use Rattle.object_cells.specs.HeldValues.{IsReachedValue}
 use Rattle.object_cells.specs.Capacities.{ChangesObject}
 use Rattle.object_cells.specs.Uses.{UsesMore}
-use Rattle.ephemeron_table.specs.EntryChanges.{HasPutEntry}
-use Rattle.ephemeron_table.specs.Growth.{put_capacity_by}
+use Rattle.ephemeron_table.proofs.KeptTables.{tables_stay}
+use Rattle.ephemeron_table.specs.EntryChanges.{map_room, HasPutEntry}
 use Rattle.weak_pairs.specs.Pairs.{IsFilledAt}
-use Rattle.ephemeron_table.specs.PairLaws.{RefillsWeak, PutsOne, TablesStay, WrittenEntriesShow, IsNewValue}
+use Rattle.ephemeron_table.specs.PairLaws.{RefillsWeak, PutsOne, WrittenEntriesShow, IsNewValue}
 use Rattle.weak_pairs.specs.Tables.{pairs_of}
 use Rattle.weak_pairs.specs.declared.table.Table.{Table}
 use Rattle.weak_pairs.proofs.CountedPairs.{count_filled, count_kept}
 use Rattle.ephemeron_table.proofs.EntryPairs.{HasEntryPair, shown, known, entry_filled, entry_refers, entry_only}
-use Rattle.ephemeron_table.proofs.EntryPairs.{entry_pair_of}
 use Rattle.ephemeron_table.proofs.KeysFound.{key_filled}
 use Rattle.ephemeron_table.proofs.KnownTables.{KnownMap, cell, count_is}
 use Rattle.weak_pairs.proofs.FilledPairs.{filled_elsewhere, still_filled, same_filled}
@@ -63,8 +63,8 @@ pub record ReplacesValue (old new : Mutator) {map : ℕ} {table : Table} (known 
   pub now : Pair
   pub before_is : refills.pairs.before ≡ pairs_of (heap_words old.seat) table
   pub now_is : refills.pairs.now ≡ slice_set (pairs_of (heap_words old.seat) table) place now
-  pub origin_is : (at : ℕ) → refills.pairs.origin at ≡ at
-  pub one_is : refills.pairs.one ≡ place
+  pub origin_is : (at : ℕ) → refills.pairs.refills.origin at ≡ at
+  pub one_is : refills.pairs.refills.one ≡ place
   pub key_is : now.key ≡ reference_word key
   pub shows : ShowsValue (heap_of new) now.value what
   pub places : PlacesStay (heap_of old) (heap_of new)
@@ -105,7 +105,7 @@ module _ {old new : Mutator} {graph : Graph} {map key : ℕ} {weak : WeakObject}
     own = λ at pair filled refers.
         let is : IsFilledAt (slice_set before place replaces.now) at pair =
         subst (λ all. IsFilledAt all at pair) replaces.now_is filled in
-        let same : at ≡ replaces.refills.pairs.one = elim (cases_eq at place) [
+        let same : at ≡ replaces.refills.pairs.refills.one = elim (cases_eq at place) [
           | inl same ↦ same ∙ sym replaces.one_is
           | inr apart ↦ absurd (apart (entry_only has at pair
               (filled_elsewhere before place at replaces.now pair apart is) (replaces.back pair.key number refers)))
@@ -141,25 +141,24 @@ module _ {old new : Mutator} {graph : Graph} {map key : ℕ} {weak : WeakObject}
       subst (HasWord (words_of_cell (heap_of new) (cell (known has))) count_offset) same replaces.refills.pairs.counted
 
   -- only words of the map have changed, and its table stays
-  pub changes : TablesStay → ChangesObject (heap_of old) (heap_of new) map (capacity_at (heap_of old) map)
-  changes tables_stay =
+  pub changes : ChangesObject (heap_of old) (heap_of new) map (capacity_at (heap_of old) map)
+  changes =
       let heap = heap_of old in
       subst (λ at. ChangesObject heap (heap_of new) at (capacity_at heap at)) (known has).there.stands
-      (tables_stay heap (heap_of new) (cell (known has)) replaces.others replaces.made replaces.refills
-      replaces.slot_stays)
+      (tables_stay replaces.refills replaces.slot_stays)
 
   -- so the entry has the value
-  pub replaces_entry : TablesStay → WrittenEntriesShow → IsValue (length graph.objects) what → IsReachedValue graph what
-      → need ≡ wput_need_at (heap_of old) map (reference_word key) (is_wide what)
+  pub replaces_entry : WrittenEntriesShow → IsValue (length graph.objects) what → IsReachedValue graph what
+      → need ≡ wput_need (map_room old map weak) weak what number
       → HasPutEntry old new graph map key weak number what
-  replaces_entry tables_stay entries_show fits reached need_is =
+  replaces_entry entries_show fits reached need_is =
       let heap = heap_of old in
       record {
         few = λ lacks. none-some has.told.value (sym lacks.fresh ∙ has.told.is_entry);
         room = subst (HasRoom old.young) need_is replaces.room;
         uses = subst (UsesMore old new) need_is (record { beside = replaces.beside; young = replaces.young });
-        changes = subst (λ found. ChangesObject heap (heap_of new) map (put_capacity_by heap map found))
-            (sym (entry_pair_of has)) (changes tables_stay);
+        changes = subst (λ found. ChangesObject heap (heap_of new) map (room_put (map_room old map weak) found).capacity)
+            (sym has.told.is_entry) changes;
         shows = entries_show old new graph weak (cell (known has)) replaces.others replaces.made number (Some what)
             has.shows has.is.object has.is.reached has.is_key.reached
             (shown has).carries (shown has).shows

@@ -11,24 +11,24 @@ use Rattle.object_graph.specs.Graphs.{Graph}
 use Rattle.object_graph.specs.Reach.{is_marked, reach}
 use Rattle.cell_layout.specs.declared.cell.Cell.{Cell}
 use Rattle.heap_model.specs.Heaps.{Heap, words_of_cell}
-use Rattle.heap_model.specs.Slots.{RefersToPlace}
+use Rattle.heap_model.specs.Slots.{RefersToPlace, IsPlace}
 use Rattle.heap_model.specs.Kinds.{Pair}
 use Rattle.heap_model.specs.Showing.{ShowsEntry, ShowsOnce, IsKnownKey, ShowsWeak}
 use Rattle.heap_model.proofs.WordClasses.{hole_refers_not}
 use Rattle.heap_model.proofs.NewKeys.{one_number}
 use Rattle.heap_model.proofs.WordsStay.{refers_to_place_stays, shown_value}
-use Rattle.object_cells.specs.SlotChanges.{IsNoBoxOf}
-use Rattle.object_cells.proofs.KeptCapacities.{none_made}
+use Rattle.object_cells.specs.OwnSlots.{IsNoBoxOf}
+use Rattle.object_cells.proofs.OwnCapacities.{none_made}
 use Rattle.object_cells.proofs.ReplacedObjects.{MarksReached}
-use Rattle.object_cells.proofs.WrittenPlaces.{object_box_stays}
+use Rattle.object_cells.proofs.OwnSteps.{own_writing, own_places_stay, own_box_stays}
+use Rattle.object_cells.proofs.OwnerWrites.{weak_owns}
 use Rattle.weak_pairs.specs.Pairs.{IsFilledAt}
-use Rattle.ephemeron_table.specs.PairWrites.{PairComes, RefillsPairs}
+use Rattle.ephemeron_table.specs.PairWrites.{ShowsPair, RefillsPairs}
 use Rattle.ephemeron_table.specs.PairLaws.{RefillsWeak, PutsOne}
 use Rattle.weak_pairs.specs.Entries.{entries_with}
 use Rattle.weak_pairs.proofs.EntryLists.{IsEntryOf, EntryComes, entry_comes, entry_stays, put_there}
-use Rattle.ephemeron_table.proofs.KeptTables.{of_pairs}
 use Rattle.weak_pairs.proofs.PairWords.{one_pairs}
-use Rattle.ephemeron_table.proofs.WovenPairs.{weak_writes, weak_places_stay}
+use Rattle.ephemeron_table.proofs.WovenPairs.{weak_step}
 
 -- a pair whose key refers to an object holds something
 key_filled : {heap : Heap} {pairs : List Pair} {number : ℕ} (at : ℕ) (pair : Pair) → slice_get pairs at ≡ Some pair
@@ -87,15 +87,22 @@ module _ {old new : Heap} {graph : Graph} {cell : Cell} {others made : List Cell
       let shown = weaving.shown in
       one_pairs pairs.were (record { store = shown.store; slot = shown.slot; table = shown.table })
 
+  -- an object's place was one before
+  came_before : {one : ℕ} (at : ℕ) → IsPlace new one at → IsPlace old one at
+  came_before {one} at place =
+      let refills = weaving.refills in
+      none_made (own_writing weak_owns refills.whole refills.writes refills.pairs.refills.belong
+      refills.pairs.refills.kinds) one at place
+
   -- a word that refers to an object referred to it
   key_before : {word one : ℕ} → RefersToPlace new word one → RefersToPlace old word one
   key_before {one = one} key =
-      record { at = key.at; refers = key.refers; place = none_made one key.at (of_pairs weaving.refills) key.place }
+      record { at = key.at; refers = key.refers; place = came_before key.at key.place }
 
   -- the pair that was put is of this key
-  put_key : (at : ℕ) (pair : Pair) → IsFilledAt pairs.now at pair → at ≡ pairs.one → RefersToPlace new pair.key number
+  put_key : (at : ℕ) (pair : Pair) → IsFilledAt pairs.now at pair → at ≡ pairs.refills.one → RefersToPlace new pair.key number
   put_key at pair filled is_one =
-      let there : IsFilledAt pairs.now pairs.one pair = subst (λ n. IsFilledAt pairs.now n pair) is_one filled in
+      let there : IsFilledAt pairs.now pairs.refills.one pair = subst (λ n. IsFilledAt pairs.now n pair) is_one filled in
       elim (given_or_not value) [
         | inl given ↦
             let shown = weaving.puts.shown given.0 given.1 in
@@ -109,7 +116,7 @@ module _ {old new : Heap} {graph : Graph} {cell : Cell} {others made : List Cell
   put_shown what given =
       let shown = weaving.puts.shown what given in
       record {
-        at = pairs.one;
+        at = pairs.refills.one;
         pair = shown.0;
         stands = shown.1.stands;
         shows = shown.2;
@@ -117,33 +124,33 @@ module _ {old new : Heap} {graph : Graph} {cell : Cell} {others made : List Cell
       }
 
   -- a pair that is not the one that was put has none of the boxes that were written
-  no_box_written : (at : ℕ) (pair : Pair) → IsFilledAt pairs.now at pair → at ≢ pairs.one → IsNoBoxOf others pair.value
+  no_box_written : (at : ℕ) (pair : Pair) → IsFilledAt pairs.now at pair → at ≢ pairs.refills.one → IsNoBoxOf others pair.value
   no_box_written at pair filled apart = elim (pairs.each_pair at pair filled) [
-    | PairComes.kept stood no_box ↦ no_box
-    | PairComes.put one is_one is comes ↦ absurd (apart is_one)
+    | ShowsPair.kept stood no_box ↦ no_box
+    | ShowsPair.put one is_one is ↦ absurd (apart is_one)
   ]
 
   -- what such a pair showed it shows
-  entry_kept : (at : ℕ) (pair : Pair) (entry : Entry) → IsFilledAt pairs.now at pair → at ≢ pairs.one
+  entry_kept : (at : ℕ) (pair : Pair) (entry : Entry) → IsFilledAt pairs.now at pair → at ≢ pairs.refills.one
       → ShowsEntry old pair entry → ShowsEntry new pair entry
   entry_kept at pair entry filled apart shows =
       let refills = weaving.refills in
       record {
-        key = refers_to_place_stays (weak_places_stay refills) shows.key;
-        value = shown_value pair.value (weak_places_stay refills)
-            (object_box_stays pair.value refills.whole (weak_writes refills) (no_box_written at pair filled apart))
+        key = refers_to_place_stays (own_places_stay (weak_step refills)) shows.key;
+        value = shown_value pair.value (own_places_stay (weak_step refills))
+            (own_box_stays (weak_step refills) pair.value (no_box_written at pair filled apart))
             shows.value;
       }
 
   -- a pair of the key of an entry that is shown comes from the pair that showed it
   from_shown : (entry : Entry) (once : ShowsOnce old weaving.shown.pairs entry) (at : ℕ) (pair : Pair)
       → entry.key ≢ number → IsFilledAt pairs.now at pair → RefersToPlace new pair.key entry.key
-      → pairs.origin at ≡ once.at
+      → pairs.refills.origin at ≡ once.at
   from_shown entry once at pair other filled key = elim (pairs.each_pair at pair filled) [
-    | PairComes.kept stood no_box ↦
-        once.once (pairs.origin at) pair (ap (λ all. slice_get all (pairs.origin at)) (sym before_are) ∙ stood.stands)
+    | ShowsPair.kept stood no_box ↦
+        once.once (pairs.refills.origin at) pair (ap (λ all. slice_get all (pairs.refills.origin at)) (sym before_are) ∙ stood.stands)
         (key_before key)
-    | PairComes.put one is_one is comes ↦
+    | ShowsPair.put one is_one is ↦
         absurd (other (one_number new pair.key entry.key number key (put_key at pair filled is_one)))
   ]
 
@@ -163,7 +170,7 @@ module _ {old new : Heap} {graph : Graph} {cell : Cell} {others made : List Cell
         shows = entry_kept kept.0 once.pair entry kept.1 kept.3 once.shows;
         once = λ at another there key.
             let filled : IsFilledAt pairs.now at another = key_filled at another there key in
-            pairs.apart at kept.0 another once.pair filled kept.1
+            pairs.refills.apart at kept.0 another.value once.pair.value (another, filled, refl) (once.pair, kept.1, refl)
             (from_shown entry once at another other filled key ∙ sym kept.2);
       }
 
@@ -171,7 +178,7 @@ module _ {old new : Heap} {graph : Graph} {cell : Cell} {others made : List Cell
   kept_known : (marks : List Bool) (at : ℕ) (pair : Pair) → MarksReached graph marks → IsFilledAt pairs.now at pair
       → IsKnownKey old (reach graph) entries pair → IsKnownKey new marks (entries_with entries number value) pair
   kept_known marks at pair reached filled (IsKnownKey.of_entry entry place there marked refers) =
-      let key = refers_to_place_stays (weak_places_stay weaving.refills) refers in
+      let key = refers_to_place_stays (own_places_stay (weak_step weaving.refills)) refers in
       known_key marks (entries_with entries number value) pair entry.key key (λ still.
       elim (cases_eq entry.key number) [
         | inl same ↦
@@ -182,18 +189,18 @@ module _ {old new : Heap} {graph : Graph} {cell : Cell} {others made : List Cell
       ])
   kept_known marks at pair reached filled (IsKnownKey.unreached one refers unmarked) =
       known_key marks (entries_with entries number value) pair one
-      (refers_to_place_stays (weak_places_stay weaving.refills) refers)
+      (refers_to_place_stays (own_places_stay (weak_step weaving.refills)) refers)
       (λ marked. absurd (false≢true (sym unmarked ∙ reached one marked)))
 
   -- the key of each pair that holds something is known
   key_known : (marks : List Bool) (at : ℕ) (pair : Pair) → MarksReached graph marks → IsFilledAt pairs.now at pair
       → IsKnownKey new marks (entries_with entries number value) pair
   key_known marks at pair reached filled = elim (pairs.each_pair at pair filled) [
-    | PairComes.kept stood no_box ↦
+    | ShowsPair.kept stood no_box ↦
         kept_known marks at pair reached filled
-        (weaving.shown.others (pairs.origin at) pair
-        (ap (λ all. slice_get all (pairs.origin at)) (sym before_are) ∙ stood.stands) filled.filled)
-    | PairComes.put one is_one is comes ↦
+        (weaving.shown.others (pairs.refills.origin at) pair
+        (ap (λ all. slice_get all (pairs.refills.origin at)) (sym before_are) ∙ stood.stands) filled.filled)
+    | ShowsPair.put one is_one is ↦
         let key = put_key at pair filled is_one in
         known_key marks (entries_with entries number value) pair number key
         (λ marked. entry_put entries number value (weaving.puts.own at pair filled key).1)

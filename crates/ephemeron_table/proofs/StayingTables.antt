@@ -1,9 +1,10 @@
 -- What stays where words of a weak map's own cells have changed, and what the map has where its table stays where it is.
-use Rattle.std.proofs.Common.{◌≡◌, ℕ, ◌+◌, ◌<◌, List, ◌∷◌, ◌++◌, length, drop, Contains, Some, slice_get, sym, ◌∙◌}
+use Rattle.std.proofs.Common.{◌≡◌, ◌⊎◌, ℕ, ◌+◌, ◌<◌, List, ◌∷◌, ◌++◌, length, drop, Contains, Some, slice_get, sym, ◌∙◌}
 use Rattle.std.proofs.Common.{ap, subst, arith}
 use Rattle.std.specs.Prelude.{option_map}
 use Rattle.std.proofs.lemmas.List.Elements.{Contains-append_left, Contains-append_right}
 use Rattle.std.proofs.lemmas.Option.{same_Some, slice_get-map}
+use Rattle.tagged_word.specs.declared.layout.Kind.TheVariants as kind
 use Rattle.tagged_word.specs.Cells.{store_head, store_slot}
 use Rattle.tagged_word.proofs.Members.{first_in, rest_in}
 use Rattle.cell_layout.specs.declared.cell.Cell.{Cell}
@@ -14,15 +15,15 @@ use Rattle.heap_model.specs.Heaps.{HasCell, words_of_cell}
 use Rattle.heap_model.specs.Slots.{reference_word, RefersToPlace}
 use Rattle.heap_model.specs.Kinds.{HasWord, Pair, pairs_in, HasTable, IsProbed}
 use Rattle.heap_model.specs.Changes.{CellsChange}
-use Rattle.heap_model.specs.Wholeness.{NamesFrom, IsOwnedKind}
+use Rattle.heap_model.specs.Wholeness.{NamesFrom}
 use Rattle.heap_model.proofs.WordsStay.{PlacesStay}
 use Rattle.write_barrier.specs.Mains.{Mutator, heap_of}
 use Rattle.object_cells.proofs.CellsRead.{word_stands}
-use Rattle.object_cells.proofs.KeptCapacities.{WritesOwn, none_made}
+use Rattle.object_cells.proofs.OwnCapacities.{none_made}
 use Rattle.object_cells.proofs.ObjectWrites.{same_count}
-use Rattle.object_cells.proofs.OwnerWrites.{weak_owns, writes_own, written_own_keeps_cells}
+use Rattle.object_cells.proofs.OwnerWrites.{weak_owns, written_own_keeps_cells}
 use Rattle.object_cells.proofs.SlotsNow.{word_at_offset}
-use Rattle.object_cells.proofs.WrittenPlaces.{object_places_stay}
+use Rattle.object_cells.proofs.OwnSteps.{own_writing, written_places_stay}
 use Rattle.weak_pairs.specs.Pairs.{HasPairs, IsFilledAt}
 use Rattle.ephemeron_table.specs.PairWrites.{WritesWeak}
 use Rattle.weak_pairs.specs.Tables.{numbers, number_of, pairs_of}
@@ -38,7 +39,7 @@ pub record WritesMap (old new : Mutator) (map : ℕ) (table : Table) (known : Kn
     : Type 0 where
   pub writes : WritesWeak (heap_of old) (heap_of new) (cell known) others made
   pub belong : (one : Cell) → Contains others one → (slot : ℕ) × NamesFrom (heap_of old) (cell known) slot one.at
-  pub kinds : (one : Cell) → Contains made one → IsOwnedKind one.layout.kind
+  pub kinds : (one : Cell) → Contains made one → (one.layout.kind ≡ kind.Table) ⊎ (one.layout.kind ≡ kind.Boxed)
 
 -- And its table is one of the others, and the word by which it refers to the table stays.
 pub record StaysTable (old new : Mutator) (map : ℕ) (table : Table) (known : KnownMap old map table)
@@ -70,19 +71,14 @@ module _ {old new : Mutator} {map : ℕ} {table : Table} {others made : List Cel
 
   -- objects keep their places
   pub places : PlacesStay (heap_of old) (heap_of new)
-  places = object_places_stay known.whole (writes_own weak_owns known.whole written.writes)
+  places = written_places_stay weak_owns known.whole written.writes
 
   -- what refers to an object did so before
   pub refers_back : (word number : ℕ) → RefersToPlace (heap_of new) word number
       → RefersToPlace (heap_of old) word number
   refers_back word number refers =
-      let writing : WritesOwn (heap_of old) (heap_of new) map_cell map_cell others made = record {
-        whole = known.whole;
-        writes = writes_own weak_owns known.whole written.writes;
-        belong = written.belong;
-        kinds = written.kinds;
-      } in
-      record { at = refers.at; refers = refers.refers; place = none_made number refers.at writing refers.place }
+      let own = own_writing weak_owns known.whole written.writes written.belong written.kinds in
+      record { at = refers.at; refers = refers.refers; place = none_made own number refers.at refers.place }
 
   -- where probing finds all numbers, it finds each pair that holds something
   pub probed : (pairs : List Pair) → FindsAll (numbers (heap_of old) pairs) → (at number : ℕ) (pair : Pair)

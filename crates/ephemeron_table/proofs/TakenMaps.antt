@@ -19,7 +19,8 @@ use Rattle.object_cells.proofs.NothingUsed.{room_for_none, used_and_none}
 use Rattle.object_cells.proofs.OwnPuts.{PutsOwn, own_writes, one_beside}
 use Rattle.object_cells.proofs.MadeBoxes.{row_of_none}
 use Rattle.weak_pairs.specs.Pairs.{HasPairs, IsFilledAt}
-use Rattle.ephemeron_table.specs.PairWrites.{WritesWeak, RefillsPairs, PairComes}
+use Rattle.object_cells.specs.OwnSlots.{ComesFrom}
+use Rattle.ephemeron_table.specs.PairWrites.{WritesWeak, RefillsPairs, ShowsPair}
 use Rattle.ephemeron_table.specs.PairLaws.{RefillsWeak}
 use Rattle.ephemeron_table.specs.Takings.{TakesAt}
 use Rattle.weak_pairs.specs.Tables.{pairs_of}
@@ -157,20 +158,25 @@ module _ {old new : Mutator} {map place : ℕ} {table : Table} (known : KnownMap
     now = after;
     are = are_after;
     counted = count_after;
-    origin = takes.taken.origin;
-    apart = takes.taken.apart;
-    one = takes.hole;
-    each_pair = λ at pair is. PairComes.kept (takes.taken.from at pair is).0
+    refills = record {
+      origin = takes.taken.origin;
+      apart = λ at other word another one two. takes.taken.apart at other one.0 two.0 one.1 two.1;
+      one = takes.hole;
+      each_slot = λ at word there. ComesFrom.moved (there.0, (takes.taken.from at there.0 there.1).0, there.2);
+      store = (sound known).store;
+      has_store = are_after.slot;
+      store_comes = inl (slot_there known);
+      belong = belong;
+      kinds = λ one among. absurd (none_in one among);
+      stores = λ one among is.
+          subst (λ (c : Cell). HasNoNumber c × ((sound known).store ≡ reference_word c.at))
+          (one_in table_cell one among) (other_number known some, (found known some).refers.refers);
+      boxes = λ one among box. absurd (table_is_no_box (is_table one among) box);
+    };
+    each_pair = λ at pair is. ShowsPair.kept (takes.taken.from at pair is).0
         (λ one among box same. table_is_no_box (is_table one among) box);
     probed = staying.probed known written after (takes.found (finds_all known));
-    table_comes = inl (slot_there known);
-    belong = belong;
-    kinds = λ one among. absurd (none_in one among);
-    tables = λ one among is.
-        subst (λ (c : Cell). HasNoNumber c × ((sound known).store ≡ reference_word c.at)) (one_in table_cell one among)
-        (other_number known some, (found known some).refers.refers);
-    boxes = λ one among box. absurd (table_is_no_box (is_table one among) box);
   }
 
   abbrev pub refills_weak : RefillsWeak (heap_of old) (heap_of new) map_cell (table_cell ∷ []) []
-  refills_weak = record { whole = known.whole; writes = writes; pairs = refills }
+  refills_weak = record { whole = known.whole; writes = writes; paths = takes.paths; pairs = refills }

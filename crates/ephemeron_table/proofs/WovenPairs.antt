@@ -3,25 +3,23 @@
 use Rattle.std.proofs.Common.{◌≡◌, ◌≢◌, ℕ, ◌⊎◌, inl, inr, List, ◌∷◌, ◌++◌, drop, Contains, Some, slice_get, sym, ◌∙◌}
 use Rattle.std.proofs.Common.{ap, subst}
 use Rattle.std.proofs.lemmas.Bool.{cases_eq}
-use Rattle.std.proofs.lemmas.List.Elements.{Contains-append_cases}
+use Rattle.std.proofs.lemmas.Option.{same_Some}
 use Rattle.tagged_word.specs.declared.layout.Kind.TheVariants as kind
 use Rattle.tagged_word.specs.Cells.{store_head}
-use Rattle.tagged_word.proofs.Members.{first_in, rest_in}
+use Rattle.tagged_word.proofs.Members.{rest_in}
 use Rattle.cell_layout.specs.declared.cell.Cell.{Cell}
 use Rattle.heap_model.specs.Heaps.{Heap, HasCell, words_of_cell}
 use Rattle.heap_model.specs.Slots.{hole_word, RefersTo, IsSlotWord}
 use Rattle.heap_model.specs.Kinds.{Pair, free_pair, IsFilledPair, IsFoundPair, IsWeakCell, IsStoreCell, IsSoundOf}
 use Rattle.heap_model.specs.Kinds.{IsSound}
-use Rattle.heap_model.specs.Changes.{CellsChange}
 use Rattle.heap_model.proofs.SlotWords.{value_is_slot}
-use Rattle.heap_model.proofs.WordsStay.{PlacesStay, refers_to_place_stays, value_stays}
-use Rattle.object_cells.specs.SlotChanges.{IsNoBoxOf}
-use Rattle.object_cells.proofs.ObjectWrites.{WritesObject, owned_or_box}
-use Rattle.object_cells.proofs.OwnWritings.{OwnWriting, store_is_sound, came_sound}
-use Rattle.object_cells.proofs.WrittenPlaces.{object_places_stay, object_box_stays}
-use Rattle.object_cells.proofs.OwnerWrites.{weak_owns, writes_own, written_own_keeps_cells}
+use Rattle.heap_model.proofs.WordsStay.{refers_to_place_stays, value_stays}
+use Rattle.object_cells.specs.OwnSlots.{IsNoBoxOf}
+use Rattle.object_cells.proofs.BesideSound.{store_is_sound, beside_sound, came_sound}
+use Rattle.object_cells.proofs.OwnSteps.{OwnStep, own_step, own_places_stay, own_box_stays}
+use Rattle.object_cells.proofs.OwnerWrites.{weak_owns}
 use Rattle.weak_pairs.specs.Pairs.{IsFilledAt}
-use Rattle.ephemeron_table.specs.PairWrites.{PairComes}
+use Rattle.ephemeron_table.specs.PairWrites.{ShowsPair}
 use Rattle.ephemeron_table.specs.PairLaws.{RefillsWeak}
 use Rattle.weak_pairs.proofs.PairWords.{IsPairWord, is_table_of, one_pairs, pair_word, table_words}
 
@@ -37,31 +35,9 @@ free_or_filled pair = elim (cases_eq pair.key hole_word) [
 ]
 
 module _ {old new : Heap} {cell : Cell} {others made : List Cell} (refills : RefillsWeak old new cell others made) where
-  -- words of one object's own cells were written
-  pub weak_writes : WritesObject old new cell cell others made
-  weak_writes = writes_own weak_owns refills.whole refills.writes
-
-  -- cells stand in rows again
-  pub weak_cells : CellsChange old new (cell ∷ others) (cell ∷ others) made
-  weak_cells = (written_own_keeps_cells weak_owns refills.whole refills.writes).1
-
-  -- which belong to the map
-  pub weak_writing : OwnWriting old new cell cell others made
-  weak_writing = record {
-    whole = refills.whole;
-    writes = weak_writes;
-    cells = weak_cells;
-    belong = refills.pairs.belong;
-    kinds = λ other among. owned_or_box (refills.pairs.kinds other among) tt;
-  }
-
-  -- the map's cell stands in the new heap
-  pub weak_now : HasCell new cell (words_of_cell new cell)
-  weak_now = weak_cells.comes cell (first_in cell (others ++ made))
-
-  -- places of objects stay
-  pub weak_places_stay : PlacesStay old new
-  weak_places_stay = object_places_stay refills.whole weak_writes
+  -- the cells of the map change, and no others
+  pub weak_step : OwnStep old new cell cell others others made
+  weak_step = own_step weak_owns refills.whole refills.writes
 
   -- the map was sound
   was_sound : IsWeakCell old (words_of_cell old cell)
@@ -90,9 +66,9 @@ module _ {old new : Heap} {cell : Cell} {others made : List Cell} (refills : Ref
       let found = before_found at pair stood in (
         found.number,
         record {
-          key = refers_to_place_stays weak_places_stay found.filled.key;
-          value = value_stays pair.value weak_places_stay
-              (object_box_stays pair.value refills.whole weak_writes no_box) found.filled.value;
+          key = refers_to_place_stays (own_places_stay weak_step) found.filled.key;
+          value = value_stays pair.value (own_places_stay weak_step)
+              (own_box_stays weak_step pair.value no_box) found.filled.value;
         },
       )
 
@@ -100,8 +76,8 @@ module _ {old new : Heap} {cell : Cell} {others made : List Cell} (refills : Ref
   pub filled_now : (at : ℕ) (pair : Pair) → IsFilledAt refills.pairs.now at pair
       → (number : ℕ) × IsFilledPair new pair number
   filled_now at pair filled = elim (refills.pairs.each_pair at pair filled) [
-    | PairComes.kept stood no_box ↦ kept_filled (refills.pairs.origin at) pair stood no_box
-    | PairComes.put number is_one is comes ↦ (number, is)
+    | ShowsPair.kept stood no_box ↦ kept_filled (refills.pairs.refills.origin at) pair stood no_box
+    | ShowsPair.put number is_one is ↦ (number, is)
   ]
 
   -- so the map's cell is sound
@@ -147,38 +123,30 @@ module _ {old new : Heap} {cell : Cell} {others made : List Cell} (refills : Ref
   table_slot k word (IsPairWord.as_value at pair there is place) =
       subst (IsSlotWord new) is (pair_slots at pair there).1
 
+  -- the table that the slot refers to is the one of the pairs
+  one_table : refills.pairs.are.store ≡ refills.pairs.refills.store
+  one_table =
+      same_Some refills.pairs.are.store refills.pairs.refills.store
+      (sym refills.pairs.are.slot ∙ refills.pairs.refills.has_store)
+
   -- each table that came or was made is sound
   table_sound : (other : Cell) → Contains (others ++ made) other → other.layout.kind ≡ kind.Table
       → IsStoreCell new other (words_of_cell new other)
   table_sound other there is =
-      let told = refills.pairs.tables other there is in
+      let told = refills.pairs.refills.stores other there is in
       let words : List ℕ = words_of_cell new other in
-      let has : HasCell new other words = weak_cells.comes other (rest_in cell (others ++ made) other there) in
-      let refers : RefersTo new refills.pairs.are.store other words = record { refers = told.1; has = has } in
+      let has : HasCell new other words = weak_step.cells.comes other (rest_in cell (others ++ made) other there) in
+      let refers : RefersTo new refills.pairs.are.store other words = record { refers = one_table ∙ told.1; has = has } in
       let are = is_table_of refills.pairs.are.store refills.pairs.now refills.pairs.are.table refers in
       store_is_sound words told.0
       (λ k word stands. table_slot k word
       (subst (λ all. IsPairWord all k word) (sym are.are)
       (pair_word (drop store_head words) other.length k word (table_words has is) stands)))
 
-  -- each cell beside the map's is sound
-  beside_sound : (other : Cell) → Contains (others ++ made) other → IsSound new other (words_of_cell new other)
-  beside_sound other there =
-      let is : (other.layout.kind ≡ kind.Table) ⊎ (other.layout.kind ≡ kind.Boxed) =
-      elim (Contains-append_cases others made other there) [
-        | inl among ↦ (refills.writes.beside other among).of_kind
-        | inr in_made ↦ refills.pairs.kinds other in_made
-      ] in
-      elim is [
-        | inl table ↦
-            subst (λ k. IsSoundOf k new other (words_of_cell new other)) (sym table) (table_sound other there table)
-        | inr box ↦
-            subst (λ k. IsSoundOf k new other (words_of_cell new other)) (sym box) (refills.pairs.boxes other there box)
-      ]
-
   -- each cell that came or was made is sound
   pub pairs_sound : (one : Cell) → Contains (cell ∷ (others ++ made)) one → IsSound new one (words_of_cell new one)
-  pairs_sound one there =
+  pairs_sound =
       let sound : IsSoundOf cell.layout.kind new cell (words_of_cell new cell) =
       subst (λ k. IsSoundOf k new cell (words_of_cell new cell)) (sym refills.writes.of_kind) weak_is_sound in
-      came_sound others made sound beside_sound one there
+      came_sound others made sound (beside_sound others made weak_owns refills.writes.beside
+      refills.pairs.refills.kinds table_sound refills.pairs.refills.boxes)

@@ -23,14 +23,14 @@ use Rattle.write_barrier.specs.Mains.{heap_of}
 use Rattle.object_cells.specs.HeldValues.{IsReachedValue}
 use Rattle.object_cells.specs.Refills.{IsAtRest}
 use Rattle.object_cells.proofs.ReplacedObjects.{HasReachedLinks, ReplacesCells, replaced_shows}
-use Rattle.object_cells.proofs.WrittenPlaces.{went_object, box_is_no_object}
+use Rattle.object_cells.proofs.OwnSteps.{went_object, of_kind_is_no_object}
 use Rattle.object_cells.proofs.OwnerWrites.{weak_owns, written_own_keeps_cells}
 use Rattle.weak_pairs.specs.Entries.{entries_with}
 use Rattle.ephemeron_table.specs.PairLaws.{IsNewValue, WrittenEntriesShow}
 use Rattle.weak_pairs.proofs.EntryLists.{EntryComes, entry_comes}
 use Rattle.ephemeron_table.proofs.PairNames.{pairs_own}
 use Rattle.ephemeron_table.proofs.ShownEntries.{Reweaving, weak_shows}
-use Rattle.ephemeron_table.proofs.WovenPairs.{weak_writes}
+use Rattle.ephemeron_table.proofs.WovenPairs.{weak_step}
 
 -- what is contained stands at some place
 place_of : {X : Type 0} (xs : List X) (x : X) → Contains xs x → (k : ℕ) × (slice_get xs k ≡ Some x)
@@ -103,8 +103,9 @@ written_entries_show old new graph weak cell others made number value shows ther
       cells = law.1;
       own = pairs_own refills;
       only = λ other among object.
-          ap (λ (c : Cell). c.header.object) (sym (went_object (weak_writes refills) other among object)) ∙ carries;
-      no_object = λ other among. box_is_no_object other.layout.kind (refills.pairs.kinds other among) refl;
+          ap (λ (c : Cell). c.header.object) (sym (went_object (weak_step refills) other among object)) ∙ carries;
+      no_object = λ other among.
+          of_kind_is_no_object weak_owns refills.whole refills.writes other (refills.pairs.refills.kinds other among);
       cell = cell;
       among = first_in cell others;
       carries = carries;
@@ -114,5 +115,5 @@ written_entries_show old new graph weak cell others made number value shows ther
     let held = entries_held (length graph.objects) weak.entries number value (reached_within graph number key_marked)
     (λ what given. (is_new what given).is) are in
     replaced_shows weak.number (Weak entries) graph.paths shows (reweaves graph weak entries shows.is_graph held)
-    (refills.writes.paths ∙ shows.shows.paths)
+    (refills.paths ∙ shows.shows.paths)
     (links_reached graph weak number value shows.is_graph there marked is_new) rest replaces

@@ -1,8 +1,6 @@
 -- What a change of a weak map's pairs makes of the heap, and of the graph that it shows.
-use Rattle.std.specs.Prelude.{◌≡◌, ◌≢◌, ℕ, ◌+◌, ◌^◌, ◌<◌, List, ◌∷◌, length, Option, Some, None, slice_get, IsTrue}
-use Rattle.std.specs.Prelude.{IsSome, Contains}
-use Rattle.tagged_word.specs.declared.layout.Kind.TheVariants as kind
-use Rattle.tagged_word.specs.Cells.{store_slot}
+use Rattle.std.specs.Prelude.{◌≡◌, ◌≢◌, ℕ, List, ◌∷◌, length, Option, Some, None, slice_get, IsTrue}
+use Rattle.std.specs.Prelude.{IsSome}
 use Rattle.object_graph.specs.declared.value.Value.{Value}
 use Rattle.object_graph.specs.declared.object.Object.TheVariants.{Weak}
 use Rattle.object_graph.specs.Graphs.{Graph, WeakObject}
@@ -12,15 +10,13 @@ use Rattle.object_graph.specs.Invariants.{IsValue}
 use Rattle.cell_layout.specs.declared.cell.Cell.{Cell}
 use Rattle.heap_table.specs.declared.phase.Phase.TheVariants.{Quiet}
 use Rattle.heap_model.specs.Heaps.{Heap, words_of_cell}
-use Rattle.heap_model.specs.Slots.{reference_word, RefersToPlace}
+use Rattle.heap_model.specs.Slots.{RefersToPlace}
 use Rattle.heap_model.specs.Kinds.{HasWord, Pair, count_offset}
 use Rattle.heap_model.specs.Wholeness.{Whole, HasRows}
 use Rattle.heap_model.specs.Showing.{ShowsEntry, ShowsWeak}
 use Rattle.heap_model.specs.Changes.{CellsChange, IsOwnChange}
-use Rattle.heap_model.specs.Needs.{capacity_at}
 use Rattle.write_barrier.specs.Mains.{Mutator, heap_of, IsTied, MainShows}
 use Rattle.object_cells.specs.HeldValues.{IsReachedValue}
-use Rattle.object_cells.specs.Capacities.{ChangesObject}
 use Rattle.weak_pairs.specs.Pairs.{IsFilledAt}
 use Rattle.ephemeron_table.specs.PairWrites.{WritesWeak, RefillsPairs}
 use Rattle.weak_pairs.specs.Entries.{entries_with}
@@ -29,6 +25,7 @@ use Rattle.weak_pairs.specs.Entries.{entries_with}
 pub record RefillsWeak (old new : Heap) (cell : Cell) (others made : List Cell) : Type 0 where
   pub whole : Whole old
   pub writes : WritesWeak old new cell others made
+  pub paths : new.paths ≡ old.paths
   pub pairs : RefillsPairs old new cell others made
 
 -- Then cells stand in rows again: the map's and these others as they were, those that were made, and all else as
@@ -39,34 +36,19 @@ WrittenPairsAreOwn =
     → HasRows new × CellsChange old new (cell ∷ others) (cell ∷ others) made
     × IsOwnChange old new (cell ∷ others) (cell ∷ others) made × Whole new
 
--- Where the word by which the map refers to its table stays, each object keeps the capacity of its own.
-abbrev pub TablesStay : Type 0
-TablesStay =
-    (old new : Heap) (cell : Cell) (others made : List Cell) → RefillsWeak old new cell others made
-    → slice_get new.words (cell.at + store_slot) ≡ slice_get old.words (cell.at + store_slot)
-    → ChangesObject old new cell.at (capacity_at old cell.at)
-
--- Where that word refers to a table that was made, the map has as many pairs as this one.
-abbrev pub TablesGrow : Type 0
-TablesGrow =
-    (old new : Heap) (cell : Cell) (others made : List Cell) (table : Cell) → RefillsWeak old new cell others made
-    → Contains made table → table.layout.kind ≡ kind.Table → table.at < 2 ^ 32
-    → slice_get new.words (cell.at + store_slot) ≡ Some (reference_word table.at)
-    → ChangesObject old new cell.at table.length
-
 -- The entry of one key was put, or taken out: the pairs of all other keys are kept, and its own, if there is one, is
 -- the one that was put, which shows it. Where it was taken out, no pair was put.
 pub record PutsOne (old new : Heap) {cell : Cell} {others made : List Cell}
     (pairs : RefillsPairs old new cell others made)
     (number : ℕ) (value : Option Value) : Type 0 where
   pub kept : (at : ℕ) (pair : Pair) → IsFilledAt pairs.before at pair → (RefersToPlace old pair.key number → ⊥)
-      → (place : ℕ) × IsFilledAt pairs.now place pair × (pairs.origin place ≡ at) × (place ≢ pairs.one)
+      → (place : ℕ) × IsFilledAt pairs.now place pair × (pairs.refills.origin place ≡ at) × (place ≢ pairs.refills.one)
   pub own : (at : ℕ) (pair : Pair) → IsFilledAt pairs.now at pair → RefersToPlace new pair.key number
-      → (at ≡ pairs.one) × IsSome value
+      → (at ≡ pairs.refills.one) × IsSome value
   pub shown : (what : Value) → value ≡ Some what
-      → (pair : Pair) × IsFilledAt pairs.now pairs.one pair
+      → (pair : Pair) × IsFilledAt pairs.now pairs.refills.one pair
       × ShowsEntry new pair (record { key = number; value = what })
-  pub none_put : value ≡ None → (pair : Pair) → IsFilledAt pairs.now pairs.one pair → ⊥
+  pub none_put : value ≡ None → (pair : Pair) → IsFilledAt pairs.now pairs.refills.one pair → ⊥
 
 -- the value may be an entry's: it has 64 bits or refers to an object of the graph that can be reached
 pub record IsNewValue (graph : Graph) (value : Value) : Type 0 where

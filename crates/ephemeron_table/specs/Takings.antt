@@ -1,5 +1,5 @@
 -- How a pair is taken out of a table, word by word.
-use Rattle.std.specs.Prelude.{◌≡◌, ◌≢◌, ℕ, ◌+◌, ◌-◌, ◌<◌, length, map, Some, None, slice_get, slice_set}
+use Rattle.std.specs.Prelude.{◌≡◌, ◌≢◌, ℕ, ◌+◌, ◌-◌, ◌<◌, length, Some, None, slice_get, slice_set}
 use Rattle.linear_probing.specs.Tables.{FindsAll}
 use Rattle.heap_table.specs.Seats.{heap_words, StaysBeside}
 use Rattle.heap_model.specs.Kinds.{Pair, free_pair, count_offset}

@@ -18,7 +18,7 @@ ghost use Rattle.weak_pairs.specs.Tables.{IsWithin, key_in};
 ghost use Rattle.ephemeron_table.specs.PairChanges.{PutsBoth};
 
 use crate::growing::put_in_new_table;
-use crate::laws::{laws_of_entries, laws_of_tables};
+use crate::laws::laws_of_entries;
 use crate::putting::put_in_table;
 use crate::stop::TableStop;
 use handle_roots::Held;
@@ -55,7 +55,6 @@ pub(crate) fn put_free(
         → PutsBoth main.old main.new graph map key weak number value what result }
 {
     main.addresses_fit();
-    laws_of_tables();
     laws_of_entries();
     laws_of_values();
     put_in_table(main, map, count, table, place, key, value)?;
@@ -86,7 +85,6 @@ pub(crate) fn put_grown(
         → PutsBoth main.old main.new graph map key weak number value what result }
 {
     main.addresses_fit();
-    laws_of_tables();
     laws_of_entries();
     laws_of_values();
     put_in_new_table(main, map, count, table, key, value)?;

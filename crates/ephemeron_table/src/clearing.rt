@@ -6,7 +6,7 @@ ghost use Rattle.object_cells.specs.CellsAt.{IsWhole};
 ghost use Rattle.weak_pairs.specs.Pairs.{HasPairsAt, IsFilledAt};
 ghost use Rattle.ephemeron_table.specs.Pairs.{RemovesPair};
 
-use crate::laws::{laws_of_pairs, laws_of_tables};
+use crate::laws::laws_of_pairs;
 use crate::removing::remove_pair;
 use crate::table::table_of;
 use write_barrier::Main;
@@ -24,7 +24,6 @@ pub fn remove_at(main: &mut Main, map: u32, place: u32)
 {
     main.addresses_fit();
     laws_of_pairs();
-    laws_of_tables();
     let table = table_of(main, map);
     remove_pair(main, map, table, place);
 }

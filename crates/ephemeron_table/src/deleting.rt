@@ -8,7 +8,7 @@ ghost use Rattle.ephemeron_table.specs.EntryChanges.{DeletesEntry};
 ghost use Rattle.weak_pairs.specs.Pairs.{HasPairsAt};
 ghost use Rattle.ephemeron_table.specs.PairChanges.{DeletesPair};
 
-use crate::laws::{laws_of_entries, laws_of_pairs, laws_of_tables};
+use crate::laws::{laws_of_entries, laws_of_pairs};
 use crate::probing::{End, probe};
 use crate::removing::remove_pair;
 use crate::table::{number_at, table_of};
@@ -27,7 +27,6 @@ pub fn delete(main: &mut Main, map: u32, key: u32)
 {
     main.addresses_fit();
     laws_of_pairs();
-    laws_of_tables();
     laws_of_entries();
     let table = table_of(main, map);
     match probe(main, table, number_at(main, key), Word::reference(key)) {

@@ -12,8 +12,8 @@ ghost use Rattle.ephemeron_table.specs.PairChanges.{TellsPairValue};
 use crate::probing::{End, probe};
 use crate::table::{number_at, table_of};
 use handle_roots::Held;
-use object_cells::STORE_HEAD;
 use tagged_word::Word;
+use tagged_word::cell::STORE_HEAD;
 use write_barrier::{Main, laws_of_values};
 
 /// The value of the key's entry in a weak map; undefined where there is none.

@@ -14,20 +14,15 @@ ghost use Rattle.weak_pairs.specs.Probes.{FreeBy, HasFree};
 ghost use Rattle.ephemeron_table.specs.Puttings.{Settles, begun_table};
 
 use crate::probing::{key_of, place};
-use crate::putting::content_for;
 use crate::removing::put_pair;
-use crate::table::{CAPACITY, number_at};
+use crate::table::number_at;
 use handle_roots::Held;
-use object_cells::{COUNT, STORE_HEAD, STORE_SLOT, boxed_word, need_of, room_for};
+use heap_model::cells::{COUNT, FIRST_CAPACITY, PAIRS_MOST};
+use object_cells::{boxed_word, content_for, need_of, room_for};
+use tagged_word::cell::{LENGTH, STORE_HEAD, STORE_SLOT};
 use tagged_word::{Header, Word, odd, shape};
 use weak_pairs::Table;
 use write_barrier::{Main, NoRoom};
-
-// The most pairs of a table.
-const PAIRS_MOST: u32 = 512;
-
-// How many pairs the first table of a map has.
-const FIRST_CAPACITY: u32 = 4;
 
 /// How many pairs the table has that takes the place of one of so many: twice as many, but at least
 /// 4, and no more than there may be.
@@ -51,7 +46,7 @@ pub(crate) fn begin_table(main: &mut Main, table: Table)
         object: 0,
     };
     main.set_header(table.at, header);
-    main.write_slot(table.at, CAPACITY, table.capacity as u64);
+    main.write_slot(table.at, LENGTH, table.capacity as u64);
     main.fill_holes(table.at + STORE_HEAD, 2 * table.capacity);
 }
 

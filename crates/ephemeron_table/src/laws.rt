@@ -1,5 +1,5 @@
 //! What words written in a weak map's own cells make of the heap and of its graph.
-ghost use Rattle.ephemeron_table.specs.PairLaws.{WrittenPairsAreOwn, TablesStay, TablesGrow, WrittenEntriesShow};
+ghost use Rattle.ephemeron_table.specs.PairLaws.{WrittenPairsAreOwn, WrittenEntriesShow};
 
 /// Where words of a weak map's own cells were written, and each pair comes from where it may, cells
 /// stand in rows again, the change is the map's own, and the heap is whole.
@@ -7,15 +7,7 @@ pub fn laws_of_pairs()
     ensures own { WrittenPairsAreOwn }
 {}
 
-/// Then only words of the map have changed. It keeps the capacity of its table where the word that
-/// refers to it stays, and has that of a table that was made where it refers to this one. Each other
-/// object keeps its own.
-pub fn laws_of_tables()
-    ensures stay { TablesStay }
-    ensures grow { TablesGrow }
-{}
-
-/// Where moreover the pairs of all keys but one are kept, and that of this key is the one that was
+/// Where the pairs of all keys but one are kept, and that of this key is the one that was
 /// put, a heap that showed a graph shows it with this key's entry put or taken out.
 pub fn laws_of_entries()
     ensures show { WrittenEntriesShow }

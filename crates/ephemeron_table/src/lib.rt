@@ -28,6 +28,6 @@ mod table;
 pub use clearing::remove_at;
 pub use deleting::delete;
 pub use getting::get;
-pub use laws::{laws_of_entries, laws_of_pairs, laws_of_tables};
+pub use laws::{laws_of_entries, laws_of_pairs};
 pub use maps::put;
 pub use stop::TableStop;

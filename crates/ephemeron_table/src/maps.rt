@@ -19,13 +19,11 @@ use crate::replacing::put_there;
 use crate::stop::TableStop;
 use crate::table::{number_at, table_of};
 use handle_roots::Held;
-use object_cells::COUNT;
+use heap_model::cells::COUNT;
+use object_graph::limits::ENTRIES_MOST;
 use tagged_word::Word;
 use weak_pairs::Table;
 use write_barrier::Main;
-
-// The most entries of a weak map.
-const ENTRIES_MOST: u32 = 256;
 
 /// Puts the entry of a key that is new: at the place where probing for it ended, or in a table that
 /// is made anew.

@@ -6,7 +6,7 @@ ghost use Rattle.write_barrier.specs.Mains.{heap_of};
 ghost use Rattle.ephemeron_table.specs.Probes.{EndsBy};
 ghost use Rattle.weak_pairs.specs.Tables.{IsWithin, key_in};
 
-use object_cells::STORE_HEAD;
+use tagged_word::cell::STORE_HEAD;
 use tagged_word::{Word, odd};
 use weak_pairs::Table;
 use write_barrier::Main;

@@ -14,20 +14,14 @@ ghost use Rattle.ephemeron_table.specs.Puttings.{PutsInTable};
 
 use crate::removing::put_pair;
 use handle_roots::Held;
+use heap_model::cells::COUNT;
 use object_cells::{
-    COUNT, Content, Filling, STORE_HEAD, boxed_word, content_of, filling_of, make_box, need_of,
-    rep_of, room_for,
+    Content, Filling, boxed_word, content_for, filling_of, make_box, need_of, room_for,
 };
 use tagged_word::Word;
+use tagged_word::cell::STORE_HEAD;
 use weak_pairs::Table;
 use write_barrier::{Main, NoRoom};
-
-/// What the slot of a value holds for it.
-pub(crate) fn content_for(value: Held) -> Content
-    ensures { result ≡ beside_content value }
-{
-    content_of(false, rep_of(value), value)
-}
 
 /// Fills a slot of a table, as `fill` of `object_cells` does one of a store.
 fn fill_weak(main: &mut Main, table: u32, offset: u32, filling: Filling)

@@ -14,7 +14,8 @@ ghost use Rattle.ephemeron_table.specs.Takings.{ClosesAt, TakesAt};
 
 use crate::probing::{key_of, place};
 use crate::table::number_at;
-use object_cells::{COUNT, STORE_HEAD};
+use heap_model::cells::COUNT;
+use tagged_word::cell::STORE_HEAD;
 use tagged_word::{Word, odd};
 use weak_pairs::Table;
 use write_barrier::Main;

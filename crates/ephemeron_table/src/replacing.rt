@@ -13,7 +13,7 @@ ghost use Rattle.ephemeron_table.specs.Probes.{IsTableAt};
 ghost use Rattle.weak_pairs.specs.Tables.{IsWithin, key_in, value_in};
 ghost use Rattle.ephemeron_table.specs.PairChanges.{PutsBoth};
 
-use crate::laws::{laws_of_entries, laws_of_tables};
+use crate::laws::laws_of_entries;
 use crate::putting::put_value;
 use crate::stop::TableStop;
 use handle_roots::Held;
@@ -44,7 +44,6 @@ pub(crate) fn put_there(
         → PutsBoth main.old main.new graph map key weak number value what result }
 {
     main.addresses_fit();
-    laws_of_tables();
     laws_of_entries();
     laws_of_values();
     put_value(main, table, place, value)?;

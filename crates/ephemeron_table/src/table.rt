@@ -7,13 +7,10 @@ ghost use Rattle.object_cells.specs.CellsAt.{IsWhole};
 ghost use Rattle.weak_pairs.specs.Tables as tables;
 ghost use Rattle.ephemeron_table.specs.Probes.{IsTableAt, IsWeakCellAt};
 
-use object_cells::STORE_SLOT;
+use tagged_word::cell::{LENGTH, STORE_SLOT};
 use tagged_word::{Header, Word};
 use weak_pairs::Table;
 use write_barrier::Main;
-
-/// The offset of the capacity of a table.
-pub(crate) const CAPACITY: u32 = 1;
 
 /// The table of the weak map at an address.
 pub(crate) fn table_of(main: &Main, map: u32) -> Table
@@ -25,7 +22,7 @@ pub(crate) fn table_of(main: &Main, map: u32) -> Table
     match Word(main.slot(map, STORE_SLOT)).address() {
         Some(at) => Table {
             at,
-            capacity: main.slot(at, CAPACITY) as u32,
+            capacity: main.slot(at, LENGTH) as u32,
         },
         None => Table { at: 0, capacity: 0 },
     }

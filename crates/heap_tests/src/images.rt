@@ -1,7 +1,7 @@
 //! Images with words and addresses that are written out by hand, and what is changed of them.
 use heap_model::{HeapImage, HeapWords};
 use page_space::{Regions, Sizes};
-use shape_tree::{Rep, ShapeTree};
+use shape_tree::{PathField, Rep, ShapeTree};
 use std::alloc::Global;
 use std::process::Abort;
 use std::test::Fail;
@@ -62,7 +62,14 @@ fn shapes(rt: &impl Abort, alloc: Global, worked: &Worked) -> Result<ShapeTree, 
         assert!(rt; shapes.has_path(*shape));
         assert!(rt; shapes.find(*shape, *name).is_none());
         assert!(rt; shapes.fields(*shape) < 64);
-        assert!(rt; shapes.step(*shape, *name, *rep).is_ok());
+        let field = PathField {
+            name: *name,
+            rep: *rep,
+        };
+        let Ok(step) = shapes.can_step(*shape, field) else {
+            return Err(Fail::from("a path was refused"));
+        };
+        shapes.step(*shape, field, step);
     }
     Ok(shapes)
 }

@@ -20,7 +20,7 @@ use handle_roots::Held;
 use heap_table::HeapTable;
 use object_cells::{Content, content_of, fill_store, make_box, rep_of};
 use page_space::{Regions, Run, Sizes};
-use shape_tree::{Rep, ShapesFull};
+use shape_tree::{PathField, Rep, ShapesFull};
 use std::alloc::Global;
 use std::process::Abort;
 use std::test::Fail;
@@ -77,7 +77,9 @@ fn step(main: &mut Main, shape: u32, name: u32, rep: Rep) -> Result<u32, ShapesF
         IfErr result (λ full. IsFullFor main.old.paths main.new.paths path full) }
     ensures rest { main.new ≡ record main.old { paths = main.new.paths } }
 {
-    main.shapes_mut().step(shape, name, rep)
+    let field = PathField { name, rep };
+    let step = main.shapes().can_step(shape, field)?;
+    Ok(main.shapes_mut().step(shape, field, step))
 }
 
 /// The cell at an address: nothing changes.

@@ -135,6 +135,14 @@ const SCRIPTS: [Script; 4] = [
     ),
 ];
 
+/// How many paths a step lacks.
+fn lacks(step: shape_tree::Step) -> u32 {
+    match step {
+        shape_tree::Step::Found(_) => 0,
+        shape_tree::Step::Missing => 1,
+    }
+}
+
 /// How many paths an act would add, and what it leads to.
 fn done(rt: &impl Abort, tree: &mut ShapeTree, act: Act) -> (u32, Result<u32, ShapesFull>) {
     match act {
@@ -142,8 +150,10 @@ fn done(rt: &impl Abort, tree: &mut ShapeTree, act: Act) -> (u32, Result<u32, Sh
             assert!(rt; tree.has_path(shape));
             assert!(rt; tree.fields(shape) < 64);
             assert!(rt; tree.find(shape, field.name).is_none());
-            let missing = tree.missing_step(shape, field.name, field.rep);
-            (missing, tree.step(shape, field.name, field.rep))
+            match tree.can_step(shape, field) {
+                Ok(step) => (lacks(step), Ok(tree.step(shape, field, step))),
+                Err(full) => (full.missing, Err(full)),
+            }
         }
         Change(shape, at, rep) => {
             assert!(rt; tree.has_path(shape));

@@ -25,15 +25,14 @@ use Rattle.heap_model.proofs.CellsApart.{IsOfCell}
 use Rattle.heap_model.proofs.OneOwner.{names_store}
 use Rattle.write_barrier.specs.Mains.{Mutator, heap_of, MainShows, with_word}
 use Rattle.object_cells.specs.Capacities.{ChangesObject}
-use Rattle.object_cells.specs.ElementChanges.{ElementComes}
 use Rattle.object_cells.specs.Made.{IsStoreAt, beside_content}
-use Rattle.object_cells.specs.SlotChanges.{IsNoBoxOf}
+use Rattle.object_cells.specs.OwnSlots.{IsNoBoxOf, ComesFrom}
 use Rattle.object_cells.specs.declared.content.Content.TheVariants as content
 use Rattle.object_cells.specs.declared.stores.Store.{Store}
 use Rattle.object_cells.proofs.ContentValues.{box_shows}
 use Rattle.object_cells.proofs.HeldContents.{HoldsValue}
 use Rattle.object_cells.proofs.HeldNeeds.{new_value_held}
-use Rattle.object_cells.proofs.KeptCapacities.{list_capacities_stay}
+use Rattle.object_cells.proofs.OwnCapacities.{object_keeps}
 use Rattle.object_cells.proofs.ListSlots.{element_of_number}
 use Rattle.object_cells.proofs.MadeBoxes.{boxed_integer}
 use Rattle.object_cells.proofs.NumberedSlots.{SlotOfNumber}
@@ -170,7 +169,7 @@ module _ {old new : Mutator} {graph : Graph} {at slot count : ℕ} {list : ListO
     );
     keeps = λ k x not_one holds. inl (keeps k x holds);
     no_box = no_box;
-    comes = λ x holds. ElementComes.stayed (keeps slot x holds);
+    comes = λ x holds. ComesFrom.moved (keeps slot x holds);
     shows = λ x holds.
         let same : w ≡ x = same_Some w x (sym holds_box ∙ keeps slot x holds) in
         box_shows x v holds_all boxed (subst (λ n. RefersToBox (heap_of new) n v) same
@@ -207,13 +206,15 @@ module _ {old new : Mutator} {graph : Graph} {at slot count : ℕ} {list : ListO
       known.shown.carries known.shown.shows becomes.are_new
       (ap (λ (m : Mutator). m.young.space) puts_it ∙ known.shows.tied
       ∙ sym (ap (λ (m : Mutator). m.seat.space) puts_it))
-      (ap (λ (m : Mutator). m.seat.phase) puts_it ∙ known.shows.quiet) (integer.writes put_it)
+      (ap (λ (m : Mutator). m.seat.phase) puts_it ∙ known.shows.quiet) (ap (λ (m : Mutator). m.paths) puts_it)
+      (integer.writes put_it)
       (element_refills puts_element)
 
   -- each store has as many slots as before
   pub box_keeps : ChangesObject (heap_of old) (heap_of new) cell.at (capacity_at (heap_of old) cell.at)
   box_keeps =
-      list_capacities_stay (heap_of old) (heap_of new) cell others [] (record {
+      object_keeps (record {
+        owns = list_owns;
         whole = known.shows.shows.whole;
         writes = integer.writes put_it;
         belong = puts_element.belong;

@@ -1,5 +1,4 @@
 mod PushNeeds
-mod ElementValues
 mod SlotWords
 mod WrittenSlots
 mod NewStoreWords

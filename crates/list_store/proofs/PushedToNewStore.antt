@@ -2,7 +2,7 @@
 use Rattle.std.proofs.Common.{◌≡◌, ◌≢◌, ℕ, ◌+◌, ◌≤◌, ◌<◌, ◌⊎◌, inl, inr, List, [], ◌∷◌}
 use Rattle.std.proofs.Common.{length, drop, Contains, Some, false, slice_get, refl, sym, ◌∙◌, ap, subst, arith}
 use Rattle.std.proofs.Common.{length-set, length-drop, ◌++◌, length-append}
-use Rattle.std.proofs.lemmas.Bool.{cases_lt}
+use Rattle.std.proofs.lemmas.Bool.{cases_lt, false≢true}
 use Rattle.std.proofs.lemmas.Option.{same_Some}
 use Rattle.std.specs.Prelude.{ℤ}
 use Rattle.tagged_word.specs.Cells.{store_head, store_slot}
@@ -31,14 +31,15 @@ use Rattle.heap_model.proofs.WordsStay.{PlacesStay}
 use Rattle.write_barrier.specs.Mains.{Mutator, heap_of, MainShows}
 use Rattle.object_cells.specs.Capacities.{ChangesObject}
 use Rattle.object_cells.specs.Contents.{next_at}
-use Rattle.object_cells.specs.ElementChanges.{WritesList, ElementComes}
+use Rattle.object_cells.specs.OwnSlots.{ComesFrom}
+use Rattle.object_cells.specs.ElementChanges.{WritesList}
 use Rattle.object_cells.specs.Made.{beside_content}
 use Rattle.object_cells.specs.declared.content.Content.TheVariants as content
 use Rattle.object_cells.specs.declared.stores.Store.{Store}
-use Rattle.object_cells.proofs.ContentValues.{content_shows}
+use Rattle.object_cells.proofs.ContentValues.{content_shows, content_comes, is_made_box}
 use Rattle.object_cells.proofs.HeldContents.{HoldsValue}
 use Rattle.object_cells.proofs.HeldNeeds.{new_value_held}
-use Rattle.object_cells.proofs.KeptCapacities.{list_capacities_grow}
+use Rattle.object_cells.proofs.OwnCapacities.{object_grows}
 use Rattle.object_cells.proofs.MadeBoxes.{BoxStands, made_box, boxed_integer, refers_to_made, made_boxed}
 use Rattle.object_cells.proofs.MadeBoxes.{boxes_sound, only_first}
 use Rattle.object_cells.proofs.NewBoxes.{box_cell}
@@ -48,10 +49,9 @@ use Rattle.object_cells.proofs.OwnCells.{cell_below_layouts}
 use Rattle.object_cells.proofs.RefilledLists.{written_elements_show}
 use Rattle.object_cells.proofs.SlotsNow.{word_at_offset}
 use Rattle.object_cells.proofs.UnusedWords.{marks_fit}
-use Rattle.object_cells.proofs.WrittenPlaces.{object_places_stay}
-use Rattle.object_cells.proofs.OwnerWrites.{written_list_keeps_cells, writes_own, list_owns}
+use Rattle.object_cells.proofs.OwnSteps.{written_places_stay}
+use Rattle.object_cells.proofs.OwnerWrites.{written_own_keeps_cells, list_owns}
 use Rattle.list_store.specs.Pushes.{CanChange, PushesToNewStore}
-use Rattle.list_store.proofs.ElementValues.{element_comes}
 use Rattle.object_cells.proofs.ListChanging.{Changing, changing_store, store_is_no_box, slot_stands, slot_few, list_word}
 use Rattle.list_store.proofs.NewStoreWords as of_store
 use Rattle.list_store.proofs.NewStoreWords.{StoreWriting}
@@ -106,7 +106,7 @@ module _ {old new : Mutator} {graph : Graph} {at count : ℕ} {list : ListObject
 
   -- cells stand in the new heap
   cells : CellsChange (heap_of old) (heap_of new) (cell ∷ []) (cell ∷ []) made
-  cells = (written_list_keeps_cells (heap_of old) (heap_of new) cell [] made known.shows.shows.whole writes).1
+  cells = (written_own_keeps_cells list_owns known.shows.shows.whole writes).1
 
   -- the list's, with its words
   cell_has : HasCell (heap_of new) cell (words_of_cell (heap_of new) cell)
@@ -163,7 +163,7 @@ module _ {old new : Mutator} {graph : Graph} {at count : ℕ} {list : ListObject
 
   -- the places of objects stay
   places : PlacesStay (heap_of old) (heap_of new)
-  places = object_places_stay known.shows.shows.whole (writes_own list_owns known.shows.shows.whole writes)
+  places = written_places_stay list_owns known.shows.shows.whole writes
 
   -- the box that was made holds the integer
   refers_box : (v : ℤ) → beside_content value ≡ content.Boxed v → RefersToBox (heap_of new) (reference_word behind) v
@@ -248,11 +248,13 @@ module _ {old new : Mutator} {graph : Graph} {at count : ℕ} {list : ListObject
         keeps = λ k x not_one holds. keeps k x (λ same. not_one (same ∙ is)) holds;
         no_box = λ k x not_one holds one among is_box same. absurd (none_in one among);
         comes = λ x holds.
-            subst
-            (ElementComes (heap_of new) known.shown.shows.slots made (length list.elements) (length list.elements))
+            let slot : ℕ = length list.elements in
+            subst (ComesFrom (heap_of new) (HasWord known.shown.shows.slots) made slot slot slot)
             (holds_word x (subst (λ n. HasWord now n x) (sym is) holds))
-            (element_comes known.shown.shows.slots made (length list.elements) behind holds_all places
-            (λ v is_box. rest_in other boxes (box_cell behind) (made_box (beside_content value) behind v is_box)));
+            (content_comes (HasWord known.shown.shows.slots) made slot slot behind holds_all places
+            (λ own wide. false≢true own)
+            (λ v is_box. is_made_box behind
+            (rest_in other boxes (box_cell behind) (made_box (beside_content value) behind v is_box))));
         shows = λ x holds. subst (λ w. ShowsValue (heap_of new) w what)
             (holds_word x (subst (λ n. HasWord now n x) (sym is) holds))
             (content_shows behind holds_all places refers_box);
@@ -273,16 +275,17 @@ module _ {old new : Mutator} {graph : Graph} {at count : ℕ} {list : ListObject
       (pushed_elements_are_new graph list what known.shows.is_graph known.is.object known.is.reached least known.fits
       known.held.reached)
       (ap (λ (y : Young). y.space) pushes.words.young ∙ known.shows.tied ∙ sym pushes.words.beside.space)
-      (pushes.words.beside.phase ∙ known.shows.quiet) writes (element_refills puts_element)
+      (pushes.words.beside.phase ∙ known.shows.quiet) pushes.words.paths writes (element_refills puts_element)
 
   -- the list has as many slots as the store that was made, and each other object as many as before
   pub to_new_store_becomes : AreWithin old.seat.space.sizes old.seat.space.variables
       → ChangesObject (heap_of old) (heap_of new) cell.at capacity
   to_new_store_becomes sizes =
-      list_capacities_grow (heap_of old) (heap_of new) cell [] made other (record {
+      object_grows (record {
+        owns = list_owns;
         whole = known.shows.shows.whole;
         writes = writes;
         belong = λ one among. absurd (none_in one among);
         kinds = made_kinds;
-      }) (first_in other boxes) refl
+      }) other (first_in other boxes) refl
       (omega (arith, of_store.ends writing, of_store.within writing, marks_fit old.seat.space sizes)) named

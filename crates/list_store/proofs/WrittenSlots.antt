@@ -2,6 +2,7 @@
 use Rattle.std.proofs.Common.{◌≡◌, ◌≢◌, ℕ, ◌+◌, ◌≤◌, ◌<◌, inl, inr, List, [], ◌∷◌, length, refl}
 use Rattle.std.proofs.Common.{drop, Contains, Some, false, slice_get, sym, ◌∙◌, ap, subst, arith, length-set}
 use Rattle.std.proofs.Common.{length-drop}
+use Rattle.std.proofs.lemmas.Bool.{false≢true}
 use Rattle.std.proofs.lemmas.Option.{same_Some}
 use Rattle.std.specs.Prelude.{ℤ}
 use Rattle.tagged_word.specs.Cells.{store_head, store_slot}
@@ -32,15 +33,16 @@ use Rattle.heap_model.proofs.WordsStay.{PlacesStay}
 use Rattle.write_barrier.specs.Mains.{Mutator, heap_of, MainShows}
 use Rattle.object_cells.specs.Capacities.{ChangesObject}
 use Rattle.object_cells.specs.Contents.{next_at}
-use Rattle.object_cells.specs.ElementChanges.{WritesList, ElementComes}
+use Rattle.object_cells.specs.OwnSlots.{ComesFrom}
+use Rattle.object_cells.specs.ElementChanges.{WritesList}
 use Rattle.object_cells.specs.Made.{IsStoreAt, beside_content}
 use Rattle.object_cells.specs.declared.content.Content.TheVariants as content
 use Rattle.object_cells.specs.declared.stores.Store.{Store}
 use Rattle.object_cells.proofs.CellsRead.{word_stands}
-use Rattle.object_cells.proofs.ContentValues.{content_shows}
+use Rattle.object_cells.proofs.ContentValues.{content_shows, content_comes, is_made_box}
 use Rattle.object_cells.proofs.HeldContents.{HoldsValue}
 use Rattle.object_cells.proofs.HeldNeeds.{new_value_held}
-use Rattle.object_cells.proofs.KeptCapacities.{list_capacities_stay}
+use Rattle.object_cells.proofs.OwnCapacities.{object_keeps}
 use Rattle.object_cells.proofs.MadeBoxes.{BoxStands, made_box, boxed_integer, refers_to_made, made_boxed}
 use Rattle.object_cells.proofs.MadeBoxes.{length-with_content, boxes_sound, only_first}
 use Rattle.object_cells.proofs.NewBoxes.{box_cell}
@@ -49,10 +51,9 @@ use Rattle.object_cells.proofs.OwnCells.{cell_below_layouts}
 use Rattle.object_cells.proofs.RefilledLists.{written_elements_show}
 use Rattle.object_cells.proofs.SlotsNow.{word_at_offset}
 use Rattle.object_cells.proofs.StoresRead.{StoredAt}
-use Rattle.object_cells.proofs.WrittenPlaces.{object_places_stay}
-use Rattle.object_cells.proofs.OwnerWrites.{written_list_keeps_cells, writes_own, list_owns}
+use Rattle.object_cells.proofs.OwnSteps.{written_places_stay}
+use Rattle.object_cells.proofs.OwnerWrites.{written_own_keeps_cells, list_owns}
 use Rattle.list_store.specs.Pushes.{WritesSlot}
-use Rattle.list_store.proofs.ElementValues.{element_comes}
 use Rattle.object_cells.proofs.ListChanging.{Changing, Elements, store_is_no_box, slot_stands, slot_few, list_word}
 use Rattle.list_store.proofs.SlotWords as of_slot
 use Rattle.list_store.proofs.SlotWords.{SlotWriting}
@@ -105,7 +106,7 @@ module _ {old new : Mutator} {graph : Graph} {at slot count : ℕ} {list : ListO
   -- cells stand in the new heap
   cells : CellsChange (heap_of old) (heap_of new) (cell ∷ other ∷ []) (cell ∷ other ∷ []) made
   cells =
-      (written_list_keeps_cells (heap_of old) (heap_of new) cell (other ∷ []) made known.shows.shows.whole writes).1
+      (written_own_keeps_cells list_owns known.shows.shows.whole writes).1
 
   -- the list's, with its words
   cell_has : HasCell (heap_of new) cell (words_of_cell (heap_of new) cell)
@@ -162,7 +163,7 @@ module _ {old new : Mutator} {graph : Graph} {at slot count : ℕ} {list : ListO
 
   -- the places of objects stay
   places : PlacesStay (heap_of old) (heap_of new)
-  places = object_places_stay known.shows.shows.whole (writes_own list_owns known.shows.shows.whole writes)
+  places = written_places_stay list_owns known.shows.shows.whole writes
 
   -- the box that was made holds the integer
   refers_box : (v : ℤ) → beside_content value ≡ content.Boxed v
@@ -242,10 +243,10 @@ module _ {old new : Mutator} {graph : Graph} {at slot count : ℕ} {list : ListO
         no_box = λ k x not_one holds one among is_box same. store_is_no_box
             (ap (λ (c : Cell). c.layout.kind) (sym (one_in other one among)) ∙ there.found.of_kind) is_box;
         comes = λ x holds.
-            subst (ElementComes (heap_of new) known.shown.shows.slots made slot slot)
-            (holds_word x holds)
-            (element_comes known.shown.shows.slots made slot (next_at old) holds_all places
-            (λ v is_box. made_box (beside_content value) (next_at old) v is_box));
+            subst (ComesFrom (heap_of new) (HasWord known.shown.shows.slots) made slot slot slot) (holds_word x holds)
+            (content_comes (HasWord known.shown.shows.slots) made slot slot (next_at old) holds_all places
+            (λ own wide. false≢true own)
+            (λ v is_box. is_made_box (next_at old) (made_box (beside_content value) (next_at old) v is_box)));
         shows = λ x holds. subst (λ w. ShowsValue (heap_of new) w what)
             (holds_word x holds)
             (content_shows (next_at old) holds_all places refers_box);
@@ -271,12 +272,13 @@ module _ {old new : Mutator} {graph : Graph} {at slot count : ℕ} {list : ListO
       known.is.object known.shown.carries known.shown.shows
       becomes.are_new
       (ap (λ (y : Young). y.space) pushes.words.young ∙ known.shows.tied ∙ sym pushes.words.beside.space)
-      (pushes.words.beside.phase ∙ known.shows.quiet) writes (element_refills puts_element)
+      (pushes.words.beside.phase ∙ known.shows.quiet) pushes.words.paths writes (element_refills puts_element)
 
   -- each store has as many slots as before
   pub slot_keeps : ChangesObject (heap_of old) (heap_of new) cell.at (capacity_at (heap_of old) cell.at)
   slot_keeps =
-      list_capacities_stay (heap_of old) (heap_of new) cell (other ∷ []) made (record {
+      object_keeps (record {
+        owns = list_owns;
         whole = known.shows.shows.whole;
         writes = writes;
         belong = puts_element.belong;

@@ -1,12 +1,9 @@
-//! What the slots of a list's store hold, and how many a new one has.
+//! How many slots a new store of a list has.
 ghost use Rattle.std.specs.Prelude.{◌≡◌, ◌≤◌};
 ghost use Rattle.object_graph.specs.Meaning.{list_most};
-ghost use Rattle.object_cells.specs.Made.{beside_content};
 ghost use Rattle.heap_model.specs.Needs as needs;
 
-use handle_roots::Held;
 use heap_model::cells::FIRST_CAPACITY;
-use object_cells::{Content, content_of, rep_of};
 use object_graph::limits::ELEMENTS_MOST;
 
 /// How many slots the store has that takes the place of one that is full of so many elements: twice
@@ -16,11 +13,4 @@ pub(crate) fn grown(count: u32) -> u32
     ensures { result ≡ needs.grown_list count }
 {
     ELEMENTS_MOST.min(FIRST_CAPACITY.max(2 * count))
-}
-
-/// What the slot of an element holds for a value.
-pub(crate) fn content_for(value: Held) -> Content
-    ensures { result ≡ beside_content value }
-{
-    content_of(false, rep_of(value), value)
 }

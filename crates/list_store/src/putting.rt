@@ -12,10 +12,9 @@ ghost use Rattle.object_cells.specs.ListObjects.{IsListAt};
 ghost use Rattle.object_cells.specs.Made.{beside_content};
 ghost use Rattle.list_store.specs.ListChanges.{IsShownSetting, PutsElement};
 
-use crate::elements::content_for;
 use crate::stop::PutStop;
 use handle_roots::Held;
-use object_cells::{count_of, fill, filling_of, place_of, store_of};
+use object_cells::{content_for, count_of, fill, filling_of, place_of, store_of};
 use tagged_word::cell::STORE_HEAD;
 use write_barrier::{Main, NoRoom};
 

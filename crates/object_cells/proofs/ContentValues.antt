@@ -1,7 +1,8 @@
 -- What a slot that is no raw one comes to hold for a value shows the value, and names nothing but a box that was made.
-use Rattle.std.proofs.Common.{◌≡◌, ◌⊎◌, ℕ, Bool, true, false, inl, inr, List, Contains, refl, subst}
+use Rattle.std.proofs.Common.{◌≡◌, ℕ, Bool, true, false, List, Contains, refl, sym, ap, subst}
 use Rattle.std.specs.Prelude.{ℤ}
 use Rattle.std.proofs.lemmas.Bool.{false≢true}
+use Rattle.tagged_word.specs.declared.layout.Kind.TheVariants as kind
 use Rattle.tagged_word.specs.Words.{small}
 use Rattle.object_graph.specs.declared.value.Value.{Value}
 use Rattle.object_graph.specs.declared.value.Rep.{Rep}
@@ -11,7 +12,7 @@ use Rattle.heap_model.specs.Heaps.{Heap}
 use Rattle.heap_model.specs.Slots.{reference_word, RefersToBox}
 use Rattle.heap_model.specs.Showing.{ShowsValue}
 use Rattle.heap_model.proofs.WordsStay.{PlacesStay}
-use Rattle.object_cells.specs.SlotChanges.{NamesNone}
+use Rattle.object_cells.specs.OwnSlots.{ComesFrom}
 use Rattle.object_cells.specs.declared.content.Content.{Content}
 use Rattle.object_cells.specs.declared.content.Content.TheVariants as content
 use Rattle.object_cells.specs.Made.{content_word}
@@ -55,19 +56,32 @@ box_shows {new = new} word v (HoldsValue.tagged_box w wide was) boxed refers =
 box_shows word v HoldsValue.undefined boxed refers = cc
 box_shows word v (HoldsValue.object at number place) boxed refers = cc
 
--- it names nothing, or the box that was made for it
-pub content_names : {old new : Heap} {one : Rep} {what : Value} {holds : Content} (made : List Cell) (box : ℕ)
-    → HoldsValue old false rep.Small one what holds → PlacesStay old new
-    → ((v : ℤ) → holds ≡ content.Boxed v → Contains made (box_cell box))
-    → NamesNone new (content_word holds box)
-    ⊎ (Contains made (box_cell box) × (content_word holds box ≡ reference_word box))
-content_names made box (HoldsValue.small_integer one v is apart) places boxed =
-    inl (λ cell words refers owned. small_names_none v cell words refers owned)
-content_names made box (HoldsValue.raw v own apart) places boxed = absurd (false≢true own)
-content_names made box (HoldsValue.wide_box v beside apart small_stays) places boxed = inr (boxed v refl, refl)
-content_names made box (HoldsValue.tagged_box v wide was) places boxed = inr (boxed v refl, refl)
-content_names made box HoldsValue.undefined places boxed =
-    inl (λ cell words refers owned. undefined_names_none cell words refers owned)
-content_names made box (HoldsValue.object at number place) places boxed =
-    inl (λ cell words refers owned.
-    object_names_none (record { at = at; refers = refl; place = places number at place }) cell words refers owned)
+-- a box that was made stands at the address
+pub record IsMadeBox (made : List Cell) (box : ℕ) : Type 0 where
+  pub cell : Cell
+  pub among : Contains made cell
+  pub of_kind : cell.layout.kind ≡ kind.Boxed
+  pub stands : cell.at ≡ box
+
+-- as a box that is made at an address does
+pub is_made_box : {made : List Cell} (box : ℕ) → Contains made (box_cell box) → IsMadeBox made box
+is_made_box box among = record { cell = box_cell box; among = among; of_kind = refl; stands = refl }
+
+-- where the slot is not raw, its word names nothing, or the box that was made for it
+pub content_comes : {old new : Heap} {own : Bool} {one : Rep} {what : Value} {holds : Content}
+    (was : ℕ → ℕ → Type 0) (made : List Cell) (origin slot box : ℕ) → HoldsValue old own rep.Small one what holds
+    → PlacesStay old new → (own ≡ true → one ≡ rep.Wide → ⊥)
+    → ((v : ℤ) → holds ≡ content.Boxed v → IsMadeBox made box)
+    → ComesFrom new was made origin slot slot (content_word holds box)
+content_comes was made origin slot box (HoldsValue.small_integer one v is apart) places tagged boxed =
+    ComesFrom.none (small_names_none v)
+content_comes was made origin slot box (HoldsValue.raw v own apart) places tagged boxed = absurd (tagged own refl)
+content_comes was made origin slot box (HoldsValue.wide_box v beside apart small) places tagged boxed =
+    let one = boxed v refl in
+    ComesFrom.of_made one.cell one.among one.of_kind (ap reference_word (sym one.stands)) refl
+content_comes was made origin slot box (HoldsValue.tagged_box v wide was_wide) places tagged boxed =
+    let one = boxed v refl in
+    ComesFrom.of_made one.cell one.among one.of_kind (ap reference_word (sym one.stands)) refl
+content_comes was made origin slot box HoldsValue.undefined places tagged boxed = ComesFrom.none undefined_names_none
+content_comes was made origin slot box (HoldsValue.object at number place) places tagged boxed =
+    ComesFrom.none (object_names_none (record { at = at; refers = refl; place = places number at place }))

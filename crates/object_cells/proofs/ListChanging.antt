@@ -69,12 +69,6 @@ store_is_no_box store box =
     let apart : kind.Store ≡ kind.Boxed = sym store ∙ box in
     cc
 
--- a list is no box
-pub list_is_no_box : {k : Kind} → k ≡ kind.List → k ≡ kind.Boxed → ⊥
-list_is_no_box list box =
-    let apart : kind.List ≡ kind.Boxed = sym list ∙ box in
-    cc
-
 -- a slot of a store is the word at its address
 pub slot_stands : {heap : Heap} {cell : Cell} {words : List ℕ} (k : ℕ) → HasCell heap cell words
     → cell.layout.kind ≡ kind.Store → k < cell.length

@@ -12,9 +12,9 @@ use Rattle.heap_model.specs.Kinds.{HasWord, IsListCell, IsSoundOf}
 use Rattle.heap_model.specs.Wholeness.{Whole, HasSlotAt}
 use Rattle.heap_model.proofs.CellsApart.{has_is_cell}
 use Rattle.heap_model.proofs.CellWords.{slots_of_kind}
-use Rattle.object_cells.specs.SlotChanges.{IsTaggedSlot}
 use Rattle.object_cells.specs.ElementChanges.{HasElements}
-use Rattle.object_cells.proofs.NumberedSlots.{IsNumbered, SlotOfNumber, SlotKind, beside_number, beside_slot}
+use Rattle.object_cells.proofs.SlotNumbers.{IsSlotOf}
+use Rattle.object_cells.proofs.NumberedSlots.{IsNumbered, SlotOfNumber, beside_number, beside_slot}
 
 -- a list has no in-object slots
 pub list_cap : {heap : Heap} {cell : Cell} {words : List ℕ} → HasCell heap cell words → cell.layout.kind ≡ kind.List
@@ -23,11 +23,6 @@ list_cap {cell = cell} has list =
     let is : HasNoInObjectSlots cell.layout =
     subst (λ k. IsLayoutOfKind k cell.layout) list (has_is_cell has).reads.is_layout in
     is.cap
-
--- so each slot of its store is a tagged one
-pub list_tagged : {heap : Heap} {cell : Cell} {words : List ℕ} (k : ℕ) → HasCell heap cell words
-    → cell.layout.kind ≡ kind.List → IsTaggedSlot cell k
-list_tagged k has list below = absurd (omega (arith, below, list_cap has list))
 
 -- a list of a whole heap is sound
 pub list_sound : {heap : Heap} {cell : Cell} {words : List ℕ} → Whole heap → HasCell heap cell words
@@ -45,10 +40,10 @@ element_of_number {slots = slots} k word has list are there =
 -- each slot of a list is that of its store, or has a number
 pub element_slot : {heap : Heap} {cell : Cell} {words slots : List ℕ} {at word : ℕ} → HasCell heap cell words
     → cell.layout.kind ≡ kind.List → HasElements heap words slots → HasSlotAt heap cell words at word
-    → SlotKind heap cell words slots at word
+    → IsSlotOf cell words (HasWord slots) (IsNumbered heap cell words) at word
 element_slot {cell = cell} {words} has list are (HasSlotAt.own offset word there stands) =
     let same : store_slot ≡ offset = one_in store_slot offset (slots_of_kind cell kind.List offset list there) in
-    SlotKind.of_store (ap (λ n. cell.at + n) (sym same)) (subst (λ n. HasWord words n word) (sym same) stands)
+    IsSlotOf.of_store (ap (λ n. cell.at + n) (sym same)) (subst (λ n. HasWord words n word) (sym same) stands)
 element_slot {heap} {cell} {words} {slots} has list are
     (HasSlotAt.beside store other others offset word slot refers there stands) =
     let same : are.store ≡ store = same_Some are.store store (sym are.slot ∙ slot) in
@@ -56,5 +51,5 @@ element_slot {heap} {cell} {words} {slots} has list are
     subst (λ w. IsBeside heap kind.Store w slots) same are.stands in
     let found = beside_slot {cell = cell} store offset word slot slots_there refers there stands in
     let number : cell.layout.cap + found.k ≡ found.k = omega (arith, list_cap has list) in
-    SlotKind.of_number found.k found.there (list_tagged found.k has list)
+    IsSlotOf.of_number found.k found.there
     (subst (λ n. IsNumbered heap cell words n (other.at + offset)) number found.numbered)

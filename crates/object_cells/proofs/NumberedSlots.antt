@@ -9,7 +9,7 @@ use Rattle.tagged_word.specs.Cells.{scavenge_offsets, in_object_offsets, store_h
 use Rattle.tagged_word.proofs.Members.{in_cases, in_range, range_bounds}
 use Rattle.tagged_word.proofs.Offsets.{in_object_is}
 use Rattle.cell_layout.specs.declared.cell.Cell.{Cell}
-use Rattle.heap_model.specs.Heaps.{Heap, HasCell}
+use Rattle.heap_model.specs.Heaps.{Heap, HasCell, words_of_cell}
 use Rattle.heap_model.specs.Slots.{is_object_kind, RefersTo, IsBeside}
 use Rattle.heap_model.specs.Kinds.{HasWord, HasSlots}
 use Rattle.heap_model.specs.Wholeness.{HasRows, HasSlotAt}
@@ -18,7 +18,8 @@ use Rattle.heap_model.proofs.CellsApart.{IsOfCell, has_is_cell, one_words, cells
 use Rattle.heap_model.proofs.CellWords.{slice_get-drop, slice_get-append_left, words_by_kind, words_are_size}
 use Rattle.heap_model.proofs.CellWords.{slots_by_kind, slots_of_kind, behind_head, behind_head_few}
 use Rattle.heap_model.proofs.SlotWords.{same_target}
-use Rattle.object_cells.specs.SlotChanges.{IsTaggedSlot}
+use Rattle.object_cells.specs.SlotChanges.{IsTaggedSlot, HasTagged}
+use Rattle.object_cells.proofs.SlotNumbers.{HasAddress, IsSlotOf, HasNumbers}
 use Rattle.object_cells.proofs.SlotPlaces.{behind_cap}
 use Rattle.object_cells.proofs.SlotTargets.{object_words}
 
@@ -53,10 +54,8 @@ object_size {cell = cell} has object =
     )
 
 -- the slot of this number has an address
-pub record SlotOfNumber (heap : Heap) (cell : Cell) (words : List ℕ) (number word : ℕ) : Type 0 where
-  pub at : ℕ
-  pub numbered : IsNumbered heap cell words number at
-  pub slot : HasSlotAt heap cell words at word
+abbrev pub SlotOfNumber : Heap → Cell → List ℕ → ℕ → ℕ → Type 0
+SlotOfNumber heap cell words number word = HasAddress heap cell words (IsNumbered heap cell words) number word
 
 -- a slot that stands beside the object has one
 pub beside_number : {heap : Heap} {cell : Cell} {words : List ℕ} (store : ℕ) (slots : List ℕ) (k number word : ℕ)
@@ -107,11 +106,10 @@ slot_of_number {heap} {cell} {words} {slots} k word has plain are there tagged =
       (behind_cap k cell.layout.cap has plain are refl from ∙ there) (omega (arith, from))
 ]
 
--- A slot of a plain object or a list is that of its store, or a tagged one of some number.
-pub data SlotKind (heap : Heap) (cell : Cell) (words slots : List ℕ) (at word : ℕ) : Type 0 where
-  of_store : at ≡ cell.at + store_slot → HasWord words store_slot word → SlotKind heap cell words slots at word
-  of_number : (k : ℕ) → HasWord slots k word → IsTaggedSlot cell k → IsNumbered heap cell words k at
-      → SlotKind heap cell words slots at word
+-- A slot of a plain object is that of its store, or a tagged one of some number.
+abbrev pub SlotKind : Heap → Cell → List ℕ → List ℕ → ℕ → ℕ → Type 0
+SlotKind heap cell words slots at word =
+    IsSlotOf cell words (HasTagged cell slots) (IsNumbered heap cell words) at word
 
 -- no more in-object slots are used than there are
 used_within : {heap : Heap} {cell : Cell} {words : List ℕ} → HasCell heap cell words → cell.layout.kind ≡ kind.Plain
@@ -129,7 +127,7 @@ own_kind : {heap : Heap} {cell : Cell} {words slots : List ℕ} (offset word : �
 own_kind {heap} {cell} {words} {slots} offset word has plain are there stands =
     let among = slots_of_kind cell kind.Plain offset plain there in
     elim (in_cases store_slot (in_object_offsets cell.layout) offset among) [
-      | inl same ↦ SlotKind.of_store (ap (λ n. cell.at + n) (sym same)) (ap (slice_get words) same ∙ stands)
+      | inl same ↦ IsSlotOf.of_store (ap (λ n. cell.at + n) (sym same)) (ap (slice_get words) same ∙ stands)
       | inr in_object ↦
           let own = in_object_is cell.layout offset in_object in
           let k : ℕ = offset - plain_head in
@@ -139,7 +137,7 @@ own_kind {heap} {cell} {words} {slots} offset word has plain are there stands =
           record { from = omega arith; below = omega (arith, below, is, plain_size has plain) } in
           let tagged : IsTaggedSlot cell k =
           λ within. subst (Contains (scavenge_offsets cell.layout cell.length)) (sym is) there in
-          SlotKind.of_number k (own_word k has plain are below ∙ ap (slice_get words) is ∙ stands) tagged
+          IsSlotOf.of_number k (own_word k has plain are below ∙ ap (slice_get words) is ∙ stands, tagged)
           (IsNumbered.own below (ap (λ n. cell.at + n) (sym is)) of_cell)
     ]
 
@@ -207,8 +205,8 @@ beside_kind {heap} {cell} store offset word has plain are slot refers there stan
     let from : cap ≤ number = omega arith in
     let tagged : IsTaggedSlot cell number = λ below. absurd (omega (arith, below, from)) in
     let back : number - cap ≡ found.k = omega (arith, from) in
-    SlotKind.of_number number
-    (sym (behind_cap number cap has plain are refl from) ∙ ap (slice_get are.beside) back ∙ found.there) tagged
+    IsSlotOf.of_number number
+    (sym (behind_cap number cap has plain are refl from) ∙ ap (slice_get are.beside) back ∙ found.there, tagged)
     found.numbered
 
 -- each slot of a plain object is one of these
@@ -267,3 +265,20 @@ number_is_not_store {cell = cell} number at rows has object
     let of_own : IsOfCell cell at =
     record { from = omega (arith, same); below = omega (arith, same, object_size has object) } in
     object_is_no_store (cells_apart at rows has refers.has of_own of_cell) object of_kind
+
+-- so the slots of an object have numbers, where each of the old ones has an address, and each of the new ones is that
+-- of its store or has a number
+pub has_numbers : {old new : Heap} {cell came : Cell} {was is : ℕ → ℕ → Type 0} → HasRows old
+    → HasCell old cell (words_of_cell old cell) → IsTrue (is_object_kind cell.layout.kind)
+    → ((k word : ℕ) → was k word → SlotOfNumber old cell (words_of_cell old cell) k word)
+    → ((at word : ℕ) → HasSlotAt new came (words_of_cell new came) at word
+    → IsSlotOf came (words_of_cell new came) is (IsNumbered new came (words_of_cell new came)) at word)
+    → HasNumbers old new cell came was (IsNumbered old cell (words_of_cell old cell)) is
+    (IsNumbered new came (words_of_cell new came))
+has_numbers rows has object were are = record {
+  were = were;
+  one_number = λ k other at numbered numbered_too. one_number k other at rows has object numbered numbered_too;
+  not_store = λ k at numbered same. number_is_not_store k at rows has object numbered same;
+  are = λ at word named words slot refers owned. are at word slot;
+  one_address = one_address;
+}

@@ -6,7 +6,7 @@ use Rattle.std.proofs.lemmas.Bool.{false≢true}
 use Rattle.std.proofs.lemmas.List.Concat.{flat_map_single}
 use Rattle.std.proofs.lemmas.List.Folds.{flat_map-map}
 use Rattle.std.proofs.lemmas.List.Elements.{All-cons, All-contains, All-map, All-weaker, All-contains_itself}
-use Rattle.std.proofs.lemmas.List.{map-id, append-nil}
+use Rattle.std.proofs.lemmas.List.{map-id}
 use Rattle.std.proofs.lemmas.Simd.{map-map}
 use Rattle.tagged_word.specs.declared.layout.Kind.{Kind}
 use Rattle.tagged_word.specs.declared.layout.Kind.TheVariants as kind
@@ -81,13 +81,13 @@ layout_alike {old} {new} {cell} more sized sized_new same paths has first second
       of_shape = layout_stays old.space old.words new.words old.paths more cell sized.layouts say (has_is_cell has);
     }
 
--- where no path is added, a cell without a length of which the header stays stands where it stood
-pub headed_stays : {old new : Heap} {cell : Cell} {words : List ℕ} → HasSizes old → HasSizes new → new.space ≡ old.space
-    → new.paths ≡ old.paths → HasCell old cell words → slice_get new.words cell.at ≡ slice_get old.words cell.at
+-- a cell without a length of which the header stays stands where it stood
+pub headed_stays : {old new : Heap} {cell : Cell} {words : List ℕ} (more : List Path) → HasSizes old → HasSizes new
+    → new.space ≡ old.space → new.paths ≡ old.paths ++ more → HasCell old cell words
+    → slice_get new.words cell.at ≡ slice_get old.words cell.at
     → (IsTrue (has_length cell.layout.kind) → ⊥) → IsCell new.space new.words cell
-headed_stays {old} {new} {cell} sized sized_new same paths has header short =
-    let alike = layout_alike [] sized sized_new same (paths ∙ sym (append-nil old.paths)) has header
-    (λ long. absurd (short long)) in
+headed_stays {old} {new} {cell} more sized sized_new same paths has header short =
+    let alike = layout_alike more sized sized_new same paths has header (λ long. absurd (short long)) in
     let stays = cells_stay old.space old.words new.words cell (has_is_cell has) (same_count sized sized_new same)
     alike in
     subst (λ (space : Space). IsCell space new.words cell) (sym same) stays
@@ -100,10 +100,6 @@ box_without k boxed long = false≢true (ap has_length (sym boxed) ∙ long)
 pub owned_or_box : {owned k : Kind} → (k ≡ owned) ⊎ (k ≡ kind.Boxed) → IsOwnedKind owned → IsOwnedKind k
 owned_or_box (inl same) own = subst IsOwnedKind (sym same) own
 owned_or_box (inr boxed) own = subst IsOwnedKind (sym boxed) tt
-
--- so does a store or a box
-pub beside_is_owned : {k : Kind} → (k ≡ kind.Store) ⊎ (k ≡ kind.Boxed) → IsOwnedKind k
-beside_is_owned is = owned_or_box is tt
 
 -- so one of which neither the header nor the length changed was written as what an object owns may be
 pub owned_of_kind : {owned : Kind} {old new : Heap} {other : Cell} → IsWrittenOfKind owned old new other

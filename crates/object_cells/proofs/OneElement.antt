@@ -15,8 +15,8 @@ use Rattle.heap_model.specs.Kinds.{HasWord, HasNoNumber, IsBoxCell, count_offset
 use Rattle.heap_model.specs.Wholeness.{Whole, NamesFrom}
 use Rattle.heap_model.specs.Showing.{ShowsValue, ShowsList}
 use Rattle.heap_model.proofs.CellWords.{slice_get-append_left, slice_get-append_right}
-use Rattle.object_cells.specs.SlotChanges.{IsNoBoxOf, StoreComes}
-use Rattle.object_cells.specs.ElementChanges.{WritesList, HasElements, ElementComes, ShowsElement, RefillsElements}
+use Rattle.object_cells.specs.OwnSlots.{IsNoBoxOf, ComesFrom, StoreComes}
+use Rattle.object_cells.specs.ElementChanges.{WritesList, HasElements, ShowsElement, RefillsElements}
 use Rattle.object_cells.proofs.ListSlots.{list_sound}
 use Rattle.object_cells.proofs.SlotPlaces.{one_beside}
 use Rattle.object_cells.proofs.WrittenPlaces.{hole_names_none}
@@ -72,9 +72,9 @@ pub record PutsElement (old new : Heap) (cell : Cell) (others made : List Cell) 
   pub keeps : (k word : ℕ) → k ≢ place → HasWord now k word
       → HasWord shown.slots k word ⊎ ((length before ≤ k) × (word ≡ hole_word))
   pub no_box : (k word : ℕ) → k ≢ place → HasWord shown.slots k word → IsNoBoxOf others word
-  pub comes : (word : ℕ) → HasWord now place word → ElementComes new shown.slots made place place word
+  pub comes : (word : ℕ) → HasWord now place word → ComesFrom new (HasWord shown.slots) made place place place word
   pub shows : (word : ℕ) → HasWord now place word → ShowsValue new word value
-  pub store_comes : StoreComes old cell made are.store
+  pub store_comes : StoreComes kind.Store old cell made are.store
   pub belong : (other : Cell) → Contains others other → (slot : ℕ) × NamesFrom old cell slot other.at
   pub kinds : (other : Cell) → Contains made other → (other.layout.kind ≡ kind.Store) ⊎ (other.layout.kind ≡ kind.Boxed)
   pub stores : (other : Cell) → Contains (others ++ made) other → other.layout.kind ≡ kind.Store
@@ -97,15 +97,15 @@ module _ {old new : Heap} {cell : Cell} {others made : List Cell} {before after 
       sound.hold.rest k word (omega (arith, count, behind)) (ap (λ all. slice_get all k) slots ∙ stood)
 
   -- where the word of each slot comes from
-  slot_comes : (k word : ℕ) → HasWord puts.now k word → ElementComes new puts.shown.slots made place k word
+  slot_comes : (k word : ℕ) → HasWord puts.now k word → ComesFrom new (HasWord puts.shown.slots) made k place k word
   slot_comes k word there = elim (cases_eq k place) [
     | inl same ↦
         let here = subst (λ n. HasWord puts.now n word) same there in
-        subst (λ n. ElementComes new puts.shown.slots made place n word) (sym same) (puts.comes word here)
+        subst (λ n. ComesFrom new (HasWord puts.shown.slots) made n place n word) (sym same) (puts.comes word here)
     | inr apart ↦ elim (puts.keeps k word apart there) [
-      | inl stood ↦ ElementComes.stayed stood
-      | inr hole ↦ subst (ElementComes new puts.shown.slots made place k) (sym hole.1)
-          (ElementComes.none (λ one words refers owned. hole_names_none one words refers owned))
+      | inl stood ↦ ComesFrom.moved stood
+      | inr hole ↦ subst (ComesFrom new (HasWord puts.shown.slots) made k place k) (sym hole.1)
+          (ComesFrom.none (λ one words refers owned. hole_names_none one words refers owned))
     ]
   ]
 
@@ -145,13 +145,19 @@ module _ {old new : Heap} {cell : Cell} {others made : List Cell} {before after 
     counted = puts.counted;
     few = puts.few;
     enough = puts.enough;
-    one = place;
-    each_slot = slot_comes;
+    refills = record {
+      origin = λ k. k;
+      apart = λ k other word another there there_too same. same;
+      one = place;
+      each_slot = slot_comes;
+      store = puts.are.store;
+      has_store = puts.are.slot;
+      store_comes = puts.store_comes;
+      belong = puts.belong;
+      kinds = puts.kinds;
+      stores = puts.stores;
+      boxes = puts.boxes;
+    };
     each_element = slot_shows;
     rest = slot_rest;
-    store_comes = puts.store_comes;
-    belong = puts.belong;
-    kinds = puts.kinds;
-    stores = puts.stores;
-    boxes = puts.boxes;
   }

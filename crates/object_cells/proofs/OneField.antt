@@ -22,7 +22,9 @@ use Rattle.heap_model.specs.Wholeness.{NamesFrom}
 use Rattle.heap_model.specs.Showing.{ShowsField, ShowsPlain}
 use Rattle.heap_model.proofs.CellWords.{words_are_size}
 use Rattle.object_cells.specs.CellWrites.{reshaped}
-use Rattle.object_cells.specs.SlotChanges.{IsTaggedSlot, IsNoBoxOf, ComesFrom, ShowsSlot, RefillsSlots}
+use Rattle.object_cells.specs.OwnSlots.{IsNoBoxOf, ComesFrom}
+use Rattle.object_cells.specs.SlotChanges.{IsTaggedSlot, HasTagged, ShowsSlot, RefillsSlots}
+use Rattle.object_cells.proofs.OwnerWrites.{becomes_cap}
 use Rattle.object_cells.proofs.SlotPlaces.{one_slots}
 use Rattle.object_cells.proofs.FieldsFound.{field_at}
 use Rattle.object_cells.proofs.PlainFields.{plain_sound}
@@ -109,7 +111,7 @@ tagged_before : {old new : Heap} {cell : Cell} {shape at word slot : ℕ} {other
     → IsTaggedSlot (reshaped new.paths cell shape) k → IsTaggedSlot cell k
 tagged_before {old} {new} {cell} {shape} {slot = slot} {before = before} {field} k sets apart tagged below =
     let path : Path = shape_path new.paths shape in
-    let within : k < path.cap = omega (arith, below, sets.puts.writes.cap) in
+    let within : k < path.cap = omega (arith, below, becomes_cap sets.puts.writes.becomes) in
     let of_path = tagged_is_field (reshaped new.paths cell shape) path k refl tagged within in
     let among = ap (λ (p : Path). slice_get p.fields k) (sym sets.path) ∙ of_path.there in
     let found = field_at cell.layout.cap (set before slot field) k of_path.field among in
@@ -131,7 +133,7 @@ pub record FillsOne {old new : Heap} {cell : Cell} {shape at word slot : ℕ} {o
   pub no_box : (k holds : ℕ) → k ≢ slot → HasWord sets.shown.slots k holds → IsTaggedSlot cell k
       → IsNoBoxOf others holds
   pub comes : (holds : ℕ) → HasWord sets.after.now slot holds → IsTaggedSlot (reshaped new.paths cell shape) slot
-      → ComesFrom new cell sets.shown.slots made slot slot slot holds
+      → ComesFrom new (HasTagged cell sets.shown.slots) made slot slot slot holds
   pub shows : (holds : ℕ) → HasWord sets.after.now slot holds
       → ShowsField new (nat_lt slot cell.layout.cap) holds field.rep field.value
   pub belong : (other : Cell) → Contains others other → (a : ℕ) × NamesFrom old cell a other.at
@@ -155,15 +157,15 @@ slot_comes : {old new : Heap} {cell : Cell} {shape at word slot : ℕ} {others m
     {field : Field} (k holds : ℕ) (sets : SetsOne old new cell shape at word slot others made before field)
     → FillsOne sets
     → HasWord sets.after.now k holds → IsTaggedSlot (reshaped new.paths cell shape) k
-    → ComesFrom new cell sets.shown.slots made k slot k holds
+    → ComesFrom new (HasTagged cell sets.shown.slots) made k slot k holds
 slot_comes {new = new} {cell} {shape} {slot = slot} {made = made} k holds sets fills there tagged =
     elim (cases_eq k slot) [
       | inl same ↦
           let here = subst (λ n. HasWord sets.after.now n holds) same there in
           let tagged_here = subst (IsTaggedSlot (reshaped new.paths cell shape)) same tagged in
-          subst (λ n. ComesFrom new cell sets.shown.slots made n slot n holds) (sym same)
+          subst (λ n. ComesFrom new (HasTagged cell sets.shown.slots) made n slot n holds) (sym same)
           (fills.comes holds here tagged_here)
-      | inr apart ↦ ComesFrom.moved (kept_word k holds sets fills apart there) (tagged_before k sets apart tagged)
+      | inr apart ↦ ComesFrom.moved (kept_word k holds sets fills apart there, tagged_before k sets apart tagged)
     ]
 
 -- what each slot shows
@@ -212,17 +214,19 @@ refills_slots {slot = slot} {before = before} {field} sets fills = record {
   are = sets.after.are;
   path = sets.path;
   enough = omega (arith, enough_slots sets, length-set before slot field);
-  origin = λ k. k;
-  apart = λ k other same. same;
-  one = slot;
-  each_slot = λ k holds there tagged. slot_comes k holds sets fills there tagged;
+  refills = record {
+    origin = λ k. k;
+    apart = λ k other word another there there_too same. same;
+    one = slot;
+    each_slot = λ k holds there. slot_comes k holds sets fills there.0 there.1;
+    store = sets.shown.has.store;
+    has_store = store_now sets.puts sets.shown.has.slot;
+    store_comes = inl sets.shown.has.slot;
+    belong = fills.belong;
+    kinds = fills.kinds;
+    stores = fills.stores;
+    boxes = fills.boxes;
+  };
   each_field = λ k holds one is there. slot_shows k holds one sets fills is there;
   rest = λ k holds behind there. slot_rest k holds sets fills behind there;
-  store = sets.shown.has.store;
-  has_store = store_now sets.puts sets.shown.has.slot;
-  store_comes = inl sets.shown.has.slot;
-  belong = fills.belong;
-  kinds = fills.kinds;
-  stores = fills.stores;
-  boxes = fills.boxes;
 }

@@ -1,6 +1,6 @@
 -- One word that was put is one of an object's own cells, and the other one of its cell.
 use Rattle.std.proofs.Common.{◌≡◌, ◌≢◌, ℕ, ◌+◌, ◌<◌, ◌⊎◌, inl, inr, List, Contains, slice_get, IsTrue}
-use Rattle.std.proofs.Common.{sym, ◌∙◌, ap, subst, arith}
+use Rattle.std.proofs.Common.{refl, sym, ◌∙◌, ap, subst, arith}
 use Rattle.std.proofs.lemmas.Bool.{false≢true}
 use Rattle.tagged_word.specs.declared.layout.Kind.TheVariants as kind
 use Rattle.tagged_word.specs.Cells.{length_offset}
@@ -15,7 +15,8 @@ use Rattle.heap_model.specs.Changes.{IsNewlyUsed}
 use Rattle.heap_model.proofs.CellsApart.{IsOfCell, first_of_cell, cells_apart, used_few}
 use Rattle.heap_model.proofs.CellWords.{words_by_kind, words_are_size}
 use Rattle.heap_model.proofs.WordsAlike.{cell_below_roots}
-use Rattle.object_cells.specs.CellWrites.{IsInCell, IsWrittenBeside, WritesCells}
+use Rattle.object_cells.specs.CellWrites.{IsInCell, IsWrittenOfKind, Becomes}
+use Rattle.object_cells.specs.SlotChanges.{WritesFields}
 use Rattle.object_cells.proofs.WrittenPlaces.{IsBesideKind, beside_is_no_object}
 use Rattle.object_cells.proofs.UnusedWords.{cell_is_used}
 use Rattle.object_cells.proofs.OneWord.{WritesOne, WritesTwo, two_of_one}
@@ -95,7 +96,8 @@ store_second has store =
 -- the other neither of these.
 pub written_beside : {old new : Heap} {cell other : Cell} {words : List ℕ} {first head at word : ℕ} {made : List Cell}
     → Whole old → HasCell old cell words → IsTrue (is_object_kind cell.layout.kind) → IsOfCell cell first
-    → WritesTwo old new first head at word made → IsPutBeside old at other → IsWrittenBeside old new other
+    → WritesTwo old new first head at word made → IsPutBeside old at other
+    → IsWrittenOfKind kind.Store old new other
 written_beside {other = other} {first = first} whole has object of_own writes put =
     let start = first_of_cell put.stood in
     record {
@@ -129,7 +131,7 @@ others_stay {cell = cell} of_own writes own a below not_cell not_others not_new 
 pub writes_cells : {old new : Heap} (cell : Cell) (shape at word : ℕ) (others made : List Cell) → Whole old
     → HasCell old cell (words_of_cell old cell) → cell.layout.kind ≡ kind.Plain → IsPathShape new.paths shape
     → (shape_path new.paths shape).cap ≡ cell.layout.cap → IsOwnWord old cell others at
-    → WritesOne old new cell shape at word made → WritesCells old new cell shape others made
+    → WritesOne old new cell shape at word made → WritesFields old new cell shape others made
 writes_cells cell shape at word others made whole has plain is_shape cap own writes =
     let two = two_of_one writes in
     record {
@@ -141,10 +143,14 @@ writes_cells cell shape at word others made whole has plain is_shape cap own wri
       paths = writes.paths;
       sized = writes.sized;
       stood = has;
-      plain = plain;
-      is_shape = is_shape;
-      cap = cap;
-      header = writes.header;
+      of_kind = plain;
+      becomes = Becomes.other_shape (record {
+        plain = plain;
+        is = refl;
+        is_shape = is_shape;
+        cap = cap;
+        header = writes.header;
+      });
       beside = λ other there.
           written_beside whole has (ap is_object_kind plain) (first_of_cell has) two (own.each other there);
       made_stand = writes.made_stand;

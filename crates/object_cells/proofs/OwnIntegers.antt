@@ -20,14 +20,14 @@ use Rattle.heap_model.specs.Slots.{is_object_kind, raw_word, RefersToBox}
 use Rattle.heap_model.specs.Wholeness.{Whole}
 use Rattle.heap_model.proofs.CellsApart.{IsOfCell, first_of_cell, cells_apart}
 use Rattle.write_barrier.specs.Mains.{Mutator, heap_of, IsTied, with_word}
-use Rattle.object_cells.specs.CellWrites.{IsWrittenOfKind, WritesOwnCells}
+use Rattle.object_cells.specs.CellWrites.{Owns, IsWrittenOfKind, WritesOwnCells}
 use Rattle.object_cells.specs.Contents.{next_at}
 use Rattle.object_cells.proofs.CellsRead.{cell_before_marks, word_stands}
 use Rattle.object_cells.proofs.MadeBoxes.{row_of_none}
 use Rattle.object_cells.proofs.OwnPlaces.{has_own_words, box_size}
 use Rattle.object_cells.proofs.NothingUsed.{room_for_none, used_and_none}
 use Rattle.object_cells.proofs.OwnPuts.{PutsOwn, own_writes, one_beside}
-use Rattle.object_cells.proofs.OwnerWrites.{Owns, written_own_keeps_cells}
+use Rattle.object_cells.proofs.OwnerWrites.{written_own_keeps_cells}
 use Rattle.object_cells.proofs.SlotBoxes.{IsBoxOf}
 use Rattle.object_cells.proofs.SlotsNow.{word_at_offset}
 use Rattle.object_cells.proofs.WordsBeside.{put_beside}
@@ -168,7 +168,7 @@ module _ {owner owned : Kind} {old new : Mutator} {cell other : Cell} {word box 
   ]
 
   -- so cells were written, and none was made
-  pub writes : WritesOwnCells owner owned (heap_of old) (heap_of new) cell others []
+  pub writes : WritesOwnCells owner owned (heap_of old) (heap_of new) cell cell others []
   writes =
       own_writes [] puts (kept cell.at (not_of_owner cell.at (first_of_cell writing.has))) beside
       (row_of_none (heap_of new) (next_at old))

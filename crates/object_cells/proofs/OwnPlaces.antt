@@ -15,7 +15,8 @@ use Rattle.heap_model.proofs.BoundHeaps.{none_in}
 use Rattle.heap_model.proofs.CellsApart.{IsOfCell, cells_apart}
 use Rattle.heap_model.proofs.CellWords.{words_by_kind, words_are_size}
 use Rattle.heap_model.proofs.OneOwner.{names_store}
-use Rattle.object_cells.specs.SlotChanges.{IsTaggedSlot, IsNoBoxOf}
+use Rattle.object_cells.specs.OwnSlots.{IsNoBoxOf}
+use Rattle.object_cells.specs.SlotChanges.{IsTaggedSlot}
 use Rattle.object_cells.proofs.NumberedSlots.{IsNumbered, SlotOfNumber, slot_of_number, one_number}
 use Rattle.object_cells.proofs.OwnCells.{IsPutBeside, IsOwnWord, beside_not_own}
 

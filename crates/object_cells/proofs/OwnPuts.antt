@@ -1,6 +1,7 @@
 -- Words that were put in an object's own cells, once so many words of eden were reserved.
 use Rattle.std.proofs.Common.{◌≡◌, ℕ, ◌+◌, ◌≤◌, ◌<◌, inl, List, [], ◌∷◌, length, Contains}
-use Rattle.std.proofs.Common.{Some, slice_get, sym, ◌∙◌, ap, subst, arith, add-zero}
+use Rattle.std.proofs.lemmas.List.{append-nil}
+use Rattle.std.proofs.Common.{Some, slice_get, refl, sym, ◌∙◌, ap, subst, arith, add-zero}
 use Rattle.tagged_word.specs.declared.layout.Kind.{Kind}
 use Rattle.tagged_word.specs.Cells.{length_offset}
 use Rattle.tagged_word.proofs.Members.{one_in}
@@ -16,7 +17,7 @@ use Rattle.heap_model.specs.Heaps.{Heap, HasCell, words_of_cell}
 use Rattle.heap_model.specs.Wholeness.{Whole, HasSizes}
 use Rattle.heap_model.proofs.CellsApart.{IsOfCell}
 use Rattle.write_barrier.specs.Mains.{Mutator, heap_of, IsTied, reserved}
-use Rattle.object_cells.specs.CellWrites.{IsInCell, IsWrittenOfKind, WritesOwnCells}
+use Rattle.object_cells.specs.CellWrites.{IsInCell, IsWrittenOfKind, Becomes, WritesOwnCells}
 use Rattle.object_cells.specs.declared.content.Content.{Content}
 use Rattle.object_cells.specs.Contents.{next_at}
 use Rattle.object_cells.specs.Made.{PutsWords, content_need, with_content}
@@ -87,7 +88,7 @@ pub own_writes : {owner owned : Kind} {old new : Mutator} {cell : Cell} {others 
     → slice_get (heap_words new.seat) cell.at ≡ slice_get (heap_words old.seat) cell.at
     → ((other : Cell) → Contains others other → IsWrittenOfKind owned (heap_of old) (heap_of new) other)
     → IsRow new.seat.space (heap_words new.seat) (next_at old) (next_at old + need) made
-    → WritesOwnCells owner owned (heap_of old) (heap_of new) cell others made
+    → WritesOwnCells owner owned (heap_of old) (heap_of new) cell cell others made
 own_writes {old = old} {new} {need = need} made puts header beside row =
     let all = puts.puts in
     let used : new.young.used ≡ old.young.used + need = ap (λ (y : Young). y.used) all.young in
@@ -100,11 +101,12 @@ own_writes {old = old} {new} {need = need} made puts header beside row =
       same_survivors = survivors;
       grown = omega (arith, used);
       room = omega (arith, puts.room, used, survivors, space);
-      paths = all.paths;
+      more = [];
+      paths = all.paths ∙ sym (append-nil old.paths);
       sized = own_sized puts;
       stood = puts.has;
       of_kind = puts.of_kind;
-      header = header;
+      becomes = Becomes.itself refl header;
       beside = beside;
       made_stand = subst (λ end. IsRow new.seat.space (heap_words new.seat) (next_at old) end made) ends row;
       stay = λ a below not_cell not_others not_new.

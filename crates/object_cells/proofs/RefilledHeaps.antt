@@ -10,36 +10,29 @@ use Rattle.object_cells.specs.CellWrites.{reshaped}
 use Rattle.object_cells.specs.Refills.{IsAtRest}
 use Rattle.object_cells.specs.SlotChanges.{SlotsRefill, WrittenFieldsShow}
 use Rattle.object_cells.proofs.Refills.{refills_show}
-use Rattle.object_cells.proofs.CellWrites.{writes_keep_cells}
-use Rattle.object_cells.proofs.CellWritesRead.{writes_object}
-use Rattle.object_cells.proofs.WrittenPlaces.{beside_is_no_object, went_object}
-use Rattle.object_cells.proofs.RefilledFields.{Refilling, fields_refilled, cell_shows}
+use Rattle.object_cells.proofs.OwnerWrites.{plain_owns, written_own_keeps_cells}
+use Rattle.object_cells.proofs.OwnSteps.{OwnStep, own_step, went_object, of_kind_is_no_object}
+use Rattle.object_cells.proofs.RefilledFields.{fields_rename, cell_shows}
 use Rattle.object_cells.proofs.RefilledCells.{fields_sound}
-use Rattle.object_cells.proofs.RefilledNames.{refilled_own}
+use Rattle.object_cells.proofs.OwnNames.{renamed_own}
 
 -- the change of cells is the object's own, and its cell shows the fields
 pub slots_refill : SlotsRefill
 slots_refill old new plain cell shape others made fields whole carries cap shows writes slots =
     let one : Cell = reshaped new.paths cell shape in
-    let law = writes_keep_cells old new cell shape others made whole writes in
-    let refilling : Refilling old new cell shape others made plain.fields fields = record {
-      whole = whole;
-      shown = subst (λ n. ShowsPlain old cell (words_of_cell old cell) n plain.fields) (sym cap) shows;
-      writes = writes;
-      slots = slots;
-      cells = law.1;
-    } in
+    let step : OwnStep old new cell one others others made = own_step plain_owns whole writes in
+    let shown = subst (λ n. ShowsPlain old cell (words_of_cell old cell) n plain.fields) (sym cap) shows in
     record {
-      cells = law.1;
-      own = refilled_own (fields_refilled refilling) (λ one there. fields_sound refilling one there);
-      only = λ other there object.
-          ap (λ (c : Cell). c.header.object) (sym (went_object (writes_object whole writes) other there object))
+      cells = step.cells;
+      own = renamed_own (fields_rename whole shown writes slots) (fields_sound whole shown writes slots);
+      only = λ other there object. ap (λ (c : Cell). c.header.object) (sym (went_object step other there object))
           ∙ carries;
-      no_object = λ other there. beside_is_no_object other.layout.kind (slots.kinds other there);
+      no_object = λ other there. of_kind_is_no_object plain_owns whole writes other (slots.refills.kinds other there);
       cell = one;
       among = first_in one others;
       carries = carries;
-      shows = subst (λ n. ShowsPlain new one (words_of_cell new one) n fields) cap (cell_shows refilling);
+      shows = subst (λ n. ShowsPlain new one (words_of_cell new one) n fields) cap
+          (cell_shows whole shown writes slots);
     }
 
 -- so the heap shows the graph in which it has them
@@ -47,8 +40,8 @@ pub written_fields_show : WrittenFieldsShow
 written_fields_show old new graph plain cell shape others made fields shows there carries cap shown are added tied quiet
     writes slots =
     let whole = shows.shows.whole in
-    let law = writes_keep_cells (heap_of old) (heap_of new) cell shape others made whole writes in
-    let rest : IsAtRest new = record { tied = tied; quiet = quiet; sized = writes.sized; rows = law.0 } in
+    let kept = written_own_keeps_cells plain_owns whole writes in
+    let rest : IsAtRest new = record { tied = tied; quiet = quiet; sized = writes.sized; rows = kept.0 } in
     let refills =
     slots_refill (heap_of old) (heap_of new) plain cell shape others made fields whole carries cap shown writes slots in
     let came : List Cell = reshaped new.paths cell shape ∷ others in

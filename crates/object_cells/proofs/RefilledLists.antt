@@ -14,10 +14,10 @@ use Rattle.write_barrier.specs.Mains.{heap_of}
 use Rattle.object_cells.specs.HeldValues.{IsReachedValue}
 use Rattle.object_cells.specs.Refills.{IsAtRest}
 use Rattle.object_cells.specs.ElementChanges.{AreNewElements, WrittenElementsShow}
-use Rattle.object_cells.proofs.OwnerWrites.{writes_own, list_owns, written_list_keeps_cells}
-use Rattle.object_cells.proofs.RefilledElements.{Relisting, list_shows, elements_own}
+use Rattle.object_cells.proofs.OwnerWrites.{list_owns, written_own_keeps_cells}
+use Rattle.object_cells.proofs.OwnSteps.{own_step, went_object, of_kind_is_no_object}
+use Rattle.object_cells.proofs.RefilledElements.{list_shows, elements_own}
 use Rattle.object_cells.proofs.ReplacedObjects.{HasReachedLinks, ReplacesCells, replaced_shows}
-use Rattle.object_cells.proofs.WrittenPlaces.{beside_is_no_object, went_object}
 
 -- what a list links to is what one of its elements refers to
 pub links_reached : (graph : Graph) (elements : List Value) → AreNewElements graph elements
@@ -27,29 +27,28 @@ links_reached graph elements are number link =
 
 -- so the heap shows the graph in which the list has these elements
 pub written_elements_show : WrittenElementsShow
-written_elements_show old new graph list cell others made elements shows there carries shown are tied quiet writes
+written_elements_show old new graph list cell others made elements shows there carries shown are tied quiet same writes
     slots =
     let before : Heap = heap_of old in
     let now : Heap = heap_of new in
     let whole = shows.shows.whole in
-    let law = written_list_keeps_cells before now cell others made whole writes in
-    let rest : IsAtRest new = record { tied = tied; quiet = quiet; sized = writes.sized; rows = law.0 } in
-    let relisting : Relisting before now cell others made list.elements elements =
-    record { whole = whole; shown = shown; writes = writes; slots = slots; cells = law.1 } in
+    let kept = written_own_keeps_cells list_owns whole writes in
+    let rest : IsAtRest new = record { tied = tied; quiet = quiet; sized = writes.sized; rows = kept.0 } in
     let replaces : ReplacesCells before now graph list.number (ListOf elements) (cell ∷ others) (cell ∷ others) made =
     record {
-      cells = law.1;
-      own = elements_own relisting;
+      cells = kept.1;
+      own = elements_own whole shown writes slots;
       only = λ other among object.
-          ap (λ (c : Cell). c.header.object) (sym (went_object (writes_own list_owns whole writes) other among object))
-          ∙ carries;
-      no_object = λ other among. beside_is_no_object other.layout.kind (slots.kinds other among);
+          ap (λ (c : Cell). c.header.object)
+          (sym (went_object (own_step list_owns whole writes) other among object)) ∙ carries;
+      no_object = λ other among. of_kind_is_no_object list_owns whole writes other (slots.refills.kinds other among);
       cell = cell;
       among = first_in cell others;
       carries = carries;
-      shows = λ marks reached. list_shows relisting;
+      shows = λ marks reached. list_shows whole shown writes slots;
       counts = tt;
     } in
     replaced_shows list.number (ListOf elements) graph.paths shows
-    (relists graph list elements shows.is_graph are.are) (writes.paths ∙ shows.shows.paths)
+    (relists graph list elements shows.is_graph are.are)
+    (same ∙ shows.shows.paths)
     (links_reached graph elements are) rest replaces

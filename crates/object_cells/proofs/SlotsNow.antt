@@ -19,7 +19,9 @@ use Rattle.heap_model.proofs.Fates.{cells_move, Fate, fate}
 use Rattle.heap_model.proofs.OneOwner.{object_is_not_owned}
 use Rattle.heap_model.proofs.SlotWords.{IsStoreKind, store_is_owned}
 use Rattle.heap_model.proofs.WordClasses.{same_reference, undefined_refers_not}
-use Rattle.object_cells.specs.CellWrites.{reshaped, WritesCells}
+use Rattle.object_cells.specs.CellWrites.{reshaped}
+use Rattle.object_cells.specs.SlotChanges.{WritesFields}
+use Rattle.object_cells.proofs.OwnerWrites.{becomes_cap}
 use Rattle.object_cells.proofs.CellsRead.{word_stands}
 use Rattle.object_cells.proofs.SlotPlaces.{own_slot, behind_cap}
 use Rattle.object_cells.proofs.NumberedSlots.{IsNumbered, slot_of_number, is_store_of}
@@ -32,7 +34,7 @@ pub record PutsOwn (old new : Heap) (cell : Cell) (shape at word : ℕ) (others 
   pub has : HasCell old cell (words_of_cell old cell)
   pub plain : cell.layout.kind ≡ kind.Plain
   pub one : WritesOne old new cell shape at word made
-  pub writes : WritesCells old new cell shape others made
+  pub writes : WritesFields old new cell shape others made
   pub cells : CellsChange old new (cell ∷ others) (reshaped new.paths cell shape ∷ others) made
   pub not_store : cell.at + store_slot ≢ at
 
@@ -144,13 +146,13 @@ pub numbered_before : {old new : Heap} {cell : Cell} {shape at word : ℕ} {othe
     → IsNumbered new (reshaped new.paths cell shape) (words_of_cell new (reshaped new.paths cell shape)) k a
     → IsNumbered old cell (words_of_cell old cell) k a
 numbered_before puts are (IsNumbered.own below is of_cell) =
-    IsNumbered.own (omega (arith, below, puts.writes.cap)) is (record { from = of_cell.from; below = of_cell.below })
+    IsNumbered.own (omega (arith, below, becomes_cap puts.writes.becomes)) is (record { from = of_cell.from; below = of_cell.below })
 numbered_before {old} puts are (IsNumbered.beside store j other others slot refers of_kind counts is of_cell) =
     let same : are.store ≡ store = same_Some are.store store (sym (store_now puts are.slot) ∙ slot) in
     let before = target_before store are.beside (stores_stand puts)
     (subst (λ w. IsBeside old kind.Store w are.beside) same are.stands) refers in
     IsNumbered.beside store j other before.0 (are.slot ∙ ap Some same) before.1 of_kind
-    (omega (arith, counts, puts.writes.cap)) is of_cell
+    (omega (arith, counts, becomes_cap puts.writes.becomes)) is of_cell
 
 -- the word of an object's slot stands in the heap
 pub slot_at_stands : {heap : Heap} {cell : Cell} {words : List ℕ} {a word : ℕ} → HasCell heap cell words

@@ -1,6 +1,6 @@
 -- A change of the elements of one list, slot by slot: the list's cell, its store and its boxes stay where they are, or
 -- a store and boxes are made.
-use Rattle.std.specs.Prelude.{◌≡◌, ℕ, ◌<◌, ◌≤◌, ◌⊎◌, List, ◌∷◌, ◌++◌, length, Contains}
+use Rattle.std.specs.Prelude.{◌≡◌, ℕ, ◌<◌, ◌≤◌, List, ◌∷◌, ◌++◌, length}
 use Rattle.std.specs.Prelude.{Some, slice_get, All, [], slice_set, IsTrue}
 use Rattle.tagged_word.specs.declared.layout.Kind.TheVariants as kind
 use Rattle.tagged_word.specs.Cells.{store_slot}
@@ -13,27 +13,17 @@ use Rattle.object_graph.specs.Invariants.{IsGraph, IsValue, AreElements}
 use Rattle.cell_layout.specs.declared.cell.Cell.{Cell}
 use Rattle.heap_table.specs.declared.phase.Phase.TheVariants.{Quiet}
 use Rattle.heap_model.specs.Heaps.{Heap, words_of_cell}
-use Rattle.heap_model.specs.Slots.{hole_word, reference_word, IsBeside}
-use Rattle.heap_model.specs.Kinds.{HasWord, HasNoNumber, IsBoxCell, count_offset}
-use Rattle.heap_model.specs.Wholeness.{Whole, HasRows, NamesFrom}
+use Rattle.heap_model.specs.Slots.{hole_word, IsBeside}
+use Rattle.heap_model.specs.Kinds.{HasWord, count_offset}
 use Rattle.heap_model.specs.Showing.{ShowsValue, ShowsList}
-use Rattle.heap_model.specs.Changes.{CellsChange}
 use Rattle.write_barrier.specs.Mains.{Mutator, heap_of, IsTied, MainShows}
 use Rattle.object_cells.specs.HeldValues.{IsReachedValue}
 use Rattle.object_cells.specs.CellWrites.{WritesOwnCells}
-use Rattle.object_cells.specs.SlotChanges.{NamesNone, IsNoBoxOf, StoreComes}
+use Rattle.object_cells.specs.OwnSlots.{IsNoBoxOf, Refills}
 
--- Of the words before the layout words only those of the list's cell but its header have changed, slots of these
--- stores, integers of these boxes, and words that are newly used, in which cells were made.
+-- Words of a list's own cells were written.
 abbrev pub WritesList : Heap → Heap → Cell → List Cell → List Cell → Type 0
-WritesList old new cell others made = WritesOwnCells kind.List kind.Store old new cell others made
-
--- Then cells stand in rows again: the list's and these others as they were, those that were made, and all else as
--- before.
-abbrev pub WrittenListKeepsCells : Type 0
-WrittenListKeepsCells =
-    (old new : Heap) (cell : Cell) (others made : List Cell) → Whole old → WritesList old new cell others made
-    → HasRows new × CellsChange old new (cell ∷ others) (cell ∷ others) made
+WritesList old new cell others made = WritesOwnCells kind.List kind.Store old new cell cell others made
 
 -- the slots of a list's store, beside its cell of these words
 pub record HasElements (heap : Heap) (words slots : List ℕ) : Type 0 where
@@ -41,22 +31,13 @@ pub record HasElements (heap : Heap) (words slots : List ℕ) : Type 0 where
   pub slot : HasWord words store_slot store
   pub stands : IsBeside heap kind.Store store slots
 
--- Where the word of a slot comes from: the slot of the same number held it before; or it names no store, table or box;
--- or it refers to a box that was made, which only the slot of number `one` does.
-pub data ElementComes (new : Heap) (slots : List ℕ) (made : List Cell) (one slot word : ℕ) : Type 0 where
-  stayed : HasWord slots slot word → ElementComes new slots made one slot word
-  none : NamesNone new word → ElementComes new slots made one slot word
-  of_made : (box : Cell) → Contains made box → box.layout.kind ≡ kind.Boxed → word ≡ reference_word box.at
-      → slot ≡ one
-      → ElementComes new slots made one slot word
-
--- What a slot shows: the element that it showed before, or its element anew.
-pub data ShowsElement (new : Heap) (slots : List ℕ) (others : List Cell) (before : List Value) (slot word : ℕ)
+-- What a slot shows: the element that the slot of number `origin` showed before, or its element anew.
+pub data ShowsElement (new : Heap) (slots : List ℕ) (others : List Cell) (before : List Value) (origin word : ℕ)
     (value : Value)
     : Type 0 where
-  kept : slice_get before slot ≡ Some value → HasWord slots slot word → IsNoBoxOf others word
-      → ShowsElement new slots others before slot word value
-  fresh : ShowsValue new word value → ShowsElement new slots others before slot word value
+  kept : slice_get before origin ≡ Some value → HasWord slots origin word → IsNoBoxOf others word
+      → ShowsElement new slots others before origin word value
+  fresh : ShowsValue new word value → ShowsElement new slots others before origin word value
 
 -- The elements of a list become others, slot by slot. `others` are cells that belong to the list and were written, and
 -- `made` those that were made: stores, of which the list has the one, and boxes.
@@ -71,21 +52,11 @@ pub record RefillsElements (old new : Heap) (cell : Cell) (others made : List Ce
   pub counted : HasWord (words_of_cell new cell) count_offset (length after)
   pub few : length after ≤ list_most
   pub enough : length after ≤ length now
-  -- each slot
-  pub one : ℕ
-  pub each_slot : (slot word : ℕ) → HasWord now slot word → ElementComes new slots made one slot word
+  -- from where the word of each slot comes, and what it shows
+  pub refills : Refills kind.Store old new cell cell others made (HasWord slots) (HasWord now)
   pub each_element : (slot word : ℕ) (value : Value) → slice_get after slot ≡ Some value → HasWord now slot word
-      → ShowsElement new slots others before slot word value
+      → ShowsElement new slots others before (refills.origin slot) word value
   pub rest : (slot word : ℕ) → length after ≤ slot → HasWord now slot word → word ≡ hole_word
-  -- the slot for the store
-  pub store_comes : StoreComes old cell made are.store
-  -- the cells beside the list's
-  pub belong : (other : Cell) → Contains others other → (slot : ℕ) × NamesFrom old cell slot other.at
-  pub kinds : (other : Cell) → Contains made other → (other.layout.kind ≡ kind.Store) ⊎ (other.layout.kind ≡ kind.Boxed)
-  pub stores : (other : Cell) → Contains (others ++ made) other → other.layout.kind ≡ kind.Store
-      → HasNoNumber other × (are.store ≡ reference_word other.at)
-  pub boxes : (other : Cell) → Contains (others ++ made) other → other.layout.kind ≡ kind.Boxed
-      → IsBoxCell other (words_of_cell new other)
 
 -- elements that a list of the graph may have, which refer to nothing that cannot be reached
 pub record AreNewElements (graph : Graph) (elements : List Value) : Type 0 where
@@ -100,7 +71,7 @@ WrittenElementsShow =
     → MainShows old graph → slice_get graph.objects list.number ≡ Some (ListOf list.elements)
     → cell.header.object ≡ list.number
     → ShowsList (heap_of old) cell (words_of_cell (heap_of old) cell) list.elements
-    → AreNewElements graph elements → IsTied new → new.seat.phase ≡ Quiet
+    → AreNewElements graph elements → IsTied new → new.seat.phase ≡ Quiet → new.paths ≡ old.paths
     → WritesList (heap_of old) (heap_of new) cell others made
     → RefillsElements (heap_of old) (heap_of new) cell others made list.elements elements
     → MainShows new (relist graph list elements)

@@ -7,6 +7,7 @@ pub mod Formats
 pub mod Contents
 pub mod Refills
 pub mod CellWrites
+pub mod OwnSlots
 pub mod SlotChanges
 pub mod ListObjects
 pub mod ElementChanges

@@ -2,6 +2,7 @@
 ghost use Rattle.std.specs.Prelude.{◌≡◌};
 ghost use Rattle.tagged_word.specs.Words.{small};
 ghost use Rattle.object_cells.specs.Contents as contents;
+ghost use Rattle.object_cells.specs.Made.{beside_content};
 
 use handle_roots::Held;
 use object_graph::Rep;
@@ -77,4 +78,11 @@ pub fn content_of(own: bool, rep: Rep, value: Held) -> Content
         Held::Ref(at) => Content::Tagged(Word::reference(at)),
         Held::Unbound | Held::Undefined => Content::Tagged(Word::odd(odd::UNDEFINED)),
     }
+}
+
+/// What a slot beside an object, of any value, holds for this one.
+pub fn content_for(value: Held) -> Content
+    ensures { result ≡ beside_content value }
+{
+    content_of(false, rep_of(value), value)
 }

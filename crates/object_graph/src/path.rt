@@ -5,7 +5,7 @@ use crate::value::Rep;
 use std::marker::Model;
 
 /// A field as a path knows it.
-#[derive(Clone, Copy, Debug, PartialEq, Eq)]
+#[derive(Clone, Copy, Debug, PartialEq, Eq, Hash)]
 pub struct PathField {
     /// The number of the field's name.
     pub name: u32,

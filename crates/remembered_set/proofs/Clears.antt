@@ -1,26 +1,27 @@
 -- Flags that are cleared one behind another.
-use Rattle.std.proofs.Common.{◌≡◌, ℕ, ◌+◌, ◌<◌, ◌≤◌, ◌≢◌, Bool, true, false, List, length, get_or, set, arith, inl, inr}
+use Rattle.std.proofs.Common.{◌≡◌, ℕ, ◌+◌, ◌<◌, ◌≤◌, ◌≢◌, Bool, true, false, List, length, get_or, set, max, arith, inl}
+use Rattle.std.proofs.Common.{inr}
 use Rattle.std.proofs.Common.{sym, ◌∙◌}
 use Rattle.std.proofs.lemmas.Bool.{cases_lt, cases_eq}
 use Rattle.std.proofs.lemmas.List.{length-set, get_or-set_same, get_or-set_other}
-use Rattle.remembered_set.specs.Flags.{ClearsBetween, set_count}
+use Rattle.remembered_set.specs.Flags.{AreClear, ClearsBetween, set_count}
 use Rattle.remembered_set.proofs.Counts.{set_count_raised}
 
--- a flag that is clear already
-pub clears_same : (old now : List Bool) (from place : ℕ) → get_or now place false ≡ false
-    → ClearsBetween old now from place → ClearsBetween old now from (place + 1)
-clears_same old now from place is clears = record {
+-- flags that are clear already
+pub clears_on : (old now : List Bool) (from at to : ℕ) → at ≤ max from to → ClearsBetween old now from at
+    → AreClear now at to → ClearsBetween old now from to
+clears_on old now from at to within clears clear = record {
   as_many = clears.as_many;
-  cleared = λ other between.
-      let begins = between.begins in
-      let ends = between.ends in
-      elim (cases_lt other place) [
-        | inl below ↦ clears.cleared other (record { begins = begins; ends = below })
-        | inr behind ↦ let at : other ≡ place = omega arith in rw at is
+  cleared = λ place between.
+      let begins : from ≤ place = between.begins in
+      let ends : place < to = between.ends in
+      elim (cases_lt place at) [
+        | inl before ↦ clears.cleared place (record { begins = begins; ends = before })
+        | inr behind ↦ clear place (record { begins = behind; ends = ends })
       ];
-  others = λ other outside. clears.others other (λ between.
-      let begins = between.begins in
-      let ends = between.ends in
+  others = λ place outside. clears.others place (λ between.
+      let begins : from ≤ place = between.begins in
+      let ends : place < at = between.ends in
       outside (record { begins = begins; ends = omega arith }));
 }
 

@@ -1,7 +1,9 @@
 pub mod Ascending
+pub mod Words
 pub mod Slots
 pub mod Shown
 pub mod Counts
 pub mod Clears
 pub mod Pages
+pub mod Bounds
 pub mod Turns

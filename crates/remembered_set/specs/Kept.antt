@@ -2,8 +2,8 @@
 use Rattle.std.specs.Prelude.{◌≡◌, ◌*◌, ℕ, Bool, false, List, length, slice_index_or}
 use Rattle.std.specs.List.{filter, range_with_len}
 use Rattle.remembered_set.specs.declared.Remembered.TheInside.{Inside}
-use Rattle.page_space.specs.Sizes.{page_words}
 use Rattle.remembered_set.specs.Flags.{AreCounted}
+use Rattle.remembered_set.specs.Bits.{flags_of}
 use Rattle.remembered_set.specs.Recorded.{Recorded, IsRecorded}
 
 -- the places of the flags that are set
@@ -14,13 +14,17 @@ slots_of flags = filter (λ place. slice_index_or flags place false) (range_with
 abbrev pub shown : List Bool → Recorded
 shown flags = record { bound = length flags; slots = slots_of flags }
 
--- what the flags show
+-- what the bits show
 abbrev pub recorded_of : Inside → Recorded
-recorded_of set = shown set.flags.items
+recorded_of set = shown (flags_of set.bits.items)
+
+-- the words of 64 bits that have the flags of a page
+abbrev pub page_bits : ℕ
+page_bits = 32
 
 -- the recorded slots ascend below their bound, the flags are those of the pages, and each page's count is that of its
 -- flags
 pub record IsKept (set : Inside) : Type 0 where
   pub recorded : IsRecorded (recorded_of set)
-  pub pages : length set.flags.items ≡ page_words * length set.counts.items
-  pub counted : AreCounted set.flags.items set.counts.items
+  pub pages : length set.bits.items ≡ page_bits * length set.counts.items
+  pub counted : AreCounted (flags_of set.bits.items) set.counts.items

@@ -1,3 +1,4 @@
 pub mod Recorded
 pub mod Flags
+pub mod Bits
 pub mod Kept

@@ -2,8 +2,8 @@
 //!
 //! Model: a `Recorded` of `specs/Recorded.antt`: the addresses of the recorded slots in ascending
 //! order, and the bound that all addresses of pages are below. It reads no word of the heap.
-//! Invariant: the slots ascend, and each is below the bound. Inside, there is a count for each page
-//! of its recorded slots.
+//! Invariant: the slots ascend, and each is below the bound. Inside, there is a bit for each word of
+//! the pages, and a count for each page of its recorded slots.
 //! Below: `page_space`, for the words of a page. Above: no crate so far.
 #![tactic(auto)]
 
@@ -12,19 +12,23 @@ ghost use Rattle.page_space.specs.Sizes.{page_words, pages_most};
 ghost use Rattle.remembered_set.specs.Recorded.{IsRecorded, IsAscending, IsBetween, HasNoneFrom, IsLeastFrom};
 ghost use Rattle.remembered_set.specs.Recorded.{HasNoneBetween, IsLeastBetween, noted, forgotten};
 
-mod flags;
+mod bits;
 
-use crate::flags::{clear, first_set};
+use crate::bits::{clear, first_set, note};
 use page_space::PAGE_WORDS;
 use std::alloc::Global;
 use std::marker::Model;
 use tagged_word::NoMemory;
 
+/// The words of 64 bits that have the flags of a page.
+const PAGE_BITS: u32 = PAGE_WORDS / 64;
+
 /// Which slots of pages may refer to young cells.
 #[derive(Drop)]
 pub struct Remembered {
-    // A flag for each word of the pages.
-    flags: Vec<bool>,
+    // A flag for each word of the pages, 64 in a word: the first that is set is found without a look at
+    // each.
+    bits: Vec<u64>,
     // For each page the number of its flags that are set: most pages have none, and are passed
     // over at once.
     counts: Vec<u32>,
@@ -49,9 +53,9 @@ impl Remembered {
         requires { pages ≤ pages_most }
         ensures { IfOk result (λ set. set ≡ record { bound = page_words * pages; slots = [] }) }
     {
-        let flags = vec![in alloc; false; (PAGE_WORDS * pages) as usize]?;
+        let bits = vec![in alloc; 0u64; (PAGE_BITS * pages) as usize]?;
         let counts = vec![in alloc; 0u32; pages as usize]?;
-        Ok(Remembered { flags, counts })
+        Ok(Remembered { bits, counts })
     }
 
     /// Records a slot, which may be recorded already.
@@ -62,11 +66,9 @@ impl Remembered {
         ensures bound { self.new.bound ≡ self.old.bound }
         ensures value { self.new ≡ noted self.old slot }
     {
-        if self.flags[slot as usize] {
-            return;
+        if note(&mut self.bits, slot) {
+            self.counts[(slot / PAGE_WORDS) as usize] += 1;
         }
-        self.flags[slot as usize] = true;
-        self.counts[(slot / PAGE_WORDS) as usize] += 1;
     }
 
     /// Forgets the slots from `from` up to, not including, `to`.
@@ -112,7 +114,7 @@ impl Remembered {
             return;
         }
         let start = page * PAGE_WORDS;
-        let count = clear(&mut self.flags, from.max(start), to.min(start + PAGE_WORDS));
+        let count = clear(&mut self.bits, from.max(start), to.min(start + PAGE_WORDS));
         self.counts[page as usize] -= count;
     }
 
@@ -127,6 +129,6 @@ impl Remembered {
             return None;
         }
         let start = page * PAGE_WORDS;
-        first_set(&self.flags, from.max(start), start + PAGE_WORDS)
+        first_set(&self.bits, from.max(start), start + PAGE_WORDS)
     }
 }

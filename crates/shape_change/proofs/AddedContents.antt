@@ -1,14 +1,12 @@
 -- What the slot of a new field comes to hold shows the value, and names nothing but a box that was made.
-use Rattle.std.proofs.Common.{◌≡◌, ℕ, Bool, true, List, Contains, refl, sym, ap, subst}
+use Rattle.std.proofs.Common.{◌≡◌, ℕ, Bool, true, refl, sym, subst}
 use Rattle.std.specs.Prelude.{ℤ}
 use Rattle.tagged_word.specs.Words.{small}
-use Rattle.tagged_word.specs.declared.layout.Kind.TheVariants as kind
 use Rattle.object_graph.specs.declared.value.Value.{Value}
 use Rattle.object_graph.specs.declared.value.Value.TheVariants as value
 use Rattle.object_graph.specs.declared.value.Rep.{Rep}
 use Rattle.object_graph.specs.declared.value.Rep.TheVariants as rep
 use Rattle.object_graph.specs.Invariants.{IsValue}
-use Rattle.cell_layout.specs.declared.cell.Cell.{Cell}
 use Rattle.heap_model.specs.Heaps.{Heap}
 use Rattle.heap_model.specs.Slots.{raw_word, reference_word, IsPlace, RefersToBox, RefersToPlace}
 use Rattle.heap_model.specs.Showing.{ShowsValue, ShowsWide, ShowsField}
@@ -16,9 +14,7 @@ use Rattle.heap_model.proofs.WordsStay.{PlacesStay}
 use Rattle.object_cells.specs.declared.content.Content.{Content}
 use Rattle.object_cells.specs.declared.content.Content.TheVariants as content
 use Rattle.object_cells.specs.Made.{content_word}
-use Rattle.object_cells.specs.SlotChanges.{ComesFrom}
 use Rattle.object_cells.proofs.HeldContents.{HoldsValue}
-use Rattle.object_cells.proofs.WrittenPlaces.{small_names_none, undefined_names_none, object_names_none}
 use Rattle.shape_change.proofs.ContentsShown.{small_shows}
 
 -- the reference to an object's place, where places stay
@@ -52,29 +48,3 @@ own_holds_no_box v (HoldsValue.wide_box w beside apart small) boxed = cc
 own_holds_no_box v (HoldsValue.tagged_box w wide was) boxed = cc
 own_holds_no_box v HoldsValue.undefined boxed = cc
 own_holds_no_box v (HoldsValue.object at number place) boxed = cc
-
--- it is the reference to a box that was made
-pub record IsMadeBox (made : List Cell) (box : ℕ) : Type 0 where
-  pub cell : Cell
-  pub among : Contains made cell
-  pub of_kind : cell.layout.kind ≡ kind.Boxed
-  pub stands : cell.at ≡ box
-
--- where the slot is not raw, its word names nothing, or the box that was made for it
-pub content_comes : {old new : Heap} {own : Bool} {one : Rep} {what : Value} {holds : Content} (cell : Cell)
-    (slots : List ℕ)
-    (made : List Cell) (slot box : ℕ) → HoldsValue old own rep.Small one what holds → PlacesStay old new
-    → (own ≡ true → one ≡ rep.Wide → ⊥) → ((v : ℤ) → holds ≡ content.Boxed v → IsMadeBox made box)
-    → ComesFrom new cell slots made slot slot slot (content_word holds box)
-content_comes cell slots made slot box (HoldsValue.small_integer one v is apart) places tagged boxed =
-    ComesFrom.none (small_names_none v)
-content_comes cell slots made slot box (HoldsValue.raw v own apart) places tagged boxed = absurd (tagged own refl)
-content_comes cell slots made slot box (HoldsValue.wide_box v beside apart small) places tagged boxed =
-    let one = boxed v refl in
-    ComesFrom.of_made one.cell one.among one.of_kind (ap reference_word (sym one.stands)) refl
-content_comes cell slots made slot box (HoldsValue.tagged_box v wide was) places tagged boxed =
-    let one = boxed v refl in
-    ComesFrom.of_made one.cell one.among one.of_kind (ap reference_word (sym one.stands)) refl
-content_comes cell slots made slot box HoldsValue.undefined places tagged boxed = ComesFrom.none undefined_names_none
-content_comes cell slots made slot box (HoldsValue.object at number place) places tagged boxed =
-    ComesFrom.none (object_names_none (new_place at number places place))

@@ -23,7 +23,7 @@ use Rattle.write_barrier.specs.Mains.{Mutator, heap_of, IsTied, MainShows, reser
 use Rattle.object_cells.specs.PlainObjects.{IsPlainAt, LacksFields, ShowsRefilled}
 use Rattle.object_cells.specs.HeldValues.{IsValueHeld}
 use Rattle.object_cells.specs.Refills.{AreNewFields}
-use Rattle.object_cells.specs.CellWrites.{WritesCells}
+use Rattle.object_cells.specs.SlotChanges.{WritesFields}
 use Rattle.object_cells.specs.Contents.{held_rep}
 use Rattle.shape_change.specs.Additions.{CanAdd, AddsPath, added_path, count_of}
 use Rattle.object_cells.specs.Made.{PutsWords}
@@ -117,7 +117,7 @@ pub added_shows : {old mid new : Mutator} {graph : Graph} {plain : PlainObject} 
     {name : ℕ} {value : Held} {what : Value} {next : ℕ} {words : List ℕ} {others made : List Cell} (need : ℕ)
     (known : Adding old graph plain object header name value what)
     → AddsPath (reserved old need) mid (added_path old.paths header.shape name value) next → PutsWords mid new words
-    → WritesCells (heap_of old) (heap_of new) known.cell next others made
+    → WritesFields (heap_of old) (heap_of new) known.cell next others made
     → AddsSlot (heap_of old) (heap_of new) known.cell next others made plain.fields (new_field name what)
     → ShowsRefilled new graph plain (with_field plain.fields name what)
 added_shows {old} {mid} {new} {graph} {plain} {header = header} {name} {value} {what} {next} {others = others} {made}

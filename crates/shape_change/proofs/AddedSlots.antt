@@ -16,8 +16,8 @@ use Rattle.heap_model.specs.Kinds.{HasWord, HasSlots, IsPlainCell, HasNoNumber, 
 use Rattle.heap_model.specs.Wholeness.{Whole, NamesFrom}
 use Rattle.heap_model.specs.Showing.{ShowsField}
 use Rattle.object_cells.specs.CellWrites.{reshaped}
-use Rattle.object_cells.specs.SlotChanges.{IsTaggedSlot, ComesFrom, ShowsSlot, StoreComes, RefillsSlots}
-use Rattle.object_cells.specs.SlotChanges.{NamesNone}
+use Rattle.object_cells.specs.OwnSlots.{NamesNone, ComesFrom, StoreComes}
+use Rattle.object_cells.specs.SlotChanges.{IsTaggedSlot, HasTagged, ShowsSlot, RefillsSlots}
 use Rattle.shape_change.proofs.AddedFields.{path_of-push, push_cases}
 use Rattle.shape_change.proofs.FullStores.{cap_is}
 use Rattle.shape_change.proofs.TaggedBefore.{tagged_before}
@@ -53,9 +53,9 @@ pub record AddsSlot (old new : Heap) (cell : Cell) (next : ℕ) (others made : L
   -- what was put
   pub shows : ShowsField new (nat_lt (length fields) cell.layout.cap) word field.rep field.value
   pub comes : IsTaggedSlot (reshaped new.paths cell next) (length fields)
-      → ComesFrom new cell sound.slots made (length fields) (length fields) (length fields) word
+      → ComesFrom new (HasTagged cell sound.slots) made (length fields) (length fields) (length fields) word
   -- the cells beside it
-  pub store_comes : StoreComes old cell made are.store
+  pub store_comes : StoreComes kind.Store old cell made are.store
   pub belong : (other : Cell) → Contains others other → (slot : ℕ) × NamesFrom old cell slot other.at
   pub stores_only : (other : Cell) → Contains others other → other.layout.kind ≡ kind.Store
   pub kinds : (other : Cell) → Contains made other → (other.layout.kind ≡ kind.Store) ⊎ (other.layout.kind ≡ kind.Boxed)
@@ -85,18 +85,21 @@ laid_after {cell = cell} {fields = fields} {field} adds =
 slot_comes : {old new : Heap} {cell : Cell} {next : ℕ} {others made : List Cell} {fields : List Field} {field : Field}
     (k x : ℕ) (adds : AddsSlot old new cell next others made fields field)
     → SlotIs adds.sound.slots (length fields) adds.word k x → IsTaggedSlot (reshaped new.paths cell next) k
-    → ComesFrom new cell adds.sound.slots made k (length fields) k x
+    → ComesFrom new (HasTagged cell adds.sound.slots) made k (length fields) k x
 slot_comes {new = new} {cell} {next} {made = made} {fields} k x adds (SlotIs.put at is) tagged =
     let tagged_at : IsTaggedSlot (reshaped new.paths cell next) (length fields) =
     subst (IsTaggedSlot (reshaped new.paths cell next)) at tagged in
-    subst (λ n. ComesFrom new cell adds.sound.slots made n (length fields) n x) (sym at)
-    (subst (ComesFrom new cell adds.sound.slots made (length fields) (length fields) (length fields)) (sym is)
-    (adds.comes tagged_at))
+    let was : ℕ → ℕ → Type 0 = HasTagged cell adds.sound.slots in
+    subst (λ n. ComesFrom new was made n (length fields) n x) (sym at)
+    (subst (ComesFrom new was made (length fields) (length fields) (length fields)) (sym is) (adds.comes tagged_at))
 slot_comes {new = new} {cell} {next} {field = field} k x adds (SlotIs.kept apart there) tagged =
     let one : Cell = reshaped new.paths cell next in
-    ComesFrom.moved there (tagged_before one field.name field.rep k adds.whole.sized adds.has
-    adds.plain adds.sound.shape
-    (cap_is adds.whole.sized adds.has adds.sound.shape) (laid_after adds) (λ same. apart (same ∙ as_many adds)) tagged)
+    ComesFrom.moved (
+      there,
+      tagged_before one field.name field.rep k adds.whole.sized adds.has
+          adds.plain adds.sound.shape
+          (cap_is adds.whole.sized adds.has adds.sound.shape) (laid_after adds) (λ same. apart (same ∙ as_many adds)) tagged,
+    )
 slot_comes {new = new} k x adds (SlotIs.more apart behind is) tagged =
     ComesFrom.none (subst (NamesNone new) (sym is) hole_names_none)
 
@@ -162,17 +165,19 @@ added_refills {fields = fields} {field} adds = record {
   are = adds.are;
   path = adds.path;
   enough = omega (arith, adds.room, length-append fields (field ∷ []));
-  origin = λ k. k;
-  apart = λ k other same. same;
-  one = length fields;
-  each_slot = λ k x there tagged. slot_comes k x adds (adds.puts k x there) tagged;
+  refills = record {
+    origin = λ k. k;
+    apart = λ k other word another there there_too same. same;
+    one = length fields;
+    each_slot = λ k x there. slot_comes k x adds (adds.puts k x there.0) there.1;
+    store = adds.are.store;
+    has_store = adds.are.slot;
+    store_comes = adds.store_comes;
+    belong = adds.belong;
+    kinds = adds.kinds;
+    stores = adds.stores;
+    boxes = adds.boxes;
+  };
   each_field = λ k x one is there. slot_shows k x one adds (adds.puts k x there) is;
   rest = λ k x behind there. slot_rest k x adds behind (adds.puts k x there);
-  store = adds.are.store;
-  has_store = adds.are.slot;
-  store_comes = adds.store_comes;
-  belong = adds.belong;
-  kinds = adds.kinds;
-  stores = adds.stores;
-  boxes = adds.boxes;
 }

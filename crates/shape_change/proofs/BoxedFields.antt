@@ -24,7 +24,8 @@ use Rattle.object_cells.specs.Formats.{box_header}
 use Rattle.object_cells.specs.declared.content.Content.TheVariants as content
 use Rattle.object_cells.specs.Contents.{next_at, with_box}
 use Rattle.object_cells.specs.CellWrites.{reshaped}
-use Rattle.object_cells.specs.SlotChanges.{IsTaggedSlot, ComesFrom}
+use Rattle.object_cells.specs.OwnSlots.{ComesFrom}
+use Rattle.object_cells.specs.SlotChanges.{IsTaggedSlot}
 use Rattle.shape_change.proofs.ContentsShown.{ShowsByBox, box_shows}
 use Rattle.object_cells.proofs.SlotBoxes.{IsBoxOf}
 use Rattle.object_cells.proofs.FieldWords.{path_field, field_is_tagged}

@@ -17,7 +17,7 @@ use Rattle.heap_model.specs.Slots.{RefersToPlace, RefersToBox}
 use Rattle.heap_model.specs.Showing.{ShowsValue, ShowsField}
 use Rattle.heap_model.proofs.WordsStay.{PlacesStay}
 use Rattle.object_cells.specs.declared.content.Content.TheVariants as content
-use Rattle.object_cells.specs.SlotChanges.{NamesNone}
+use Rattle.object_cells.specs.OwnSlots.{NamesNone}
 use Rattle.object_cells.proofs.WrittenPlaces.{small_names_none, undefined_names_none, object_names_none}
 use Rattle.object_cells.proofs.HeldContents.{HoldsValue}
 

@@ -19,7 +19,7 @@ use Rattle.write_barrier.specs.Mains.{Mutator, heap_of}
 use Rattle.object_cells.specs.CellWrites.{reshaped}
 use Rattle.shape_change.specs.Shifts.{slot_at}
 use Rattle.object_cells.proofs.CellsRead.{word_stands}
-use Rattle.object_cells.proofs.CellWrites.{writes_keep_cells}
+use Rattle.object_cells.proofs.OwnerWrites.{plain_owns, becomes_cap, written_own_keeps_cells}
 use Rattle.object_cells.proofs.StoreCells.{store_cells, store_at, slots_counted}
 use Rattle.shape_change.proofs.SlotAddresses.{slot_at-own, slot_at-beside}
 use Rattle.shape_change.proofs.SlotAddresses.{SlotsStand, slot_read}
@@ -72,8 +72,7 @@ came : {old new : Mutator} {cell : Cell} {slot : ℕ} {fields : List Field} (del
     → HasCell (heap_of new) other (words_of_cell (heap_of new) other)
 came {old} {new} {cell} deleting other there =
     let writes = deleted_writes deleting in
-    let change = (writes_keep_cells (heap_of old) (heap_of new) cell deleting.taken.next (others_of deleting) []
-    deleting.whole writes).1 in
+    let change = (written_own_keeps_cells plain_owns deleting.whole writes).1 in
     let cells : List Cell = one_of deleting ∷ others_of deleting in
     change.comes other (subst (λ all. Contains all other) (sym (append-nil cells)) there)
 
@@ -152,7 +151,7 @@ slots_now {old} {new} {cell} deleting =
         slots_counted has refl are,
         slots_counted deleting.has plain was,
         still.count,
-        (deleted_writes deleting).cap,
+        becomes_cap (deleted_writes deleting).becomes,
       );
     }
 
@@ -165,7 +164,7 @@ now_read {old} {new} {cell} one word deleting there =
     let reshaped_one : Cell = one_of deleting in
     let has = came deleting reshaped_one (first_in reshaped_one (others_of deleting)) in
     let below : one < length slots.now = slice_get_within slots.now one word there in
-    let caps : reshaped_one.layout.cap ≡ cell.layout.cap = (deleted_writes deleting).cap in
+    let caps : reshaped_one.layout.cap ≡ cell.layout.cap = becomes_cap (deleted_writes deleting).becomes in
     let at : slot_at cell.at reshaped_one.layout.cap (store_at slots.are.stands) one ≡ address deleting one =
     ap (λ n. slot_at cell.at n (store_at slots.are.stands) one) caps
     ∙ ap (λ n. slot_at cell.at cell.layout.cap n one) slots.at in

@@ -1,6 +1,6 @@
 -- Where a field was taken out of a plain object, only words of its own cells were written.
 use Rattle.std.proofs.Common.{◌≡◌, ◌≢◌, ℕ, ◌+◌, ◌<◌, inl, List, [], Contains, Some}
-use Rattle.std.proofs.Common.{slice_get, sym, ◌∙◌, ap, subst, arith}
+use Rattle.std.proofs.Common.{slice_get, refl, sym, ◌∙◌, ap, subst, arith}
 use Rattle.tagged_word.specs.Cells.{store_head, length_offset}
 use Rattle.page_space.specs.Extents.{Space, layouts_start, eden_start}
 use Rattle.page_space.proofs.Starts.{layouts_start_is}
@@ -16,7 +16,9 @@ use Rattle.heap_model.proofs.CellsApart.{first_of_cell}
 use Rattle.nursery.specs.Young.{Young}
 use Rattle.heap_table.specs.Seats.{heap_words}
 use Rattle.write_barrier.specs.Mains.{Mutator, heap_of}
-use Rattle.object_cells.specs.CellWrites.{IsInCell, IsWrittenBeside, WritesCells}
+use Rattle.tagged_word.specs.declared.layout.Kind.TheVariants as kind
+use Rattle.object_cells.specs.CellWrites.{IsInCell, IsWrittenOfKind, Becomes}
+use Rattle.object_cells.specs.SlotChanges.{WritesFields}
 use Rattle.object_cells.proofs.StoreCells.{store_cells, is_store_cell}
 use Rattle.shape_change.proofs.SlotAddresses.{head_is_apart}
 use Rattle.shape_change.proofs.SlotAddresses.{IsOfObject, slot_is_of_object}
@@ -42,7 +44,7 @@ head_stays {old} k deleting other there head =
 -- the store is written beside the object
 written_beside : {old new : Mutator} {cell : Cell} {slot : ℕ} {fields : List Field}
     (deleting : Deleting old new cell slot fields) (other : Cell) → Contains (others_of deleting) other
-    → IsWrittenBeside (heap_of old) (heap_of new) other
+    → IsWrittenOfKind kind.Store (heap_of old) (heap_of new) other
 written_beside {old} {new} deleting other there =
     let is = is_store_cell deleting.shows.has.stands other there in
     let first : other.at + 0 ≡ other.at = omega arith in
@@ -76,7 +78,7 @@ others_stay {cell = cell} at deleting below not_own not_beside =
 -- only words of the object's own cells were written
 pub deleted_writes : {old new : Mutator} {cell : Cell} {slot : ℕ} {fields : List Field}
     (deleting : Deleting old new cell slot fields)
-    → WritesCells (heap_of old) (heap_of new) cell deleting.taken.next (others_of deleting) []
+    → WritesFields (heap_of old) (heap_of new) cell deleting.taken.next (others_of deleting) []
 deleted_writes {old} {new} {cell} {slot} deleting =
     let taken = deleting.taken in
     let used = ap (λ (young : Young). young.used) taken.young in
@@ -93,10 +95,14 @@ deleted_writes {old} {new} {cell} {slot} deleting =
       paths = sym (with_path-is (Some paths_most) old.paths new.paths path taken.leads.added);
       sized = taken.sized;
       stood = deleting.has;
-      plain = deleting.shows.of_kind;
-      is_shape = taken.leads.shape_is.is_shape;
-      cap = ap (λ (p : Path). p.cap) taken.leads.shape_is.of_path ∙ taken.caps ∙ cap_is deleting;
-      header = taken.headed;
+      of_kind = deleting.shows.of_kind;
+      becomes = Becomes.other_shape (record {
+        plain = deleting.shows.of_kind;
+        is = refl;
+        is_shape = taken.leads.shape_is.is_shape;
+        cap = ap (λ (p : Path). p.cap) taken.leads.shape_is.of_path ∙ taken.caps ∙ cap_is deleting;
+        header = taken.headed;
+      });
       beside = λ other there. written_beside deleting other there;
       made_stand = subst (λ n. IsRow new.seat.space (heap_words new.seat) behind n [])
           (ap (λ n. eden_start old.seat.space + n) (sym used)) (IsRow.none behind);

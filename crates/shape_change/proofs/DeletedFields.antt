@@ -17,11 +17,14 @@ use Rattle.heap_model.specs.Slots.{hole_word}
 use Rattle.heap_model.specs.Kinds.{HasWord}
 use Rattle.heap_model.specs.Showing.{ShowsField}
 use Rattle.write_barrier.specs.Mains.{Mutator, heap_of}
-use Rattle.object_cells.specs.SlotChanges.{IsTaggedSlot, NamesNone, ComesFrom, ShowsSlot}
+use Rattle.object_cells.specs.OwnSlots.{NamesNone, ComesFrom}
+use Rattle.object_cells.specs.SlotChanges.{IsTaggedSlot, HasTagged, ShowsSlot}
 use Rattle.shape_change.proofs.FieldsLess.{origin_of, origin_of-behind, origins_few, AreLess}
 use Rattle.object_cells.proofs.PlainFields.{plain_sound}
 use Rattle.object_cells.proofs.FieldWords.{path_field, field_is_tagged, tagged_is_field}
-use Rattle.object_cells.proofs.WrittenPlaces.{written_places_stay, written_box_stays, hole_names_none}
+use Rattle.object_cells.proofs.OwnSteps.{written_places_stay, written_box_stays}
+use Rattle.object_cells.proofs.OwnerWrites.{plain_owns, becomes_cap}
+use Rattle.object_cells.proofs.WrittenPlaces.{hole_names_none}
 use Rattle.shape_change.proofs.DeletedSlots.{Deleting, count_is, NowHolds}
 use Rattle.shape_change.proofs.DeletedCells.{others_of, deleted_writes}
 use Rattle.shape_change.proofs.DeletedCame.{one_of, slots_now, now_read}
@@ -42,7 +45,7 @@ not_wide : {old new : Mutator} {cell : Cell} {slot : ℕ} {fields : List Field} 
 not_wide {new = new} {cell} {slot} {fields} name one field deleting less there tagged below wide =
     let path : Path = shape_path new.paths deleting.taken.next in
     let after : List Field = without_field fields name in
-    let caps : path.cap ≡ cell.layout.cap = (deleted_writes deleting).cap in
+    let caps : path.cap ≡ cell.layout.cap = becomes_cap (deleted_writes deleting).becomes in
     let is = tagged_is_field (one_of deleting) path one refl tagged (omega (arith, caps, below)) in
     let found : slice_get path.fields one ≡ Some (record { name = field.name; rep = field.rep }) =
     ap (λ (p : Path). slice_get p.fields one) (path_now name deleting less)
@@ -85,12 +88,12 @@ field_moved {slot = slot} {fields} one deleting below =
 pub slot_comes : {old new : Mutator} {cell : Cell} {slot : ℕ} {fields : List Field} (name one word : ℕ)
     (deleting : Deleting old new cell slot fields) → AreLess cell.layout.cap fields slot name
     → HasWord (slots_now deleting).now one word → IsTaggedSlot (one_of deleting) one
-    → ComesFrom (heap_of new) cell deleting.shows.slots [] (origin_of slot one) 0 one word
+    → ComesFrom (heap_of new) (HasTagged cell deleting.shows.slots) [] (origin_of slot one) 0 one word
 slot_comes {old} {new} {cell} {slot} {fields} name one word deleting less there tagged =
     elim (now_read one word deleting there) [
       | NowHolds.moved below stands alike ↦
           let moved = field_moved one deleting below in
-          ComesFrom.moved stands (was_tagged name one moved.field deleting less moved.there tagged alike)
+          ComesFrom.moved (stands, was_tagged name one moved.field deleting less moved.there tagged alike)
       | NowHolds.drawn_in from below caps is ↦
           let moved = field_moved one deleting below in
           let behind : origin_of slot one ≡ cell.layout.cap = origin_of-behind slot one from ∙ caps in
@@ -99,9 +102,10 @@ slot_comes {old} {new} {cell} {slot} {fields} name one word deleting less there 
           let same : word ≡ drawn.word =
           is ∙ drawn_is (heap_of old) drawn.word deleting.taken.first moved.field.rep drawn.drawn
           (not_wide name one moved.field deleting less moved.there tagged (omega (arith, caps))) in
-          ComesFrom.moved
-          (ap (slice_get deleting.shows.slots) behind ∙ drawn.stands ∙ ap (λ w. Some w) (sym same))
-          (λ below_cap. absurd (omega (arith, below_cap, behind)))
+          ComesFrom.moved (
+            ap (slice_get deleting.shows.slots) behind ∙ drawn.stands ∙ ap (λ w. Some w) (sym same),
+            λ below_cap. absurd (omega (arith, below_cap, behind)),
+          )
       | NowHolds.hole from is ↦
           ComesFrom.none (subst (NamesNone (heap_of new)) (sym is) hole_names_none)
     ]
@@ -121,8 +125,8 @@ slot_shows {old} {new} {cell} {slot} {fields} name one word field deleting less 
           let drawn = drawn_field field deleting (omega (arith, caps, below))
           (ap (slice_get fields) (sym behind) ∙ was) in
           let writes = deleted_writes deleting in
-          let places = written_places_stay deleting.whole writes in
-          let box = written_box_stays drawn.word deleting.whole writes (no_box drawn.word deleting) in
+          let places = written_places_stay plain_owns deleting.whole writes in
+          let box = written_box_stays plain_owns deleting.whole writes drawn.word (no_box drawn.word deleting) in
           let shown = drawn_shown drawn.word deleting.taken.first field.rep field.value places box drawn.drawn
           drawn.shows in
           let test : nat_lt one cell.layout.cap ≡ true = lt-ltb one cell.layout.cap (omega (arith, caps)) in

@@ -38,7 +38,8 @@ use Rattle.shape_change.proofs.FieldsLess.{are_less, none_less}
 use Rattle.object_cells.proofs.PlainFields.{names_distinct}
 use Rattle.object_cells.proofs.NewFields.{rest_of_fields_are_new}
 use Rattle.object_cells.proofs.RefilledHeaps.{written_fields_show}
-use Rattle.object_cells.proofs.KeptCapacities.{capacities_stay}
+use Rattle.object_cells.proofs.OwnCapacities.{object_keeps}
+use Rattle.object_cells.proofs.OwnerWrites.{plain_owns}
 use Rattle.shape_change.proofs.FullPaths.{full_of_paths}
 use Rattle.shape_change.proofs.DeletedSlots.{Deleting}
 use Rattle.shape_change.proofs.DeletedCame.{slot_stays}
@@ -92,7 +93,8 @@ stores_stay old new graph object plain header slot name shows is header_at found
     let shown = shown_cell old graph object plain header shows is header_at in
     let deleting = deleting_of old new graph object plain header slot name shows is header_at found taken in
     subst (λ n. ChangesObject (heap_of old) (heap_of new) n (capacity_at (heap_of old) n)) shown.at
-    (capacities_stay (heap_of old) (heap_of new) shown.cell deleting.taken.next (others_of deleting) [] (record {
+    (object_keeps (record {
+      owns = plain_owns;
       whole = deleting.whole;
       writes = deleted_writes deleting;
       belong = λ other there. store_belongs deleting other there;

@@ -73,21 +73,24 @@ deleted_refills {old} {new} {cell} {slot} {fields} name deleting less =
       are = now.are;
       path = path_now name deleting less;
       enough = omega (arith, less.count, count_is deleting, room_is deleting, now.count);
-      origin = origin_of slot;
-      apart = origins_apart slot;
-      one = 0;
-      each_slot = λ one word there tagged. slot_comes name one word deleting less there tagged;
+      refills = record {
+        origin = origin_of slot;
+        apart = λ one other word another there there_too. origins_apart slot one other;
+        one = 0;
+        each_slot = λ one word there. slot_comes name one word deleting less there.0 there.1;
+        store = now.are.store;
+        has_store = now.are.slot;
+        store_comes = inl (subst (HasWord (words_of_cell (heap_of old) cell) store_slot) (sym now.store)
+            shows.has.slot);
+        belong = λ other there. store_belongs deleting other there;
+        kinds = λ other there. absurd (omega (arith, there.1));
+        stores = λ other there store.
+            let told = store_told deleting other (among other there) in (told.0, now.store ∙ told.1);
+        boxes = λ other there boxed.
+            let is = is_store_cell shows.has.stands other (among other there) in
+            let kinds : kind.Boxed ≡ kind.Store = sym boxed ∙ is.of_kind in
+            cc;
+      };
       each_field = λ one word field of_field there. slot_shows name one word field deleting less of_field there;
       rest = λ one word from there. rest_is_hole name one word deleting less from there;
-      store = now.are.store;
-      has_store = now.are.slot;
-      store_comes = inl (subst (HasWord (words_of_cell (heap_of old) cell) store_slot) (sym now.store) shows.has.slot);
-      belong = λ other there. store_belongs deleting other there;
-      kinds = λ other there. absurd (omega (arith, there.1));
-      stores = λ other there store.
-          let told = store_told deleting other (among other there) in (told.0, now.store ∙ told.1);
-      boxes = λ other there boxed.
-          let is = is_store_cell shows.has.stands other (among other there) in
-          let kinds : kind.Boxed ≡ kind.Store = sym boxed ∙ is.of_kind in
-          cc;
     }

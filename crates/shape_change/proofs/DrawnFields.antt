@@ -18,7 +18,7 @@ use Rattle.heap_model.specs.Kinds.{HasWord}
 use Rattle.heap_model.specs.Showing.{ShowsField}
 use Rattle.heap_model.proofs.WordsStay.{PlacesStay, BoxStays, shown_value}
 use Rattle.write_barrier.specs.Mains.{Mutator, heap_of}
-use Rattle.object_cells.specs.SlotChanges.{IsNoBoxOf}
+use Rattle.object_cells.specs.OwnSlots.{IsNoBoxOf}
 use Rattle.shape_change.specs.Shifts.{slot_at}
 use Rattle.shape_change.specs.Deletions.{IsDrawnIn}
 use Rattle.object_cells.proofs.FieldWords.{path_field}

@@ -28,7 +28,8 @@ use Rattle.write_barrier.specs.Mains.{Mutator, heap_of, with_word}
 use Rattle.object_cells.specs.declared.content.Content.TheVariants as content
 use Rattle.object_cells.specs.Contents.{next_at}
 use Rattle.object_cells.specs.CellWrites.{reshaped}
-use Rattle.object_cells.specs.SlotChanges.{IsTaggedSlot, ComesFrom}
+use Rattle.object_cells.specs.OwnSlots.{ComesFrom}
+use Rattle.object_cells.specs.SlotChanges.{IsTaggedSlot, HasTagged}
 use Rattle.shape_change.proofs.ContentsShown.{word_shows, raw_shows}
 use Rattle.object_cells.proofs.FieldWords.{path_field, tagged_is_field}
 use Rattle.shape_change.proofs.FilledSlots.{AreBoxes, fills_slot}
@@ -42,7 +43,8 @@ use Rattle.shape_change.proofs.Settings.{Setting}
 use Rattle.shape_change.proofs.SetFields.{IsNextShape, ShowsSet, sets_one, field_shown}
 use Rattle.object_cells.proofs.SlotsNow.{numbered_address}
 use Rattle.object_cells.proofs.WordsPut.{PutsTwo, HasHead, puts_two}
-use Rattle.object_cells.proofs.WrittenPlaces.{written_places_stay}
+use Rattle.object_cells.proofs.OwnSteps.{written_places_stay}
+use Rattle.object_cells.proofs.OwnerWrites.{plain_owns, becomes_cap}
 
 -- the header of the object of another shape
 abbrev pub next_head : {old : Mutator} {graph : Graph} {object slot : ℕ} {plain : PlainObject} {what : Value} {name : ℕ}
@@ -97,7 +99,7 @@ pub record ShowsPut {old new : Heap} {cell : Cell} {shape at word slot : ℕ} {o
     {field : Field} (sets : SetsOne old new cell shape at word slot others made before field) : Type 0 where
   pub boxes : AreBoxes new made
   pub comes : IsTaggedSlot (reshaped new.paths cell shape) slot
-      → ComesFrom new cell sets.shown.slots made slot slot slot word
+      → ComesFrom new (HasTagged cell sets.shown.slots) made slot slot slot word
   pub shows : ShowsField new (nat_lt slot cell.layout.cap) word field.rep field.value
 
 -- where a word was put in the slot, the heap shows the graph with the field
@@ -140,7 +142,7 @@ pub tagged_shown : {old mid new : Mutator} {graph : Graph} {object slot : ℕ} {
     → ShowsSet s new
 tagged_shown {old} {new = new} at next word s numbered ready shape head holds =
     slot_shown at word.0 0 next [] s numbered ready shape head (no_row old new) (λ others sets.
-    let shown = word_shows word (written_places_stay sets.puts.whole sets.puts.writes) holds in
+    let shown = word_shows word (written_places_stay plain_owns sets.puts.whole sets.puts.writes) holds in
     record {
       boxes = λ other there. absurd (none_in other there);
       comes = λ tagged. ComesFrom.none shown.1;
@@ -155,7 +157,7 @@ raw_not_tagged : {old new : Heap} {cell : Cell} {shape at word slot : ℕ} {othe
     → IsTaggedSlot (reshaped new.paths cell shape) slot → ⊥
 raw_not_tagged {new = new} {cell} {shape} {slot = slot} {before = before} {field} sets own wide tagged =
     let path : Path = shape_path new.paths shape in
-    let within : slot < path.cap = grind (arith, nat_tests, own, sets.puts.writes.cap) in
+    let within : slot < path.cap = grind (arith, nat_tests, own, becomes_cap sets.puts.writes.becomes) in
     let of_path = tagged_is_field (reshaped new.paths cell shape) path slot refl tagged within in
     let there : slice_get path.fields slot ≡ Some (record { name = field.name; rep = field.rep }) =
     ap (λ (p : Path). slice_get p.fields slot) sets.path

@@ -17,7 +17,8 @@ use Rattle.heap_model.specs.Wholeness.{NamesFrom}
 use Rattle.heap_model.specs.Showing.{ShowsField}
 use Rattle.heap_model.proofs.BoundHeaps.{none_in}
 use Rattle.object_cells.specs.CellWrites.{reshaped}
-use Rattle.object_cells.specs.SlotChanges.{IsTaggedSlot, ComesFrom}
+use Rattle.object_cells.specs.OwnSlots.{ComesFrom}
+use Rattle.object_cells.specs.SlotChanges.{IsTaggedSlot, HasTagged}
 use Rattle.object_cells.proofs.NumberedSlots.{IsNumbered, one_address, one_number}
 use Rattle.object_cells.proofs.SlotsNow.{PutsOwn, slot_now, word_at_offset}
 use Rattle.object_cells.proofs.OwnPlaces.{IsSlotPlace, plain_is_object, box_size, names_box, no_other_names_box}
@@ -49,7 +50,7 @@ pub fills_slot : {old new : Heap} {cell : Cell} {shape at word slot : ℕ} {othe
     {field : Field} (sets : SetsOne old new cell shape at word slot others made before field)
     → IsNumbered old cell (words_of_cell old cell) slot at → IsSlotPlace old cell sets.shown.has.store at others
     → AreBoxes new made
-    → (IsTaggedSlot (reshaped new.paths cell shape) slot → ComesFrom new cell sets.shown.slots made slot slot slot word)
+    → (IsTaggedSlot (reshaped new.paths cell shape) slot → ComesFrom new (HasTagged cell sets.shown.slots) made slot slot slot word)
     → ShowsField new (nat_lt slot cell.layout.cap) word field.rep field.value → FillsOne sets
 fills_slot {old} {new} {cell} {shape} {at} {word} {slot} {others} {made} {field = field} sets numbered place boxes
     comes shows =
@@ -59,7 +60,7 @@ fills_slot {old} {new} {cell} {shape} {at} {word} {slot} {others} {made} {field 
           (subst (IsNumbered old cell (words_of_cell old cell) k) same is) numbered);
       no_box = λ k holds apart there tagged other among box.
           absurd (store_is_no_box (place.stores other among).of_kind box);
-      comes = λ holds there tagged. subst (ComesFrom new cell sets.shown.slots made slot slot slot)
+      comes = λ holds there tagged. subst (ComesFrom new (HasTagged cell sets.shown.slots) made slot slot slot)
           (holds_put holds sets numbered there) (comes tagged);
       shows = λ holds there. subst (λ w. ShowsField new (nat_lt slot cell.layout.cap) w field.rep field.value)
           (holds_put holds sets numbered there) shows;
@@ -114,7 +115,7 @@ fills_box {old} {new} {cell} {box} {shape} {slot} {field = field} v sets to_box 
           to_box.of_kind is;
       no_box = λ k holds apart there tagged. no_other_names_box slot to_box.word k holds puts.whole puts.has puts.plain
           sets.shown.has to_box.holds to_box.tagged to_box.refers to_box.of_kind apart there tagged;
-      comes = λ holds there tagged. ComesFrom.moved (kept holds there) to_box.tagged;
+      comes = λ holds there tagged. ComesFrom.moved (kept holds there, to_box.tagged);
       shows = λ holds there.
           let same : to_box.word ≡ holds = same_Some to_box.word holds (sym to_box.holds ∙ kept holds there) in
           let refers : RefersToBox new holds v = record {

@@ -15,8 +15,8 @@ use Rattle.heap_model.proofs.CellsApart.{IsOfCell}
 use Rattle.heap_model.proofs.CellWords.{words_are_size}
 use Rattle.heap_model.proofs.WordClasses.{same_reference}
 use Rattle.heap_model.proofs.WordsRead.{word_of_cell}
-use Rattle.shape_change.specs.declared.place.Place.{Place}
-use Rattle.shape_change.specs.declared.place.Place.TheVariants.{InObject, Beside}
+use Rattle.shape_change.specs.declared.slots.Place.{Place}
+use Rattle.shape_change.specs.declared.slots.Place.TheVariants.{InObject, Beside}
 use Rattle.shape_change.specs.Places.{place_at, IsPlaceOf}
 use Rattle.object_cells.proofs.SlotPlaces.{behind_cap_below}
 use Rattle.object_cells.proofs.NumberedSlots.{IsNumbered}

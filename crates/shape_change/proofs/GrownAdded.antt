@@ -24,17 +24,20 @@ use Rattle.heap_model.proofs.WordsStay.{PlacesStay}
 use Rattle.write_barrier.specs.Mains.{Mutator, heap_of}
 use Rattle.object_cells.specs.declared.content.Content.TheVariants as content
 use Rattle.object_cells.specs.declared.stores.Store.{Store}
-use Rattle.object_cells.specs.SlotChanges.{ComesFrom}
+use Rattle.object_cells.specs.OwnSlots.{ComesFrom}
+use Rattle.object_cells.specs.SlotChanges.{HasTagged}
 use Rattle.object_cells.specs.PlainObjects.{ShowsRefilled}
 use Rattle.object_cells.specs.Made.{beside_content}
 use Rattle.object_cells.specs.Capacities.{ChangesObject}
 use Rattle.object_cells.specs.Contents.{next_at}
 use Rattle.object_cells.proofs.CellsRead.{fits_address}
-use Rattle.object_cells.proofs.KeptCapacities.{capacities_grow}
+use Rattle.object_cells.proofs.OwnCapacities.{object_grows}
 use Rattle.object_cells.proofs.UnusedWords.{next_before_marks}
-use Rattle.object_cells.proofs.WrittenPlaces.{written_places_stay}
+use Rattle.object_cells.proofs.OwnSteps.{written_places_stay}
+use Rattle.object_cells.proofs.OwnerWrites.{plain_owns}
 use Rattle.object_cells.proofs.HeldNeeds.{new_value_held}
-use Rattle.shape_change.proofs.AddedContents.{content_shows, content_comes}
+use Rattle.shape_change.proofs.AddedContents.{content_shows}
+use Rattle.object_cells.proofs.ContentValues.{content_comes, is_made_box}
 use Rattle.shape_change.proofs.AddedFields.{new_field}
 use Rattle.shape_change.proofs.AddedSlots.{AddsSlot}
 use Rattle.shape_change.proofs.AddedShown.{added_shows}
@@ -51,7 +54,7 @@ module _ {old new : Mutator} {graph : Graph} {plain : PlainObject} {object : ℕ
     {store : Store} (growing : StoreGrowing old new graph plain object header name value what store) where
   -- the places of objects stay
   places : PlacesStay (heap_of old) (heap_of new)
-  places = written_places_stay growing.known.shows.shows.whole (writes growing)
+  places = written_places_stay plain_owns growing.known.shows.shows.whole (writes growing)
 
   -- the word of the new slot shows the value
   shows : ShowsField (heap_of new) (nat_lt (length plain.fields) growing.known.cell.layout.cap)
@@ -75,20 +78,16 @@ module _ {old new : Mutator} {graph : Graph} {plain : PlainObject} {object : ℕ
       (content_shows count box holds places known.fits refers)
 
   -- and comes from a box that was made, or names nothing
-  comes : ComesFrom (heap_of new) growing.known.cell growing.known.sound.slots (made_cells old value store)
+  comes : ComesFrom (heap_of new) (HasTagged growing.known.cell growing.known.sound.slots) (made_cells old value store)
       (length plain.fields) (length plain.fields) (length plain.fields) (slot_word old value store)
   comes =
       let known = growing.known in
       let box : ℕ = box_at old store in
       let holds = new_value_held false value what known.held.shows in
-      content_comes known.cell known.sound.slots (made_cells old value store) (length plain.fields) box holds places
-      (λ is_own wide. false≢true is_own) (λ v boxed. record {
-        cell = box_cell box;
-        among = rest_in (new_store growing) (made_boxes (beside_content value) box) (box_cell box)
-            (made_box (beside_content value) box v boxed);
-        of_kind = refl;
-        stands = refl;
-      })
+      content_comes (HasTagged known.cell known.sound.slots) (made_cells old value store) (length plain.fields)
+      (length plain.fields) box holds places (λ is_own wide. false≢true is_own) (λ v boxed. is_made_box box
+      (rest_in (new_store growing) (made_boxes (beside_content value) box) (box_cell box)
+      (made_box (beside_content value) box v boxed)))
 
   -- a store that was made is the new one
   made_store : (other : Cell) → Contains (made_cells old value store) other → other.layout.kind ≡ kind.Store
@@ -162,12 +161,12 @@ module _ {old new : Mutator} {graph : Graph} {plain : PlainObject} {object : ℕ
       let boxes = made_boxes (beside_content value) (box_at old store) in
       let ends = next_before_marks old (run_words value store) known.can.tied growing.adds.room in
       let fits = fits_address {space = old.seat.space} {at = next_at old} (omega (arith, ends)) within in
-      capacities_grow (heap_of old) (heap_of new) known.cell growing.adds.next [] (made_cells old value store)
-      (new_store growing)
+      object_grows
       (record {
+        owns = plain_owns;
         whole = known.shows.shows.whole;
         writes = writes growing;
         belong = adds_slot.belong;
         kinds = adds_slot.kinds;
       })
-      (first_in (new_store growing) boxes) refl (omega (arith, fits)) (refers_new growing)
+      (new_store growing) (first_in (new_store growing) boxes) refl (omega (arith, fits)) (refers_new growing)

@@ -22,10 +22,11 @@ use Rattle.heap_model.specs.Changes.{CellsChange}
 use Rattle.heap_model.proofs.BoundHeaps.{none_in}
 use Rattle.write_barrier.specs.Mains.{Mutator, heap_of}
 use Rattle.object_cells.specs.declared.stores.Store.{Store}
-use Rattle.object_cells.specs.CellWrites.{reshaped, WritesCells}
+use Rattle.object_cells.specs.CellWrites.{reshaped}
+use Rattle.object_cells.specs.SlotChanges.{WritesFields}
 use Rattle.object_cells.specs.Contents.{next_at}
 use Rattle.object_cells.specs.Made.{beside_content}
-use Rattle.object_cells.proofs.CellWrites.{writes_keep_cells}
+use Rattle.object_cells.proofs.OwnerWrites.{plain_owns, becomes_cap, written_own_keeps_cells}
 use Rattle.object_cells.proofs.OwnCells.{IsOwnWord, writes_cells, word_stays}
 use Rattle.object_cells.proofs.SlotPlaces.{own_slot, behind_cap}
 use Rattle.object_cells.proofs.SlotsNow.{word_at_offset, plain_cell_size}
@@ -74,7 +75,7 @@ module _ {old new : Mutator} {graph : Graph} {plain : PlainObject} {object : ℕ
       }
 
   -- so cells are written
-  pub writes : WritesCells (heap_of old) (heap_of new) growing.known.cell growing.adds.next []
+  pub writes : WritesFields (heap_of old) (heap_of new) growing.known.cell growing.adds.next []
       (made_cells old value store)
   writes =
       let known = growing.known in
@@ -87,9 +88,7 @@ module _ {old new : Mutator} {graph : Graph} {plain : PlainObject} {object : ℕ
   came : CellsChange (heap_of old) (heap_of new) (growing.known.cell ∷ [])
       (object_cell ∷ []) (made_cells old value store)
   came =
-      (writes_keep_cells (heap_of old) (heap_of new) growing.known.cell growing.adds.next []
-      (made_cells old value store)
-      growing.known.shows.shows.whole writes).1
+      (written_own_keeps_cells plain_owns growing.known.shows.shows.whole writes).1
 
   -- each that is made stands there
   pub made_has : (cell : Cell) → Contains (made_cells old value store) cell
@@ -155,7 +154,7 @@ module _ {old new : Mutator} {graph : Graph} {plain : PlainObject} {object : ℕ
       sym (own_slot k known.has known.shown.of_kind known.sound.has below)
       ∙ sym (word_stays a known.shows.shows.whole one known.has of_cell (λ same. omega (arith, same))
       (λ same. omega (arith, same, known.stands)))
-      ∙ own_slot k object_has refl slots_now (omega (arith, below, writes.cap)) ∙ there
+      ∙ own_slot k object_has refl slots_now (omega (arith, below, becomes_cap writes.becomes)) ∙ there
 
   -- a slot of the new store stands at its address
   new_slot : (k j x : ℕ) → k ≡ growing.known.cell.layout.cap + j → HasWord now k x
@@ -164,7 +163,7 @@ module _ {old new : Mutator} {graph : Graph} {plain : PlainObject} {object : ℕ
   new_slot k j x is there =
       let known = growing.known in
       let cap : ℕ = known.cell.layout.cap in
-      let same : object_cell.layout.cap ≡ cap = writes.cap in
+      let same : object_cell.layout.cap ≡ cap = becomes_cap writes.becomes in
       let boxes = made_boxes (beside_content value) (box_at old store) in
       let words = words_of_cell (heap_of new) new_store in
       let has = made_has new_store (first_in new_store boxes) in
@@ -253,7 +252,7 @@ module _ {old new : Mutator} {graph : Graph} {plain : PlainObject} {object : ℕ
         length-drop store_head others,
         words_by_kind kind.Plain object_has refl,
         words_by_kind kind.Store has refl,
-        writes.cap,
+        becomes_cap writes.becomes,
       )
 
   -- a cell that was made is the store or the box

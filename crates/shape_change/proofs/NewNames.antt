@@ -1,5 +1,5 @@
 -- A name that is new to a plain object of a graph that is shown: what its shape tells, and when a field of it may come.
-use Rattle.std.proofs.Common.{◌≡◌, ℕ, ◌≤◌, ◌<◌, false, length, Some, None, refl, sym, ◌∙◌, ap, subst}
+use Rattle.std.proofs.Common.{◌≡◌, ℕ, ◌≤◌, ◌<◌, false, length, Some, None, Err, refl, sym, ◌∙◌, ap, subst}
 use Rattle.std.proofs.Common.{arith, ◌++◌}
 use Rattle.std.proofs.lemmas.List.{length-map}
 use Rattle.std.proofs.lemmas.Option.{none-some}
@@ -19,10 +19,12 @@ use Rattle.handle_roots.specs.declared.held.Held.{Held}
 use Rattle.heap_model.specs.Showing.{ShowsHeld}
 use Rattle.write_barrier.specs.Mains.{Mutator, heap_of, MainShows}
 use Rattle.object_cells.specs.PlainObjects.{IsPlainAt, LacksFields, LacksPaths}
-use Rattle.shape_change.specs.FieldChanges.{IsShownSetting, IsFullOfPaths}
+use Rattle.shape_change.specs.FieldChanges.{IsShownSetting, IsFullOfPaths, SetsField}
+use Rattle.shape_change.specs.declared.stop.FieldStop.{FieldStop}
+use Rattle.shape_change.specs.declared.stop.FieldStop.TheVariants as stop
 use Rattle.object_cells.specs.CellsAt.{IsHeaderAt}
 use Rattle.object_cells.specs.Contents.{held_rep}
-use Rattle.shape_change.specs.Additions.{IsShapeAt, CanAdd, MayAdd, added_path, count_of}
+use Rattle.shape_change.specs.Additions.{CanAdd, MayAdd, RefusesField, added_path, count_of}
 use Rattle.object_cells.proofs.CellsRead.{cell_before_marks}
 use Rattle.object_cells.proofs.PlainFields.{plain_sound, plain_shown, shown_whole}
 use Rattle.shape_change.proofs.FullStores.{cap_is}
@@ -37,12 +39,13 @@ pub record IsShownShape (old : Mutator) (plain : PlainObject) (shape : ℕ) : Ty
   pub path : shape_path old.paths shape ≡ path_of plain.cap plain.fields
 
 -- so it is with the shape of the header at its address
-pub shown_shape : {old : Mutator} {graph : Graph} {plain : PlainObject} (object shape : ℕ) → MainShows old graph
-    → IsPlainAt old graph object plain → IsShapeAt (heap_of old) object shape → IsShownShape old plain shape
-shown_shape {old} object shape shows is at =
+pub shown_shape : {old : Mutator} {graph : Graph} {plain : PlainObject} (object : ℕ) (header : Header)
+    → MainShows old graph → IsPlainAt old graph object plain → IsHeaderAt (heap_of old) object header
+    → IsShownShape old plain header.shape
+shown_shape {old} object header shows is at =
     let shown = plain_shown shows is in
     let sound = plain_sound shows.shows.whole shown.has shown.shows.of_kind in
-    let same = at shown.cell shown.words shown.has shown.stands in
+    let same = ap (λ (h : Header). h.shape) (at shown.cell shown.words shown.has shown.stands) in
     record {
       is_shape = subst (IsPathShape old.paths) same sound.shape;
       path = ap (shape_path old.paths) (sym same) ∙ shown.shows.path;
@@ -100,19 +103,27 @@ lacks_no_path {old} {graph} {plain} {shape} {what} name value shows known held f
     let added = with_path-added old.paths (old.paths ++ missing old.paths path) path refl may in
     none-some (old.paths ++ missing old.paths path) (sym refused ∙ added)
 
--- so a field of a new name may come to the object
-pub can_add : {old : Mutator} {object shape name : ℕ} {header : Header} {value : Held} → IsShownSetting old object value
-    → IsShapeAt (heap_of old) object shape → IsHeaderAt (heap_of old) object header
-    → has_name (shape_path old.paths shape) name ≡ false → count_of old.paths shape < fields_most
-    → MayAdd old.paths (added_path old.paths shape name value) → CanAdd old object header name value
-can_add {old} {object} {shape} {name} {header} {value} setting at headed is_new few may =
+-- a field of a new name that does not come to the object is not set
+pub field_refused : {old : Mutator} {graph : Graph} {plain : PlainObject} {shape : ℕ} {what : Value}
+    (object name : ℕ) (value : Held) (refusal : FieldStop) → MainShows old graph → IsShownShape old plain shape
+    → ShowsHeld (heap_of old) value (Some what) → field_value plain.fields name ≡ None
+    → RefusesField old.paths shape name value refusal → SetsField old old graph object plain name what (Err refusal)
+field_refused object name value stop.FieldsFull shows known held fresh refuses =
+    (lacks_fields name known fresh refuses, refl)
+field_refused object name value (stop.ShapesFull full) shows known held fresh refuses =
+    (lacks_no_field name known refuses.0, lacks_paths name value shows known held fresh refuses.1, refl)
+field_refused object name value (stop.Full room) shows known held fresh refuses = absurd refuses
+
+-- a field of a new name may come to the object
+pub can_add : {old : Mutator} {object name : ℕ} {header : Header} {value : Held} → IsShownSetting old object value
+    → IsHeaderAt (heap_of old) object header → has_name (shape_path old.paths header.shape) name ≡ false
+    → count_of old.paths header.shape < fields_most
+    → MayAdd old.paths (added_path old.paths header.shape name value) → CanAdd old object header name value
+can_add {old} {object} {header = header} setting headed is_new few may =
     let shown = plain_shown setting.shows setting.is in
     let whole = setting.shows.shows.whole in
     let sound = plain_sound whole shown.has shown.shows.of_kind in
     let of_header = headed shown.cell shown.words shown.has shown.stands in
-    let same : shape ≡ header.shape =
-    sym (at shown.cell shown.words shown.has shown.stands) ∙ ap (λ (h : Header). h.shape) of_header in
-    let known = shown_shape object shape setting.shows setting.is at in
     record {
       tied = setting.shows.tied;
       whole = shown_whole setting.shows;
@@ -124,7 +135,7 @@ can_add {old} {object} {shape} {name} {header} {value} setting at headed is_new 
         plain = shown.shows.of_kind;
       };
       headed = of_header;
-      shape = subst (IsPathShape old.paths) same known.is_shape;
+      shape = (shown_shape object header setting.shows setting.is headed).is_shape;
       within = omega (
         arith,
         cell_before_marks whole.sized shown.has,
@@ -133,7 +144,7 @@ can_add {old} {object} {shape} {name} {header} {value} setting at headed is_new 
         ap (λ (h : Header). (shape_path old.paths h.shape).cap) of_header,
         shown.stands,
       );
-      is_new = subst (λ s. has_name (shape_path old.paths s) name ≡ false) same is_new;
-      few = subst (λ s. count_of old.paths s < fields_most) same few;
-      may = subst (λ s. MayAdd old.paths (added_path old.paths s name value)) same may;
+      is_new = is_new;
+      few = few;
+      may = may;
     }

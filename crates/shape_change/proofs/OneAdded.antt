@@ -14,7 +14,8 @@ use Rattle.heap_model.specs.Heaps.{Heap, words_of_cell}
 use Rattle.heap_model.specs.Kinds.{HasSlots, IsPlainCell, IsBoxCell}
 use Rattle.heap_model.specs.Showing.{ShowsField}
 use Rattle.object_cells.specs.CellWrites.{reshaped}
-use Rattle.object_cells.specs.SlotChanges.{IsTaggedSlot, ComesFrom, StoreComes}
+use Rattle.object_cells.specs.OwnSlots.{ComesFrom, StoreComes}
+use Rattle.object_cells.specs.SlotChanges.{IsTaggedSlot, HasTagged}
 use Rattle.object_cells.proofs.NumberedSlots.{IsNumbered, one_address, one_number}
 use Rattle.object_cells.proofs.SlotsNow.{PutsOwn, store_now, slot_now}
 use Rattle.object_cells.proofs.OwnPlaces.{IsSlotPlace, plain_is_object}
@@ -56,7 +57,7 @@ pub one_adds : {old new : Heap} {cell : Cell} {next at word : ℕ} {others made 
     {field : Field} (adds : AddsOne old new cell next at word others made fields field)
     → ShowsField new (nat_lt (length fields) cell.layout.cap) word field.rep field.value
     → (IsTaggedSlot (reshaped new.paths cell next) (length fields)
-    → ComesFrom new cell adds.sound.slots made (length fields) (length fields) (length fields) word)
+    → ComesFrom new (HasTagged cell adds.sound.slots) made (length fields) (length fields) (length fields) word)
     → ((other : Cell) → Contains made other → other.layout.kind ≡ kind.Boxed)
     → ((other : Cell) → Contains made other → IsBoxCell other (words_of_cell new other))
     → AddsSlot old new cell next others made fields field
@@ -78,7 +79,7 @@ one_adds {old} {new} {cell} {word = word} {others} {made} {fields} adds shows co
       room = omega (arith, adds.there, after.long);
       shows = shows;
       comes = comes;
-      store_comes = subst (StoreComes old cell made) (sym store) (inl adds.sound.has.slot);
+      store_comes = subst (StoreComes kind.Store old cell made) (sym store) (inl adds.sound.has.slot);
       belong = λ other among. (cell.at + store_slot, (adds.place.stores other among).named);
       stores_only = λ other among. (adds.place.stores other among).of_kind;
       kinds = λ other among. inr (only_boxes other among);

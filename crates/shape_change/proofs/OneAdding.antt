@@ -13,10 +13,10 @@ use Rattle.handle_roots.specs.declared.held.Held.{Held}
 use Rattle.heap_table.specs.Seats.{heap_words}
 use Rattle.heap_model.specs.Heaps.{Heap, words_of_cell}
 use Rattle.write_barrier.specs.Mains.{Mutator, heap_of}
-use Rattle.object_cells.specs.CellWrites.{WritesCells}
+use Rattle.object_cells.specs.SlotChanges.{WritesFields}
 use Rattle.object_cells.specs.Contents.{next_at}
 use Rattle.shape_change.specs.Additions.{added_path}
-use Rattle.object_cells.proofs.CellWrites.{writes_keep_cells}
+use Rattle.object_cells.proofs.OwnerWrites.{plain_owns, written_own_keeps_cells}
 use Rattle.object_cells.proofs.NumberedSlots.{IsNumbered, number_is_not_store}
 use Rattle.object_cells.proofs.OwnCells.{writes_cells}
 use Rattle.object_cells.proofs.OwnPlaces.{plain_is_object, slot_place}
@@ -44,7 +44,7 @@ shape_after {next = next} over =
 pub record OneAdding (old new : Heap) (cell : Cell) (next at word : ℕ) (made : List Cell) (fields : List Field)
     (field : Field) : Type 0 where
   pub others : List Cell
-  pub writes : WritesCells old new cell next others made
+  pub writes : WritesFields old new cell next others made
   pub adds : AddsOne old new cell next at word others made fields field
 
 -- so it is where the word was put in the slot behind those of the fields
@@ -79,7 +79,7 @@ one_adding {old} {mid} {new} {plain = plain} {header = header} {name} {value} {w
           plain = kind;
           one = one;
           writes = writes;
-          cells = (writes_keep_cells before after cell next place.0 made whole writes).1;
+          cells = (written_own_keeps_cells plain_owns whole writes).1;
           not_store = λ same.
               number_is_not_store (length plain.fields) at whole.rows known.has (plain_is_object kind) numbered
               (sym same);

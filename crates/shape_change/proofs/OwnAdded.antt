@@ -23,12 +23,14 @@ use Rattle.shape_change.specs.Additions.{AddsOwn, AddsPath, added_path, count_of
 use Rattle.object_cells.specs.Made.{content_word}
 use Rattle.heap_model.specs.Needs.{capacity_at}
 use Rattle.object_cells.specs.Capacities.{ChangesObject}
-use Rattle.object_cells.proofs.KeptCapacities.{one_keeps}
-use Rattle.object_cells.proofs.WrittenPlaces.{written_places_stay}
+use Rattle.object_cells.proofs.OwnCapacities.{one_keeps}
+use Rattle.object_cells.proofs.OwnSteps.{written_places_stay}
+use Rattle.object_cells.proofs.OwnerWrites.{plain_owns}
 use Rattle.object_cells.proofs.HeldNeeds.{new_value_held}
-use Rattle.shape_change.proofs.AddedContents.{content_shows, content_comes, own_holds_no_box}
+use Rattle.shape_change.proofs.AddedContents.{content_shows, own_holds_no_box}
+use Rattle.object_cells.proofs.ContentValues.{content_comes}
 use Rattle.shape_change.proofs.TaggedBefore.{wide_not_tagged}
-use Rattle.object_cells.specs.SlotChanges.{IsTaggedSlot}
+use Rattle.object_cells.specs.SlotChanges.{IsTaggedSlot, HasTagged}
 use Rattle.object_cells.specs.CellWrites.{reshaped}
 use Rattle.heap_model.specs.Showing.{ShowsField}
 use Rattle.std.proofs.lemmas.List.{length-map}
@@ -134,7 +136,7 @@ own_shown {old} {new} {graph} {plain} {object} {header} {name} {value} {what} kn
     let over = own_over known own adds in
     let slot : ℕ = length plain.fields in
     let word : ℕ = content_word (own_content value) 0 in
-    let places = written_places_stay known.shows.shows.whole one.writes in
+    let places = written_places_stay plain_owns known.shows.shows.whole one.writes in
     let holds = new_value_held true value what known.held.shows in
     let below : slot < known.cell.layout.cap = omega (arith, known.count, known.cap, own) in
     let test : nat_lt slot known.cell.layout.cap ≡ true = lt-ltb slot known.cell.layout.cap below in
@@ -143,7 +145,7 @@ own_shown {old} {new} {graph} {plain} {object} {header} {name} {value} {what} kn
     (λ v boxed. absurd (own_holds_no_box v holds boxed)) in
     added_shows 0 known over.adds over.puts one.writes
     (one_adds one.adds (subst (λ o. ShowsField (heap_of new) o word (rep_of what) what) (sym test) shows)
-    (λ tagged. content_comes known.cell one.adds.sound.slots [] slot 0 holds places
+    (λ tagged. content_comes (HasTagged known.cell one.adds.sound.slots) [] slot slot 0 holds places
     (λ is_own wide. own_not_tagged known own adds tagged wide) (λ v boxed. absurd (own_holds_no_box v holds boxed)))
     (λ other there. absurd (none_in other there)) (λ other there. absurd (none_in other there)))
 

@@ -11,7 +11,7 @@ use Rattle.handle_roots.specs.declared.held.Held.{Held}
 use Rattle.heap_model.specs.Showing.{ShowsHeld}
 use Rattle.write_barrier.specs.Mains.{Mutator, heap_of}
 use Rattle.write_barrier.specs.declared.room.NoRoom.{NoRoom}
-use Rattle.shape_change.specs.declared.slot_setting.SlotSetting.{SlotSetting}
+use Rattle.shape_change.specs.declared.set_field.SlotSetting.{SlotSetting}
 use Rattle.shape_change.specs.declared.stop.FieldStop.{FieldStop}
 use Rattle.shape_change.specs.declared.stop.FieldStop.TheVariants as stop
 use Rattle.object_cells.specs.CellsAt.{HasField}

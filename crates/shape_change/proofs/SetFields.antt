@@ -26,8 +26,8 @@ use Rattle.object_cells.specs.PlainObjects.{ShowsRefilled}
 use Rattle.object_cells.specs.Refills.{AreNewFields}
 use Rattle.object_cells.specs.Capacities.{ChangesObject}
 use Rattle.object_cells.specs.Contents.{next_at}
-use Rattle.object_cells.proofs.CellWrites.{writes_keep_cells}
-use Rattle.object_cells.proofs.KeptCapacities.{one_keeps}
+use Rattle.object_cells.proofs.OwnerWrites.{plain_owns, written_own_keeps_cells}
+use Rattle.object_cells.proofs.OwnCapacities.{one_keeps}
 use Rattle.object_cells.proofs.RefilledHeaps.{written_fields_show}
 use Rattle.object_cells.proofs.WordsPut.{PutsTwo}
 use Rattle.object_cells.proofs.OneWord.{IsReady, writes_one}
@@ -61,7 +61,7 @@ sets_one {old} {mid} {new} {slot = slot} {plain} {what} next at word need others
     (cell_below_layouts whole s.has (first_of_cell s.has)) below puts row in
     let writes = writes_cells s.cell next at word others made whole s.has s.shown.of_kind shape.is_shape.is_shape cap
     own one in
-    let law = writes_keep_cells (heap_of old) (heap_of new) s.cell next others made whole writes in
+    let law = written_own_keeps_cells plain_owns whole writes in
     let puts_own : PutsOwn (heap_of old) (heap_of new) s.cell next at word others made = record {
       whole = whole;
       has = s.has;
@@ -111,5 +111,5 @@ field_shown {old} {new = new} {graph} {slot = slot} {next} {plain = plain} {what
       shows = subst (ShowsRefilled new graph plain) (sym same)
           (written_fields_show old new graph plain s.cell next others made fields s.shows s.is.object s.carries s.cap
           shown new_fields added tied quiet sets.puts.writes (refills_slots sets fills));
-      changes = one_keeps sets.puts (refills_slots sets fills).belong fills.kinds;
+      changes = one_keeps sets.puts fills.belong fills.kinds;
     }

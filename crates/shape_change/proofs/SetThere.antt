@@ -22,8 +22,8 @@ use Rattle.heap_model.specs.Needs.{word_at}
 use Rattle.heap_model.specs.Showing.{ShowsHeld}
 use Rattle.write_barrier.specs.Mains.{Mutator, heap_of}
 use Rattle.object_cells.specs.declared.content.Content.{Content}
-use Rattle.shape_change.specs.declared.place.Place.{Place}
-use Rattle.shape_change.specs.declared.slot_setting.SlotSetting.{SlotSetting}
+use Rattle.shape_change.specs.declared.slots.Place.{Place}
+use Rattle.shape_change.specs.declared.set_field.SlotSetting.{SlotSetting}
 use Rattle.shape_change.specs.FieldChanges.{IsShownSetting}
 use Rattle.object_cells.specs.CellsAt.{HasField}
 use Rattle.object_cells.specs.Contents.{held_rep, content_of, HoldsSlotWord}

@@ -1,5 +1,5 @@
 -- The cell of a plain object that a heap shows, and the field of a name that was found in its path.
-use Rattle.std.proofs.Common.{◌≡◌, ℕ, Some, slice_get}
+use Rattle.std.proofs.Common.{◌≡◌, ℕ, List, Some, slice_get}
 use Rattle.std.proofs.Common.{sym, ◌∙◌, ap, subst}
 use Rattle.std.specs.Prelude.{option_map}
 use Rattle.std.proofs.lemmas.Option.{slice_get_within}
@@ -97,3 +97,11 @@ field_found main graph object plain header slot name shows is header_at found =
       there = at.there;
       named = ap (λ (f : PathField). f.name) at.same ∙ named.named;
     }
+
+-- a field that was found in the shapes is one of the heap's paths
+pub found_there : (shapes paths : List Path) (shape slot name : ℕ) → shapes ≡ paths
+    → option_map (λ (field : PathField). field.name) (slice_get (shape_path shapes shape).fields slot) ≡ Some name
+    → option_map (λ (field : PathField). field.name) (slice_get (shape_path paths shape).fields slot) ≡ Some name
+found_there shapes paths shape slot name same found =
+    subst (λ (all : List Path). option_map (λ (field : PathField). field.name)
+    (slice_get (shape_path all shape).fields slot) ≡ Some name) same found

@@ -1,5 +1,5 @@
 -- A field that comes to a slot that the property store has is shown, in a box where it needs one.
-use Rattle.std.proofs.Common.{◌≡◌, ◌≢◌, ℕ, ◌+◌, ◌≤◌, ◌<◌, false, List, ◌∷◌, length, refl, sym}
+use Rattle.std.proofs.Common.{◌≡◌, ◌≢◌, ℕ, ◌+◌, ◌≤◌, ◌<◌, false, List, ◌∷◌, length, sym}
 use Rattle.std.proofs.Common.{◌∙◌, ap, subst, arith, inl, inr, nat_lt, slice_get, Contains}
 use Rattle.std.specs.Prelude.{ℤ, slice_set}
 use Rattle.std.proofs.lemmas.Bool.{false≢true}
@@ -37,11 +37,14 @@ use Rattle.object_cells.proofs.OwnCells.{cell_below_layouts, beside_not_header}
 use Rattle.object_cells.proofs.StoresRead.{StoredAt, stored_at}
 use Rattle.heap_model.specs.Needs.{capacity_at}
 use Rattle.object_cells.specs.Capacities.{ChangesObject}
-use Rattle.object_cells.proofs.KeptCapacities.{one_keeps}
-use Rattle.object_cells.proofs.WrittenPlaces.{written_places_stay}
+use Rattle.object_cells.proofs.OwnCapacities.{one_keeps}
+use Rattle.object_cells.proofs.OwnSteps.{written_places_stay}
+use Rattle.object_cells.proofs.OwnerWrites.{plain_owns}
 use Rattle.object_cells.proofs.UnusedWords.{next_before_segments, cell_is_used}
 use Rattle.object_cells.proofs.HeldNeeds.{new_value_held}
-use Rattle.shape_change.proofs.AddedContents.{content_shows, content_comes}
+use Rattle.shape_change.proofs.AddedContents.{content_shows}
+use Rattle.object_cells.specs.SlotChanges.{HasTagged}
+use Rattle.object_cells.proofs.ContentValues.{content_comes, is_made_box}
 use Rattle.shape_change.proofs.AddedFields.{new_field}
 use Rattle.shape_change.proofs.AddedWords.{PutsOver, over_last, over_sized, over_space, last_stays}
 use Rattle.shape_change.proofs.AddedShown.{Adding, added_shows}
@@ -208,7 +211,7 @@ module _ {old new : Mutator} {graph : Graph} {plain : PlainObject} {object : ℕ
       let word : ℕ = store_word old value in
       let holds_all = beside_content value in
       let box : ℕ = next_at old in
-      let places = written_places_stay known.shows.shows.whole one.writes in
+      let places = written_places_stay plain_owns known.shows.shows.whole one.writes in
       let holds = new_value_held false value what known.held.shows in
       let from : known.cell.layout.cap ≤ slot = omega (arith, known.count, known.cap, adding.behind) in
       let test : nat_lt slot known.cell.layout.cap ≡ false = grind (arith, nat_tests) in
@@ -219,13 +222,8 @@ module _ {old new : Mutator} {graph : Graph} {plain : PlainObject} {object : ℕ
       content_shows count box holds places known.fits refers in
       added_shows (content_need holds_all) known over.adds over.puts one.writes
       (one_adds one.adds (subst (λ o. ShowsField (heap_of new) o word (rep_of what) what) (sym test) shows)
-      (λ tagged. content_comes known.cell one.adds.sound.slots (made_boxes holds_all box) slot box holds places
-      (λ is_own wide. false≢true is_own) (λ v boxed. record {
-        cell = box_cell box;
-        among = made_box holds_all box v boxed;
-        of_kind = refl;
-        stands = refl;
-      }))
+      (λ tagged. content_comes (HasTagged known.cell one.adds.sound.slots) (made_boxes holds_all box) slot slot box
+      holds places (λ is_own wide. false≢true is_own) (λ v boxed. is_made_box box (made_box holds_all box v boxed)))
       (made_boxed holds_all box)
       (λ other there. made_sound count box other holds known.fits box_stands (made_has other there) there))
 

@@ -3,7 +3,6 @@ use Rattle.std.specs.Prelude.{◌≡◌, ℕ, ◌+◌, ◌-◌, ◌<◌, ◌≤�
 use Rattle.std.specs.Prelude.{length, slice_get, slice_set}
 use Rattle.tagged_word.specs.declared.header.Header.{Header}
 use Rattle.tagged_word.specs.declared.layout.Kind.TheVariants as kind
-use Rattle.tagged_word.specs.Headers.{header_bits}
 use Rattle.tagged_word.specs.Cells.{plain_head, store_head}
 use Rattle.object_graph.specs.declared.path.Path.{Path}
 use Rattle.object_graph.specs.Paths.{missing}
@@ -11,7 +10,8 @@ use Rattle.object_graph.specs.Invariants.{fields_most}
 use Rattle.object_graph.specs.Limits.{paths_most}
 use Rattle.page_space.specs.Extents.{layouts_start, marks_start}
 use Rattle.nursery.specs.Young.{HasRoom}
-use Rattle.shape_tree.specs.Shapes.{IsPathShape, Leads, shape_path, has_name, stepped}
+use Rattle.shape_tree.specs.Shapes.{IsPathShape, Leads, IsFullFor, shape_path, has_name, stepped}
+use Rattle.shape_tree.specs.Growth.{IsStep}
 use Rattle.cell_layout.specs.declared.cell.Cell.{Cell}
 use Rattle.handle_roots.specs.declared.held.Held.{Held}
 use Rattle.heap_table.specs.Seats.{heap_words, StaysBeside}
@@ -19,6 +19,10 @@ use Rattle.heap_model.specs.Heaps.{Heap, HasCell}
 use Rattle.heap_model.specs.Wholeness.{HasSizes}
 use Rattle.heap_model.specs.Needs.{grown}
 use Rattle.write_barrier.specs.Mains.{Mutator, heap_of, IsTied, reserved}
+use Rattle.shape_change.specs.declared.add_field.NewField.{NewField}
+use Rattle.shape_change.specs.declared.stop.FieldStop.{FieldStop}
+use Rattle.shape_change.specs.declared.stop.FieldStop.TheVariants as stop
+use Rattle.shape_change.specs.Deletions.{shaped_bits}
 use Rattle.object_cells.specs.declared.content.Content.{Content}
 use Rattle.object_cells.specs.declared.stores.Store.{Store}
 use Rattle.object_cells.specs.CellsAt.{IsWhole}
@@ -46,11 +50,6 @@ behind_cap paths shape = count_of paths shape - (shape_path paths shape).cap
 abbrev pub ComesBehind : List Path → ℕ → Type 0
 ComesBehind paths shape = (shape_path paths shape).cap ≤ count_of paths shape
 
--- the shape is that of the header at the address
-abbrev pub IsShapeAt : Heap → ℕ → ℕ → Type 0
-IsShapeAt heap at shape =
-    (cell : Cell) (words : List ℕ) → HasCell heap cell words → cell.at ≡ at → cell.header.shape ≡ shape
-
 -- a plain object's cell stands at the address
 pub record IsPlainCellAt (heap : Heap) (at : ℕ) : Type 0 where
   pub cell : Cell
@@ -73,6 +72,26 @@ pub record CanAdd (main : Mutator) (object : ℕ) (header : Header) (name : ℕ)
   pub few : count_of main.paths header.shape < fields_most
   pub may : MayAdd main.paths (added_path main.paths header.shape name value)
 
+-- This is how a field of the name and the value comes to an object of the shape: its representation is the narrowest
+-- that holds the value, its slot comes behind those of the other fields, and the step to the path with it leads there.
+pub record IsNewField (paths : List Path) (shape name : ℕ) (value : Held) (new : NewField) : Type 0 where
+  pub named : new.field.name ≡ name
+  pub rep : new.field.rep ≡ held_rep value
+  pub value_is : new.value ≡ value
+  pub slot : new.slot ≡ count_of paths shape
+  pub few : count_of paths shape < fields_most
+  pub cap : new.cap ≡ (shape_path paths shape).cap
+  pub step : IsStep paths (stepped (shape_path paths shape) new.field.name new.field.rep) new.step
+  pub may : MayAdd paths (added_path paths shape name value)
+
+-- A field of the name and the value does not come to an object of the shape: it has as many fields as it may have, or
+-- there may not be as many paths.
+abbrev pub RefusesField : List Path → ℕ → ℕ → Held → FieldStop → Type 0
+RefusesField paths shape name value stop.FieldsFull = fields_most ≤ count_of paths shape
+RefusesField paths shape name value (stop.ShapesFull full) =
+    (count_of paths shape < fields_most) × IsFullFor paths paths (added_path paths shape name value) full
+RefusesField paths shape name value (stop.Full full) = ⊥
+
 -- The path was added with its missing prefixes, and their layout words were put; its shape is this one. Nothing
 -- else has changed.
 pub record AddsPath (old new : Mutator) (path : Path) (shape : ℕ) : Type 0 where
@@ -85,7 +104,7 @@ pub record AddsPath (old new : Mutator) (path : Path) (shape : ℕ) : Type 0 whe
 
 -- the words with the header of an object made that of a shape
 abbrev pub with_shape : List ℕ → ℕ → Header → ℕ → List ℕ
-with_shape words object header shape = slice_set words object (header_bits (record header { shape = shape }))
+with_shape words object header shape = slice_set words object (shaped_bits header shape)
 
 -- what an in-object slot comes to hold for a new field
 abbrev pub own_content : Held → Content

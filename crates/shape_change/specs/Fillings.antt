@@ -16,7 +16,7 @@ use Rattle.heap_model.specs.Wholeness.{HasSizes}
 use Rattle.write_barrier.specs.Mains.{Mutator, heap_of, IsTied, with_word}
 use Rattle.write_barrier.specs.Opening.{ChangesWithin}
 use Rattle.object_cells.specs.declared.content.Content.{Content}
-use Rattle.shape_change.specs.declared.slot_setting.SlotSetting.{SlotSetting}
+use Rattle.shape_change.specs.declared.set_field.SlotSetting.{SlotSetting}
 use Rattle.shape_change.specs.declared.stop.FieldStop.{FieldStop}
 use Rattle.shape_change.specs.declared.stop.FieldStop.TheVariants as stop
 use Rattle.shape_change.specs.Places.{place_at, IsPlaceOf}

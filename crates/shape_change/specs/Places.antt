@@ -6,8 +6,8 @@ use Rattle.cell_layout.specs.declared.cell.Cell.{Cell}
 use Rattle.heap_model.specs.Heaps.{Heap, HasCell}
 use Rattle.heap_model.specs.Kinds.{HasSlots}
 use Rattle.heap_model.specs.Needs.{word_at}
-use Rattle.shape_change.specs.declared.place.Place.{Place}
-use Rattle.shape_change.specs.declared.place.Place.TheVariants.{InObject, Beside}
+use Rattle.shape_change.specs.declared.slots.Place.{Place}
+use Rattle.shape_change.specs.declared.slots.Place.TheVariants.{InObject, Beside}
 
 -- the address of a place of an object
 abbrev pub place_at : ℕ → Place → ℕ

@@ -7,23 +7,17 @@
 //! shows a graph, and a plain object of it stands at the address.
 #![tactic(auto)]
 
-mod adding;
-mod deleting;
-mod filling;
-mod getting;
-mod paths;
-mod place;
-mod reading;
-mod setting;
-mod shifting;
-mod slot_setting;
-mod stepping;
+mod add_field;
+mod delete_field;
+mod get_field;
+mod set_field;
+mod shift_slots;
+mod slots;
 mod stop;
-mod stores;
-mod widening;
+mod transitions;
 
-pub use deleting::delete;
-pub use getting::get;
-pub use reading::header_at;
-pub use setting::set;
+pub use delete_field::delete;
+pub use get_field::get;
+pub use set_field::set;
+pub use slots::header_at;
 pub use stop::FieldStop;

@@ -123,47 +123,47 @@ extended-changed path at rep there =
     let made : List PathField → Path = λ fields. record { cap = path.cap; fields = fields } in
     ap made (changed_fields-split path.fields at rep there)
 
--- the fields behind a place, as they stand in a row
+-- the fields behind a place, as a slice has them
 abbrev pub fields_behind : List PathField → ℕ → List PathField
-fields_behind row at = take (length row - (at + 1)) (drop (at + 1) row)
+fields_behind slice at = take (length slice - (at + 1)) (drop (at + 1) slice)
 
--- the field at a place of a row, with another representation
+-- the field at a place of a slice, with another representation
 abbrev pub changed_field : List PathField → ℕ → Rep → PathField
-changed_field row at rep = record { name = (get_or row at (record { name = 0; rep = Small })).name; rep = rep }
+changed_field slice at rep = record { name = (get_or slice at (record { name = 0; rep = Small })).name; rep = rep }
 
--- they are those of the path whose row it is
-fields_behind-row : (path : Path) (row : List PathField) (at : ℕ) → row ≡ path.fields
-    → fields_behind row at ≡ drop (suc at) path.fields
-fields_behind-row path row at same =
-    take_rest row (at + 1) ∙ ap (drop (at + 1)) same ∙ ap (λ n. drop n path.fields) (add-one at)
+-- they are those of the path whose fields it has
+fields_behind-fields : (path : Path) (slice : List PathField) (at : ℕ) → slice ≡ path.fields
+    → fields_behind slice at ≡ drop (suc at) path.fields
+fields_behind-fields path slice at same =
+    take_rest slice (at + 1) ∙ ap (drop (at + 1)) same ∙ ap (λ n. drop n path.fields) (add-one at)
 
 -- the prefix before a field and the fields behind it make the path without it
-pub extended-without : (path front : Path) (row : List PathField) (at : ℕ) → front ≡ prefix_of path at
-    → row ≡ path.fields → extended front (fields_behind row at) ≡ without path at
-extended-without path front row at is same =
-    ap (λ (p : Path). extended p (fields_behind row at)) is
-    ∙ ap (extended (prefix_of path at)) (fields_behind-row path row at same)
+pub extended-without : (path front : Path) (slice : List PathField) (at : ℕ) → front ≡ prefix_of path at
+    → slice ≡ path.fields → extended front (fields_behind slice at) ≡ without path at
+extended-without path front slice at is same =
+    ap (λ (p : Path). extended p (fields_behind slice at)) is
+    ∙ ap (extended (prefix_of path at)) (fields_behind-fields path slice at same)
 
 -- the prefix before a field, the changed field and the fields behind it make the changed path
-pub extended-changed_at : (path front : Path) (row : List PathField) (at : ℕ) (rep : Rep) → at < length path.fields
-    → front ≡ prefix_of path at → row ≡ path.fields
-    → extended front (changed_field row at rep ∷ fields_behind row at) ≡ changed path at rep
-extended-changed_at path front row at rep there is same =
+pub extended-changed_at : (path front : Path) (slice : List PathField) (at : ℕ) (rep : Rep) → at < length path.fields
+    → front ≡ prefix_of path at → slice ≡ path.fields
+    → extended front (changed_field slice at rep ∷ fields_behind slice at) ≡ changed path at rep
+extended-changed_at path front slice at rep there is same =
     let before = prefix_of path at in
     let later = drop (suc at) path.fields in
     let split : drop at path.fields ≡ get_or path.fields at (record { name = 0; rep = Small }) ∷ later =
     drop-cons path.fields at (record { name = 0; rep = Small }) there in
-    ap (λ (p : Path). extended p (changed_field row at rep ∷ fields_behind row at)) is
-    ∙ ap (λ fields. extended before (changed_field row at rep ∷ fields)) (fields_behind-row path row at same)
+    ap (λ (p : Path). extended p (changed_field slice at rep ∷ fields_behind slice at)) is
+    ∙ ap (λ fields. extended before (changed_field slice at rep ∷ fields)) (fields_behind-fields path slice at same)
     ∙ ap (λ fields. extended before (changed_field fields at rep ∷ later)) same
     ∙ ap (λ fields. extended before (changed_fields fields 0 rep)) (sym split) ∙ extended-changed path at rep there
 
 -- so do the path that has the changed field last and the fields behind it
-pub extended-changed_next : (path front next : Path) (row : List PathField) (at : ℕ) (rep : Rep)
-    → at < length path.fields → front ≡ prefix_of path at → row ≡ path.fields
-    → next ≡ extended front (changed_field row at rep ∷ [])
-    → extended next (fields_behind row at) ≡ changed path at rep
-extended-changed_next path front next row at rep there is same comes =
-    ap (λ (p : Path). extended p (fields_behind row at)) comes
-    ∙ extended-extended front (changed_field row at rep ∷ []) (fields_behind row at)
-    ∙ extended-changed_at path front row at rep there is same
+pub extended-changed_next : (path front next : Path) (slice : List PathField) (at : ℕ) (rep : Rep)
+    → at < length path.fields → front ≡ prefix_of path at → slice ≡ path.fields
+    → next ≡ extended front (changed_field slice at rep ∷ [])
+    → extended next (fields_behind slice at) ≡ changed path at rep
+extended-changed_next path front next slice at rep there is same comes =
+    ap (λ (p : Path). extended p (fields_behind slice at)) comes
+    ∙ extended-extended front (changed_field slice at rep ∷ []) (fields_behind slice at)
+    ∙ extended-changed_at path front slice at rep there is same

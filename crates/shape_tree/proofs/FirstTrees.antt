@@ -9,38 +9,37 @@ use Rattle.std.specs.Map.{lookup}
 use Rattle.std.proofs.lemmas.List.FromFn.{length-map-range_with_len, get_or-map-range_with_len}
 use Rattle.tagged_word.specs.Shapes.{first_path_shape}
 use Rattle.object_graph.specs.declared.path.Path.{Path}
-use Rattle.object_graph.specs.declared.path.PathField.{PathField}
 use Rattle.object_graph.specs.Paths.{empty_paths}
 use Rattle.object_graph.proofs.FirstPaths.{length-empty_paths, get_or-empty_paths, empty_paths_are}
 use Rattle.shape_tree.specs.declared.node.Node.{Node}
 use Rattle.shape_tree.specs.declared.transition.Transition.{Transition}
 use Rattle.shape_tree.specs.declared.tree.ShapeTree.TheInside.{Inside}
 use Rattle.shape_tree.specs.Shapes.{AreShapes, shape_path}
-use Rattle.shape_tree.specs.Nodes.{same_transition, root_node_of, shortcuts_most, no_shortcut_of, paths_in, IsNode}
-use Rattle.shape_tree.specs.Nodes.{IsTransition, FindsSteps, AreShortcuts}
+use Rattle.shape_tree.specs.Nodes.{same_transition, root_node_of, cache_entries, empty_entry, paths_in, IsNode}
+use Rattle.shape_tree.specs.Nodes.{IsTransition, FindsSteps, AreCached}
 use Rattle.shape_tree.specs.Trees.{HasRoom, IsTree, paths_of}
-use Rattle.shape_tree.proofs.HeldShortcuts.{no_shortcuts}
+use Rattle.shape_tree.proofs.CachedSteps.{empty_cache}
 
--- a tree with the rows, the nodes, the transitions and the shortcuts of another
-pub copied_tree : (other new : Inside) → IsTree other → new.rows.items ≡ other.rows.items
+-- a tree with the fields, the nodes, the transitions and the cache of another
+pub copied_tree : (other new : Inside) → IsTree other → new.fields.items ≡ other.fields.items
     → new.nodes.items ≡ other.nodes.items
     → ((step : Transition) → get same_transition new.steps step ≡ get same_transition other.steps step)
-    → new.shortcuts.items ≡ other.shortcuts.items → HasRoom new → IsTree new
-copied_tree other new is rows nodes steps shortcuts room =
+    → new.cache.items ≡ other.cache.items → HasRoom new → IsTree new
+copied_tree other new is fields nodes steps cache room =
     let shown : paths_of new ≡ paths_of other =
-    ap (λ rs. paths_in rs new.nodes.items) rows ∙ ap (paths_in other.rows.items) nodes in
+    ap (λ rs. paths_in rs new.nodes.items) fields ∙ ap (paths_in other.fields.items) nodes in
     let finds : FindsSteps (paths_of other) (get same_transition new.steps) = record {
       sound = λ step shape found. is.finds.sound step shape (sym (steps step) ∙ found);
       complete = λ step shape leads. steps step ∙ is.finds.complete step shape leads;
     } in
     record {
       shapes = subst AreShapes (sym shown) is.shapes;
-      each = subst (λ rs. All (IsNode rs (paths_of new)) new.nodes.items) (sym rows)
-          (subst (All (IsNode other.rows.items (paths_of new))) (sym nodes)
-          (subst (λ ps. All (IsNode other.rows.items ps) other.nodes.items) (sym shown) is.each));
+      each = subst (λ rs. All (IsNode rs (paths_of new)) new.nodes.items) (sym fields)
+          (subst (All (IsNode other.fields.items (paths_of new))) (sym nodes)
+          (subst (λ ps. All (IsNode other.fields.items ps) other.nodes.items) (sym shown) is.each));
       finds = subst (λ ps. FindsSteps ps (get same_transition new.steps)) (sym shown) finds;
-      shortcuts = subst (AreShortcuts (paths_of new)) (sym shortcuts)
-          (subst (λ ps. AreShortcuts ps other.shortcuts.items) (sym shown) is.shortcuts);
+      cached = subst (AreCached (paths_of new)) (sym cache)
+          (subst (λ ps. AreCached ps other.cache.items) (sym shown) is.cached);
       room = room;
     }
 
@@ -70,8 +69,7 @@ no_transition step shape is =
     omega (arith, length-empty_paths, is.leads.is_shape.from, is.leads.is_shape.below) in
     let empty = get_or-empty_paths (shape - first_path_shape) (record { cap = 0; fields = [] }) place in
     let same = ap (λ (p : Path). length p.fields) (sym empty ∙ is.leads.of_path) in
-    let field : PathField = record { name = step.name; rep = step.rep } in
-    omega (arith, same, length-append (shape_path empty_paths step.parent).fields (field ∷ []))
+    omega (arith, same, length-append (shape_path empty_paths step.parent).fields (step.field ∷ []))
 
 -- so an empty table finds each transition
 empty_finds : (look : Transition → Option ℕ) → ((step : Transition) → look step ≡ None) → FindsSteps empty_paths look
@@ -81,21 +79,21 @@ empty_finds look none = record {
 }
 
 -- the first tree
-pub first_tree : (new : Inside) → new.rows.items ≡ [] → new.nodes.items ≡ root_nodes_of
-    → new.steps.entries ≡ [] → new.shortcuts.items ≡ replicate shortcuts_most no_shortcut_of → HasRoom new
+pub first_tree : (new : Inside) → new.fields.items ≡ [] → new.nodes.items ≡ root_nodes_of
+    → new.steps.entries ≡ [] → new.cache.items ≡ replicate cache_entries empty_entry → HasRoom new
     → IsTree new
-first_tree new rows nodes steps shortcuts room =
+first_tree new fields nodes steps cache room =
     let shown : paths_of new ≡ empty_paths =
-    ap (λ rs. paths_in rs new.nodes.items) rows ∙ ap (paths_in []) nodes ∙ paths_in-root_nodes_of in
+    ap (λ rs. paths_in rs new.nodes.items) fields ∙ ap (paths_in []) nodes ∙ paths_in-root_nodes_of in
     let good : AreShapes empty_paths = record { are = empty_paths_are; few = omega (arith, length-empty_paths) } in
     let none : (step : Transition) → get same_transition new.steps step ≡ None = λ step.
     ap (lookup (same_transition step)) steps in
     record {
       shapes = subst AreShapes (sym shown) good;
-      each = subst (λ rs. All (IsNode rs (paths_of new)) new.nodes.items) (sym rows)
+      each = subst (λ rs. All (IsNode rs (paths_of new)) new.nodes.items) (sym fields)
           (subst (All (IsNode [] (paths_of new))) (sym nodes) (roots_are_nodes (paths_of new)));
       finds = subst (λ ps. FindsSteps ps (get same_transition new.steps)) (sym shown)
           (empty_finds (get same_transition new.steps) none);
-      shortcuts = subst (AreShortcuts (paths_of new)) (sym shortcuts) (no_shortcuts (paths_of new));
+      cached = subst (AreCached (paths_of new)) (sym cache) (empty_cache (paths_of new));
       room = room;
     }

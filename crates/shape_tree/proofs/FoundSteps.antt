@@ -10,7 +10,7 @@ use Rattle.object_graph.specs.declared.path.Path.{Path}
 use Rattle.object_graph.specs.declared.path.PathField.{PathField}
 use Rattle.object_graph.specs.Invariants.{IsPath, ArePaths}
 use Rattle.shape_tree.specs.declared.transition.Transition.{Transition}
-use Rattle.shape_tree.specs.Shapes.{IsPathShape, IsShapeOf, shape_path, stepped}
+use Rattle.shape_tree.specs.Shapes.{IsPathShape, IsShapeOf, shape_path}
 use Rattle.shape_tree.specs.Growth.{extended, IsMissing}
 use Rattle.shape_tree.specs.Nodes.{same_transition, transition_by, IsTransition, FindsSteps}
 use Rattle.shape_tree.proofs.SameTransitions.{Decides-same_transition}
@@ -21,13 +21,13 @@ use Rattle.shape_tree.proofs.GrownPaths.{has_prefix_of, are_with_next}
 
 -- the path to which a transition leads
 abbrev pub target : List Path → Transition → Path
-target paths step = stepped (shape_path paths step.parent) step.name step.rep
+target paths step = extended (shape_path paths step.parent) (step.field ∷ [])
 
 -- a transition leads to the same path where paths are added
 target-append : (paths more : List Path) (step : Transition) → IsPathShape paths step.parent
     → target (paths ++ more) step ≡ target paths step
 target-append paths more step starts =
-    ap (λ path. stepped path step.name step.rep) (shape_path-append paths more step.parent starts)
+    ap (λ path. extended path (step.field ∷ [])) (shape_path-append paths more step.parent starts)
 
 -- a transition stays one where paths are added
 pub IsTransition-append : (paths more : List Path) (step : Transition) (shape : ℕ) → IsTransition paths step shape
@@ -51,7 +51,7 @@ last_transition paths step starts =
           (sym (target-append paths (target paths step ∷ []) step starts)) (IsShapeOf-last paths (target paths step));
     }
 
--- so the step to the path that comes last may be kept as a shortcut
+-- so the step to the path that comes last may be cached
 pub last_step : (paths : List Path) (parent next : ℕ) (field : PathField) → IsPathShape paths parent
     → next ≡ first_path_shape + length paths
     → IsTransition (paths ++ extended (shape_path paths parent) (field ∷ []) ∷ []) (transition_by parent field) next
@@ -67,7 +67,7 @@ was_transition paths more step shape are after starts leads =
     let new = paths ++ more in
     let parent = shape_path new step.parent in
     let there : Contains paths parent =
-    has_prefix_of paths parent (record { name = step.name; rep = step.rep } ∷ []) are
+    has_prefix_of paths parent (step.field ∷ []) are
     (has_its_path paths (target new step) shape leads) in
     let (old, is) = shape_of paths parent there in
     let later = IsShapeOf-append paths more parent old is in
@@ -85,27 +85,21 @@ is_added : (paths : List Path) (step other : Transition) → ArePaths (paths ++ 
     → target paths step ≡ target (paths ++ target paths step ∷ []) other → step ≡ other
 is_added paths step other after starts others same =
     let new = paths ++ target paths step ∷ [] in
-    let field : PathField = record { name = step.name; rep = step.rep } in
-    let other_field : PathField = record { name = other.name; rep = other.rep } in
     let caps = ap (λ (path : Path). path.cap) same in
-    let rows =
-    same_from_push (shape_path paths step.parent).fields (shape_path new other.parent).fields field other_field
+    let moved =
+    same_from_push (shape_path paths step.parent).fields (shape_path new other.parent).fields step.field other.field
     (ap (λ (path : Path). path.fields) same) in
     let resized : Path =
     record { cap = (shape_path new other.parent).cap; fields = (shape_path paths step.parent).fields } in
     let first : shape_path paths step.parent ≡ resized =
     ap (λ n. record { cap = n; fields = (shape_path paths step.parent).fields }) caps in
     let second : resized ≡ shape_path new other.parent =
-    ap (λ fs. record { cap = (shape_path new other.parent).cap; fields = fs }) rows.0 in
+    ap (λ fs. record { cap = (shape_path new other.parent).cap; fields = fs }) moved.0 in
     let paths_same = shape_path-append paths (target paths step ∷ []) step.parent starts ∙ (first ∙ second) in
     let parents : step.parent ≡ other.parent =
     one_shape new step.parent other.parent after.distinct
     (IsPathShape-append paths (target paths step ∷ []) step.parent starts) others paths_same in
-    let moved : Transition = record { parent = other.parent; name = step.name; rep = step.rep } in
-    let third : step ≡ moved = ap (λ n. record { parent = n; name = step.name; rep = step.rep }) parents in
-    let fourth : moved ≡ other =
-    ap (λ (f : PathField). record { parent = other.parent; name = f.name; rep = f.rep }) rows.1 in
-    third ∙ fourth
+    ap (λ n. transition_by n step.field) parents ∙ ap (transition_by other.parent) moved.1
 
 -- the look-up has one transition more, to the next shape
 abbrev pub AddsStep : List Path → Transition → (Transition → Option ℕ) → (Transition → Option ℕ) → Type 0

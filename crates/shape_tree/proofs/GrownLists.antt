@@ -13,6 +13,8 @@ use Rattle.object_graph.specs.Limits.{paths_most}
 use Rattle.object_graph.proofs.Prefixes.{prefixes_are_paths}
 use Rattle.shape_tree.specs.Shapes.{IsPathShape, IsShapeOf, shape_path}
 use Rattle.shape_tree.specs.Growth.{extended, IsFresh}
+use Rattle.shape_tree.specs.declared.walking.Walk.{Walk}
+use Rattle.shape_tree.specs.Walks.{WalksTo}
 use Rattle.shape_tree.proofs.ShapePaths.{has_shape_path, IsShapeOf-last}
 use Rattle.shape_tree.proofs.GrownPaths.{extended-nil, extended-extended, is_prefix, missing-there, missing-extended}
 use Rattle.shape_tree.proofs.GrownPaths.{length-growths}
@@ -89,6 +91,12 @@ length-missing paths path shape rest are at same fresh =
     ap (λ p. length (missing paths p)) (sym same)
     ∙ ap length (missing-extended paths here rest are (has_shape_path paths shape at) fresh)
     ∙ length-growths here rest
+
+-- the same of a walk to the path
+pub length-missing_walk : (paths : List Path) (path : Path) (walk : Walk) → WalksTo paths path walk
+    → length (missing paths path) ≡ length walk.rest.now
+length-missing_walk paths path walk found =
+    length-missing paths path walk.shape walk.rest.now found.good.are found.at found.same found.fresh
 
 -- a list that is shorter than one is empty
 pub empty_if_short : {X : Type 0} (xs : List X) → length xs < 1 → xs ≡ []

@@ -10,32 +10,32 @@ use Rattle.object_graph.specs.declared.path.PathField.{PathField}
 use Rattle.object_graph.specs.Invariants.{IsPath}
 use Rattle.object_graph.specs.Limits.{paths_most}
 use Rattle.shape_tree.specs.declared.node.Node.{Node}
-use Rattle.shape_tree.specs.declared.shortcut.Shortcut.{Shortcut}
+use Rattle.shape_tree.specs.declared.cached.Cached.{Cached}
 use Rattle.shape_tree.specs.declared.tree.ShapeTree.TheInside.{Inside}
 use Rattle.shape_tree.specs.Shapes.{AreShapes, IsPathShape, shape_path}
 use Rattle.shape_tree.specs.Growth.{extended, IsMissing}
-use Rattle.shape_tree.specs.Nodes.{same_transition, transition_by, paths_in, IsNode, IsShortcut}
-use Rattle.shape_tree.specs.Nodes.{AreShortcuts, FindsSteps}
+use Rattle.shape_tree.specs.Nodes.{same_transition, transition_by, paths_in, IsNode, IsCached}
+use Rattle.shape_tree.specs.Nodes.{AreCached, FindsSteps}
 use Rattle.shape_tree.specs.Trees.{HasRoom, IsTree, paths_of}
 use Rattle.shape_tree.proofs.ShapePaths.{has_shape_path}
 use Rattle.shape_tree.proofs.GrownPaths.{are_with_next}
 use Rattle.shape_tree.proofs.FoundSteps.{AddsStep, last_step, finds_more}
-use Rattle.shape_tree.proofs.HeldShortcuts.{shortcuts_grown}
-use Rattle.shape_tree.proofs.GrownNodes.{IsGrown, rows_with, paths_in-grown, each-grown}
+use Rattle.shape_tree.proofs.CachedSteps.{cache_grown}
+use Rattle.shape_tree.proofs.GrownNodes.{IsGrown, fields_with, paths_in-grown, each-grown}
 
--- the shortcut for the step by a field
-abbrev pub shortcut_by : ℕ → PathField → ℕ → Shortcut
-shortcut_by parent field shape = record { parent = parent; field = field; shape = shape }
+-- the entry of the cache for the step by a field
+abbrev pub cached_by : ℕ → PathField → ℕ → Cached
+cached_by parent field shape = record { step = transition_by parent field; shape = shape }
 
--- a tree has one path more, with its row, its node and the transition to it, which is kept as a shortcut at some place
+-- a tree has one path more, with its fields, its node and the transition to it, which is cached at some entry
 pub record IsMore (tree new : Inside) (parent : ℕ) (field : PathField) (node grown : Node)
-    (place next : ℕ) : Type 0 where
+    (entry next : ℕ) : Type 0 where
   pub at : node ≡ get_or tree.nodes.items (parent - first_path_shape) node
-  pub node_is : IsGrown tree.rows.items node parent field grown
-  pub rows : new.rows.items ≡ rows_with tree.rows.items node field
+  pub node_is : IsGrown tree.fields.items node parent field grown
+  pub fields : new.fields.items ≡ fields_with tree.fields.items node field
   pub nodes : new.nodes.items ≡ tree.nodes.items ++ grown ∷ []
   pub comes : next ≡ first_path_shape + length (paths_of tree)
-  pub shortcuts : new.shortcuts.items ≡ set tree.shortcuts.items place (shortcut_by parent field next)
+  pub cache : new.cache.items ≡ set tree.cache.items entry (cached_by parent field next)
   pub steps :
       AddsStep (paths_of tree) (transition_by parent field) (get same_transition tree.steps)
       (get same_transition new.steps)
@@ -47,22 +47,22 @@ pub record Became (paths : List Path) (path : Path) (new : Inside) : Type 0 wher
   pub shows : paths_of new ≡ paths ++ path ∷ []
 
 -- what the tree shows becomes a tree's
-more_becomes : (tree new : Inside) (parent : ℕ) (field : PathField) (node grown : Node) (place next : ℕ) → IsTree tree
-    → IsMore tree new parent field node grown place next → IsPathShape (paths_of tree) parent
+more_becomes : (tree new : Inside) (parent : ℕ) (field : PathField) (node grown : Node) (entry next : ℕ) → IsTree tree
+    → IsMore tree new parent field node grown entry next → IsPathShape (paths_of tree) parent
     → IsMissing (paths_of tree) (extended (shape_path (paths_of tree) parent) (field ∷ []))
     → IsPath (extended (shape_path (paths_of tree) parent) (field ∷ [])) → length (paths_of tree) < paths_most
     → Became (paths_of tree) (extended (shape_path (paths_of tree) parent) (field ∷ [])) new
-more_becomes tree new parent field node grown place next is more starts missed may room =
-    let rows = tree.rows.items in
+more_becomes tree new parent field node grown entry next is more starts missed may room =
+    let fields = tree.fields.items in
     let nodes = tree.nodes.items in
     let paths = paths_of tree in
     let path = extended (shape_path paths parent) (field ∷ []) in
     let after = paths ++ path ∷ [] in
-    let behind = rows_with rows node field in
+    let behind = fields_with fields node field in
     let shown : paths_of new ≡ after =
-    ap (λ rs. paths_in rs new.nodes.items) more.rows ∙ ap (paths_in behind) more.nodes
-    ∙ paths_in-grown rows nodes parent field node grown is.each starts more.at more.node_is in
-    let each = each-grown rows nodes parent field node grown (path ∷ []) is.each starts more.at more.node_is in
+    ap (λ rs. paths_in rs new.nodes.items) more.fields ∙ ap (paths_in behind) more.nodes
+    ∙ paths_in-grown fields nodes parent field node grown is.each starts more.at more.node_is in
+    let each = each-grown fields nodes parent field node grown (path ∷ []) is.each starts more.at more.node_is in
     let good : AreShapes after = record {
       are = are_with_next paths (shape_path paths parent) field is.shapes.are
           (has_shape_path paths parent starts) missed may;
@@ -71,18 +71,18 @@ more_becomes tree new parent field node grown place next is more starts missed m
     let finds =
     finds_more paths parent field (get same_transition tree.steps) (get same_transition new.steps) is.shapes.are
     starts missed may is.finds more.steps in
-    let shortcut = shortcut_by parent field next in
-    let kept : IsShortcut after shortcut = λ some. last_step paths parent next field starts more.comes in
-    let shortcuts = shortcuts_grown paths (path ∷ []) tree.shortcuts.items place shortcut is.shortcuts kept in
+    let cached = cached_by parent field next in
+    let kept : IsCached after cached = λ some. last_step paths parent next field starts more.comes in
+    let cache = cache_grown paths (path ∷ []) tree.cache.items entry cached is.cached kept in
     record {
       is = record {
         shapes = subst AreShapes (sym shown) good;
-        each = subst (λ rs. All (IsNode rs (paths_of new)) new.nodes.items) (sym more.rows)
+        each = subst (λ rs. All (IsNode rs (paths_of new)) new.nodes.items) (sym more.fields)
             (subst (All (IsNode behind (paths_of new))) (sym more.nodes)
             (subst (λ ps. All (IsNode behind ps) (nodes ++ grown ∷ [])) (sym shown) each));
         finds = subst (λ ps. FindsSteps ps (get same_transition new.steps)) (sym shown) finds;
-        shortcuts = subst (AreShortcuts (paths_of new)) (sym more.shortcuts)
-            (subst (λ ps. AreShortcuts ps (set tree.shortcuts.items place shortcut)) (sym shown) shortcuts);
+        cached = subst (AreCached (paths_of new)) (sym more.cache)
+            (subst (λ ps. AreCached ps (set tree.cache.items entry cached)) (sym shown) cache);
         room = more.room;
       };
       shows = shown;
@@ -90,14 +90,14 @@ more_becomes tree new parent field node grown place next is more starts missed m
 
 -- the same of a tree that shows these paths
 pub more_shown : (tree new : Inside) (paths : List Path) (parent : ℕ) (field : PathField) (node grown : Node)
-    (place next : ℕ) → IsTree tree → paths_of tree ≡ paths → IsMore tree new parent field node grown place next
+    (entry next : ℕ) → IsTree tree → paths_of tree ≡ paths → IsMore tree new parent field node grown entry next
     → IsPathShape paths parent
     → IsMissing paths (extended (shape_path paths parent) (field ∷ []))
     → IsPath (extended (shape_path paths parent) (field ∷ [])) → length paths < paths_most
     → Became paths (extended (shape_path paths parent) (field ∷ [])) new
-more_shown tree new paths parent field node grown place next is shown more =
+more_shown tree new paths parent field node grown entry next is shown more =
     subst (λ ps.
     IsPathShape ps parent → IsMissing ps (extended (shape_path ps parent) (field ∷ []))
     → IsPath (extended (shape_path ps parent) (field ∷ [])) → length ps < paths_most
     → Became ps (extended (shape_path ps parent) (field ∷ [])) new) shown
-    (more_becomes tree new parent field node grown place next is more)
+    (more_becomes tree new parent field node grown entry next is more)

@@ -1,4 +1,4 @@
--- What the nodes and rows of a tree tell of its paths.
+-- What the nodes and fields of a tree tell of its paths.
 use Rattle.std.proofs.Common.{◌≡◌, ℕ, ◌+◌, ◌-◌, ◌<◌, ◌≤◌, List, [], length, get_or, drop, sym, ap}
 use Rattle.std.proofs.Common.{◌∙◌, subst, arith}
 use Rattle.std.proofs.Common.{◌++◌, length-take, length-drop, length-append}
@@ -26,48 +26,48 @@ shape_path_is paths shape good is =
     good.are.each (shape - first_path_shape) (record { cap = 0; fields = [] }) (omega arith)
 
 -- there is a node for each path
-pub length-paths_in : (rows : List PathField) (nodes : List Node) → length (paths_in rows nodes) ≡ length nodes
-length-paths_in rows nodes = length-map nodes (path_at rows)
+pub length-paths_in : (fields : List PathField) (nodes : List Node) → length (paths_in fields nodes) ≡ length nodes
+length-paths_in fields nodes = length-map nodes (path_at fields)
 
 -- the place of a shape is within the nodes
-pub place_within : (rows : List PathField) (nodes : List Node) (shape : ℕ) → IsPathShape (paths_in rows nodes) shape
+pub place_within : (fields : List PathField) (nodes : List Node) (shape : ℕ) → IsPathShape (paths_in fields nodes) shape
     → shape - first_path_shape < length nodes
-place_within rows nodes shape is = omega (arith, length-paths_in rows nodes, is.from, is.below)
+place_within fields nodes shape is = omega (arith, length-paths_in fields nodes, is.from, is.below)
 
 -- the node at the place of a shape has its path
-pub shape_path-paths_in : (rows : List PathField) (nodes : List Node) (shape : ℕ) (node : Node)
-    → IsPathShape (paths_in rows nodes) shape → node ≡ get_or nodes (shape - first_path_shape) node
-    → shape_path (paths_in rows nodes) shape ≡ path_at rows node
-shape_path-paths_in rows nodes shape node is at =
-    get_or-map (path_at rows) nodes (shape - first_path_shape) node (record { cap = 0; fields = [] })
-    (place_within rows nodes shape is)
-    ∙ ap (path_at rows) (sym at)
+pub shape_path-paths_in : (fields : List PathField) (nodes : List Node) (shape : ℕ) (node : Node)
+    → IsPathShape (paths_in fields nodes) shape → node ≡ get_or nodes (shape - first_path_shape) node
+    → shape_path (paths_in fields nodes) shape ≡ path_at fields node
+shape_path-paths_in fields nodes shape node is at =
+    get_or-map (path_at fields) nodes (shape - first_path_shape) node (record { cap = 0; fields = [] })
+    (place_within fields nodes shape is)
+    ∙ ap (path_at fields) (sym at)
 
 -- and it is a node
-pub IsNode-at : (rows : List PathField) (nodes : List Node) (shape : ℕ) (node : Node)
-    → IsPathShape (paths_in rows nodes) shape → All (IsNode rows (paths_in rows nodes)) nodes
-    → node ≡ get_or nodes (shape - first_path_shape) node → IsNode rows (paths_in rows nodes) node
-IsNode-at rows nodes shape node is each at =
-    subst (IsNode rows (paths_in rows nodes)) (sym at)
-    (each (shape - first_path_shape) node (place_within rows nodes shape is))
+pub IsNode-at : (fields : List PathField) (nodes : List Node) (shape : ℕ) (node : Node)
+    → IsPathShape (paths_in fields nodes) shape → All (IsNode fields (paths_in fields nodes)) nodes
+    → node ≡ get_or nodes (shape - first_path_shape) node → IsNode fields (paths_in fields nodes) node
+IsNode-at fields nodes shape node is each at =
+    subst (IsNode fields (paths_in fields nodes)) (sym at)
+    (each (shape - first_path_shape) node (place_within fields nodes shape is))
 
 -- a path has as many fields as its node says
-pub length-path_at : (rows : List PathField) (node : Node) → node.start + node.count ≤ length rows
-    → length (path_at rows node).fields ≡ node.count
-length-path_at rows node within =
-    omega (arith, length-take node.count (drop node.start rows), length-drop node.start rows)
+pub length-path_at : (fields : List PathField) (node : Node) → node.start + node.count ≤ length fields
+    → length (path_at fields node).fields ≡ node.count
+length-path_at fields node within =
+    omega (arith, length-take node.count (drop node.start fields), length-drop node.start fields)
 
 -- so the node tells of the path of its shape
-pub IsNodeOf-at : (rows : List PathField) (nodes : List Node) (shape : ℕ) (node : Node)
-    → AreShapes (paths_in rows nodes)
-    → All (IsNode rows (paths_in rows nodes)) nodes → IsPathShape (paths_in rows nodes) shape
-    → node ≡ get_or nodes (shape - first_path_shape) node → IsNodeOf (paths_in rows nodes) shape node
-IsNodeOf-at rows nodes shape node good each is at =
-    let paths = paths_in rows nodes in
-    let path : shape_path paths shape ≡ path_at rows node = shape_path-paths_in rows nodes shape node is at in
-    let here : IsNode rows paths node = IsNode-at rows nodes shape node is each at in
-    let may : IsPath (path_at rows node) = subst IsPath path (shape_path_is paths shape good is) in
-    let long : length (path_at rows node).fields ≡ node.count = length-path_at rows node here.within in
+pub IsNodeOf-at : (fields : List PathField) (nodes : List Node) (shape : ℕ) (node : Node)
+    → AreShapes (paths_in fields nodes)
+    → All (IsNode fields (paths_in fields nodes)) nodes → IsPathShape (paths_in fields nodes) shape
+    → node ≡ get_or nodes (shape - first_path_shape) node → IsNodeOf (paths_in fields nodes) shape node
+IsNodeOf-at fields nodes shape node good each is at =
+    let paths = paths_in fields nodes in
+    let path : shape_path paths shape ≡ path_at fields node = shape_path-paths_in fields nodes shape node is at in
+    let here : IsNode fields paths node = IsNode-at fields nodes shape node is each at in
+    let may : IsPath (path_at fields node) = subst IsPath path (shape_path_is paths shape good is) in
+    let long : length (path_at fields node).fields ≡ node.count = length-path_at fields node here.within in
     record {
       cap = ap (λ (p : Path). p.cap) (sym path);
       capped = may.cap;
@@ -84,7 +84,7 @@ pub IsNodeOf-shown : (tree : Inside) (paths : List Path) (shape : ℕ) (node : N
     → IsNodeOf paths shape node
 IsNodeOf-shown tree paths shape node is shown starts at =
     subst (λ ps. IsNodeOf ps shape node) shown
-    (IsNodeOf-at tree.rows.items tree.nodes.items shape node is.shapes is.each
+    (IsNodeOf-at tree.fields.items tree.nodes.items shape node is.shapes is.each
     (subst (λ ps. IsPathShape ps shape) (sym shown) starts) at)
 
 -- the path of no field and a cap that is at most 8 has the shape of that place

@@ -10,7 +10,7 @@ mod FoundSteps
 mod SoughtSteps
 mod CopiedSteps
 mod HeldNodes
-mod HeldShortcuts
+mod CachedSteps
 mod GrownNodes
 mod GrownTrees
 mod FirstTrees

@@ -1,9 +1,13 @@
 -- How a path grows by fields, and which paths are missing on the way.
-use Rattle.std.specs.Prelude.{◌≡◌, false, List, [], ◌∷◌, ◌++◌}
+use Rattle.std.specs.Prelude.{◌≡◌, ◌<◌, false, List, [], ◌∷◌, ◌++◌, length}
 use Rattle.std.specs.List.{list_any}
 use Rattle.object_graph.specs.declared.path.Path.{Path}
 use Rattle.object_graph.specs.declared.path.PathField.{PathField}
 use Rattle.object_graph.specs.Paths.{same_path}
+use Rattle.object_graph.specs.Limits.{paths_most}
+use Rattle.shape_tree.specs.declared.transition.Step.{Step}
+use Rattle.shape_tree.specs.declared.transition.Step.TheVariants.{Found, Missing}
+use Rattle.shape_tree.specs.Shapes.{IsShapeOf}
 
 -- the path with these fields more
 abbrev pub extended : Path → List PathField → Path
@@ -17,3 +21,9 @@ IsMissing paths path = list_any (same_path path) paths ≡ false
 abbrev pub IsFresh : List Path → Path → List PathField → Type 0
 IsFresh paths path [] = Unit {0}
 IsFresh paths path (field ∷ fields) = IsMissing paths (extended path (field ∷ []))
+
+-- Where the step to the path leads: it is there, and this is its shape; or it alone is missing, and there may be one
+-- path more.
+abbrev pub IsStep : List Path → Path → Step → Type 0
+IsStep paths path (Found shape) = IsShapeOf paths path shape
+IsStep paths path Missing = IsMissing paths path × (length paths < paths_most)

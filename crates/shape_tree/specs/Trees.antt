@@ -7,24 +7,24 @@ use Rattle.object_graph.specs.Invariants.{fields_most}
 use Rattle.object_graph.specs.Limits.{paths_most}
 use Rattle.shape_tree.specs.declared.tree.ShapeTree.TheInside.{Inside}
 use Rattle.shape_tree.specs.Shapes.{AreShapes}
-use Rattle.shape_tree.specs.Nodes.{same_transition, paths_in, IsNode, FindsSteps, AreShortcuts}
+use Rattle.shape_tree.specs.Nodes.{same_transition, paths_in, IsNode, FindsSteps, AreCached}
 
 -- there is room for all the paths that there may be
 pub record HasRoom (tree : Inside) : Type 0 where
-  pub rows : fields_most * paths_most ≤ vec_capacity tree.rows
+  pub fields : fields_most * paths_most ≤ vec_capacity tree.fields
   pub nodes : paths_most ≤ vec_capacity tree.nodes
   pub steps : paths_most ≤ hash_map_len tree.steps + spare tree.steps
-  pub short : length tree.rows.items ≤ fields_most * length tree.nodes.items
+  pub short : length tree.fields.items ≤ fields_most * length tree.nodes.items
   pub few : hash_map_len tree.steps ≤ length tree.nodes.items
 
 -- the paths of a tree
 abbrev pub paths_of : Inside → List Path
-paths_of tree = paths_in tree.rows.items tree.nodes.items
+paths_of tree = paths_in tree.fields.items tree.nodes.items
 
 -- the invariant of a tree
 pub record IsTree (tree : Inside) : Type 0 where
   pub shapes : AreShapes (paths_of tree)
-  pub each : All (IsNode tree.rows.items (paths_of tree)) tree.nodes.items
+  pub each : All (IsNode tree.fields.items (paths_of tree)) tree.nodes.items
   pub finds : FindsSteps (paths_of tree) (get same_transition tree.steps)
-  pub shortcuts : AreShortcuts (paths_of tree) tree.shortcuts.items
+  pub cached : AreCached (paths_of tree) tree.cache.items
   pub room : HasRoom tree

@@ -1,14 +1,18 @@
 //! The changes of fields: which shape they lead to, and how many paths are missing for them.
-ghost use Rattle.std.specs.Prelude.{◌≡◌, ◌<◌, ◌≤◌, false, length, IfOk, IfErr, IfSome};
+ghost use Rattle.std.specs.Prelude.{◌≡◌, ◌+◌, ◌<◌, ◌≤◌, false, length, OnOk, IfOk, IfErr, IfSome};
+ghost use Rattle.object_graph.specs.declared.path.Path.{Path};
 ghost use Rattle.object_graph.specs.Paths.{missing};
 ghost use Rattle.object_graph.specs.Invariants.{fields_most};
+ghost use Rattle.object_graph.specs.Limits.{paths_most};
 ghost use Rattle.shape_tree.specs.Shapes.{IsPathShape, shape_path, has_name, stepped, changed};
 ghost use Rattle.shape_tree.specs.Shapes.{without, IsShapeOf, Leads, IsFullFor};
-ghost use Rattle.shape_tree.specs.Growth.{extended};
+ghost use Rattle.shape_tree.specs.Growth.{extended, IsStep};
 
 use crate::full::ShapesFull;
 use crate::route::{Route, Tail};
+use crate::transition::Step;
 use crate::tree::ShapeTree;
+use object_graph::limits::PATHS_MOST;
 use object_graph::{PathField, Rep};
 
 impl ShapeTree {
@@ -37,10 +41,10 @@ impl ShapeTree {
         ensures { let path = changed (shape_path self.now shape) at rep in
             IfSome result (IsShapeOf self.now path) }
     {
-        let row = self.row(shape);
-        let name = row[at as usize].name;
+        let fields = self.fields_of(shape);
+        let name = fields[at as usize].name;
         let next = self.next(self.ancestor(shape, at), PathField { name, rep })?;
-        self.there_along(next, &row[at as usize + 1..])
+        self.there_along(next, &fields[at as usize + 1..])
     }
 
     /// The shape of the path without one field, if the steps to it are found, as for
@@ -51,8 +55,8 @@ impl ShapeTree {
         ensures { let path = without (shape_path self.now shape) at in
             IfSome result (IsShapeOf self.now path) }
     {
-        let row = self.row(shape);
-        self.there_along(self.ancestor(shape, at), &row[at as usize + 1..])
+        let fields = self.fields_of(shape);
+        self.there_along(self.ancestor(shape, at), &fields[at as usize + 1..])
     }
 
     /// The way to the path of a shape, one field of which has another representation.
@@ -61,7 +65,7 @@ impl ShapeTree {
         requires there { at < length (shape_path self.now shape).fields }
         ensures { RoutesTo self.now (changed (shape_path self.now shape) at rep) result }
     {
-        let mut tail = Tail::of(&self.row(shape)[at as usize..]);
+        let mut tail = Tail::of(&self.fields_of(shape)[at as usize..]);
         tail.set_rep(rep);
         let from = self.ancestor(shape, at);
         Route { from, tail }
@@ -73,32 +77,55 @@ impl ShapeTree {
         requires there { at < length (shape_path self.now shape).fields }
         ensures { RoutesTo self.now (without (shape_path self.now shape) at) result }
     {
-        let tail = Tail::of(&self.row(shape)[at as usize + 1..]);
+        let tail = Tail::of(&self.fields_of(shape)[at as usize + 1..]);
         let from = self.ancestor(shape, at);
         Route { from, tail }
     }
 
-    /// The shape of the path with a field more, which comes last.
+    /// Where the step to the path with a field more leads. There may be as many paths as it needs.
     ///
     /// # Errors
-    /// There would be more than 8,192 paths; nothing has changed.
+    /// There may not be as many paths.
     #[inline]
-    pub fn step(&mut self, shape: u32, name: u32, rep: Rep) -> Result<u32, ShapesFull>
-        requires path { IsPathShape self.old shape }
-        requires is_new { has_name (shape_path self.old shape) name ≡ false }
-        requires room { length (shape_path self.old shape).fields < fields_most }
-        ensures stepped { let path = stepped (shape_path self.old shape) name rep in
-            IfOk result (λ next. Leads self.old self.new path next) }
-        ensures full { let path = stepped (shape_path self.old shape) name rep in
-            IfErr result (λ full. IsFullFor self.old self.new path full) }
+    pub fn can_step(&self, shape: u32, field: PathField) -> Result<Step, ShapesFull>
+        requires path { IsPathShape self.now shape }
+        requires is_new { has_name (shape_path self.now shape) field.name ≡ false }
+        requires room { length (shape_path self.now shape).fields < fields_most }
+        ensures step { let path = stepped (shape_path self.now shape) field.name field.rep in
+            IfOk result (IsStep self.now path) }
+        ensures room { let path = stepped (shape_path self.now shape) field.name field.rep in
+            OnOk result (length self.now + length (missing self.now path) ≤ paths_most) }
+        ensures full { let path = stepped (shape_path self.now shape) field.name field.rep in
+            IfErr result (λ full. IsFullFor self.now self.now path full) }
     {
         // Opens the tree: the proof needs what holds of each.
         let _ = &self.nodes;
-        let field = PathField { name, rep };
-        if let Some(next) = self.next(shape, field) {
-            return Ok(next);
+        match self.next(shape, field) {
+            Some(next) => Ok(Step::Found(next)),
+            None => {
+                self.room_for(1)?;
+                Ok(Step::Missing)
+            }
         }
-        self.lead(shape, &[field])
+    }
+
+    /// The shape of the path with a field more, which comes last. It is added where it is missing.
+    #[inline]
+    pub fn step(&mut self, shape: u32, field: PathField, step: Step) -> u32
+        requires path { IsPathShape self.old shape }
+        requires is_new { has_name (shape_path self.old shape) field.name ≡ false }
+        requires room { length (shape_path self.old shape).fields < fields_most }
+        requires step { let path = stepped (shape_path self.old shape) field.name field.rep in
+            IsStep self.old path step }
+        ensures { let path = stepped (shape_path self.old shape) field.name field.rep in
+            Leads self.old self.new path result }
+    {
+        // Opens the tree: the proof needs what holds of each.
+        let _ = &self.nodes;
+        match step {
+            Step::Found(next) => next,
+            Step::Missing => self.add(shape, field),
+        }
     }
 
     /// The shape of the path, one field of which has another representation.
@@ -143,25 +170,25 @@ impl ShapeTree {
         self.lead(route.from, route.tail.as_slice())
     }
 
-    /// How many paths `step` would add. It is not refused where they and those that are there
-    /// are at most 8,192.
-    #[inline]
-    pub fn missing_step(&self, shape: u32, name: u32, rep: Rep) -> u32
-        requires path { IsPathShape self.now shape }
-        requires is_new { has_name (shape_path self.now shape) name ≡ false }
-        requires room { length (shape_path self.now shape).fields < fields_most }
-        ensures { let path = stepped (shape_path self.now shape) name rep in
-            result ≡ length (missing self.now path) }
+    /// There may be so many paths more.
+    ///
+    /// # Errors
+    /// There may not.
+    pub fn room_for(&self, more: u32) -> Result<(), ShapesFull>
+        ensures room { OnOk result (length self.now + more ≤ paths_most) }
+        ensures full { IfErr result (λ full. (path : Path) → length (missing self.now path) ≡ more
+            → IsFullFor self.now self.now path full) }
     {
-        // Opens the tree: the proof needs what holds of each.
-        let _ = &self.nodes;
-        match self.next(shape, PathField { name, rep }) {
-            Some(_) => 0,
-            None => 1,
+        let paths = self.paths();
+        if more <= PATHS_MOST - paths {
+            Ok(())
+        } else {
+            let missing = more;
+            Err(ShapesFull { paths, missing })
         }
     }
 
-    /// How many paths `change` would add, as for `missing_step`.
+    /// How many paths `change` would add. It is not refused where there is room for them.
     pub fn missing_change(&self, shape: u32, at: u32, rep: Rep) -> u32
         requires path { IsPathShape self.now shape }
         requires there { at < length (shape_path self.now shape).fields }
@@ -170,23 +197,23 @@ impl ShapeTree {
     {
         // Opens the tree: the proof needs what holds of each.
         let _ = &self.nodes;
-        let row = self.row(shape);
-        let name = row[at as usize].name;
+        let fields = self.fields_of(shape);
+        let name = fields[at as usize].name;
         let Some(next) = self.next(self.ancestor(shape, at), PathField { name, rep }) else {
             // No path with a missing prefix is there.
-            return row.len() as u32 - at;
+            return fields.len() as u32 - at;
         };
-        self.missing_along(next, &row[at as usize + 1..])
+        self.missing_along(next, &fields[at as usize + 1..])
     }
 
-    /// How many paths `without` would add, as for `missing_step`.
+    /// How many paths `without` would add, as for `missing_change`.
     pub fn missing_without(&self, shape: u32, at: u32) -> u32
         requires path { IsPathShape self.now shape }
         requires there { at < length (shape_path self.now shape).fields }
         ensures { let path = without (shape_path self.now shape) at in
             result ≡ length (missing self.now path) }
     {
-        let row = self.row(shape);
-        self.missing_along(self.ancestor(shape, at), &row[at as usize + 1..])
+        let fields = self.fields_of(shape);
+        self.missing_along(self.ancestor(shape, at), &fields[at as usize + 1..])
     }
 }

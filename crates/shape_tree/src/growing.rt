@@ -1,5 +1,5 @@
 //! How paths are added to a tree of shapes.
-ghost use Rattle.std.specs.Prelude.{◌≡◌, ◌+◌, ◌*◌, ◌^◌, ◌<◌, ◌≤◌, nat_lt, [], ◌∷◌, ◌++◌};
+ghost use Rattle.std.specs.Prelude.{◌≡◌, ◌+◌, ◌*◌, ◌^◌, ◌<◌, ◌≤◌, [], ◌∷◌, ◌++◌};
 ghost use Rattle.std.specs.Prelude.{length, take, drop, set, IfOk, IfErr};
 ghost use Rattle.std.specs.Vec.{vec_len, vec_capacity};
 ghost use Rattle.tagged_word.specs.Shapes.{first_path_shape};
@@ -11,11 +11,11 @@ ghost use Rattle.shape_tree.specs.Shapes.{IsFullFor};
 ghost use Rattle.shape_tree.specs.ShapeLayouts.{raw_bit};
 ghost use Rattle.shape_tree.specs.Growth.{extended, IsMissing, IsFresh};
 
+use crate::cached::{Cached, cache_index};
 use crate::full::ShapesFull;
 use crate::node::Node;
-use crate::shortcut::{Shortcut, place_of};
 use crate::transition::Transition;
-use crate::tree::{FIRST, PATHS_MOST, ShapeTree, put_step};
+use crate::tree::{FIRST, ShapeTree, put_step};
 use object_graph::{PathField, Rep};
 use tagged_word::LayoutWord;
 
@@ -42,41 +42,33 @@ fn layout_with(layout: LayoutWord, count: u32, rep: Rep) -> LayoutWord
     }
 }
 
-/// Puts a copy of a row behind all rows, with a field more. There is room for it.
-fn push_row(rows: &mut Vec<PathField>, start: u32, count: u32, field: PathField)
-    requires within { start + count ≤ vec_len rows.old }
+/// Puts a copy of the fields of a path behind all fields, with a field more. There is room for it.
+fn push_fields(fields: &mut Vec<PathField>, start: u32, count: u32, field: PathField)
+    requires within { start + count ≤ vec_len fields.old }
     requires fits { start + count < 2 ^ 32 }
-    requires room { vec_len rows.old + count + 1 ≤ vec_capacity rows.old }
-    ensures pushed { rows.new.items
-        ≡ rows.old.items ++ (take count (drop start rows.old.items) ++ field ∷ []) }
-    ensures room { vec_capacity rows.old ≤ vec_capacity rows.new }
+    requires room { vec_len fields.old + count + 1 ≤ vec_capacity fields.old }
+    ensures pushed { fields.new.items
+        ≡ fields.old.items ++ (take count (drop start fields.old.items) ++ field ∷ []) }
+    ensures room { vec_capacity fields.old ≤ vec_capacity fields.new }
 {
-    let row = start as usize..(start + count) as usize;
-    if rows.extend_from_within(row).is_err() {
+    let copied = start as usize..(start + count) as usize;
+    if fields.extend_from_within(copied).is_err() {
         unreachable!()
     }
-    rows.push_reserved(field);
+    fields.push_reserved(field);
 }
 
-/// Puts a shortcut at its place, over what stood there.
-fn put_shortcut(shortcuts: &mut Vec<Shortcut>, place: usize, shortcut: Shortcut)
-    requires there { place < vec_len shortcuts.old }
-    ensures { shortcuts.new.items ≡ set shortcuts.old.items place shortcut }
+/// Puts a step at its entry of the cache, over what stood there.
+fn put_cached(cache: &mut Vec<Cached>, entry: usize, cached: Cached)
+    requires there { entry < vec_len cache.old }
+    ensures { cache.new.items ≡ set cache.old.items entry cached }
 {
-    shortcuts[place] = shortcut;
-}
-
-/// Whether there may not be as many paths as these and those that are missing.
-fn are_too_many(paths: u32, missing: u32) -> bool
-    requires { paths + missing < 2 ^ 32 }
-    ensures { result ≡ nat_lt paths_most (paths + missing) }
-{
-    paths + missing > PATHS_MOST
+    cache[entry] = cached;
 }
 
 impl ShapeTree {
     /// Adds the path with this field more.
-    fn add(&mut self, parent: u32, field: PathField) -> u32
+    pub(crate) fn add(&mut self, parent: u32, field: PathField) -> u32
         requires path { IsPathShape self.old parent }
         requires missing { IsMissing self.old (extended (shape_path self.old parent) (field ∷ [])) }
         requires is { IsPath (extended (shape_path self.old parent) (field ∷ [])) }
@@ -87,9 +79,9 @@ impl ShapeTree {
     {
         let node = self.nodes[(parent - FIRST) as usize];
         let shape = FIRST + self.nodes.len() as u32;
-        let start = self.rows.len() as u32;
+        let start = self.fields.len() as u32;
         let layout = layout_with(node.layout, node.count, field.rep);
-        push_row(&mut self.rows, node.start, node.count, field);
+        push_fields(&mut self.fields, node.start, node.count, field);
         self.nodes.push_reserved(Node {
             cap: node.cap,
             start,
@@ -97,18 +89,9 @@ impl ShapeTree {
             parent,
             layout,
         });
-        let step = Transition {
-            parent,
-            name: field.name,
-            rep: field.rep,
-        };
+        let step = Transition { parent, field };
         put_step(&mut self.steps, step, shape);
-        let shortcut = Shortcut {
-            parent,
-            field,
-            shape,
-        };
-        put_shortcut(&mut self.shortcuts, place_of(parent, field), shortcut);
+        put_cached(&mut self.cache, cache_index(step), Cached { step, shape });
         shape
     }
 
@@ -143,12 +126,8 @@ impl ShapeTree {
             IfErr result (λ full. IsFullFor self.old self.new path full) }
     {
         let walk = self.walk(from, tail);
-        let missing = walk.rest.len() as u32;
-        let paths = self.paths();
         // Nothing may have been added by the time of a refusal.
-        if are_too_many(paths, missing) {
-            return Err(ShapesFull { paths, missing });
-        }
+        self.room_for(walk.rest.len() as u32)?;
         Ok(self.grow(walk.shape, walk.rest))
     }
 

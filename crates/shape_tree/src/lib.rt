@@ -3,22 +3,23 @@
 //! Model: the list of paths in the order in which they were made; shape `s` is path `s - 8`.
 //! Invariant: the list is that of a graph (`AreShapes` of `specs/Shapes.antt`): the nine empty
 //! paths first, none twice, with each its prefixes. What the tree holds of each path and of each
-//! step is `IsTree` of `specs/Trees.antt`. The shortcuts, which are steps kept at hand for speed,
-//! are tied there to the transitions.
+//! step is `IsTree` of `specs/Trees.antt`. The cache of transitions, which is kept for speed, is
+//! tied there to the table of all of them.
 #![tactic(auto)]
 
+mod cached;
 mod changing;
 mod full;
 mod growing;
 mod laws;
 mod node;
-mod reading;
+mod queries;
 mod route;
-mod shortcut;
 mod transition;
 mod tree;
 mod walking;
 
 pub use full::ShapesFull;
 pub use object_graph::{PathField, Rep};
+pub use transition::Step;
 pub use tree::ShapeTree;

@@ -1,11 +1,11 @@
-//! Nodes: what a tree of shapes keeps of each path beside its row of fields.
+//! Nodes: what a tree of shapes keeps of each path beside its fields.
 use tagged_word::LayoutWord;
 
 /// What is kept of one path.
 #[derive(Clone, Copy)]
 pub(crate) struct Node {
     pub(crate) cap: u32,
-    /// Where the row of the path's fields begins.
+    /// Where the path's fields begin.
     pub(crate) start: u32,
     /// How many fields the path has.
     pub(crate) count: u32,

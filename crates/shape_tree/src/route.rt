@@ -7,7 +7,7 @@ use crate::tree::FIELDS_MOST;
 use object_graph::{PathField, Rep};
 use std::marker::Model;
 
-/// At most 64 fields in a row, on the stack.
+/// At most 64 fields, on the stack.
 #[derive(Drop)]
 pub(crate) struct Tail {
     fields: [PathField; FIELDS_MOST],
@@ -27,17 +27,17 @@ impl Model for Tail {
 
 impl Tail {
     /// A copy of these fields, at most 64.
-    pub(crate) fn of(row: &[PathField]) -> Tail
-        requires { length row.now ≤ fields_most }
-        ensures { result ≡ row.now }
+    pub(crate) fn of(given: &[PathField]) -> Tail
+        requires { length given.now ≤ fields_most }
+        ensures { result ≡ given.now }
     {
         let filler = PathField {
             name: 0,
             rep: Rep::Small,
         };
         let mut fields = [filler; FIELDS_MOST];
-        let count = row.len();
-        fields[..count].copy_from_slice(row);
+        let count = given.len();
+        fields[..count].copy_from_slice(given);
         Tail { fields, count }
     }
 

@@ -6,25 +6,24 @@ ghost use Rattle.std.specs.Vec.{vec_capacity};
 ghost use Rattle.std.specs.HashMap.{get, hash_map_len, spare, IsUnique};
 ghost use Rattle.object_graph.specs.Paths.{empty_paths};
 ghost use Rattle.shape_tree.specs.ShapeLayouts.{layout_of};
-ghost use Rattle.shape_tree.specs.Nodes.{same_transition, root_node_of, no_shortcut_of};
-ghost use Rattle.shape_tree.specs.Nodes.{shortcuts_most};
+ghost use Rattle.shape_tree.specs.Nodes.{same_transition, root_node_of, empty_entry};
+ghost use Rattle.shape_tree.specs.Nodes.{cache_entries};
 ghost use Rattle.shape_tree.specs.declared.transition.Transition.{Transition};
 
+use crate::cached::{CACHE_ENTRIES, Cached};
 use crate::node::Node;
-use crate::shortcut::{SHORTCUTS, Shortcut};
 use crate::transition::Transition;
 use object_graph::PathField;
+use object_graph::limits::{self, PATHS_MOST};
 use std::alloc::{AllocError, Global};
 use std::collections::HashMap;
 use std::marker::Model;
-use tagged_word::{Kind, LayoutWord, NoMemory};
+use tagged_word::{Kind, LayoutWord, NoMemory, shape};
 
 /// The shape of the first path.
-pub(crate) const FIRST: u32 = 8;
-/// The most paths.
-pub(crate) const PATHS_MOST: u32 = 8192;
+pub(crate) const FIRST: u32 = shape::PATHS;
 /// The most fields of a path.
-pub(crate) const FIELDS_MOST: usize = 64;
+pub(crate) const FIELDS_MOST: usize = limits::FIELDS_MOST as usize;
 /// How many paths have no field: one for each cap.
 const ROOTS: u32 = 9;
 
@@ -33,13 +32,13 @@ const ROOTS: u32 = 9;
 #[derive(Drop)]
 pub struct ShapeTree {
     /// The fields of each path in order, one path after another.
-    pub(crate) rows: Vec<PathField>,
+    pub(crate) fields: Vec<PathField>,
     /// A node for each path, in the order of their shapes.
     pub(crate) nodes: Vec<Node>,
     /// The shape to which each transition leads.
     pub(crate) steps: HashMap<Transition, u32>,
-    /// Some of these steps, each at its place, or none: answers without the table.
-    pub(crate) shortcuts: Vec<Shortcut>,
+    /// Some of these steps, each at its entry: answers without the table.
+    pub(crate) cache: Vec<Cached>,
 }
 
 impl Model for ShapeTree {
@@ -86,14 +85,13 @@ fn root_nodes(alloc: Global) -> Result<Vec<Node>, AllocError>
     Ok(nodes)
 }
 
-/// The places of shortcuts, where none stands so far.
-fn no_shortcuts(alloc: Global) -> Result<Vec<Shortcut>, AllocError>
-    ensures { IfOk result (λ shortcuts.
-        shortcuts.items ≡ replicate shortcuts_most no_shortcut_of) }
+/// The cache, where no step is cached.
+fn empty_cache(alloc: Global) -> Result<Vec<Cached>, AllocError>
+    ensures { IfOk result (λ cache. cache.items ≡ replicate cache_entries empty_entry) }
 {
-    let none = Shortcut::none();
-    let shortcuts = vec![in alloc; none; SHORTCUTS]?;
-    Ok(shortcuts)
+    let empty = Cached::empty();
+    let cache = vec![in alloc; empty; CACHE_ENTRIES]?;
+    Ok(cache)
 }
 
 /// Puts a transition into the table, which has room for it.
@@ -144,15 +142,15 @@ impl ShapeTree {
     pub fn new(alloc: Global) -> Result<ShapeTree, NoMemory>
         ensures made { IfOk result (λ tree. tree ≡ empty_paths) }
     {
-        let rows = Vec::with_capacity(alloc, PATHS_MOST as usize * FIELDS_MOST)?;
+        let fields = Vec::with_capacity(alloc, PATHS_MOST as usize * FIELDS_MOST)?;
         let nodes = root_nodes(alloc)?;
         let steps = HashMap::with_capacity(alloc, PATHS_MOST as usize)?;
-        let shortcuts = no_shortcuts(alloc)?;
+        let cache = empty_cache(alloc)?;
         Ok(ShapeTree {
-            rows,
+            fields,
             nodes,
             steps,
-            shortcuts,
+            cache,
         })
     }
 
@@ -160,9 +158,9 @@ impl ShapeTree {
     pub fn copy_from(&mut self, other: &ShapeTree)
         ensures { self.new ≡ other.now }
     {
-        copy_items(&mut self.rows, &other.rows);
+        copy_items(&mut self.fields, &other.fields);
         copy_items(&mut self.nodes, &other.nodes);
         copy_steps(&mut self.steps, &other.steps);
-        copy_items(&mut self.shortcuts, &other.shortcuts);
+        copy_items(&mut self.cache, &other.cache);
     }
 }

@@ -4,7 +4,7 @@ ghost use Rattle.object_graph.specs.Paths.{prefix_of};
 ghost use Rattle.shape_tree.specs.Shapes.{IsPathShape, IsShapeOf, shape_path};
 ghost use Rattle.shape_tree.specs.Growth.{extended, IsMissing};
 
-use crate::shortcut::place_of;
+use crate::cached::cache_index;
 use crate::transition::Transition;
 use crate::tree::ShapeTree;
 use object_graph::PathField;
@@ -28,25 +28,24 @@ impl ShapeTree {
         ensures { let path = extended (shape_path self.now shape) (field ∷ []) in
             MatchOption result (IsMissing self.now path) (IsShapeOf self.now path) }
     {
-        let shortcut = self.shortcuts[place_of(shape, field)];
-        if shortcut.is_for(shape, field) {
-            return Some(shortcut.shape);
+        let step = Transition {
+            parent: shape,
+            field,
+        };
+        let cached = self.cache[cache_index(step)];
+        if cached.is_for(step) {
+            return Some(cached.shape);
         }
-        self.look_up(shape, field)
+        self.look_up(step)
     }
 
     /// The same by the table of transitions. It hashes, so it is kept out of line.
     #[inline(never)]
-    fn look_up(&self, shape: u32, field: PathField) -> Option<u32>
-        requires { IsPathShape self.now shape }
-        ensures { let path = extended (shape_path self.now shape) (field ∷ []) in
+    fn look_up(&self, step: Transition) -> Option<u32>
+        requires { IsPathShape self.now step.parent }
+        ensures { let path = extended (shape_path self.now step.parent) (step.field ∷ []) in
             MatchOption result (IsMissing self.now path) (IsShapeOf self.now path) }
     {
-        let step = Transition {
-            parent: shape,
-            name: field.name,
-            rep: field.rep,
-        };
         self.steps.get(&step).copied()
     }
 

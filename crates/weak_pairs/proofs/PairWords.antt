@@ -11,9 +11,9 @@ use Rattle.heap_model.specs.Slots.{RefersTo}
 use Rattle.heap_model.specs.Kinds.{HasWord, Pair, pairs_in, HasTable}
 use Rattle.heap_model.specs.Wholeness.{HasSlotAt}
 use Rattle.heap_model.proofs.WordClasses.{undefined_refers_not}
-use Rattle.heap_model.proofs.CellsApart.{one_words}
+use Rattle.heap_model.proofs.CellsApart.{IsOfCell, one_words}
 use Rattle.heap_model.proofs.NewKeys.{one_table}
-use Rattle.heap_model.proofs.CellWords.{slice_get-drop, words_by_kind, slots_by_kind, slots_of_kind, behind_head}
+use Rattle.heap_model.proofs.CellWords.{slice_get-drop, words_are_size, words_by_kind, slots_by_kind, slots_of_kind, behind_head}
 use Rattle.heap_model.proofs.CellWords.{behind_head_few}
 use Rattle.heap_model.proofs.ObjectSlots.{pair_words}
 use Rattle.heap_model.proofs.SlotWords.{same_target}
@@ -107,6 +107,8 @@ pub record ValueSlot (heap : Heap) (cell : Cell) (words : List ℕ) (at word : �
   pub place : ℕ
   pub stands : IsValueAt heap words at place
   pub slot : HasSlotAt heap cell words place word
+  pub of_kind : stands.other.layout.kind ≡ kind.Table
+  pub of_table : IsOfCell stands.other place
 
 -- each pair of a table has one
 value_in : {heap : Heap} {cell : Cell} {words : List ℕ} {pairs : List Pair} (store at : ℕ) (pair : Pair)
@@ -124,6 +126,11 @@ value_in store at pair slot (HasTable.table to other others refers of_kind power
       stands = record { store = store; slot = slot; other = other; others = others; refers = refers; is = refl };
       slot = HasSlotAt.beside store other others (store_head + k) pair.value slot refers
           (slots_by_kind other kind.Table (store_head + k) of_kind among) (behind_head others k pair.value value);
+      of_kind = of_kind;
+      of_table = record {
+        from = omega arith;
+        below = omega (arith, few, words_by_kind kind.Table refers.has of_kind, words_are_size refers.has);
+      };
     }
 
 -- each pair of a weak map has one

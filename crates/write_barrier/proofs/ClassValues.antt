@@ -1,22 +1,27 @@
 -- What the class of a word stands for.
-use Rattle.std.proofs.Common.{◌≡◌, ℕ, ◌<◌, ◌^◌, None, ℤ, IsTrue, sym, ◌∙◌}
-use Rattle.std.proofs.lemmas.Option.{none-some}
+use Rattle.std.proofs.Common.{◌≡◌, ap, sym, ◌∙◌, arith, IsTrue}
+use Rattle.std.specs.Prelude.{ℤ, FitsSigned, pos, negsuc, Option, Some}
+use Rattle.std.specs.Int.{w32, w64, cast_signed, cast_unsigned}
+use Rattle.std.proofs.lemmas.Int.{to_z-of_z}
+use Rattle.std.proofs.lemmas.Option.{same_Some}
 use Rattle.tagged_word.specs.declared.word.Class.{Class}
-use Rattle.tagged_word.specs.declared.word.Class.TheVariants.{Small, Ref as Reference, Odd}
-use Rattle.tagged_word.specs.Words.{small, IsClass, bits_of}
-use Rattle.tagged_word.specs.Readings.{reference_in}
-use Rattle.tagged_word.proofs.Readings.{reference_to}
-use Rattle.handle_roots.specs.declared.held.Held.{Held}
-use Rattle.handle_roots.specs.declared.held.Held.TheVariants.{Undefined, Int}
+use Rattle.tagged_word.specs.Words.{small}
 use Rattle.heap_model.specs.Heaps.{Heap}
 use Rattle.write_barrier.specs.Values.{held_of_class}
 
--- what a word that is no reference stands for, by its class
-pub value_by_class : (heap : Heap) (word : ℕ) (result : Held) (class : Class) → reference_in word ≡ None
-    → ((v : ℤ) → IsTrue (small v) → word ≡ bits_of (Small v) → result ≡ Int v)
-    → ((code : ℕ) → code < 2 ^ 32 → word ≡ bits_of (Odd code) → result ≡ Undefined) → IsClass class
-    → word ≡ bits_of class → result ≡ held_of_class heap class
-value_by_class heap word result (Small v) none as_small as_odd is bits = as_small v is bits
-value_by_class heap word result (Odd code) none as_small as_odd is bits = as_odd code is bits
-value_by_class heap word result (Reference at) none as_small as_odd is bits =
-    absurd (none-some at (sym none ∙ reference_to word at is bits))
+-- a word's class stands for what the class stands for that was read of it
+pub held_by_class : {found : Option Class} (heap : Heap) (read class : Class) → found ≡ Some read
+    → found ≡ Some class → held_of_class heap read ≡ held_of_class heap class
+held_by_class heap read class is sought = ap (held_of_class heap) (same_Some read class (sym is ∙ sought))
+
+-- a small integer has 32 bits and 64
+small_fits : (v : ℤ) → IsTrue (small v) → FitsSigned w32 v × FitsSigned w64 v
+small_fits (pos n) is = (grind (arith), grind (arith))
+small_fits (negsuc n) is = (grind (arith), grind (arith))
+
+-- a small integer is read back through both
+pub small_back : (v : ℤ) → IsTrue (small v)
+    → cast_signed w64 (cast_unsigned w64 (cast_signed w32 (cast_unsigned w32 v))) ≡ v
+small_back v is =
+    let fits = small_fits v is in
+    ap (λ n. cast_signed w64 (cast_unsigned w64 n)) (to_z-of_z w32 v fits.0) ∙ to_z-of_z w64 v fits.1

@@ -1,7 +1,7 @@
 //! The words of slots, and the values that they stand for.
-ghost use Rattle.std.specs.Prelude.{◌≡◌, ℕ, ℤ, ◌+◌, ◌<◌, ◌^◌, Some, IsTrue};
+ghost use Rattle.std.specs.Prelude.{◌≡◌, ℕ, ◌+◌, ◌<◌, Some};
 ghost use Rattle.tagged_word.specs.declared.word.Class.{Class};
-ghost use Rattle.tagged_word.specs.Words.{small, IsClass, bits_of};
+ghost use Rattle.tagged_word.specs.Words.{IsClass, bits_of};
 ghost use Rattle.tagged_word.specs.Readings.{reference_in};
 ghost use Rattle.page_space.specs.Extents.{marks_start};
 ghost use Rattle.heap_table.specs.declared.phase.Phase.TheVariants.{Quiet};
@@ -29,6 +29,7 @@ impl Main {
 
     /// What the word of a slot stands for: the integer in a box where it refers to one, and where
     /// it is a hole, `undefined`.
+    #[inline(always)]
     pub fn value_of_word(&self, word: Word) -> Held
         requires quiet { self.now.seat.phase ≡ Quiet }
         requires within { (at : ℕ) → reference_in word.0 ≡ Some at
@@ -36,9 +37,11 @@ impl Main {
         ensures { (class : Class) → IsClass class → word.0 ≡ bits_of class
             → result ≡ values.held_of_class (heap_of self.now) class }
     {
-        match word.address() {
-            Some(at) => self.value_at(at),
-            None => value_in(word),
+        match word.class() {
+            Some(Class::Small(v)) => Held::Int(v as i64),
+            Some(Class::Ref(at)) => self.value_at(at),
+            Some(Class::Odd(_)) => Held::Undefined,
+            None => Held::Undefined,
         }
     }
 
@@ -55,6 +58,7 @@ impl Main {
     }
 
     // What a reference to an address stands for.
+    #[inline(never)]
     fn value_at(&self, at: u32) -> Held
         requires quiet { self.now.seat.phase ≡ Quiet }
         requires within { at + 1 < marks_start self.now.seat.space }
@@ -66,30 +70,5 @@ impl Main {
         } else {
             Held::Ref(at)
         }
-    }
-}
-
-// What a word that is no reference stands for.
-fn value_in(word: Word) -> Held
-    ensures small { (v : ℤ) → IsTrue (small v) → word.0 ≡ bits_of (Class.Small v)
-        → result ≡ Held.Int v }
-    ensures odd { (code : ℕ) → code < 2 ^ 32 → word.0 ≡ bits_of (Class.Odd code)
-        → result ≡ Held.Undefined }
-{
-    match word.class() {
-        Some(class) => value_of_class(class),
-        None => Held::Undefined,
-    }
-}
-
-// What a class that is no reference stands for.
-fn value_of_class(class: Class) -> Held
-    ensures small { (v : ℤ) → class ≡ Class.Small v → result ≡ Held.Int v }
-    ensures odd { (code : ℕ) → class ≡ Class.Odd code → result ≡ Held.Undefined }
-{
-    match class {
-        Class::Small(v) => Held::Int(v as i64),
-        Class::Ref(_) => Held::Undefined,
-        Class::Odd(_) => Held::Undefined,
     }
 }

@@ -13,10 +13,9 @@ returns c graph weak number what shows is is_key held is_table counted comes fre
     let fits : FitsHeld c.args.value = search rules in
     let ends = ends_free shows is is_key held (held_is_value c.args.value what shows fits held.shows)
     c.addresses_fit.ensures.within is_table (comes, free) counted c.requires.few c.requires.half in
-    let stay = c.laws_of_tables.ensures.stay in
     record {
-      entry = free_key_put ends c.in_ok-put_in_table.ensures.ok stay c.laws_of_entries.ensures.show;
-      pairs = has_put_pair (free_key_pair ends c.in_ok-put_in_table.ensures.ok stay) c.laws_of_values.ensures;
+      entry = free_key_put ends c.in_ok-put_in_table.ensures.ok c.laws_of_entries.ensures.show;
+      pairs = has_put_pair (free_key_pair ends c.in_ok-put_in_table.ensures.ok) c.laws_of_values.ensures;
     }
 
 pub returns-in_err-put_in_table : goal.returns-in_err-put_in_table

@@ -34,10 +34,9 @@ returns c graph weak number what shows is is_key held fresh =
     let fits : FitsHeld c.args.value = search rules in
     let puts = subst (λ n. PutsInNewTable c.args.main.now c.put_in_new_table.new.main c.args.map c.args.table c.args.key
     (n + 1) c.args.value) (sym c.requires.counted) c.in_ok-put_in_new_table.ensures.ok in
-    let grow = c.laws_of_tables.ensures.grow in
     record {
-      entry = grown_entry growing fits held puts grow c.laws_of_entries.ensures.show;
-      pairs = has_put_pair (grown_pair growing fits held puts grow) c.laws_of_values.ensures;
+      entry = grown_entry growing fits held puts c.laws_of_entries.ensures.show;
+      pairs = has_put_pair (grown_pair growing fits held puts) c.laws_of_values.ensures;
     }
 
 pub returns-in_err-put_in_new_table : goal.returns-in_err-put_in_new_table

@@ -46,4 +46,4 @@ returns c before has =
     let known = known_map c.table_of-table.result c.requires.whole c.requires.tied
     c.addresses_fit.ensures.within there.2 c.table_of-table.ensures in
     removes_pair known before has there.2 there.3 c.remove_pair.ensures c.requires.whole.quiet
-    c.laws_of_pairs.ensures.own c.laws_of_tables.ensures.stay
+    c.laws_of_pairs.ensures.own

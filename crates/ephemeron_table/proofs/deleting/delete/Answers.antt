@@ -64,11 +64,11 @@ returns-in-Key c =
           let has = entry_pair table place shows is is_key sizes is_table within key_read in
           let deleting : IsDeleting c.args.main.now c.remove_pair.new.main graph c.args.map c.args.key weak number place
           table = record { has = has; takes = c.remove_pair.ensures } in
-          deletes_entry deleting c.laws_of_tables.ensures.stay c.laws_of_entries.ensures.show;
+          deletes_entry deleting c.laws_of_entries.ensures.show;
       pairs = λ before has_pairs.
           let told = key_told table place (weak_shown asked.shows asked.is) asked.is_key is_table within key_read in
           deletes_pair asked.shows asked.is asked.is_key sizes is_table told has_pairs c.remove_pair.ensures
-          c.laws_of_pairs.ensures.own c.laws_of_tables.ensures.stay;
+          c.laws_of_pairs.ensures.own;
     }
 
 -- where no entry has the key, nothing changes

@@ -12,11 +12,10 @@ returns c map key graph weak number what shows is is_key held is_table read =
     let fits : FitsHeld c.args.value = search rules in
     let has = entry_pair c.args.table c.args.place shows is is_key c.addresses_fit.ensures.within is_table
     c.requires.place read in
-    let stay = c.laws_of_tables.ensures.stay in
     record {
-      entry = has_put_value c.args.value what has fits held stay c.laws_of_entries.ensures.show c.in_ok-put_value.ensures;
+      entry = has_put_value c.args.value what has fits held c.laws_of_entries.ensures.show c.in_ok-put_value.ensures;
       pairs = has_put_pair
-          (puts_value_pair c.args.value what has fits held stay c.in_ok-put_value.ensures) c.laws_of_values.ensures;
+          (puts_value_pair c.args.value what has fits held c.in_ok-put_value.ensures) c.laws_of_values.ensures;
     }
 
 pub returns-in_err-put_value : goal.returns-in_err-put_value

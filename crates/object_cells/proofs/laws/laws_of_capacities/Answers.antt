@@ -1,5 +1,5 @@
 -- The laws, as they were proved.
-use Rattle.object_cells.proofs.KeptCapacities.{capacities_stay, capacities_grow}
+use Rattle.object_cells.proofs.OwnCapacities.{capacities_stay, capacities_grow}
 use Rattle.object_cells.proofs.laws.laws_of_capacities.Goals as goal
 
 pub returns : goal.returns

@@ -1,65 +1,150 @@
-use Rattle.std.proofs.Common.{◌≡◌, ◌/◌, ◌<◌, ◌≤◌, get_or, set, length, true, false, arith, ap, subst, refl, ◌∙◌, ◌*◌}
-use Rattle.std.proofs.lemmas.List.{length-set}
+use Rattle.std.proofs.Common.{◌≡◌, ◌*◌, ◌/◌, ◌<◌, ◌≤◌, get_or, set, length, true, false, arith, ap, subst, sym, ◌∙◌}
+use Rattle.std.proofs.lemmas.Bool.{false≢true}
+use Rattle.std.proofs.lemmas.List.{with_items_is, length-set}
 use Rattle.page_space.specs.Sizes.{page_words, pages_most}
+use Rattle.remembered_set.specs.Bits.{flags_of}
 use Rattle.remembered_set.specs.Recorded.{Recorded, IsRecorded}
 use Rattle.remembered_set.specs.Kept.{shown}
 use Rattle.remembered_set.proofs.Slots.{is_recorded}
 use Rattle.remembered_set.proofs.Ascending.{is_noted}
-use Rattle.remembered_set.proofs.Shown.{has_noted, has_noted_again}
+use Rattle.remembered_set.proofs.Shown.{has_noted}
+use Rattle.remembered_set.proofs.Words.{length-flags_of}
 use Rattle.remembered_set.proofs.Pages.{read_there, count_within, counted_note}
+use Rattle.remembered_set.proofs.Bounds.{flags_long, bound_is, as_many_words, counted_again, not_false}
 use Rattle.remembered_set.proofs.Remembered.note.Goals as goal
+use Rattle.remembered_set.proofs.Remembered.note.Goals.{Then-note, Else-note}
 
-pub returns-then-index-clause-recorded : goal.returns-then-index-clause-recorded
-returns-then-index-clause-recorded c =
-    rw (← c.self.view_is) (has_noted_again c.self.inside.flags.items c.args.slot
-    (read_there c.self.inside.flags.items c.args.slot true false
-    (omega (arith, ap (λ (recorded : Recorded). recorded.bound) c.self.view_is))
-    (rw c.if-index.true at c.index.ensures)))
+pub note-requires : goal.note-requires
+note-requires c =
+    omega (
+      arith,
+      c.deref_mut.ensures.len,
+      c.requires,
+      bound_is c.self.inside c.args.self.now c.self.view_is c.self.invariant,
+      c.self.invariant.pages,
+    )
 
-pub returns-then-index-clause-value : goal.returns-then-index-clause-value
-returns-then-index-clause-value c =
-    let was : IsRecorded c.args.self.now = subst IsRecorded c.self.view_is c.self.invariant.recorded in
-    is_noted c.args.self.now c.args.self.now c.args.slot was was refl (returns-then-index-clause-recorded c)
+pub index_mut-requires : goal.index_mut-requires
+index_mut-requires c = omega (arith, c.requires, bound_is c.self.inside c.args.self.now c.self.view_is c.self.invariant)
 
 pub overflow_add-index_mut : goal.overflow_add-index_mut
 overflow_add-index_mut c =
     let page = c.args.slot / page_words in
-    let below : c.args.slot < length c.self.inside.flags.items =
-    omega (arith, ap (λ (recorded : Recorded). recorded.bound) c.self.view_is) in
+    let flags = flags_of c.self.inside.bits.items in
+    let below : page < length c.self.inside.counts.items =
+    omega (arith, c.requires, bound_is c.self.inside c.args.self.now c.self.view_is c.self.invariant) in
     let few : get_or c.self.inside.counts.items page 0 ≤ page_words =
-    count_within c.self.inside.flags.items c.self.inside.counts.items page c.self.invariant.counted (omega arith) in
-    let read : get_or c.self.inside.counts.items page 0 ≡ c.index_mut-2.result.now =
-    read_there c.self.inside.counts.items page c.index_mut-2.result.now 0 (omega arith) c.index_mut-2.ensures.value in
+    count_within flags c.self.inside.counts.items page c.self.invariant.counted below in
+    let read : get_or c.self.inside.counts.items page 0 ≡ c.index_mut.result.now =
+    read_there c.self.inside.counts.items page c.index_mut.result.now 0 below c.index_mut.ensures.value in
     omega arith
 
 pub invariant_of-self : goal.invariant_of-self
 invariant_of-self c =
     let page = c.args.slot / page_words in
-    let below : c.args.slot < length c.self.inside.flags.items =
-    omega (arith, ap (λ (recorded : Recorded). recorded.bound) c.self.view_is) in
-    let inside : page < length c.self.inside.counts.items = omega arith in
-    let was : get_or c.self.inside.flags.items c.args.slot false ≡ false =
-    read_there c.self.inside.flags.items c.args.slot false false below (rw c.if-index.false at c.index.ensures) in
-    let read : get_or c.self.inside.counts.items page 0 ≡ c.index_mut-2.result.now =
-    read_there c.self.inside.counts.items page c.index_mut-2.result.now 0 inside c.index_mut-2.ensures.value in
+    let bits = c.self.inside.bits.items in
+    let flags = flags_of bits in
+    let bound = bound_is c.self.inside c.args.self.now c.self.view_is c.self.invariant in
+    let all_flags : length flags ≡ page_words * length c.self.inside.counts.items =
+    flags_long bits c.self.inside.counts.items c.self.invariant.pages in
+    let below : c.args.slot < length flags = omega (arith, c.requires, bound, all_flags) in
+    let inside : page < length c.self.inside.counts.items = omega (arith, c.requires, bound) in
+    let is : flags_of c.note.new.bits ≡ set flags c.args.slot true =
+    rw c.deref_mut.ensures.value at c.note.ensures.is_set in
+    let long : length c.note.new.bits ≡ length bits = as_many_words bits c.note.new.bits c.args.slot true is in
+    let items = with_items_is c.self.inside.bits c.note.new.bits (omega arith) in
+    let was : get_or flags c.args.slot false ≡ false =
+    rw c.deref_mut.ensures.value at (c.note.ensures.was_clear.0 c.if-note.true) in
+    let read : get_or c.self.inside.counts.items page 0 ≡ c.index_mut.result.now =
+    read_there c.self.inside.counts.items page c.index_mut.result.now 0 inside c.index_mut.ensures.value in
+    let within : length (flags_of c.note.new.bits) ≤ page_words * pages_most =
+    omega (arith, long, length-flags_of c.note.new.bits, length-flags_of bits, c.self.invariant.recorded.within) in
     record {
-      recorded = is_recorded _ (rw length-set c.self.invariant.recorded.within);
-      pages = simp length-set c.self.invariant.pages;
-      counted = rw (← read) (counted_note c.self.inside.flags.items c.self.inside.counts.items c.args.slot page
+      recorded = rw items (is_recorded (flags_of c.note.new.bits) within);
+      pages = rw (items, length-set) (omega (arith, long, c.self.invariant.pages));
+      counted = rw (items, is, ← read) (counted_note flags c.self.inside.counts.items c.args.slot page
           (omega arith) (omega arith) below inside was c.self.invariant.counted);
     }
 
-pub returns-clause-recorded : goal.returns-clause-recorded
-returns-clause-recorded c =
-    rw (← c.self.view_is) (has_noted c.self.inside.flags.items c.args.slot
-    (omega (arith, ap (λ (recorded : Recorded). recorded.bound) c.self.view_is)))
+pub invariant_of-self-else-note : goal.invariant_of-self-else-note
+invariant_of-self-else-note c =
+    let bits = c.self.inside.bits.items in
+    let flags = flags_of bits in
+    let bound = bound_is c.self.inside c.args.self.now c.self.view_is c.self.invariant in
+    let all_flags : length flags ≡ page_words * length c.self.inside.counts.items =
+    flags_long bits c.self.inside.counts.items c.self.invariant.pages in
+    let below : c.args.slot < length flags = omega (arith, c.requires, bound, all_flags) in
+    let is : flags_of c.note.new.bits ≡ set flags c.args.slot true =
+    rw c.deref_mut.ensures.value at c.note.ensures.is_set in
+    let long : length c.note.new.bits ≡ length bits = as_many_words bits c.note.new.bits c.args.slot true is in
+    let items = with_items_is c.self.inside.bits c.note.new.bits (omega arith) in
+    let read : get_or (flags_of c.deref_mut.result.now) c.args.slot false ≡ true =
+    not_false (get_or (flags_of c.deref_mut.result.now) c.args.slot false)
+    (λ clear. false≢true (sym c.if-note.false ∙ c.note.ensures.was_clear.1 clear)) in
+    let was : get_or flags c.args.slot false ≡ true = rw c.deref_mut.ensures.value at read in
+    let within : length (flags_of c.note.new.bits) ≤ page_words * pages_most =
+    omega (arith, long, length-flags_of c.note.new.bits, length-flags_of bits, c.self.invariant.recorded.within) in
+    record {
+      recorded = rw items (is_recorded (flags_of c.note.new.bits) within);
+      pages = rw items (omega (arith, long, c.self.invariant.pages));
+      counted = rw (items, is) (counted_again flags c.self.inside.counts.items c.args.slot was below
+          c.self.invariant.counted);
+    }
 
-pub returns-clause-value : goal.returns-clause-value
-returns-clause-value c =
-    let flags = set c.self.inside.flags.items c.args.slot true in
+pub returns-then-note-clause-recorded : goal.returns-then-note-clause-recorded
+returns-then-note-clause-recorded c =
+    let bits = c.self.inside.bits.items in
+    let bound = bound_is c.self.inside c.args.self.now c.self.view_is c.self.invariant in
+    let all_flags = flags_long bits c.self.inside.counts.items c.self.invariant.pages in
+    let is : flags_of c.note.new.bits ≡ set (flags_of bits) c.args.slot true =
+    rw c.deref_mut.ensures.value at c.note.ensures.is_set in
+    let long : length c.note.new.bits ≡ length bits = as_many_words bits c.note.new.bits c.args.slot true is in
+    let items = with_items_is c.self.inside.bits c.note.new.bits (omega arith) in
+    rw (items, is, ← c.self.view_is)
+    (has_noted (flags_of bits) c.args.slot (omega (arith, c.requires, bound, all_flags)))
+
+pub returns-then-note-clause-value : goal.returns-then-note-clause-value
+returns-then-note-clause-value c =
+    let bits = c.self.inside.bits.items in
+    let now = c.note.new.bits in
     let was : IsRecorded c.args.self.now = subst IsRecorded c.self.view_is c.self.invariant.recorded in
-    let bound : length flags ≡ c.args.self.now.bound =
-    length-set c.self.inside.flags.items c.args.slot true
-    ∙ ap (λ (recorded : Recorded). recorded.bound) c.self.view_is in
-    let within : length flags ≤ page_words * pages_most = omega (arith, bound, was.within) in
-    is_noted c.args.self.now (shown flags) c.args.slot was (is_recorded flags within) bound (returns-clause-recorded c)
+    let is : flags_of now ≡ set (flags_of bits) c.args.slot true =
+    rw c.deref_mut.ensures.value at c.note.ensures.is_set in
+    let long : length now ≡ length bits = as_many_words bits now c.args.slot true is in
+    let items = with_items_is c.self.inside.bits now (omega arith) in
+    let as_many : length (flags_of now) ≡ length (flags_of bits) =
+    omega (arith, long, length-flags_of now, length-flags_of bits) in
+    let within : length (flags_of now) ≤ page_words * pages_most =
+    omega (arith, as_many, c.self.invariant.recorded.within) in
+    rw items (is_noted c.args.self.now (shown (flags_of now)) c.args.slot was (is_recorded (flags_of now) within)
+    (as_many ∙ ap (λ (recorded : Recorded). recorded.bound) c.self.view_is)
+    (rw items at (returns-then-note-clause-recorded c)))
+
+pub returns-else-note-clause-recorded : goal.returns-else-note-clause-recorded
+returns-else-note-clause-recorded c =
+    let bits = c.self.inside.bits.items in
+    let bound = bound_is c.self.inside c.args.self.now c.self.view_is c.self.invariant in
+    let all_flags = flags_long bits c.self.inside.counts.items c.self.invariant.pages in
+    let is : flags_of c.note.new.bits ≡ set (flags_of bits) c.args.slot true =
+    rw c.deref_mut.ensures.value at c.note.ensures.is_set in
+    let long : length c.note.new.bits ≡ length bits = as_many_words bits c.note.new.bits c.args.slot true is in
+    let items = with_items_is c.self.inside.bits c.note.new.bits (omega arith) in
+    rw (items, is, ← c.self.view_is)
+    (has_noted (flags_of bits) c.args.slot (omega (arith, c.requires, bound, all_flags)))
+
+pub returns-else-note-clause-value : goal.returns-else-note-clause-value
+returns-else-note-clause-value c =
+    let bits = c.self.inside.bits.items in
+    let now = c.note.new.bits in
+    let was : IsRecorded c.args.self.now = subst IsRecorded c.self.view_is c.self.invariant.recorded in
+    let is : flags_of now ≡ set (flags_of bits) c.args.slot true =
+    rw c.deref_mut.ensures.value at c.note.ensures.is_set in
+    let long : length now ≡ length bits = as_many_words bits now c.args.slot true is in
+    let items = with_items_is c.self.inside.bits now (omega arith) in
+    let as_many : length (flags_of now) ≡ length (flags_of bits) =
+    omega (arith, long, length-flags_of now, length-flags_of bits) in
+    let within : length (flags_of now) ≤ page_words * pages_most =
+    omega (arith, as_many, c.self.invariant.recorded.within) in
+    rw items (is_noted c.args.self.now (shown (flags_of now)) c.args.slot was (is_recorded (flags_of now) within)
+    (as_many ∙ ap (λ (recorded : Recorded). recorded.bound) c.self.view_is)
+    (rw items at (returns-else-note-clause-recorded c)))

@@ -10,7 +10,7 @@ use Rattle.shape_tree.specs.Growth.{extended}
 use Rattle.shape_tree.specs.Nodes.{same_transition, transition_by, path_at}
 use Rattle.shape_tree.specs.Trees.{HasRoom, paths_of}
 use Rattle.shape_tree.proofs.HeldNodes.{IsNodeOf-shown, IsNode-at, length-path_at, length-paths_in}
-use Rattle.shape_tree.proofs.GrownNodes.{IsGrown, length-row}
+use Rattle.shape_tree.proofs.GrownNodes.{IsGrown, length-grown_fields}
 use Rattle.shape_tree.proofs.GrownTrees.{Became, more_shown}
 use Rattle.shape_tree.proofs.SoughtSteps.{nothing_shown}
 use Rattle.shape_tree.specs.declared.transition.Transition.{Transition}
@@ -27,16 +27,16 @@ layout_with-layout-requires-clause-few c =
     raw-lt path node.layout node.count is.layout is.count
 
 -- the tree as it is then
-abbrev new_tree : goal.After-put_shortcut → Inside
+abbrev new_tree : goal.After-put_cached → Inside
 new_tree c = record {
-  rows = c.push_row.new.rows;
+  fields = c.push_fields.new.fields;
   nodes = c.push_reserved.new.self;
   steps = c.put_step.new.steps;
-  shortcuts = c.put_shortcut.new.shortcuts;
+  cache = c.put_cached.new.cache;
 }
 
 -- its new node
-abbrev new_node : goal.After-put_shortcut → Node
+abbrev new_node : goal.After-put_cached → Node
 new_node c =
     record {
       cap = c.index-node.result.now.cap;
@@ -47,27 +47,27 @@ new_node c =
     }
 
 -- the new node is that of the path with the field more
-node_is : (c : goal.After-put_shortcut)
-    → IsGrown c.self.inside.rows.items c.index-node.result.now c.args.parent c.args.field (new_node c)
+node_is : (c : goal.After-put_cached)
+    → IsGrown c.self.inside.fields.items c.index-node.result.now c.args.parent c.args.field (new_node c)
 node_is c =
-    let rows = c.self.inside.rows.items in
+    let fields = c.self.inside.fields.items in
     let node = c.index-node.result.now in
     let starts = subst (λ paths. IsPathShape paths c.args.parent) (sym c.self.view_is) c.requires.path in
     let is =
-    IsNode-at rows c.self.inside.nodes.items c.args.parent node starts c.self.invariant.each c.index-node.ensures in
+    IsNode-at fields c.self.inside.nodes.items c.args.parent node starts c.self.invariant.each c.index-node.ensures in
     let made = c.layout_with-layout.ensures in
     record {
       cap = refl;
-      start = c.len-start.ensures ∙ c.self.inside.rows.ok.0;
+      start = c.len-start.ensures ∙ c.self.inside.fields.ok.0;
       count = refl;
       above = refl;
       layout =
-          layout_of-grown (path_at rows node) c.args.field node.layout c.layout_with-layout.result node.count is.layout
-          (sym (length-path_at rows node is.within)) made.full made.more;
+          layout_of-grown (path_at fields node) c.args.field node.layout c.layout_with-layout.result node.count
+          is.layout (sym (length-path_at fields node is.within)) made.full made.more;
     }
 
 -- there is room left
-has_room : (c : goal.After-put_shortcut) → HasRoom (new_tree c)
+has_room : (c : goal.After-put_cached) → HasRoom (new_tree c)
 has_room c =
     let tree = c.self.inside in
     let node = c.index-node.result.now in
@@ -75,42 +75,42 @@ has_room c =
     let is = IsNodeOf-shown tree c.args.self.now c.args.parent node c.self.invariant c.self.view_is c.requires.path
     c.index-node.ensures in
     let starts = subst (λ paths. IsPathShape paths c.args.parent) (sym c.self.view_is) c.requires.path in
-    let within = (IsNode-at tree.rows.items tree.nodes.items c.args.parent node starts c.self.invariant.each
+    let within = (IsNode-at tree.fields.items tree.nodes.items c.args.parent node starts c.self.invariant.each
     c.index-node.ensures).within in
-    let row = take node.count (drop node.start tree.rows.items) ++ c.args.field ∷ [] in
+    let own = take node.count (drop node.start tree.fields.items) ++ c.args.field ∷ [] in
     let short = length-append (shape_path c.args.self.now c.args.parent).fields (c.args.field ∷ []) in
-    let rows : length c.push_row.new.rows.items ≡ length tree.rows.items + (node.count + 1) =
-    ap length c.push_row.ensures.pushed ∙ length-append tree.rows.items row
-    ∙ ap (λ n. length tree.rows.items + n) (length-row tree.rows.items node c.args.field within) in
+    let fields : length c.push_fields.new.fields.items ≡ length tree.fields.items + (node.count + 1) =
+    ap length c.push_fields.ensures.pushed ∙ length-append tree.fields.items own
+    ∙ ap (λ n. length tree.fields.items + n) (length-grown_fields tree.fields.items node c.args.field within) in
     let nodes : length c.push_reserved.new.self.items ≡ length tree.nodes.items + 1 =
     ap length c.push_reserved.ensures.items ∙ length-append tree.nodes.items (new_node c ∷ []) in
     let steps = c.put_step.ensures.added
     (nothing_shown tree c.args.self.now c.args.parent c.args.field c.self.invariant
     c.self.view_is c.requires.missing) in
     record {
-      rows = omega (arith, before.rows, c.push_row.ensures.room);
+      fields = omega (arith, before.fields, c.push_fields.ensures.room);
       nodes = omega (arith, before.nodes, c.push_reserved.ensures.capacity);
       steps = omega (arith, before.steps, steps, c.put_step.ensures.room);
-      short = omega (arith, before.short, rows, nodes, is.count, c.requires.is.short, short);
+      short = omega (arith, before.short, fields, nodes, is.count, c.requires.is.short, short);
       few = omega (arith, before.few, steps, nodes);
     }
 
 -- the tree shows the paths with the new one
-became : (c : goal.After-put_shortcut)
+became : (c : goal.After-put_cached)
     → Became c.args.self.now (extended (shape_path c.args.self.now c.args.parent) (c.args.field ∷ [])) (new_tree c)
 became c =
     let tree = c.self.inside in
     let next : 8 + c.len.result ≡ first_path_shape + length (paths_of tree) =
-    omega (arith, c.len.ensures, tree.nodes.ok.0, length-paths_in tree.rows.items tree.nodes.items) in
+    omega (arith, c.len.ensures, tree.nodes.ok.0, length-paths_in tree.fields.items tree.nodes.items) in
     more_shown tree (new_tree c) c.args.self.now c.args.parent c.args.field c.index-node.result.now (new_node c)
-    c.place_of.result (8 + c.len.result) c.self.invariant c.self.view_is
+    c.cache_index.result (8 + c.len.result) c.self.invariant c.self.view_is
     (record {
       at = c.index-node.ensures;
       node_is = node_is c;
-      rows = c.push_row.ensures.pushed;
+      fields = c.push_fields.ensures.pushed;
       nodes = c.push_reserved.ensures.items;
       comes = next;
-      shortcuts = c.put_shortcut.ensures;
+      cache = c.put_cached.ensures;
       steps = subst (λ (next : ℕ).
           (other : Transition)
           → get same_transition c.put_step.new.steps other

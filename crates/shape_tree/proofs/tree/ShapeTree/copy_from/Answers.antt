@@ -6,25 +6,26 @@ use Rattle.shape_tree.proofs.tree.ShapeTree.copy_from.Goals as goal
 pub invariant_of-self : goal.invariant_of-self
 invariant_of-self c =
     let other = c.other.inside in
-    let rows : c.copy_items.new.items.items ≡ other.rows.items = c.copy_items.ensures.copied ∙ c.deref.ensures.value in
+    let fields : c.copy_items.new.items.items ≡ other.fields.items =
+    c.copy_items.ensures.copied ∙ c.deref.ensures.value in
     let nodes : c.copy_items-2.new.items.items ≡ other.nodes.items =
     c.copy_items-2.ensures.copied ∙ c.deref-2.ensures.value in
-    let shortcuts : c.copy_items-3.new.items.items ≡ other.shortcuts.items =
+    let cache : c.copy_items-3.new.items.items ≡ other.cache.items =
     c.copy_items-3.ensures.copied ∙ c.deref-3.ensures.value in
-    let row_count = ap length rows in
+    let row_count = ap length fields in
     let node_count = ap length nodes in
     let own = c.self.invariant.room in
     let others = c.other.invariant.room in
     copied_tree other
     (record {
-      rows = c.copy_items.new.items;
+      fields = c.copy_items.new.items;
       nodes = c.copy_items-2.new.items;
       steps = c.copy_steps.new.steps;
-      shortcuts = c.copy_items-3.new.items;
+      cache = c.copy_items-3.new.items;
     })
-    c.other.invariant rows nodes c.copy_steps.ensures.copied shortcuts
+    c.other.invariant fields nodes c.copy_steps.ensures.copied cache
     (record {
-      rows = omega (arith, own.rows, c.copy_items.ensures.room);
+      fields = omega (arith, own.fields, c.copy_items.ensures.room);
       nodes = omega (arith, own.nodes, c.copy_items-2.ensures.room);
       steps = omega (arith, own.steps, c.copy_steps.ensures.room);
       short = omega (arith, others.short, row_count, node_count);

@@ -1,18 +1,18 @@
 -- The layout of a path's shape is that of its node.
-use Rattle.std.proofs.Common.{ap, sym, ◌∙◌, ◌≤◌, subst, arith}
+use Rattle.std.proofs.Common.{ap, sym, ◌∙◌, ◌≤◌, subst, arith, rules}
 use Rattle.tagged_word.specs.Layouts.{layout_bits, IsLayout}
 use Rattle.object_graph.specs.Invariants.{cap_most}
 use Rattle.shape_tree.specs.Shapes.{IsPathShape, shape_path}
 use Rattle.shape_tree.proofs.PathLayouts.{layout_word-path, IsLayout-path}
 use Rattle.shape_tree.proofs.tree.ShapeTree.layout.Goals as goal
 
-pub returns-else-shape-lt-FIRST-clause-word : goal.returns-else-shape-lt-FIRST-clause-word
-returns-else-shape-lt-FIRST-clause-word c =
-    let is : IsPathShape c.args.self.now c.args.shape = record { from = omega arith; below = c.requires.below } in
+pub returns-in-None-clause-word : goal.returns-in-None-clause-word
+returns-in-None-clause-word c =
+    let is : IsPathShape c.args.self.now c.args.shape = search (arith, rules) in
     ap layout_bits c.node.ensures.layout ∙ sym (layout_word-path c.args.self.now c.args.shape is)
 
-pub returns-else-shape-lt-FIRST-clause-is : goal.returns-else-shape-lt-FIRST-clause-is
-returns-else-shape-lt-FIRST-clause-is c =
+pub returns-in-None-clause-is : goal.returns-in-None-clause-is
+returns-in-None-clause-is c =
     let path = shape_path c.args.self.now c.args.shape in
     let capped : path.cap ≤ cap_most = omega (arith, c.node.ensures.cap, c.node.ensures.capped) in
     subst IsLayout (sym c.node.ensures.layout) (IsLayout-path path capped)

@@ -2,12 +2,10 @@
 use Rattle.std.proofs.Common.{sym}
 use Rattle.shape_tree.specs.Shapes.{shape_path}
 use Rattle.shape_tree.specs.Growth.{extended}
-use Rattle.shape_tree.proofs.GrownLists.{length-missing}
+use Rattle.shape_tree.proofs.GrownLists.{length-missing_walk}
 use Rattle.shape_tree.proofs.tree.ShapeTree.missing_along.Goals as goal
 
 pub returns : goal.returns
 returns c =
-    let walk = c.walk.result in
-    let found = c.walk.ensures in
-    sym (length-missing c.args.self.now (extended (shape_path c.args.self.now c.args.from) c.args.tail.now) walk.shape
-    walk.rest.now found.good.are found.at found.same found.fresh)
+    let path = extended (shape_path c.args.self.now c.args.from) c.args.tail.now in
+    sym (length-missing_walk c.args.self.now path c.walk.result c.walk.ensures)

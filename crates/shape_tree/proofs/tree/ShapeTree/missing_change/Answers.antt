@@ -12,25 +12,25 @@ pub returns-in_default : goal.returns-in_default
 returns-in_default c =
     let paths = c.args.self.now in
     let path = shape_path paths c.args.shape in
-    let row = c.row-row.result.now in
+    let slice = c.fields_of-fields.result.now in
     let at = c.args.at in
-    let behind = drop (at + 1) row in
+    let behind = drop (at + 1) slice in
     let good = subst AreShapes c.self.view_is c.self.invariant.shapes in
-    let whole = extended-changed_at path (shape_path paths c.ancestor.result) row at c.args.rep c.requires.there
-    c.ancestor.ensures.of_path c.row-row.ensures.row in
+    let whole = extended-changed_at path (shape_path paths c.ancestor.result) slice at c.args.rep c.requires.there
+    c.ancestor.ensures.of_path c.fields_of-fields.ensures.fields in
     let lacking : length (missing paths (changed path at c.args.rep))
-    ≡ length (changed_field row at c.args.rep ∷ fields_behind row at) =
+    ≡ length (changed_field slice at c.args.rep ∷ fields_behind slice at) =
     length-missing paths (changed path at c.args.rep) c.ancestor.result
-    (changed_field row at c.args.rep ∷ fields_behind row at) good.are c.ancestor.ensures.is_shape whole
+    (changed_field slice at c.args.rep ∷ fields_behind slice at) good.are c.ancestor.ensures.is_shape whole
     c.in_default.ensures in
-    let long = ap length c.row-row.ensures.row in
+    let long = ap length c.fields_of-fields.ensures.fields in
     omega (
       arith,
       lacking,
       long,
       c.requires.there,
-      length-take (length row - (at + 1)) behind,
-      length-drop (at + 1) row,
+      length-take (length slice - (at + 1)) behind,
+      length-drop (at + 1) slice,
     )
 
 pub missing_along-requires-clause-is : goal.missing_along-requires-clause-is
@@ -39,9 +39,9 @@ missing_along-requires-clause-is c =
     let path = shape_path paths c.args.shape in
     subst IsPath
     (sym (extended-changed_next path (shape_path paths c.ancestor.result) (shape_path paths c.in-Some.next)
-    c.row-row.result.now c.args.at c.args.rep c.requires.there c.ancestor.ensures.of_path c.row-row.ensures.row
-    c.in-Some.ensures.of_path))
-    (IsPath-changed path c.args.at c.args.rep c.row-row.ensures.is)
+    c.fields_of-fields.result.now c.args.at c.args.rep c.requires.there c.ancestor.ensures.of_path
+    c.fields_of-fields.ensures.fields c.in-Some.ensures.of_path))
+    (IsPath-changed path c.args.at c.args.rep c.fields_of-fields.ensures.is)
 
 pub returns : goal.returns
 returns c =
@@ -49,5 +49,5 @@ returns c =
     c.missing_along.ensures
     ∙ ap (λ path. length (missing paths path))
     (extended-changed_next (shape_path paths c.args.shape) (shape_path paths c.ancestor.result)
-    (shape_path paths c.in-Some.next) c.row-row.result.now c.args.at c.args.rep c.requires.there
-    c.ancestor.ensures.of_path c.row-row.ensures.row c.in-Some.ensures.of_path)
+    (shape_path paths c.in-Some.next) c.fields_of-fields.result.now c.args.at c.args.rep c.requires.there
+    c.ancestor.ensures.of_path c.fields_of-fields.ensures.fields c.in-Some.ensures.of_path)

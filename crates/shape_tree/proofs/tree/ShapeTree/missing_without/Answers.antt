@@ -11,14 +11,14 @@ missing_along-requires-clause-is c =
     let paths = c.args.self.now in
     let path = shape_path paths c.args.shape in
     subst IsPath
-    (sym (extended-without path (shape_path paths c.ancestor.result) c.row-row.result.now c.args.at
-    c.ancestor.ensures.of_path c.row-row.ensures.row))
-    (IsPath-without path c.args.at c.row-row.ensures.is)
+    (sym (extended-without path (shape_path paths c.ancestor.result) c.fields_of-fields.result.now c.args.at
+    c.ancestor.ensures.of_path c.fields_of-fields.ensures.fields))
+    (IsPath-without path c.args.at c.fields_of-fields.ensures.is)
 
 pub returns : goal.returns
 returns c =
     let paths = c.args.self.now in
     c.missing_along.ensures
     ∙ ap (λ path. length (missing paths path))
-    (extended-without (shape_path paths c.args.shape) (shape_path paths c.ancestor.result) c.row-row.result.now
-    c.args.at c.ancestor.ensures.of_path c.row-row.ensures.row)
+    (extended-without (shape_path paths c.args.shape) (shape_path paths c.ancestor.result) c.fields_of-fields.result.now
+    c.args.at c.ancestor.ensures.of_path c.fields_of-fields.ensures.fields)

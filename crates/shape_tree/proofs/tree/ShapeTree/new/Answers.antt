@@ -7,22 +7,22 @@ use Rattle.shape_tree.proofs.tree.ShapeTree.new.Goals as goal
 
 pub invariant_of-result : goal.invariant_of-result
 invariant_of-result c =
-    let rows = c.in_ok-rows.ensures in
+    let fields = c.in_ok-fields.ensures in
     let nodes = c.in_ok-nodes.ensures in
     let steps = c.in_ok-steps.ensures in
     let long : length c.in_ok-nodes.nodes.items ≡ 9 =
     ap length nodes.roots ∙ length-map-range_with_len root_node_of 0 9 in
-    let no_rows : length c.in_ok-rows.rows.items ≡ 0 = ap length rows.items in
+    let no_rows : length c.in_ok-fields.fields.items ≡ 0 = ap length fields.items in
     let no_steps : length c.in_ok-steps.steps.entries ≡ 0 = ap length steps.empty in
     first_tree (record {
-      rows = c.in_ok-rows.rows;
+      fields = c.in_ok-fields.fields;
       nodes = c.in_ok-nodes.nodes;
       steps = c.in_ok-steps.steps;
-      shortcuts = c.in_ok-shortcuts.shortcuts;
-    }) rows.items
-    nodes.roots steps.empty c.in_ok-shortcuts.ensures
+      cache = c.in_ok-cache.cache;
+    }) fields.items
+    nodes.roots steps.empty c.in_ok-cache.ensures
     (record {
-      rows = omega (arith, rows.exact);
+      fields = omega (arith, fields.exact);
       nodes = omega (arith, nodes.room);
       steps = omega (arith, steps.spare, no_steps);
       short = omega (arith, no_rows);

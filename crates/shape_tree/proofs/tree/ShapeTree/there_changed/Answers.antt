@@ -10,6 +10,6 @@ returns c =
     let led = c.in_ok-next.ensures in
     subst (λ path. IfSome c.there_along.result (IsShapeOf paths path))
     (extended-changed_next (shape_path paths c.args.shape) (shape_path paths c.ancestor.result)
-    (shape_path paths c.in_ok-next.next) c.row-row.result.now c.args.at c.args.rep c.requires.there
-    c.ancestor.ensures.of_path c.row-row.ensures.row led.of_path)
+    (shape_path paths c.in_ok-next.next) c.fields_of-fields.result.now c.args.at c.args.rep c.requires.there
+    c.ancestor.ensures.of_path c.fields_of-fields.ensures.fields led.of_path)
     c.there_along.ensures

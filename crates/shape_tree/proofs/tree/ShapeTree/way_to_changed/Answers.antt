@@ -13,7 +13,7 @@ returns c =
     let path = shape_path c.args.self.now c.args.shape in
     let at = c.args.at in
     let kept : c.of-tail.result ≡ drop at path.fields =
-    c.of-tail.ensures ∙ take_rest c.row.result.now at ∙ ap (drop at) c.row.ensures.row in
+    c.of-tail.ensures ∙ take_rest c.fields_of.result.now at ∙ ap (drop at) c.fields_of.ensures.fields in
     let tail : c.set_rep.new.self ≡ changed_fields (drop at path.fields) 0 c.args.rep =
     c.set_rep.ensures ∙ ap (λ fields. changed_fields fields 0 c.args.rep) kept in
     record {
@@ -21,5 +21,5 @@ returns c =
       same = ap (λ (p : Path). extended p c.set_rep.new.self) c.ancestor-from.ensures.of_path
           ∙ ap (extended (prefix_of path at)) tail
           ∙ extended-changed path at c.args.rep c.requires.there;
-      is = IsPath-changed path at c.args.rep c.row.ensures.is;
+      is = IsPath-changed path at c.args.rep c.fields_of.ensures.is;
     }

@@ -13,11 +13,11 @@ returns c =
     let path = shape_path c.args.self.now c.args.shape in
     let at = c.args.at in
     let tail : c.of-tail.result ≡ drop (suc at) path.fields =
-    c.of-tail.ensures ∙ take_rest c.row.result.now (at + 1) ∙ ap (drop (at + 1)) c.row.ensures.row
+    c.of-tail.ensures ∙ take_rest c.fields_of.result.now (at + 1) ∙ ap (drop (at + 1)) c.fields_of.ensures.fields
     ∙ ap (λ n. drop n path.fields) (add-one at) in
     record {
       at = c.ancestor-from.ensures.is_shape;
       same = ap (λ (p : Path). extended p c.of-tail.result) c.ancestor-from.ensures.of_path
           ∙ ap (extended (prefix_of path at)) tail;
-      is = IsPath-without path at c.row.ensures.is;
+      is = IsPath-without path at c.fields_of.ensures.is;
     }

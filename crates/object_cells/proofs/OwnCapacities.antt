@@ -1,0 +1,164 @@
+-- How many slots the stores of objects have once words of one object's own cells were written.
+use Rattle.std.proofs.Common.{◌≡◌, ℕ, ◌+◌, ◌<◌, inl, inr, List, ◌∷◌, Contains, Some}
+use Rattle.std.proofs.Common.{IsTrue, slice_get, refl, sym, ◌∙◌, ap, subst, arith}
+use Rattle.std.proofs.lemmas.Bool.{false≢true}
+use Rattle.std.proofs.lemmas.List.Elements.{Contains-append_right}
+use Rattle.tagged_word.specs.declared.layout.Kind.{Kind}
+use Rattle.tagged_word.specs.declared.layout.Kind.TheVariants as kind
+use Rattle.tagged_word.specs.declared.word.Class.TheVariants.{Ref}
+use Rattle.tagged_word.specs.Words.{IsClass}
+use Rattle.tagged_word.specs.Cells.{store_slot, has_length}
+use Rattle.tagged_word.proofs.Members.{first_in, rest_in, in_cases}
+use Rattle.page_space.specs.Extents.{layouts_start}
+use Rattle.cell_layout.specs.declared.cell.Cell.{Cell}
+use Rattle.heap_model.specs.Heaps.{Heap, words_of_cell}
+use Rattle.heap_model.specs.Slots.{reference_word, IsPlace}
+use Rattle.heap_model.specs.Wholeness.{NamesFrom, IsOwnedKind}
+use Rattle.heap_model.specs.Changes.{IsNewlyUsed}
+use Rattle.heap_model.specs.Needs.{capacity_at}
+use Rattle.heap_model.proofs.CellsApart.{IsOfCell}
+use Rattle.heap_model.proofs.OneOwner.{one_owner}
+use Rattle.heap_model.proofs.SlotWords.{IsStoreKind}
+use Rattle.object_cells.specs.CellWrites.{IsInCell}
+use Rattle.object_cells.specs.OwnWords.{IsOwnWord}
+use Rattle.object_cells.specs.Capacities.{ChangesObject, WritesBeside, CapacitiesStay, CapacitiesGrow}
+use Rattle.object_cells.proofs.KeptCapacities.{capacity_of_store, slot_keeps, place_keeps, stands_there}
+use Rattle.object_cells.proofs.OwnerWrites.{plain_owns}
+use Rattle.object_cells.proofs.OwnSteps.{OwnWriting, own_writing, stood, went_object, came_object, own_places_stay}
+use Rattle.object_cells.proofs.OwnCells.{word_stays}
+use Rattle.object_cells.proofs.WrittenPlaces.{IsBesideKind}
+use Rattle.object_cells.proofs.SlotsNow.{PutsOwn, store_is_no_object, beside_stands, plain_cell_size}
+
+-- a cell that is owned and has a length is a store or a table
+owned_is_store : (k : Kind) → IsOwnedKind k → IsTrue (has_length k) → IsStoreKind k
+owned_is_store kind.Store owned long = inl refl
+owned_is_store kind.Table owned long = inr refl
+owned_is_store kind.Boxed owned long = absurd (false≢true long)
+owned_is_store _ owned long = absurd owned
+
+module _ {old new : Heap} {cell came : Cell} {others beside made : List Cell}
+    (writing : OwnWriting old new cell came others beside made) where
+  -- no object is made
+  pub none_made : (number at : ℕ) → IsPlace new number at → IsPlace old number at
+  none_made number at place = elim (writing.step.cells.back place.cell place.words place.has) [
+    | inl comes ↦
+        let same = came_object writing place.cell comes place.object in
+        record {
+          cell = cell;
+          words = words_of_cell old cell;
+          has = stood writing.step;
+          stands = sym writing.step.place ∙ ap (λ (one : Cell). one.at) same ∙ place.stands;
+          object = writing.step.object;
+          carries = sym writing.step.number ∙ ap (λ (one : Cell). one.header.object) same ∙ place.carries;
+        }
+    | inr stays ↦ record {
+      cell = place.cell;
+      words = place.words;
+      has = stays.0;
+      stands = place.stands;
+      object = place.object;
+      carries = place.carries;
+    }
+  ]
+
+  -- the store of another object did not go
+  store_not_gone : (owner store : Cell) → (cell ≡ owner → ⊥) → NamesFrom old owner (owner.at + store_slot) store.at
+      → IsStoreKind store.layout.kind → Contains (cell ∷ others) store → ⊥
+  store_not_gone owner store apart names is there = elim (in_cases cell others store there) [
+    | inl same ↦ store_is_no_object same writing.step.object is
+    | inr among ↦ apart (one_owner writing.step.whole (writing.belong store among).1 names)
+  ]
+
+  -- a word that is in no cell that went is no word of this object's
+  gone_own : (other : Cell) (word : ℕ) → Contains (cell ∷ others) other → IsInCell word other
+      → IsOwnWord old cell.at word
+  gone_own other word there inside = record {
+    owner = cell;
+    has = stood writing.step;
+    stands = refl;
+    cell = other;
+    there = writing.step.cells.went other there;
+    own = elim (in_cases cell others other there) [
+      | inl same ↦ inl (sym same)
+      | inr among ↦ inr (writing.belong other among)
+    ];
+    within = inside;
+  }
+
+  -- Then the object comes to have a store of so many slots, and each other object keeps the capacity of its own; and
+  -- where only words of these cells have changed and newly used ones, these are words of the object.
+  pub own_capacities : (capacity : ℕ) → capacity_at new cell.at ≡ capacity
+      → ((at : ℕ) → at < layouts_start old.space
+      → ((other : Cell) → Contains (cell ∷ others) other → IsInCell at other → ⊥) → (IsNewlyUsed old new at → ⊥)
+      → slice_get new.words at ≡ slice_get old.words at)
+      → ChangesObject old new cell.at capacity
+  own_capacities capacity holds stay = record {
+    words = λ word below not_own not_new.
+        stay word below (λ other there inside. not_own (gone_own other word there inside)) not_new;
+    own = holds;
+    others = λ number at place apart.
+        let not_own : cell ≡ place.cell → ⊥ =
+        λ same. apart (sym place.stands ∙ sym (ap (λ (one : Cell). one.at) same)) in
+        let cells = writing.step.cells in
+        place_keeps at writing.step.whole place
+        (λ store words names has is.
+        stands_there (cells.kept store words has (store_not_gone place.cell store not_own names is)))
+        (cells.kept place.cell place.words place.has
+        (λ there. not_own (went_object writing.step place.cell there place.object)));
+    stays = own_places_stay writing.step;
+    none_made = none_made;
+  }
+
+module _ {owner owned : Kind} {old new : Heap} {cell came : Cell} {others made : List Cell}
+    (writing : WritesBeside owner owned old new cell came others made) where
+  -- the cells that went are the object's own
+  own : OwnWriting old new cell came others others made
+  own = own_writing writing.owns writing.whole writing.writes writing.belong writing.kinds
+
+  -- so each other object keeps the capacity of its store
+  others_keep : (capacity : ℕ) → capacity_at new cell.at ≡ capacity → ChangesObject old new cell.at capacity
+  others_keep capacity holds = own_capacities own capacity holds (λ at below apart not_new.
+      writing.writes.stay at below (λ inside. apart cell (first_in cell others) inside)
+      (λ other among inside. apart other (rest_in cell others other among) inside) not_new)
+
+  -- where the word of its slot for the store stays, the object keeps its capacity too
+  pub object_keeps : slice_get new.words (cell.at + store_slot) ≡ slice_get old.words (cell.at + store_slot)
+      → ChangesObject old new cell.at (capacity_at old cell.at)
+  object_keeps stays =
+      others_keep (capacity_at old cell.at)
+      (slot_keeps writing.whole
+      (λ store words names has is. beside_stands own.step.object own.step.cells has is) (stood own.step)
+      own.step.object stays)
+
+  -- where that word refers to a store or a table that was made, the object has as many slots or pairs as that
+  pub object_grows : (store : Cell) → Contains made store → store.layout.kind ≡ owned
+      → IsClass (Ref store.at) → slice_get new.words (cell.at + store_slot) ≡ Some (reference_word store.at)
+      → ChangesObject old new cell.at store.length
+  object_grows store among of_kind fits there =
+      let has = own.step.cells.comes store (Contains-append_right (came ∷ others) made store among) in
+      let is : IsStoreKind store.layout.kind =
+      subst IsStoreKind (sym of_kind) (owned_is_store owned writing.owns.belongs writing.owns.long) in
+      others_keep store.length (capacity_of_store cell.at has is fits there)
+
+-- so an object keeps its capacity where that word stays
+pub capacities_stay : CapacitiesStay
+capacities_stay owner owned old new cell came others made writing stays = object_keeps writing stays
+
+-- and has as many slots as a store or table that was made, where it refers to this
+pub capacities_grow : CapacitiesGrow
+capacities_grow owner owned old new cell came others made store writing among of_kind fits there =
+    object_grows writing store among of_kind fits there
+
+-- a plain object keeps its capacity where one word was put, and not that one
+pub one_keeps : {old new : Heap} {cell : Cell} {shape at word : ℕ} {others made : List Cell}
+    → PutsOwn old new cell shape at word others made
+    → ((other : Cell) → Contains others other → (slot : ℕ) × NamesFrom old cell slot other.at)
+    → ((other : Cell) → Contains made other → IsBesideKind other.layout.kind)
+    → ChangesObject old new cell.at (capacity_at old cell.at)
+one_keeps {cell = cell} puts belong kinds =
+    let within : store_slot < cell.size = omega (arith, plain_cell_size puts.has puts.plain) in
+    let of_cell : IsOfCell cell (cell.at + store_slot) = record { from = omega arith; below = omega (arith, within) } in
+    object_keeps
+    (record { owns = plain_owns; whole = puts.whole; writes = puts.writes; belong = belong; kinds = kinds })
+    (word_stays (cell.at + store_slot) puts.whole puts.one puts.has of_cell (λ same. omega (arith, same))
+    puts.not_store)

@@ -1,0 +1,105 @@
+-- The box that is made stands in the words that were reserved.
+use Rattle.std.proofs.Common.{◌≡◌, ◌+◌, ◌-◌, ◌<◌, ap, ◌∙◌, arith, rules}
+use Rattle.page_space.specs.Extents.{Space, marks_start}
+use Rattle.write_barrier.specs.Mains.{Mutator}
+use Rattle.object_cells.specs.Made.{content_need}
+use Rattle.object_cells.proofs.UnusedWords.{run_before_marks}
+use Rattle.object_cells.proofs.WordsBeside.{put_beside}
+use Rattle.shape_change.proofs.NewNeeds.{content_need_few}
+use Rattle.shape_change.proofs.add_field.add_to_store.Goals as goal
+
+pub room_for-requires-clause-few : goal.room_for-requires-clause-few
+room_for-requires-clause-few c =
+    omega (
+      arith,
+      content_need_few c.content_of-content.result,
+      c.need_of.ensures,
+    )
+
+pub step_to-next-requires-clause-quiet : goal.step_to-next-requires-clause-quiet
+step_to-next-requires-clause-quiet c =
+    ap (λ (main : Mutator). main.seat.phase) c.in_ok-at.ensures.reserved ∙ c.requires.can.whole.quiet
+
+pub boxed_word-word-requires-clause-quiet : goal.boxed_word-word-requires-clause-quiet
+boxed_word-word-requires-clause-quiet c =
+    c.step_to-next.ensures.beside.phase
+    ∙ ap (λ (main : Mutator). main.seat.phase) c.in_ok-at.ensures.reserved ∙ c.requires.can.whole.quiet
+
+pub boxed_word-word-requires-clause-within : goal.boxed_word-word-requires-clause-within
+boxed_word-word-requires-clause-within c v boxed =
+    let need : c.need_of.result ≡ 2 = c.need_of.ensures ∙ ap content_need boxed in
+    let space = c.step_to-next.ensures.beside.space
+    ∙ ap (λ (main : Mutator). main.seat.space) c.in_ok-at.ensures.reserved in
+    let before = run_before_marks c.args.main.now c.need_of.result c.in_ok-at.at c.step_to-next.new.main.seat.space
+    c.requires.can.tied c.in_ok-at.ensures.room (c.in_ok-at.ensures.at (omega arith)) space in
+    omega (arith, before, need)
+
+pub store-requires-clause-quiet : goal.store-requires-clause-quiet
+store-requires-clause-quiet c =
+    c.boxed_word-word.ensures.made.beside.phase ∙ c.step_to-next.ensures.beside.phase
+    ∙ ap (λ (main : Mutator). main.seat.phase) c.in_ok-at.ensures.reserved ∙ c.requires.can.whole.quiet
+
+pub store-requires-clause-within : goal.store-requires-clause-within
+store-requires-clause-within c =
+    let space = c.boxed_word-word.ensures.made.beside.space ∙ c.step_to-next.ensures.beside.space
+    ∙ ap (λ (main : Mutator). main.seat.space) c.in_ok-at.ensures.reserved in
+    omega (
+      arith,
+      ap (λ (s : Space). marks_start s) space,
+      c.requires.is.within,
+      c.requires.room,
+      c.requires.new.slot,
+      c.requires.new.cap,
+    )
+
+pub set_shape-requires-clause-quiet : goal.set_shape-requires-clause-quiet
+set_shape-requires-clause-quiet c =
+    ap (λ (main : Mutator). main.seat.phase) c.store.ensures.stored
+    ∙ c.boxed_word-word.ensures.made.beside.phase ∙ c.step_to-next.ensures.beside.phase
+    ∙ ap (λ (main : Mutator). main.seat.phase) c.in_ok-at.ensures.reserved ∙ c.requires.can.whole.quiet
+
+pub set_shape-requires-clause-within : goal.set_shape-requires-clause-within
+set_shape-requires-clause-within c =
+    let space = ap (λ (main : Mutator). main.seat.space) c.store.ensures.stored
+    ∙ c.boxed_word-word.ensures.made.beside.space ∙ c.step_to-next.ensures.beside.space
+    ∙ ap (λ (main : Mutator). main.seat.space) c.in_ok-at.ensures.reserved in
+    omega (arith, ap (λ (s : Space). marks_start s) space, c.requires.can.within)
+
+pub returns-clause-ok : goal.returns-clause-ok
+returns-clause-ok c =
+    let mid : Mutator = c.step_to-next.new.main in
+    let boxed : Mutator = c.boxed_word-word.new.main in
+    let put : Mutator = c.store.new.self in
+    let new : Mutator = c.set_shape.new.main in
+    let space = c.boxed_word-word.ensures.made.beside.space ∙ c.step_to-next.ensures.beside.space
+    ∙ ap (λ (main : Mutator). main.seat.space) c.in_ok-at.ensures.reserved in
+    let place = c.args.store.at + (2 + (c.args.new.slot - c.args.new.cap)) in
+    let below : place < marks_start boxed.seat.space =
+    omega (
+      arith,
+      ap (λ (s : Space). marks_start s) space,
+      c.requires.is.within,
+      c.requires.room,
+      c.requires.new.slot,
+      c.requires.new.cap,
+    ) in
+    record {
+      room = search rules;
+      next = c.step_to-next.result;
+      mid = mid;
+      path = search rules;
+      words = record {
+        beside = put_beside c.args.object _
+            (put_beside place c.boxed_word-word.result.0 c.boxed_word-word.ensures.made.beside c.store.ensures.stored
+            below) c.set_shape.ensures.put
+            (omega (
+              arith,
+              ap (λ (main : Mutator). marks_start main.seat.space) c.store.ensures.stored,
+              ap (λ (s : Space). marks_start s) space,
+              c.requires.can.within,
+            ));
+        paths = search rules;
+        young = search rules;
+        heap = search rules;
+      };
+    }

@@ -1,0 +1,41 @@
+-- A field is taken out of what the heap shows.
+use Rattle.std.proofs.Common.{sym, ◌∙◌, ap, subst, refl, List}
+use Rattle.object_graph.specs.declared.path.Path.{Path}
+use Rattle.shape_tree.specs.Shapes.{IsPathShape, shape_path, has_name}
+use Rattle.write_barrier.proofs.Headers.{has_header}
+use Rattle.object_cells.proofs.PlainFields.{plain_shown}
+use Rattle.shape_change.proofs.ShownFields.{shown_shape, field_found, found_there}
+use Rattle.shape_change.proofs.DeletedGraphs.{field_deleted, none_deleted}
+use Rattle.shape_change.proofs.delete_field.delete.Goals as goal
+
+pub header-header-requires-clause-there : goal.header-header-requires-clause-there
+header-header-requires-clause-there c =
+    let shown = plain_shown c.requires.shows c.requires.is in
+    has_header shown.has shown.stands
+
+pub find-requires : goal.find-requires
+find-requires c =
+    subst (λ (paths : List Path). IsPathShape paths c.header-header.result.shape) (sym c.shapes.ensures)
+    (shown_shape c.args.main.now c.requires.graph c.args.object c.requires.plain c.header-header.result
+    c.requires.shows c.requires.is c.header-header.ensures.of_cell)
+
+pub take_out-requires-clause-there : goal.take_out-requires-clause-there
+take_out-requires-clause-there c =
+    let found = found_there _ _ _ _ _ c.shapes.ensures c.in-Some.ensures.found in
+    (field_found c.args.main.now c.requires.graph c.args.object c.requires.plain c.header-header.result
+    c.in-Some.slot c.args.name c.requires.shows c.requires.is c.header-header.ensures.of_cell found).has
+
+pub returns-in-Some : goal.returns-in-Some
+returns-in-Some c graph plain shows is =
+    let found = field_found c.args.main.now graph c.args.object plain c.header-header.result c.in-Some.slot
+    c.args.name shows is c.header-header.ensures.of_cell
+    (found_there _ _ _ _ _ c.shapes.ensures c.in-Some.ensures.found) in
+    field_deleted c.args.main.now c.take_out.new.main graph c.args.object plain c.header-header.result c.in-Some.slot
+    c.args.name c.take_out.result shows is c.header-header.ensures.of_cell found c.take_out.ensures
+
+pub returns-in-None : goal.returns-in-None
+returns-in-None c graph plain shows is =
+    none_deleted c.args.main.now graph c.args.object plain c.header-header.result c.args.name shows is
+    c.header-header.ensures.of_cell
+    (ap (λ (paths : List Path). has_name (shape_path paths c.header-header.result.shape) c.args.name)
+    (sym c.shapes.ensures) ∙ c.in-None.ensures.none.0 refl)

@@ -1,9 +1,0 @@
--- The slots so far have moved.
-use Rattle.std.proofs.Common.{◌+◌}
-use Rattle.tagged_word.specs.Cells.{plain_head}
-use Rattle.shape_change.specs.Shifts.{MovesDown}
-use Rattle.shape_change.proofs.shifting.move_own.Given as goal
-
-abbrev pub invariant-loop-slot : goal.invariant-loop-slot
-invariant-loop-slot l =
-    MovesDown l.fn.main l.main (l.object + (plain_head + l.from)) (l.object + (plain_head + l.slot))

@@ -1,0 +1,175 @@
+//! The slots of plain objects: where a field stands, what is read of it, and how it is filled. How a
+//! field comes to an object, and how it goes, is in `add_field.rt` and `delete_field.rt`.
+ghost use Rattle.object_graph.specs.declared.value.Rep.TheVariants as rep_of;
+ghost use Rattle.object_cells.specs.Contents as contents;
+ghost use Rattle.std.specs.Prelude.{◌≡◌, ◌≢◌, ◌+◌, ◌<◌, ◌≤◌, ℕ, ℤ, IsTrue, Some, length, slice_get};
+ghost use Rattle.std.specs.Prelude.{nat_lt, true, false, OnErr, IfOk, IfErr};
+ghost use Rattle.shape_change.specs.Places.{is_own, place_at, IsPlaceOf, StandsSlot};
+ghost use Rattle.page_space.specs.Extents.{marks_start};
+ghost use Rattle.object_graph.specs.declared.value.Value.{Value};
+ghost use Rattle.shape_tree.specs.Shapes.{IsPathShape, shape_path};
+ghost use Rattle.heap_model.specs.Slots.{IsFieldWord};
+ghost use Rattle.heap_model.specs.Showing.{ShowsHeld, ShowsField};
+ghost use Rattle.write_barrier.specs.Mains.{heap_of, IsTied};
+ghost use Rattle.object_cells.specs.CellsAt.{IsWhole, HasCellAt, HasPlainSlot, IsHeaderAt, IsCapAt};
+ghost use Rattle.heap_table.specs.declared.phase.Phase.TheVariants.{Quiet};
+ghost use Rattle.heap_model.specs.Needs.{word_at};
+ghost use Rattle.object_cells.specs.Contents.{Allocates, LacksRoom, HoldsSlotWord, IsBeforeMarks};
+
+use handle_roots::Held;
+use object_cells::{Content, Filling};
+use object_graph::Rep;
+use tagged_word::cell::{PLAIN_HEAD, STORE_HEAD, STORE_SLOT};
+use tagged_word::{Header, Word};
+use write_barrier::{Main, NoRoom};
+
+/// Where a field of a plain object stands.
+#[derive(Clone, Copy)]
+pub(crate) enum Place {
+    /// In the object, at an offset.
+    InObject(u32),
+    /// In its property store, at an offset.
+    Beside { store: u32, offset: u32 },
+}
+
+impl Place {
+    /// Whether it is in the object itself.
+    pub(crate) fn is_own(self) -> bool
+        ensures { result ≡ is_own self }
+    {
+        matches!(self, Place::InObject(_))
+    }
+}
+
+/// The header of the cell at an address.
+#[inline(always)]
+pub fn header_at(main: &Main, at: u32) -> Header
+    requires whole { IsWhole main.now }
+    requires there { HasCellAt (heap_of main.now) at }
+    ensures { IsHeaderAt (heap_of main.now) at result }
+{
+    main.header(at)
+}
+
+// Whether a slot is raw, by where it stands and its representation.
+#[inline(always)]
+fn is_raw(own: bool, rep: Rep) -> bool
+    ensures raw { result ≡ true → (own ≡ true) × (rep ≡ rep_of.Wide) }
+    ensures tagged { result ≡ false → own ≡ true → rep ≢ rep_of.Wide }
+{
+    match rep {
+        Rep::Wide => own,
+        Rep::Small => false,
+        Rep::Tagged => false,
+    }
+}
+
+/// The value of a field, by its word.
+#[inline(always)]
+pub(crate) fn value_of_field(main: &Main, own: bool, rep: Rep, word: u64) -> Held
+    requires whole { IsWhole main.now }
+    requires field { IsFieldWord (heap_of main.now) own rep word }
+    ensures { (value : Value) → ShowsField (heap_of main.now) own word rep value
+        → ShowsHeld (heap_of main.now) result (Some value) }
+{
+    main.addresses_fit();
+    if is_raw(own, rep) {
+        Held::Int(word.cast_signed())
+    } else {
+        main.value_of_word(Word(word))
+    }
+}
+
+/// Where a slot of the plain object at an address stands: one of its own below its cap, or in its
+/// property store.
+#[inline(always)]
+pub(crate) fn place_of(main: &Main, object: u32, cap: u32, slot: u32) -> Place
+    requires whole { IsWhole main.now }
+    requires there { HasPlainSlot (heap_of main.now) object slot }
+    requires cap { IsCapAt (heap_of main.now) object cap }
+    ensures stands { StandsSlot (heap_of main.now) object slot result }
+    ensures own { is_own result ≡ nat_lt slot cap }
+    ensures place { IsPlaceOf (heap_of main.now) object cap slot result }
+    ensures within { place_at object result < marks_start main.now.seat.space }
+{
+    main.addresses_fit();
+    if slot < cap {
+        return Place::InObject(PLAIN_HEAD + slot);
+    }
+    match Word(main.slot(object, STORE_SLOT)).address() {
+        Some(store) => Place::Beside {
+            store,
+            offset: STORE_HEAD + (slot - cap),
+        },
+        None => unreachable!(),
+    }
+}
+
+/// The word at a place of an object.
+#[inline(always)]
+pub(crate) fn word_of_place(main: &Main, object: u32, place: Place) -> u64
+    requires whole { IsWhole main.now }
+    requires within { place_at object place < marks_start main.now.seat.space }
+    ensures { slice_get (heap_of main.now).words (place_at object place) ≡ Some result }
+{
+    match place {
+        Place::InObject(offset) => main.slot(object, offset),
+        Place::Beside { store, offset } => main.slot(store, offset),
+    }
+}
+
+// The address of a place of an object.
+#[inline(always)]
+fn address_of(main: &Main, object: u32, place: Place) -> u32
+    requires within { place_at object place < marks_start main.now.seat.space }
+    ensures { result ≡ place_at object place }
+{
+    main.addresses_fit();
+    match place {
+        Place::InObject(offset) => object + offset,
+        Place::Beside { store, offset } => store + offset,
+    }
+}
+
+/// How the slot at a place of an object comes to hold this. The words of a box that is to be made
+/// are used from now on.
+///
+/// # Errors
+/// There is no room for a box; nothing has changed.
+#[inline(always)]
+pub(crate) fn filling_of(
+    main: &mut Main,
+    object: u32,
+    place: Place,
+    content: Content,
+) -> Result<Filling, NoRoom>
+    requires whole { IsWhole main.old }
+    requires tied { IsTied main.old }
+    requires within { place_at object place < marks_start main.old.seat.space }
+    requires slot { let word = word_at (heap_of main.old) (place_at object place) in
+        HoldsSlotWord (heap_of main.old) word content }
+    ensures filling { IfOk result (λ filling.
+        filling ≡ contents.filling_at main.old (place_at object place) content) }
+    ensures allocates { IfOk result (λ filling. Allocates main.old main.new filling) }
+    ensures before_marks { IfOk result (IsBeforeMarks main.old.seat.space) }
+    ensures refused { IfErr result (λ full.
+        LacksRoom main.old (contents.filling_at main.old (place_at object place) content) full) }
+    ensures unchanged { OnErr result (main.new ≡ main.old) }
+{
+    let at = address_of(main, object, place);
+    object_cells::filling_of(main, at, content)
+}
+
+/// Fills the slot at a place of an object.
+#[inline(always)]
+pub(crate) fn fill(main: &mut Main, object: u32, place: Place, filling: Filling)
+    requires quiet { main.old.seat.phase ≡ Quiet }
+    requires within { place_at object place < marks_start main.old.seat.space }
+    requires room { IsBeforeMarks main.old.seat.space filling }
+    ensures { main.new ≡ contents.filled main.old (place_at object place) filling }
+{
+    match place {
+        Place::InObject(offset) => object_cells::fill(main, object, offset, filling),
+        Place::Beside { store, offset } => object_cells::fill(main, store, offset, filling),
+    }
+}

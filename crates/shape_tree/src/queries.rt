@@ -1,0 +1,142 @@
+//! What a tree of shapes tells of the path of a shape.
+ghost use Rattle.std.specs.Prelude.{◌≡◌, ◌+◌, ◌-◌, ◌<◌, ◌≤◌, ◌↔◌, false, [], length, slice_get};
+ghost use Rattle.std.specs.Prelude.{option_map, Some, IsTrue, IfSome, IsNone};
+ghost use Rattle.tagged_word.specs.Layouts.{IsLayout, layout_bits};
+ghost use Rattle.object_graph.specs.Paths.{prefix_of};
+ghost use Rattle.object_graph.specs.Invariants.{IsPath, cap_most, fields_most};
+ghost use Rattle.shape_tree.specs.Shapes.{AreShapes, IsPathShape, IsShapeOf, shape_path, has_name};
+ghost use Rattle.shape_tree.specs.ShapeLayouts.{IsInUse, layout_of, layout_word};
+ghost use Rattle.shape_tree.specs.Nodes.{IsNodeOf};
+
+use crate::node::Node;
+use crate::tree::{FIRST, ShapeTree};
+use object_graph::PathField;
+use tagged_word::LayoutWord;
+use tagged_word::shape::fixed_layout;
+
+impl ShapeTree {
+    /// How many paths there are: at most 8,192. Their shapes are the numbers from 8 on.
+    #[inline]
+    pub fn paths(&self) -> u32
+        ensures counted { result ≡ length self.now }
+        ensures good { AreShapes self.now }
+    {
+        self.nodes.len() as u32
+    }
+
+    /// Whether the number is the shape of a path.
+    #[inline]
+    pub fn has_path(&self, shape: u32) -> bool
+        ensures { IsTrue result ↔ IsPathShape self.now shape }
+    {
+        shape >= FIRST && shape - FIRST < self.paths()
+    }
+
+    /// The node of a path's shape.
+    #[inline(always)]
+    pub(crate) fn node(&self, shape: u32) -> Node
+        requires { IsPathShape self.now shape }
+        ensures { IsNodeOf self.now shape result }
+    {
+        self.nodes[(shape - FIRST) as usize]
+    }
+
+    /// The fields of a path's shape.
+    #[inline(always)]
+    pub(crate) fn fields_of(&self, shape: u32) -> &[PathField]
+        requires { IsPathShape self.now shape }
+        ensures fields { result.now ≡ (shape_path self.now shape).fields }
+        ensures is { IsPath (shape_path self.now shape) }
+    {
+        let node = self.nodes[(shape - FIRST) as usize];
+        &self.fields[node.start as usize..(node.start + node.count) as usize]
+    }
+
+    /// The shape of the path of no field and this cap.
+    pub fn root(&self, cap: u32) -> u32
+        requires { cap ≤ cap_most }
+        ensures { IsShapeOf self.now (record { cap = cap; fields = [] }) result }
+    {
+        // Opens the tree: the proof needs what holds of each.
+        let _ = &self.nodes;
+        FIRST + cap
+    }
+
+    /// How many fields the path of a shape has: at most 64.
+    #[inline]
+    pub fn fields(&self, shape: u32) -> u32
+        requires { IsPathShape self.now shape }
+        ensures counted { result ≡ length (shape_path self.now shape).fields }
+        ensures few { result ≤ fields_most }
+    {
+        self.node(shape).count
+    }
+
+    /// How many in-object slots an object of this shape has, used and unused: at most 8.
+    #[inline(always)]
+    pub fn cap(&self, shape: u32) -> u32
+        requires { IsPathShape self.now shape }
+        ensures cap { result ≡ (shape_path self.now shape).cap }
+        ensures few { result ≤ cap_most }
+    {
+        self.node(shape).cap
+    }
+
+    /// The layout of the cells of a shape, of the fixed ones too.
+    #[inline]
+    pub fn layout(&self, shape: u32) -> LayoutWord
+        requires { IsInUse self.now shape }
+        ensures word { layout_bits result ≡ layout_word self.now shape }
+        ensures is { IsLayout result }
+        ensures of_path { IsPathShape self.now shape
+            → result ≡ layout_of (shape_path self.now shape) }
+    {
+        match fixed_layout(shape) {
+            Some(layout) => layout,
+            None => self.node(shape).layout,
+        }
+    }
+
+    /// The field at a place of the path of a shape, counted from 0.
+    #[inline(always)]
+    pub fn field(&self, shape: u32, at: u32) -> PathField
+        requires path { IsPathShape self.now shape }
+        requires there { at < length (shape_path self.now shape).fields }
+        ensures { slice_get (shape_path self.now shape).fields at ≡ Some result }
+    {
+        self.fields_of(shape)[at as usize]
+    }
+
+    /// The place of the field of this name in the path of a shape.
+    #[inline(always)]
+    pub fn find(&self, shape: u32, name: u32) -> Option<u32>
+        requires { IsPathShape self.now shape }
+        ensures found { let fields = (shape_path self.now shape).fields in
+            IfSome result (λ at.
+            option_map (λ field. field.name) (slice_get fields at) ≡ Some name) }
+        ensures none { IsNone result ↔ (has_name (shape_path self.now shape) name ≡ false) }
+    {
+        for (at, field) in self.fields_of(shape).iter().enumerate() {
+            if field.name == name {
+                return Some(at as u32);
+            }
+        }
+        None
+    }
+
+    /// The shape of the path without its last field.
+    pub fn parent(&self, shape: u32) -> Option<u32>
+        requires { IsPathShape self.now shape }
+        ensures found { IfSome result (λ parent.
+            let path = shape_path self.now shape in
+            IsShapeOf self.now (prefix_of path (length path.fields - 1)) parent) }
+        ensures none { IsNone result ↔ (length (shape_path self.now shape).fields ≡ 0) }
+    {
+        let node = self.node(shape);
+        if node.count == 0 {
+            None
+        } else {
+            Some(node.parent)
+        }
+    }
+}
