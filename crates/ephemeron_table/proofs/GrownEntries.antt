@@ -25,7 +25,7 @@ use Rattle.object_cells.specs.Made.{beside_content}
 use Rattle.object_cells.proofs.HeldContents.{HoldsValue}
 use Rattle.object_cells.proofs.HeldNeeds.{content_need_is, wide_is}
 use Rattle.object_cells.proofs.ContentValues.{content_shows}
-use Rattle.ephemeron_table.specs.Movings.{CanGrow, PutsInNewTable, new_table_need}
+use Rattle.ephemeron_table.specs.Rehashing.{CanGrow, PutsInNewTable, new_table_need}
 use Rattle.weak_pairs.specs.Pairs.{IsFilledAt}
 use Rattle.ephemeron_table.specs.PairLaws.{PutsOne}
 use Rattle.ephemeron_table.specs.Probes.{IsTableAt}

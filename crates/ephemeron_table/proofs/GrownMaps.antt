@@ -35,7 +35,7 @@ use Rattle.object_cells.proofs.WordsTold.{cell_fits}
 use Rattle.object_cells.proofs.ContentValues.{content_shows, content_comes, is_made_box}
 use Rattle.object_cells.proofs.FieldWords.{value_word}
 use Rattle.ephemeron_table.proofs.PairComes.{PairComes, value_comes, pair_shows}
-use Rattle.ephemeron_table.specs.Movings.{CanGrow, PutsInNewTable}
+use Rattle.ephemeron_table.specs.Rehashing.{CanGrow, PutsInNewTable}
 use Rattle.weak_pairs.specs.Pairs.{HasPairs, IsFilledAt}
 use Rattle.ephemeron_table.specs.PairWrites.{RefillsPairs, HasValue}
 use Rattle.ephemeron_table.specs.PairLaws.{RefillsWeak}

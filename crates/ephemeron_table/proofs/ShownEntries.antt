@@ -1,4 +1,4 @@
--- The cell of a weak map whose pairs were written shows its entries with that of one key put, or taken out.
+-- The cell of a weak map whose pairs were written shows its entries with that of one key put, or removed.
 use Rattle.std.proofs.Common.{◌≡◌, ◌≢◌, ℕ, ◌⊎◌, inl, inr, Bool, List, map, Option, Some, None, slice_get, refl, sym}
 use Rattle.std.proofs.Common.{◌∙◌, ap, subst}
 use Rattle.std.specs.Prelude.{◌==◌, IsTrue, IsSome}
@@ -67,7 +67,7 @@ known_key {heap} marks entries pair number refers has = elim (cases_Bool (is_mar
   | inr unmarked ↦ IsKnownKey.unreached number refers unmarked
 ]
 
--- The pairs of a weak map that shows these entries of a graph were written, so that of one key was put or taken out.
+-- The pairs of a weak map that shows these entries of a graph were written, so that of one key was put or removed.
 pub record Reweaving (old new : Heap) (graph : Graph) (cell : Cell) (others made : List Cell) (entries : List Entry)
     (number : ℕ) (value : Option Value) : Type 0 where
   pub refills : RefillsWeak old new cell others made

@@ -1,4 +1,4 @@
--- The pair of the entry is taken out.
+-- The pair of the entry is removed.
 use Rattle.std.proofs.Common.{◌∙◌, arith}
 use Rattle.object_cells.proofs.CellsRead.{place_before_marks}
 use Rattle.ephemeron_table.proofs.EntryPairs.{entry_pair}
@@ -63,7 +63,7 @@ returns-in-Key c =
       entry = λ graph weak number shows is is_key.
           let has = entry_pair table place shows is is_key sizes is_table within key_read in
           let deleting : IsDeleting c.args.main.now c.remove_pair.new.main graph c.args.map c.args.key weak number place
-          table = record { has = has; takes = c.remove_pair.ensures } in
+          table = record { has = has; removes = c.remove_pair.ensures } in
           deletes_entry deleting c.laws_of_entries.ensures.show;
       pairs = λ before has_pairs.
           let told = key_told table place (weak_shown asked.shows asked.is) asked.is_key is_table within key_read in

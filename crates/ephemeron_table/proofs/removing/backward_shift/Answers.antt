@@ -8,7 +8,7 @@ use Rattle.write_barrier.specs.Mains.{heap_of}
 use Rattle.object_cells.proofs.CellsRead.{fits_address}
 use Rattle.weak_pairs.specs.Tables.{numbers, pairs_of}
 use Rattle.weak_pairs.proofs.PairLists.{pairs_read}
-use Rattle.ephemeron_table.proofs.ClosedPairs.{nothing_changed, pair_changed}
+use Rattle.ephemeron_table.proofs.ChangedPairs.{nothing_changed, pair_changed}
 use Rattle.weak_pairs.proofs.BackwardShifts.{shift_begins, read, key_beside, numbers_long, hole_below, stays_below}
 use Rattle.weak_pairs.proofs.BackwardShifts.{ends_here, passes_on, moves_on, less_left}
 use Rattle.ephemeron_table.proofs.TableBounds.{none_from_not_some, table_within}
@@ -45,7 +45,7 @@ returns-in_default c =
     record {
       changes = far.changes;
       within = hole_below (heap_of c.args.main.now) (heap_of c.loop-passed.main) c.args.table within far.changes.long far.shifting;
-      taken = far.shifting.going.removed;
+      removed = far.shifting.going.removed;
       below = stays_below (heap_of c.args.main.now) (heap_of c.loop-passed.main) c.args.table within far.changes.long far.shifting;
       found = ends_here (heap_of c.args.main.now) (heap_of c.loop-passed.main) c.args.table within far.changes.long far.shifting next few c.place-next.ensures none;
     }
@@ -122,7 +122,7 @@ returns c =
     record {
       changes = far.changes;
       within = hole_below (heap_of c.args.main.now) (heap_of c.loop-passed.main) c.args.table within far.changes.long far.shifting;
-      taken = far.shifting.going.removed;
+      removed = far.shifting.going.removed;
       below = stays_below (heap_of c.args.main.now) (heap_of c.loop-passed.main) c.args.table within far.changes.long far.shifting;
       found = ends_at_last (numbers (heap_of c.args.main.now) (pairs_of (heap_words c.args.main.now.seat) c.args.table))
           (numbers (heap_of c.args.main.now) (pairs_of (heap_words c.loop-passed.main.seat) c.args.table)) c.args.at
