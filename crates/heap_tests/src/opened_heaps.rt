@@ -11,9 +11,7 @@ ghost use Rattle.shape_tree.specs.Shapes.{stepped};
 ghost use Rattle.write_barrier.specs.Mains.{IsOpened};
 ghost use Rattle.collector.specs.States.{HeapShows};
 
-use crate::opened_words::{
-    EDEN, RUNS, SLOTS, SMALL, SMALL_WORDS, TURNS, USUAL, USUAL_WORDS, VALUES,
-};
+use crate::opened_words::{EDEN, RUNS, SMALL, SMALL_WORDS, TURNS, USUAL, USUAL_WORDS, VALUES};
 use cell_layout::{Cell, NotACell, cell_at};
 use collector::{Full, Heap};
 use handle_roots::Held;
@@ -25,7 +23,7 @@ use std::process::Abort;
 use std::test::Fail;
 use tagged_word::{Header, Word};
 use word_store::Reads;
-use write_barrier::{Main, NoRoom, slot_word};
+use write_barrier::{Main, NoRoom};
 
 /// A call of the mutator's side, by what it is given.
 #[derive(Clone, Copy)]
@@ -36,10 +34,8 @@ pub(crate) enum Act {
     Store(u32, u32, u64),
     /// The header of a box.
     BoxHeader(u32),
-    /// A box of an integer.
-    MakeBox(u32, i64),
-    /// A store of so many slots.
-    FillStore(u32, u32),
+    /// So many holes from an address on.
+    FillHoles(u32, u32),
     /// A copy of so many words, from an address to one before it.
     CopySlots(u32, u32, u32),
     /// A value of the variable.
@@ -210,16 +206,10 @@ fn carry_out(rt: &impl Abort, main: &mut Main, act: Act)
                 },
             );
         }
-        MakeBox(a, v) => {
+        FillHoles(a, count) => {
             assert!(rt; a < end);
-            assert!(rt; end - a > 1);
-            main.make_box(a, v);
-        }
-        FillStore(a, capacity) => {
-            assert!(rt; a < end);
-            assert!(rt; end - a > 2);
-            assert!(rt; capacity <= end - a - 2);
-            main.fill_store(a, capacity);
+            assert!(rt; count <= end - a);
+            main.fill_holes(a, count);
         }
         CopySlots(from, to, count) => {
             assert!(rt; from < end);
@@ -290,8 +280,5 @@ fn calls_write_their_words_alone(rt: HostRuntime) -> Result<(), Fail> {
     ];
     assert_eq!(rt; sizes, [2_048, 2, 0]);
     adds_a_path(&rt, main);
-    for (value, word) in &SLOTS {
-        assert_eq!(rt; slot_word(*value), *word);
-    }
     Ok(())
 }
