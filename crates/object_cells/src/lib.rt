@@ -6,9 +6,9 @@
 //! `laws_of_slots` say what this makes of the object's cells, `laws_of_capacities` what of how many
 //! slots objects have, and `laws_of_refills` what a change of its cells makes of the graph.
 //! `specs/ElementChanges.antt` and `laws_of_elements` say all this of lists.
-//! `content_of` is what the slot of a field holds for a value. `formats.rt` has the words of boxes, stores and
-//! free cells; `stores.rt` and `boxes.rt` make those that objects need, and say which words that puts; `lists.rt` reads a list's
-//! length.
+//! `content_of` is what the slot of a field holds for a value. `formats.rt` has the words of boxes,
+//! stores and free cells; `stores.rt` and `boxes.rt` make those that objects need, and say which
+//! words that puts; `lists.rt` reads a list's length.
 //! Invariant: none. The calls that write show how they wrote, and nothing of graphs or owners.
 #![tactic(auto)]
 
@@ -21,7 +21,7 @@ mod stores;
 
 pub use boxes::{boxed_word, fill, filling_of, need_of};
 pub use content::{Content, Filling, content_for, content_of, rep_of};
-pub use formats::{STORE, make_box, put_filler};
+pub use formats::{STORE, fill_store, make_box, put_filler};
 pub use laws::{
     laws_of_capacities, laws_of_elements, laws_of_refills, laws_of_slots, laws_of_writes,
 };
