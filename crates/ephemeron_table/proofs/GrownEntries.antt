@@ -63,7 +63,8 @@ module _ {old new : Mutator} {map key count earlier number : ℕ} {table : Table
             refers = refl;
             place = places known can puts objects key_place holds fits counted number key key_place;
           };
-          value = content_shows (behind known can puts) holds (places known can puts objects key_place holds fits counted)
+          value = content_shows (behind known can puts) holds
+              (places known can puts objects key_place holds fits counted)
               (refers_box known can puts objects key_place holds fits counted);
         })
 

@@ -67,7 +67,8 @@ module _ {old new : Mutator} {map place : ℕ} {table : Table} (known : KnownMap
       heap = refl;
     };
     long = removes.long;
-    stay = λ a not_cell not_others not_new. removes.beside a (beside_table known some a (not_others table_cell (first_in table_cell [])))
+    stay = λ a not_cell not_others not_new. removes.beside a
+        (beside_table known some a (not_others table_cell (first_in table_cell [])))
         (λ same. let of_cell = of_map known 2 (omega arith) in
         not_cell (record { from = omega (arith, same, of_cell.from); below = omega (arith, same, of_cell.below) }));
   }

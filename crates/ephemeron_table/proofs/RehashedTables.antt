@@ -87,7 +87,8 @@ module _ {old now : Mutator} {from to : Table} {at : ℕ}
   pub rehashing_passes : reference_in next_read.pair.key ≡ None → RehashesPairs old now from to (at + 1)
   rehashing_passes none = record {
     changes = moves.changes;
-    moved = rehashed_passes moves.moved next_read.pair there (free_without before at next_read.pair had_keys there none);
+    moved = rehashed_passes moves.moved next_read.pair there
+        (free_without before at next_read.pair had_keys there none);
     found = moves.found;
   }
 
@@ -108,7 +109,8 @@ module _ {old now : Mutator} {from to : Table} {at : ℕ}
         (option_and_then header_in found)) 0) (moves.changes.beside key key_beside.beside)
 
     -- one with a key comes to the other table
-    pub rehashing_inserts : {new : Mutator} (value : ℕ) → value ≡ next_read.pair.value → InsertsRehashed now new to key value
+    pub rehashing_inserts : {new : Mutator} (value : ℕ) → value ≡ next_read.pair.value
+        → InsertsRehashed now new to key value
         → RehashesPairs old new from to (at + 1)
     rehashing_inserts {new} value value_is inserts =
         let key_is : next_read.pair.key ≡ reference_word key = (reference_from next_read.pair.key key refers).1 in

@@ -50,7 +50,8 @@ round_begins capacity before place distance within free = record {
 
 -- the first round goes on behind a pair that stays, and behind one that moves
 module _ {capacity : ℕ} {before after : List Pair} {place hole passed distance : ℕ}
-    {removed : IsRemoved before after place} (within : place < capacity) (free : IsFreeAfter capacity before place distance)
+    {removed : IsRemoved before after place} (within : place < capacity) (free : IsFreeAfter capacity before place
+    distance)
     (round : IsFirstRound capacity before after place hole passed distance removed) (next : ℕ) (pair : Pair)
     (next_is : next ≡ place_after capacity hole (passed + 1)) (there : slice_get after next ≡ Some pair)
     (filled : pair ≢ free_pair) where
@@ -114,7 +115,8 @@ module _ {capacity : ℕ} {before after : List Pair} {place hole passed distance
         (omega (arith, further, free.less)) (omega (arith, below, round.at_hole)) in
         omega (arith, moves, next_steps)
 
-    now_below : (at : ℕ) (found : Pair) → IsFilledAt (moved removed hole next pair free_hole there filled apart) at found
+    now_below : (at : ℕ) (found : Pair) → IsFilledAt (moved removed hole next pair free_hole there filled apart) at
+        found
         → at < place → now.origin at < place
     now_below at found is less = elim (cases_eq at hole) [
       | inl same ↦

@@ -153,7 +153,8 @@ store-requires-clause-quiet c =
 
 pub store-requires-clause-within : goal.store-requires-clause-within
 store-requires-clause-within c =
-    let space = ap (λ (main : Mutator). main.seat.space) c.made.ensures.same ∙ c.insert_rehashed.ensures.words.beside.space
+    let space = ap (λ (main : Mutator). main.seat.space) c.made.ensures.same
+    ∙ c.insert_rehashed.ensures.words.beside.space
     ∙ c.boxed_word-word.ensures.made.beside.space ∙ c.rehash.ensures.changes.rest.space
     ∙ c.begin_table.ensures.beside.space ∙ ap (λ (main : Mutator). main.seat.space) c.in_ok-at.ensures.reserved in
     subst (λ (s : Space). c.args.map + 1 < marks_start s) (sym space) (slot_before _ _ c.requires.can.map_within)

@@ -3,7 +3,8 @@ use Rattle.std.proofs.Common.{◌+◌, unwrap_or, sym, ◌∙◌, ap, subst}
 use Rattle.tagged_word.specs.Readings.{reference_in}
 use Rattle.write_barrier.specs.Mains.{Mutator}
 use Rattle.ephemeron_table.specs.Rehashing.{RehashesPairs}
-use Rattle.ephemeron_table.proofs.RehashedTables.{rehashing_begins, rehashing_free, rehashing_key, rehashing_passes, rehashing_inserts}
+use Rattle.ephemeron_table.proofs.RehashedTables.{rehashing_begins, rehashing_free, rehashing_key, rehashing_passes}
+use Rattle.ephemeron_table.proofs.RehashedTables.{rehashing_inserts}
 use Rattle.ephemeron_table.proofs.RehashedTables.{next_read}
 use Rattle.ephemeron_table.proofs.TableBounds.{none_from_not_some, table_within}
 use Rattle.ephemeron_table.proofs.growing.rehash.Goals as goal
