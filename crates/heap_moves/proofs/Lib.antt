@@ -13,3 +13,4 @@ pub mod MovedLinks
 pub mod MovedReach
 pub mod MovedGraphs
 pub mod MovedRooms
+pub mod Unmoved

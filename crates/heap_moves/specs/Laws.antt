@@ -4,7 +4,7 @@ use Rattle.object_graph.specs.Graphs.{Graph}
 use Rattle.object_graph.specs.Reach.{is_marked, reach}
 use Rattle.heap_model.specs.Heaps.{Heap}
 use Rattle.heap_model.specs.Slots.{IsPlace}
-use Rattle.heap_model.specs.Wholeness.{Whole}
+use Rattle.heap_model.specs.Wholeness.{HasSizes, HasRows, Whole}
 use Rattle.heap_model.specs.Showing.{Shows}
 use Rattle.heap_model.specs.Needs.{shape_at, capacity_at, count_at, is_list_at, is_weak_at}
 use Rattle.heap_moves.specs.Moved.{IsMoved}
@@ -40,3 +40,7 @@ abbrev pub MovesKeepRoom : Type 0
 MovesKeepRoom =
     (old new : Heap) (to : ℕ → Option ℕ) (number at now : ℕ) → WholeFor old (Stays to) → IsMoved old new to
     → IsPlace old number at → to at ≡ Some now → IsPlaceMoved old new number at now
+
+-- A heap is itself moved, where each cell stays where it is.
+abbrev pub HeapsAreMoved : Type 0
+HeapsAreMoved = (heap : Heap) → HasSizes heap → HasRows heap → IsMoved heap heap (λ at. Some at)
