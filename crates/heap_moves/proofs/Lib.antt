@@ -14,3 +14,4 @@ pub mod MovedReach
 pub mod MovedGraphs
 pub mod MovedRooms
 pub mod Unmoved
+pub mod AllStands
