@@ -77,3 +77,4 @@ pub mod ChangeSteps
 pub mod Changes
 pub mod BetweenRuns
 pub mod ChangesEnd
+pub mod KnownChanges

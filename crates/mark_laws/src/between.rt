@@ -1,6 +1,7 @@
 //! What holds between the steps of a command, and what only grows.
 ghost use Rattle.mark_laws.specs.Changes.{ApartIsSpared, ChangesKeep, ChangesSettle, StoredIsSure, WordsAreStored};
 ghost use Rattle.mark_laws.specs.LayoutChanges.{LayoutChangesSettle};
+ghost use Rattle.mark_laws.specs.KnownChanges.{BesideIsSpared};
 ghost use Rattle.mark_laws.specs.Growing.{ListsGrow, ListsGrowAlong, MomentsGrow};
 ghost use Rattle.mark_laws.specs.Growing.{LendCounts, ReturnCounts, OthersKeepCount, NoneIsZero};
 ghost use Rattle.mark_laws.specs.Knowing.{NoneMadeIsKnown, MoreMayBeUnknown, KnownLeaves, RootsMayChange};
@@ -46,6 +47,7 @@ pub fn laws_of_knowing()
     ensures young { YoungMayJoin }
     ensures stays { KnownStays }
     ensures along { KnownAlong }
+    ensures beside { BesideIsSpared }
 {}
 
 /// Changes of cells among a list of events, whatever helpers do in between: what they store, and that

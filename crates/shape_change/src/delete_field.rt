@@ -12,9 +12,9 @@ ghost use Rattle.shape_change.specs.Deletions.{FindsWithout, TakingOut};
 
 use crate::shift_slots::{close_both, close_own};
 use crate::transitions::{put_new_layouts, set_shape};
-use object_cells::{STORE_HEAD, STORE_SLOT};
 use object_graph::Rep;
 use shape_tree::ShapesFull;
+use tagged_word::cell::{STORE_HEAD, STORE_SLOT};
 use tagged_word::{Header, Word};
 use write_barrier::Main;
 

@@ -9,9 +9,8 @@ ghost use Rattle.heap_model.specs.Slots.{hole_word};
 ghost use Rattle.write_barrier.specs.Mains.{with_word};
 ghost use Rattle.shape_change.specs.Shifts.{MovesDown, ClosesGap, ClosesSlots, SlotsWithin};
 
-use object_cells::STORE_HEAD;
 use object_graph::Rep;
-use tagged_word::cell::PLAIN_HEAD;
+use tagged_word::cell::{PLAIN_HEAD, STORE_HEAD};
 use tagged_word::{Word, odd};
 use write_barrier::Main;
 

@@ -17,9 +17,9 @@ ghost use Rattle.heap_model.specs.Needs.{word_at};
 ghost use Rattle.object_cells.specs.Contents.{Allocates, LacksRoom, HoldsSlotWord, IsBeforeMarks};
 
 use handle_roots::Held;
-use object_cells::{Content, Filling, STORE_HEAD, STORE_SLOT};
+use object_cells::{Content, Filling};
 use object_graph::Rep;
-use tagged_word::cell::PLAIN_HEAD;
+use tagged_word::cell::{PLAIN_HEAD, STORE_HEAD, STORE_SLOT};
 use tagged_word::{Header, Word};
 use write_barrier::{Main, NoRoom};
 

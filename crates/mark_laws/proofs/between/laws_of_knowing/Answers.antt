@@ -1,6 +1,7 @@
 use Rattle.mark_laws.proofs.KnownCells.{known_leaves, more_may_be_unknown, none_made_known, roots_may_change}
 use Rattle.mark_laws.proofs.Knowing.{known_stays, young_may_join}
 use Rattle.mark_laws.proofs.BetweenRuns.{known_along}
+use Rattle.mark_laws.proofs.KnownChanges.{beside_is_spared}
 use Rattle.mark_laws.proofs.between.laws_of_knowing.Goals as goal
 
 pub returns-clause-none_made : goal.returns-clause-none_made
@@ -23,3 +24,6 @@ returns-clause-stays c = known_stays
 
 pub returns-clause-along : goal.returns-clause-along
 returns-clause-along c = known_along
+
+pub returns-clause-beside : goal.returns-clause-beside
+returns-clause-beside c = beside_is_spared
