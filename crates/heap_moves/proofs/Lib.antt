@@ -15,3 +15,4 @@ pub mod MovedGraphs
 pub mod MovedRooms
 pub mod Unmoved
 pub mod AllStands
+pub mod RoomsStay

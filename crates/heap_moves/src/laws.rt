@@ -1,6 +1,6 @@
 //! Laws of moved heaps: they are whole, show what was shown, and keep the room of each object.
 ghost use Rattle.heap_moves.specs.Laws.{MovesKeepWhole, MovesShow, ReachedStay, MovesKeepRoom};
-ghost use Rattle.heap_moves.specs.Laws.{HeapsAreMoved};
+ghost use Rattle.heap_moves.specs.Laws.{MovesKeepRooms, HeapsAreMoved};
 
 /// A moved heap is whole, and shows the graph that was shown. Each object that can be reached
 /// stays, and each that stays has a store of as many slots, or a table of as many pairs. A heap in
@@ -10,5 +10,6 @@ pub fn laws_of_moves()
     ensures show { MovesShow }
     ensures reached { ReachedStay }
     ensures room { MovesKeepRoom }
+    ensures rooms { MovesKeepRooms }
     ensures itself { HeapsAreMoved }
 {}

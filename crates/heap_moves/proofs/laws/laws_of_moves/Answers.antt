@@ -1,6 +1,7 @@
 use Rattle.heap_moves.proofs.MovedWhole.{moves_keep_whole}
 use Rattle.heap_moves.proofs.MovedGraphs.{moves_show, reached_stay}
 use Rattle.heap_moves.proofs.MovedRooms.{moves_keep_room}
+use Rattle.heap_moves.proofs.RoomsStay.{moves_keep_rooms}
 use Rattle.heap_moves.proofs.Unmoved.{heaps_are_moved}
 use Rattle.heap_moves.proofs.laws.laws_of_moves.Goals as goal
 
@@ -18,3 +19,6 @@ returns-clause-room c = moves_keep_room
 
 pub returns-clause-itself : goal.returns-clause-itself
 returns-clause-itself c = heaps_are_moved
+
+pub returns-clause-rooms : goal.returns-clause-rooms
+returns-clause-rooms c = moves_keep_rooms
