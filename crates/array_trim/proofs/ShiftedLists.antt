@@ -20,7 +20,8 @@ use Rattle.object_cells.specs.Made.{PutsWords}
 use Rattle.object_cells.proofs.NewStores.{store_cell}
 use Rattle.array_trim.specs.TrimWords.{PutsShifted, shifted_words}
 use Rattle.array_trim.specs.TrimLaws.{ShiftedListShows}
-use Rattle.array_trim.specs.Trims.{HasTrimmed, shifted_capacity_at}
+use Rattle.heap_model.specs.Needs.{capacity_at}
+use Rattle.array_trim.specs.Trims.{HasTrimmed}
 use Rattle.array_trim.proofs.Covers.{IsCovered, covering}
 use Rattle.array_trim.proofs.ListStores.{ListStored, list_stored}
 use Rattle.array_trim.proofs.ShiftedWords.{shifted, counted, long_counted, long_shifted, shifted_header, shifted_slot}
@@ -183,7 +184,7 @@ module _ {old new : Mutator} {graph : Graph} {at : ℕ} {list : ListObject} {gon
 
   -- so the heap shows the list with these, and its store has as many slots fewer
   pub shifted_has_trimmed : HasTrimmed old new graph at list (drop gone list.elements)
-      (shifted_capacity_at (heap_of old) at gone)
+      (capacity_at (heap_of old) at - gone)
   shifted_has_trimmed =
       subst (λ n. HasTrimmed old new graph at list (drop gone list.elements) (n - gone)) (sym stored.capacity)
       (has_trimmed shifted_trimmed)

@@ -1,6 +1,6 @@
 -- What comes of a trim, by the words that it put: the heap shows the graph where the list has the elements that stay.
 use Rattle.std.proofs.Common.{◌≡◌, ℕ, suc, ◌+◌, ◌≤◌, ◌<◌, ◌==◌}
-use Rattle.std.proofs.Common.{true, false, length, take, drop, cond, Option}
+use Rattle.std.proofs.Common.{true, false, length, take, drop, cond, Option, eq-eqb}
 use Rattle.std.proofs.Common.{ℤ, to_z, of_z, refl, sym, ◌∙◌, ap, subst, arith}
 use Rattle.std.specs.Prelude.{FitsSigned}
 use Rattle.std.specs.Int.{w64}
@@ -55,8 +55,7 @@ pub none_truncated : {main : Mutator} {graph : Graph} {at : ℕ} (list : ListObj
     → IsListAt main graph at list → kept ≡ length list.elements → HasTruncated main main graph at list kept
 none_truncated {main} {at = at} list kept shows is all =
     let heap = heap_of main in
-    let counted = count_shown (list_shown shows is) in
-    let test : (kept == count_at heap at) ≡ true = grind (arith, nat_tests, counted, all) in
+    let test : (kept == length list.elements) ≡ true = eq-eqb kept (length list.elements) all in
     record {
       trims = nothing_trimmed list (take kept list.elements) _ shows is
           (ap (λ n. take n list.elements) all ∙ take-length list.elements)
@@ -72,8 +71,7 @@ pub some_truncated : {old new : Mutator} {graph : Graph} {at : ℕ} (list : List
     → HasTruncated old new graph at list kept
 some_truncated {old} {new} {graph} {at} list kept law sizes shows is fewer puts =
     let heap = heap_of old in
-    let counted = count_shown (list_shown shows is) in
-    let test : (kept == count_at heap at) ≡ false = grind (arith, nat_tests, counted, fewer) in
+    let test : (kept == length list.elements) ≡ false = grind (arith, nat_tests, fewer) in
     record {
       trims = subst (HasTrimmed old new graph at list (take kept list.elements))
           (sym (ap (λ t. cond t (capacity_at heap at) kept) test))

@@ -1,14 +1,12 @@
 -- Which words a trim of a list puts: those of its store and of its own cell, and a free cell over the words given up.
-use Rattle.std.specs.Prelude.{◌≡◌, ℕ, ◌+◌, ◌-◌, ◌==◌, List, slice_set, if◌then◌else◌}
-use Rattle.tagged_word.specs.declared.header.Header.{Header}
+use Rattle.std.specs.Prelude.{◌≡◌, ℕ, ◌+◌, ◌-◌, List, slice_set}
 use Rattle.tagged_word.specs.Headers.{header_bits}
-use Rattle.tagged_word.specs.Shapes.{filler_shape}
 use Rattle.tagged_word.specs.Cells.{length_offset, store_head, store_slot}
 use Rattle.heap_table.specs.Seats.{heap_words}
 use Rattle.heap_model.specs.Slots.{reference_word}
 use Rattle.heap_model.specs.Kinds.{count_offset}
 use Rattle.heap_model.specs.Needs.{capacity_at, word_at}
-use Rattle.write_barrier.specs.Mains.{Mutator, heap_of, gap_header}
+use Rattle.write_barrier.specs.Mains.{Mutator, heap_of}
 use Rattle.object_cells.specs.Formats.{store_header, with_filler}
 use Rattle.object_cells.specs.Made.{PutsWords}
 

@@ -1,12 +1,12 @@
 -- What the calls that trim lists do.
-use Rattle.std.specs.Prelude.{◌≡◌, ℕ, suc, ◌-◌, ◌≤◌, ◌<◌, ◌==◌}
+use Rattle.std.specs.Prelude.{◌≡◌, ℕ, suc, ◌-◌, ◌≤◌, ◌<◌}
 use Rattle.std.specs.Prelude.{List, length, take, drop, ℤ, Some, None}
-use Rattle.std.specs.Prelude.{Result, Ok, Err, if◌then◌else◌}
+use Rattle.std.specs.Prelude.{Result, Ok, Err}
 use Rattle.object_graph.specs.declared.value.Value.{Value}
 use Rattle.object_graph.specs.Graphs.{Graph, ListObject}
 use Rattle.object_graph.specs.Meaning.{below, relist}
-use Rattle.heap_model.specs.Heaps.{Heap}
-use Rattle.heap_model.specs.Needs.{capacity_at, count_at}
+use Rattle.heap_model.specs.Needs.{capacity_at}
+use Rattle.heap_model.specs.Rooms.{truncated_capacity}
 use Rattle.write_barrier.specs.Mains.{Mutator, heap_of, MainShows}
 use Rattle.object_cells.specs.Uses.{UsesMore}
 use Rattle.object_cells.specs.Capacities.{ChangesObject}
@@ -28,18 +28,10 @@ IsCountIn list n count = below (suc (length list.elements)) n ≡ Some count
 abbrev pub IsNoCountIn : ListObject → ℤ → Type 0
 IsNoCountIn list n = below (suc (length list.elements)) n ≡ None
 
--- how many slots the store of the list at an address has once its first elements, as many as `gone`, went
-abbrev pub shifted_capacity_at : Heap → ℕ → ℕ → ℕ
-shifted_capacity_at heap at gone = capacity_at heap at - gone
-
--- and how many once its first elements, as many as `kept`, stay alone
-abbrev pub truncated_capacity_at : Heap → ℕ → ℕ → ℕ
-truncated_capacity_at heap at kept = if kept == count_at heap at then capacity_at heap at else kept
-
 -- The first `gone` elements of the list at the address go. By 0 nothing changes; by more only the words of this trim
 -- are put.
 pub record HasShifted (old new : Mutator) (graph : Graph) (at : ℕ) (list : ListObject) (gone : ℕ) : Type 0 where
-  pub trims : HasTrimmed old new graph at list (drop gone list.elements) (shifted_capacity_at (heap_of old) at gone)
+  pub trims : HasTrimmed old new graph at list (drop gone list.elements) (capacity_at (heap_of old) at - gone)
   pub unchanged : gone ≡ 0 → new ≡ old
   pub puts : 1 ≤ gone → PutsShifted old new at (length list.elements) gone
 
@@ -53,7 +45,8 @@ ShiftsElements old new graph at list n (Err range) = IsNoCountIn list n × (new 
 -- The first `kept` elements of the list at the address stay alone. Where these are all, nothing changes; where they are
 -- fewer, only the words of this trim are put.
 pub record HasTruncated (old new : Mutator) (graph : Graph) (at : ℕ) (list : ListObject) (kept : ℕ) : Type 0 where
-  pub trims : HasTrimmed old new graph at list (take kept list.elements) (truncated_capacity_at (heap_of old) at kept)
+  pub trims : HasTrimmed old new graph at list (take kept list.elements)
+      (truncated_capacity (capacity_at (heap_of old) at) (length list.elements) kept)
   pub unchanged : kept ≡ length list.elements → new ≡ old
   pub puts : kept < length list.elements → PutsTruncated old new at kept
 

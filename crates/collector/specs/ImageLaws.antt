@@ -1,13 +1,12 @@
--- Laws of images of a heap: what they show, and what a command needs on them.
+-- Laws of images of a heap: what they show, and which rooms objects have in them.
 use Rattle.std.specs.Prelude.{◌≡◌, ℕ}
-use Rattle.heap_command.specs.declared.command.Command.{Command}
-use Rattle.heap_command.specs.Commands.{IsWithin}
 use Rattle.object_graph.specs.Graphs.{Graph}
 use Rattle.heap_model.specs.Heaps.{Heap}
 use Rattle.heap_model.specs.Wholeness.{Whole, Blank}
 use Rattle.heap_model.specs.Showing.{Shows}
 use Rattle.heap_model.specs.Slots.{IsPlace}
-use Rattle.heap_model.specs.Needs.{capacity_at, need_of}
+use Rattle.heap_model.specs.Needs.{capacity_at}
+use Rattle.heap_model.specs.Rooms.{Room, HasRooms}
 use Rattle.collector.specs.Images.{IsImageOf}
 
 -- An image shows each graph that the heap shows, so it is whole.
@@ -24,8 +23,8 @@ ImagesKeepStores =
     (heap image : Heap) (number at : ℕ) → Whole heap → IsImageOf heap image → IsPlace heap number at
     → IsPlace image number at × (capacity_at image at ≡ capacity_at heap at)
 
--- A command allocates as many words on an image as on the heap.
-abbrev pub ImagesNeedAsMuch : Type 0
-ImagesNeedAsMuch =
-    (heap image : Heap) (command : Command) (fields : ℕ) → Whole heap → IsImageOf heap image
-    → IsWithin heap.space.variables fields command → need_of image command ≡ need_of heap command
+-- Rooms of the objects in an image are their rooms in the heap, so a command needs as many words on both.
+abbrev pub ImagesHaveRooms : Type 0
+ImagesHaveRooms =
+    (heap image : Heap) (graph : Graph) (rooms : ℕ → Room) → Shows heap graph → IsImageOf heap image
+    → HasRooms image graph rooms → HasRooms heap graph rooms

@@ -1,6 +1,6 @@
 //! Laws of images.
 ghost use Rattle.collector.specs.ImageLaws.{ImagesShow, ImagesAreBlank, ImagesKeepStores};
-ghost use Rattle.collector.specs.ImageLaws.{ImagesNeedAsMuch};
+ghost use Rattle.collector.specs.ImageLaws.{ImagesHaveRooms};
 
 /// An image shows each graph that the heap shows, and has no word but 0 where no cell stands. Each
 /// object stands there where it stood, with a store of as many slots, and a command allocates as many
@@ -9,5 +9,5 @@ pub fn laws_of_images()
     ensures show { ImagesShow }
     ensures blank { ImagesAreBlank }
     ensures stores { ImagesKeepStores }
-    ensures need { ImagesNeedAsMuch }
+    ensures rooms { ImagesHaveRooms }
 {}

@@ -1,20 +1,20 @@
 -- The pair of a weak map's entry: it alone has the key, and what putting a value there takes.
-use Rattle.std.proofs.Common.{◌≡◌, ℕ, ◌+◌, ◌*◌, ◌<◌, Some, not, ◌&&◌, slice_get, get_or, unwrap_or, sym, ◌∙◌, ap}
+use Rattle.std.proofs.Common.{◌≡◌, ℕ, ◌+◌, ◌*◌, ◌<◌, Some, not, ◌&&◌, slice_get, unwrap_or, sym, ◌∙◌, ap}
 use Rattle.std.proofs.Common.{arith}
-use Rattle.std.proofs.lemmas.Option.{slice_get-get_or}
 use Rattle.page_space.specs.Sizes.{AreWithin}
 use Rattle.object_graph.specs.declared.value.Value.{Value}
 use Rattle.object_graph.specs.Graphs.{Graph, WeakObject}
 use Rattle.handle_roots.specs.declared.held.Held.{Held}
 use Rattle.heap_table.specs.Seats.{heap_words}
 use Rattle.heap_model.specs.Slots.{reference_word, IsSlotWord, RefersToPlace}
-use Rattle.heap_model.specs.Kinds.{Pair, free_pair}
+use Rattle.heap_model.specs.Kinds.{Pair}
 use Rattle.heap_model.specs.Showing.{ShowsHeld}
-use Rattle.heap_model.specs.Needs.{word_at, box_need, is_box_word, pair_of, wput_need_at, wput_need_by}
+use Rattle.heap_model.specs.Needs.{word_at, box_need, is_box_word}
+use Rattle.heap_model.specs.Rooms.{is_wide, wput_need, wput_need_by}
+use Rattle.heap_model.proofs.ShownBoxes.{value_boxed}
 use Rattle.heap_model.proofs.SlotWords.{value_is_slot}
 use Rattle.write_barrier.specs.Mains.{Mutator, heap_of, MainShows}
 use Rattle.object_cells.specs.Contents.{next_at, box_in, filling_of, filling_need}
-use Rattle.object_cells.specs.HeldValues.{is_wide}
 use Rattle.object_cells.specs.Made.{beside_content, is_wide_held}
 use Rattle.object_cells.proofs.HeldNeeds.{wide_is}
 use Rattle.ephemeron_table.specs.WeakObjects.{IsKeyAt, IsWeakAt}
@@ -23,7 +23,7 @@ use Rattle.ephemeron_table.specs.Probes.{IsTableAt}
 use Rattle.weak_pairs.specs.Tables.{ArePairsIn, key_in, value_in, value_offset, pairs_of}
 use Rattle.weak_pairs.specs.declared.table.Table.{Table}
 use Rattle.object_cells.proofs.FilledSlots.{held_put}
-use Rattle.ephemeron_table.proofs.KeysAt.{pair_of_is, pair_word_is}
+use Rattle.ephemeron_table.specs.EntryChanges.{map_room}
 use Rattle.ephemeron_table.proofs.KeysFound.{WeakShown, weak_shown, shown_pairs, shown_sound, key_filled, one_key}
 use Rattle.ephemeron_table.proofs.KeysFound.{TellsPair, key_told}
 use Rattle.ephemeron_table.proofs.KnownTables.{shown_known, KnownMap, within_words}
@@ -111,25 +111,15 @@ module _ {old : Mutator} {graph : Graph} {map key : ℕ} {weak : WeakObject} {nu
       value_is_slot has.told.pair.value (shown_sound has.shows.shows.whole shown place has.told.pair has.told.there
       entry_filled.filled).filled.value
 
-  -- the pair is the one that has the word of the key
-  pub entry_pair_of : pair_of (heap_of old) map (reference_word key) ≡ Some place
-  entry_pair_of =
-      pair_of_is known some (reference_word key) place has.below (ap (λ found. unwrap_or found 0) key_stands)
-      (λ k within is.
-      let pair : Pair = get_or shown.shows.pairs k free_pair in
-      let there : slice_get shown.shows.pairs k ≡ Some pair =
-      slice_get-get_or shown.shows.pairs k free_pair (omega (arith, within, stand.long)) in
-      let key_is : pair.key ≡ reference_word key =
-      sym (ap (λ found. unwrap_or found 0) (stand.keys k pair there)) ∙ is in
-      shown_only k pair there (record { at = key; refers = key_is; place = has.is_key.place }))
-
   -- so many words another value takes there
   pub entry_need : (value : Held) (what : Value) → ShowsHeld (heap_of old) value (Some what)
       → filling_need (filling_of (box_in (heap_of old) (word_at (heap_of old) (table.at + value_offset place)))
-      (next_at old) (beside_content value)) ≡ wput_need_at (heap_of old) map (reference_word key) (is_wide what)
+      (next_at old) (beside_content value)) ≡ wput_need (map_room old map weak) weak what number
   entry_need value what shows =
       let heap = heap_of old in
+      let boxed = value_boxed has.told.pair.value has.told.value has.sizes has.shows.shows.whole.sized has.told.shows in
       held_put heap (value_in heap table.at place) (next_at old) value
-      ∙ ap (λ w. box_need (is_wide_held value && not (is_box_word heap w))) (sym (pair_word_is known some place))
-      ∙ ap (λ wide. wput_need_by heap map wide (Some place)) (wide_is value what shows)
-      ∙ ap (wput_need_by heap map (is_wide what)) (sym entry_pair_of)
+      ∙ ap (λ w. box_need (is_wide_held value && not (is_box_word heap w))) value_read
+      ∙ ap (λ box. box_need (is_wide_held value && not box)) boxed
+      ∙ ap (λ wide. box_need (wide && not (is_wide has.told.value))) (wide_is value what shows)
+      ∙ ap (wput_need_by (map_room old map weak) what) (sym has.told.is_entry)

@@ -14,11 +14,11 @@ use Rattle.object_graph.specs.Graphs.{Graph, WeakObject}
 use Rattle.object_graph.specs.Invariants.{IsValue}
 use Rattle.handle_roots.specs.declared.held.Held.{Held}
 use Rattle.heap_table.specs.Seats.{heap_words}
-use Rattle.heap_model.specs.Slots.{reference_word, RefersToPlace, IsPlace}
+use Rattle.heap_model.specs.Slots.{RefersToPlace, IsPlace}
 use Rattle.heap_model.specs.Kinds.{Pair}
 use Rattle.heap_model.specs.Showing.{ShowsEntry}
-use Rattle.heap_model.specs.Needs.{box_need, capacity_at, count_at, grown_table, pair_of, table_need, wput_need_at}
-use Rattle.heap_model.specs.Needs.{wput_need_by}
+use Rattle.heap_model.specs.Needs.{box_need, capacity_at, count_at, grown_table, table_need}
+use Rattle.heap_model.specs.Rooms.{wput_need, wput_need_by}
 use Rattle.write_barrier.specs.Mains.{Mutator, heap_of, MainShows}
 use Rattle.object_cells.specs.HeldValues.{IsValueHeld, is_wide}
 use Rattle.object_cells.specs.Made.{beside_content}
@@ -40,7 +40,8 @@ use Rattle.ephemeron_table.proofs.GrownPairs.{now_filled, one_stands}
 use Rattle.ephemeron_table.proofs.GrownWords.{behind, pair}
 use Rattle.ephemeron_table.proofs.KeysFound.{WeakShown, weak_shown, shown_pairs}
 use Rattle.ephemeron_table.proofs.KnownTables.{shown_known, KnownMap, pairs_long, within_words}
-use Rattle.ephemeron_table.proofs.NoPair.{no_key, no_pair, pair_of_none}
+use Rattle.ephemeron_table.proofs.NoPair.{no_pair}
+use Rattle.ephemeron_table.specs.EntryChanges.{map_room}
 use Rattle.weak_pairs.proofs.PairLists.{pairs_are}
 
 module _ {old new : Mutator} {map key count earlier number : ℕ} {table : Table} {value : Held} {what : Value}
@@ -145,11 +146,6 @@ module _ {old : Mutator} {graph : Graph} {map key : ℕ} {weak : WeakObject} {nu
       no_pair shown growing.is_key growing.fresh at one (ap (λ all. slice_get all at) (sym same) ∙ filled.stands)
       filled.filled refers
 
-  pub no_pair_of : pair_of (heap_of old) map (reference_word key) ≡ None
-  no_pair_of =
-      pair_of_none known (reference_word key)
-      (λ k below. no_key shown growing.is_key growing.fresh table k growing.is_table below)
-
   -- twice the new count is over the pairs
   pub over_test : nat_lt (capacity_at (heap_of old) map) (2 * suc (count_at (heap_of old) map)) ≡ true
   over_test =
@@ -160,7 +156,7 @@ module _ {old : Mutator} {graph : Graph} {map key : ℕ} {weak : WeakObject} {nu
 
   -- so many words are needed
   pub growing_need : (value : Held) (what : Value) → IsValueHeld old graph value what
-      → new_table_need table value ≡ wput_need_at (heap_of old) map (reference_word key) (is_wide what)
+      → new_table_need table value ≡ wput_need (map_room old map weak) weak what number
   growing_need value what held =
       let wide = wide_is value what held.shows in
       let made : table_need (capacity_at (heap_of old) map) (count_at (heap_of old) map)
@@ -169,4 +165,4 @@ module _ {old : Mutator} {graph : Graph} {map key : ℕ} {weak : WeakObject} {nu
       ∙ ap (λ n. store_head + 2 * grown_table n) growing.is_table.capacity in
       ap (λ n. store_head + 2 * grown_table table.capacity + n) (content_need_is value ∙ ap box_need wide)
       ∙ ap (λ n. n + box_need (is_wide what)) (sym made)
-      ∙ ap (wput_need_by (heap_of old) map (is_wide what)) (sym no_pair_of)
+      ∙ ap (wput_need_by (map_room old map weak) what) (sym growing.fresh)

@@ -124,7 +124,7 @@ pub record TellsPair (main : Mutator) (pairs : List Pair) (table : Table) (place
   pub stands : slice_get (heap_of main).words (table.at + value_offset place) ≡ Some pair.value
 
 -- the pair of an entry is the one at the place
-one_pair : {main : Mutator} {graph : Graph} {map key : ℕ} {weak : WeakObject} {number : ℕ} (place : ℕ) (pair : Pair)
+pub one_pair : {main : Mutator} {graph : Graph} {map key : ℕ} {weak : WeakObject} {number : ℕ} (place : ℕ) (pair : Pair)
     (value : Value) → (shown : WeakShown main graph map weak) → IsKeyAt main graph key number
     → slice_get shown.shows.pairs place ≡ Some pair → RefersToPlace (heap_of main) pair.key number
     → entry_value weak.entries number ≡ Some value → ShowsValue (heap_of main) pair.value value

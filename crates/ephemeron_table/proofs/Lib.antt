@@ -21,7 +21,6 @@ pub mod GrowingTables
 pub mod PutPairs
 pub mod PairComes
 pub mod PutMaps
-pub mod KeysAt
 pub mod EntryPairs
 pub mod ReplacedValues
 pub mod PutEntries

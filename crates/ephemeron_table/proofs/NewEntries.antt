@@ -1,5 +1,5 @@
 -- The pair of a key that is new came to a free place of a weak map's table: so its entry is put.
-use Rattle.std.proofs.Common.{◌≡◌, ℕ, suc, ◌+◌, ◌*◌, ◌<◌, ◌≤◌, Bool, false, nat_lt, List, [], ◌∷◌, length, None, Some}
+use Rattle.std.proofs.Common.{◌≡◌, ℕ, suc, ◌+◌, ◌*◌, ◌<◌, ◌≤◌, false, nat_lt, List, [], ◌∷◌, length, None, Some}
 use Rattle.std.proofs.Common.{Err, refl, sym, ◌∙◌, ap, subst, arith}
 use Rattle.std.specs.Prelude.{slice_set}
 use Rattle.std.proofs.lemmas.Bool.{cond-false}
@@ -17,22 +17,23 @@ use Rattle.object_graph.specs.Invariants.{IsValue}
 use Rattle.page_space.specs.Sizes.{AreWithin}
 use Rattle.handle_roots.specs.declared.held.Held.{Held}
 use Rattle.heap_table.specs.Seats.{heap_words}
-use Rattle.heap_model.specs.Heaps.{Heap, words_of_cell}
+use Rattle.heap_model.specs.Heaps.{words_of_cell}
 use Rattle.heap_model.specs.Slots.{reference_word}
 use Rattle.heap_model.specs.Kinds.{HasWord, Pair, count_offset}
-use Rattle.heap_model.specs.Needs.{capacity_at, count_at, grown_table, box_need, wput_need_at, wput_need_by}
+use Rattle.heap_model.specs.Needs.{capacity_at, count_at, grown_table, box_need}
+use Rattle.object_graph.specs.Objects.{entry_value}
+use Rattle.heap_model.specs.Rooms.{Room, is_wide, room_put, wput_need, wput_need_by}
 use Rattle.write_barrier.specs.declared.room.NoRoom.{NoRoom}
 use Rattle.write_barrier.specs.Mains.{Mutator, heap_of, MainShows}
 use Rattle.object_cells.specs.Capacities.{ChangesObject}
-use Rattle.object_cells.specs.HeldValues.{IsValueHeld, is_wide}
+use Rattle.object_cells.specs.HeldValues.{IsValueHeld}
 use Rattle.object_cells.specs.Made.{beside_content, content_need, RefusesRoom}
 use Rattle.object_cells.specs.Uses.{UsesMore}
 use Rattle.object_cells.proofs.HeldContents.{HoldsValue}
 use Rattle.object_cells.proofs.HeldNeeds.{new_value_held, content_need_is, wide_is}
 use Rattle.ephemeron_table.proofs.KeptTables.{tables_stay}
-use Rattle.ephemeron_table.specs.EntryChanges.{HasPutEntry, PutsEntry}
+use Rattle.ephemeron_table.specs.EntryChanges.{map_room, HasPutEntry, PutsEntry}
 use Rattle.ephemeron_table.specs.declared.stop.TableStop.TheVariants as stop
-use Rattle.ephemeron_table.specs.Growth.{put_capacity_at, put_capacity_by}
 use Rattle.weak_pairs.specs.Pairs.{HasPairsAt}
 use Rattle.ephemeron_table.specs.PairChanges.{PutsPair}
 use Rattle.ephemeron_table.specs.PairLaws.{PutsOne, RefillsWeak, WrittenEntriesShow, IsNewValue}
@@ -47,7 +48,7 @@ use Rattle.weak_pairs.proofs.CountedPairs.{count_filled}
 use Rattle.ephemeron_table.proofs.FreeKeys.{ComesToFree, below, finds_put, counted_put, not_filled}
 use Rattle.ephemeron_table.proofs.GrownEntries.{length-with_entry_new}
 use Rattle.ephemeron_table.proofs.KnownTables.{KnownMap, cell, other}
-use Rattle.ephemeron_table.proofs.NewKeys.{LacksKey, shown, known, no_pair_of, no_pair_refers, entries_counted}
+use Rattle.ephemeron_table.proofs.NewKeys.{LacksKey, shown, known, no_pair_refers, entries_counted}
 use Rattle.ephemeron_table.proofs.NewKeys.{not_full_for, is_full_for, lacks_where_free}
 use Rattle.ephemeron_table.proofs.PairsByKey.{lacks_pair, pairs_shown}
 use Rattle.ephemeron_table.proofs.PutEntries.{puts_one}
@@ -61,20 +62,19 @@ table_not_full : (capacity count : ℕ) → 2 * (count + 1) ≤ capacity → nat
 table_not_full capacity count fits = grind (arith, nat_tests, fits)
 
 -- so what is needed is a box
-pub need_in_table : (heap : Heap) (map : ℕ) (wide : Bool) → 2 * (count_at heap map + 1) ≤ capacity_at heap map
-    → wput_need_by heap map wide None ≡ box_need wide
-need_in_table heap map wide fits =
-    let none = cond-false (nat_lt (capacity_at heap map) (2 * suc (count_at heap map)))
-    (store_head + 2 * grown_table (capacity_at heap map)) 0
-    (table_not_full (capacity_at heap map) (count_at heap map) fits) in
+pub need_in_table : (room : Room) (value : Value) → 2 * (room.entries + 1) ≤ room.capacity
+    → wput_need_by room value None ≡ box_need (is_wide value)
+need_in_table room value fits =
+    let none = cond-false (nat_lt room.capacity (2 * suc room.entries)) (store_head + 2 * grown_table room.capacity) 0
+    (table_not_full room.capacity room.entries fits) in
     omega (arith, none)
 
 -- and the map keeps its pairs
-pub capacity_in_table : (heap : Heap) (map : ℕ) → 2 * (count_at heap map + 1) ≤ capacity_at heap map
-    → put_capacity_by heap map None ≡ capacity_at heap map
-capacity_in_table heap map fits =
-    cond-false (nat_lt (capacity_at heap map) (2 * suc (count_at heap map))) (grown_table (capacity_at heap map))
-    (capacity_at heap map) (table_not_full (capacity_at heap map) (count_at heap map) fits)
+pub capacity_in_table : (room : Room) → 2 * (room.entries + 1) ≤ room.capacity
+    → (room_put room None).capacity ≡ room.capacity
+capacity_in_table room fits =
+    cond-false (nat_lt room.capacity (2 * suc room.entries)) (grown_table room.capacity) room.capacity
+    (table_not_full room.capacity room.entries fits)
 
 -- where a key is new and the map has as many entries as it may have, putting it is refused
 pub refuses_entry : {old : Mutator} {graph : Graph} {map key : ℕ} {weak : WeakObject} {number : ℕ} {table : Table}
@@ -113,18 +113,18 @@ module _ {old : Mutator} {graph : Graph} {map key : ℕ} {weak : WeakObject} {nu
   not_full = omega (arith, fitting.few, fitting.counted)
 
   -- so many words are needed
-  pub need_is : content_need (beside_content value)
-      ≡ wput_need_at (heap_of old) map (reference_word key) (is_wide what)
+  pub need_is : content_need (beside_content value) ≡ wput_need (map_room old map weak) weak what number
   need_is =
       content_need_is value ∙ ap box_need (wide_is value what fitting.held.shows)
-      ∙ sym (need_in_table (heap_of old) map (is_wide what) stays)
-      ∙ ap (wput_need_by (heap_of old) map (is_wide what)) (sym (no_pair_of fitting.lacks))
+      ∙ sym (need_in_table (map_room old map weak) what stays)
+      ∙ ap (wput_need_by (map_room old map weak) what) (sym fitting.lacks.fresh)
 
   -- the map keeps its pairs
-  pub capacity_is : capacity_at (heap_of old) map ≡ put_capacity_at (heap_of old) map (reference_word key)
+  pub capacity_is : capacity_at (heap_of old) map
+      ≡ (room_put (map_room old map weak) (entry_value weak.entries number)).capacity
   capacity_is =
-      sym (capacity_in_table (heap_of old) map stays)
-      ∙ ap (put_capacity_by (heap_of old) map) (sym (no_pair_of fitting.lacks))
+      sym (capacity_in_table (map_room old map weak) stays)
+      ∙ ap (λ found. (room_put (map_room old map weak) found).capacity) (sym fitting.lacks.fresh)
 
   -- where there is no room, putting it is refused
   pub refuses_in_table : {new : Mutator} (room : NoRoom)

@@ -7,7 +7,7 @@ use Rattle.page_space.specs.Sizes.{AreWithin}
 use Rattle.heap_table.specs.Seats.{heap_words}
 use Rattle.heap_model.specs.Slots.{reference_word, RefersToPlace}
 use Rattle.heap_model.specs.Kinds.{Pair}
-use Rattle.heap_model.specs.Needs.{count_at, pair_of}
+use Rattle.heap_model.specs.Needs.{count_at}
 use Rattle.write_barrier.specs.Mains.{Mutator, heap_of, MainShows}
 use Rattle.ephemeron_table.specs.EntryChanges.{IsFullFor}
 use Rattle.ephemeron_table.specs.WeakObjects.{IsKeyAt, IsWeakAt}
@@ -17,7 +17,7 @@ use Rattle.weak_pairs.specs.Tables.{ArePairsIn, pairs_of}
 use Rattle.weak_pairs.specs.Probes.{PassesBefore}
 use Rattle.ephemeron_table.specs.declared.probing.End.TheVariants as probe_end
 use Rattle.weak_pairs.specs.declared.table.Table.{Table}
-use Rattle.ephemeron_table.proofs.NoPair.{no_pair, no_key, pair_of_none}
+use Rattle.ephemeron_table.proofs.NoPair.{no_pair}
 use Rattle.ephemeron_table.proofs.KeysFound.{WeakShown, weak_shown, shown_pairs}
 use Rattle.ephemeron_table.proofs.KeysProbed.{none_nowhere, none_where_free}
 use Rattle.ephemeron_table.proofs.KnownTables.{shown_known, KnownMap, within_words}
@@ -88,13 +88,7 @@ module _ {old : Mutator} {graph : Graph} {map key : ℕ} {weak : WeakObject} {nu
   pairs_same : pairs_of (heap_words old.seat) table ≡ shown.shows.pairs
   pairs_same = pairs_are (heap_words old.seat) table shown.shows.pairs (within_words known) stand
 
-  -- so no pair has it
-  pub no_pair_of : pair_of (heap_of old) map (reference_word key) ≡ None
-  no_pair_of =
-      pair_of_none known (reference_word key)
-      (λ k below. no_key shown lacks.is_key lacks.fresh table k lacks.is_table below)
-
-  -- nor does the key of one refer to the object
+  -- no key of a pair refers to the object
   pub no_pair_refers : (at : ℕ) (pair : Pair) → IsFilledAt (pairs_of (heap_words old.seat) table) at pair
       → RefersToPlace (heap_of old) pair.key number → ⊥
   no_pair_refers at pair filled refers =

@@ -13,9 +13,10 @@ use Rattle.object_graph.specs.Invariants.{IsValue}
 use Rattle.handle_roots.specs.Roots.{FitsHeld}
 use Rattle.handle_roots.specs.declared.held.Held.{Held}
 use Rattle.heap_model.specs.Heaps.{words_of_cell}
-use Rattle.heap_model.specs.Slots.{reference_word}
 use Rattle.heap_model.specs.Kinds.{HasWord, count_offset}
-use Rattle.heap_model.specs.Needs.{capacity_at, count_at, grown_table, pair_of}
+use Rattle.heap_model.specs.Needs.{capacity_at, count_at, grown_table}
+use Rattle.heap_model.specs.Rooms.{room_put}
+use Rattle.object_graph.specs.Objects.{entry_value}
 use Rattle.write_barrier.specs.Mains.{Mutator, heap_of}
 use Rattle.write_barrier.specs.declared.room.NoRoom.{NoRoom}
 use Rattle.object_cells.specs.HeldValues.{IsValueHeld}
@@ -26,15 +27,14 @@ use Rattle.object_cells.proofs.HeldContents.{HoldsValue}
 use Rattle.object_cells.proofs.HeldNeeds.{held_is_value, new_value_held}
 use Rattle.object_cells.proofs.UnusedWords.{marks_fit, next_before_marks}
 use Rattle.ephemeron_table.proofs.KeptTables.{tables_grow}
-use Rattle.ephemeron_table.specs.EntryChanges.{HasPutEntry, IsFullFor, PutsEntry}
+use Rattle.ephemeron_table.specs.EntryChanges.{map_room, HasPutEntry, IsFullFor, PutsEntry}
 use Rattle.ephemeron_table.specs.declared.stop.TableStop.TheVariants as stop
-use Rattle.ephemeron_table.specs.Growth.{put_capacity_by}
 use Rattle.ephemeron_table.specs.Movings.{CanGrow, PutsInNewTable, new_table_need}
 use Rattle.ephemeron_table.specs.PairLaws.{RefillsWeak, WrittenEntriesShow, IsNewValue}
 use Rattle.weak_pairs.specs.declared.table.Table.{Table}
 use Rattle.weak_pairs.proofs.CountedPairs.{count_filled}
 use Rattle.ephemeron_table.proofs.GrownEntries.{IsGrowing, growing_can, growing_need, known, length-with_entry_new}
-use Rattle.ephemeron_table.proofs.GrownEntries.{no_pair_of, none, over_test, puts_one, shown}
+use Rattle.ephemeron_table.proofs.GrownEntries.{none, over_test, puts_one, shown}
 use Rattle.ephemeron_table.proofs.GrownMaps.{all_made, boxes_made, count_now, refills_weak, slot_there_now}
 use Rattle.ephemeron_table.proofs.GrownMaps.{table_made}
 use Rattle.ephemeron_table.proofs.GrownPairs.{after, before, one_more}
@@ -118,13 +118,13 @@ module _ {old : Mutator} {graph : Graph} {map key : ℕ} {weak : WeakObject} {nu
         (slot_there_now k can puts objects growing.is_key.place holds is_value counted))
 
     -- which is as many as the table has once an entry of the key was put
-    capacity_is : grown_table table.capacity ≡ put_capacity_by (heap_of old) map
-        (pair_of (heap_of old) map (reference_word key))
+    capacity_is : grown_table table.capacity ≡ (room_put (map_room old map weak)
+        (entry_value weak.entries number)).capacity
     capacity_is =
         let capacity : ℕ = capacity_at (heap_of old) map in
         ap grown_table (sym growing.is_table.capacity)
         ∙ ap (λ t. cond t (grown_table capacity) capacity) (sym (over_test growing))
-        ∙ ap (put_capacity_by (heap_of old) map) (sym (no_pair_of growing))
+        ∙ ap (λ found. (room_put (map_room old map weak) found).capacity) (sym growing.fresh)
 
     -- so the entry has the value
     pub grown_entry : WrittenEntriesShow → HasPutEntry old new graph map key weak number what

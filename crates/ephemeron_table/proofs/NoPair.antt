@@ -1,16 +1,15 @@
 -- Where a weak map has no entry of a key, no pair of its table has the key.
-use Rattle.std.proofs.Common.{◌≡◌, ◌≢◌, ℕ, zero, suc, ◌+◌, ◌<◌, ◌≤◌, Bool, true, false, Option, Some, None, slice_get}
-use Rattle.std.proofs.Common.{◌==◌, refl, sym, ◌∙◌, ap, subst, arith, unwrap_or, get_or, if◌then◌else◌}
+use Rattle.std.proofs.Common.{◌≡◌, ◌≢◌, ℕ, ◌<◌}
+use Rattle.std.proofs.Common.{Some, None, slice_get}
+use Rattle.std.proofs.Common.{sym, ◌∙◌, ap, subst, arith, unwrap_or, get_or}
 use Rattle.std.specs.Prelude.{IsFalse}
-use Rattle.std.proofs.lemmas.Bool.{eqb-true, false≢true}
+use Rattle.std.proofs.lemmas.Bool.{false≢true}
 use Rattle.std.proofs.lemmas.Option.{slice_get-get_or}
 use Rattle.object_graph.specs.Graphs.{Graph, WeakObject}
 use Rattle.object_graph.specs.Objects.{entry_value}
 use Rattle.object_graph.specs.Reach.{is_marked, reach}
-use Rattle.heap_model.specs.Heaps.{Heap}
 use Rattle.heap_model.specs.Slots.{reference_word, RefersToPlace}
 use Rattle.heap_model.specs.Kinds.{Pair, free_pair}
-use Rattle.heap_model.specs.Needs.{key_word, pair_from, pair_of}
 use Rattle.heap_model.specs.Showing.{IsKnownKey}
 use Rattle.write_barrier.specs.Mains.{Mutator, heap_of}
 use Rattle.ephemeron_table.specs.Probes.{IsTableAt}
@@ -18,9 +17,7 @@ use Rattle.weak_pairs.specs.Tables.{key_in}
 use Rattle.ephemeron_table.specs.WeakObjects.{IsKeyAt}
 use Rattle.weak_pairs.specs.declared.table.Table.{Table}
 use Rattle.weak_pairs.proofs.EntriesFound.{entry_apart}
-use Rattle.ephemeron_table.proofs.KeysAt.{key_word_is}
 use Rattle.ephemeron_table.proofs.KeysFound.{WeakShown, key_filled, shown_pairs}
-use Rattle.ephemeron_table.proofs.KnownTables.{KnownMap}
 use Rattle.heap_model.proofs.NewKeys.{one_number}
 
 module _ {main : Mutator} {graph : Graph} {map key : ℕ} {weak : WeakObject} {number : ℕ}
@@ -54,29 +51,3 @@ module _ {main : Mutator} {graph : Graph} {map key : ℕ} {weak : WeakObject} {n
       sym (ap (λ found. unwrap_or found 0) (stand.keys place pair there)) ∙ has in
       no_pair place pair there (key_filled pair key key_is)
       (record { at = key; refers = key_is; place = is_key.place })
-
--- the first pair of some has another word, and so have the others
-none_by : (test : Bool) (word key first : ℕ) (rest : Option ℕ) → (word == key) ≡ test → word ≢ key → rest ≡ None
-    → (if test then Some first else rest) ≡ None
-none_by true word key first rest is other none = absurd (other (eqb-true word key is))
-none_by false word key first rest is other none = none
-
--- of so many pairs none has the key
-pub pair_from_none : (heap : Heap) (at key first more : ℕ)
-    → ((k : ℕ) → first ≤ k → k < first + more → key_word heap at k ≢ key)
-    → pair_from heap at key first more ≡ None
-pair_from_none heap at key first zero none = refl
-pair_from_none heap at key first (suc more) none =
-    none_by (key_word heap at first == key) (key_word heap at first) key first
-    (pair_from heap at key (suc first) more) refl
-    (none first (omega arith) (omega arith))
-    (pair_from_none heap at key (suc first) more (λ k from below. none k (omega (arith, from)) (omega (arith, below))))
-
--- so no pair of the map has it
-pub pair_of_none : {old : Mutator} {map : ℕ} {table : Table} → KnownMap old map table → (key : ℕ)
-    → ((k : ℕ) → k < table.capacity → key_in (heap_of old) table.at k ≢ key) → pair_of (heap_of old) map key ≡ None
-pair_of_none {old} {map} {table} known key none =
-    ap (pair_from (heap_of old) map key 0) known.is.capacity
-    ∙ pair_from_none (heap_of old) map key 0 table.capacity (λ k from below has.
-    let some : 0 < table.capacity = omega (arith, below) in
-    none k (omega (arith, below)) (sym (key_word_is known some k) ∙ has))

@@ -6,19 +6,20 @@ use Rattle.object_graph.specs.Graphs.{Graph, WeakObject}
 use Rattle.object_graph.specs.Invariants.{IsValue}
 use Rattle.handle_roots.specs.Roots.{FitsHeld}
 use Rattle.handle_roots.specs.declared.held.Held.{Held}
-use Rattle.heap_model.specs.Slots.{reference_word, IsSlotWord}
-use Rattle.heap_model.specs.Needs.{word_at, wput_need_at}
+use Rattle.heap_model.specs.Slots.{IsSlotWord}
+use Rattle.heap_model.specs.Needs.{word_at}
+use Rattle.heap_model.specs.Rooms.{wput_need}
 use Rattle.write_barrier.specs.Mains.{Mutator, heap_of}
 use Rattle.write_barrier.specs.declared.room.NoRoom.{NoRoom}
 use Rattle.object_cells.specs.Contents.{next_at, box_in, filling_at, filling_of, filling_need, HoldsSlotWord}
 use Rattle.object_cells.specs.Contents.{LacksRoom, FillsSlot}
-use Rattle.object_cells.specs.HeldValues.{IsValueHeld, is_wide}
+use Rattle.object_cells.specs.HeldValues.{IsValueHeld}
 use Rattle.object_cells.specs.Made.{beside_content}
 use Rattle.object_cells.proofs.NothingUsed.{room_for_none}
 use Rattle.object_cells.proofs.FilledSlots.{FilledBy, slot_filled, held_before, no_raw}
 use Rattle.object_cells.proofs.HeldNeeds.{held_is_value, new_value_held}
 use Rattle.object_cells.proofs.SlotBoxes.{box_of_word, lacks_need}
-use Rattle.ephemeron_table.specs.EntryChanges.{HasPutEntry, IsFullFor, PutsEntry}
+use Rattle.ephemeron_table.specs.EntryChanges.{map_room, HasPutEntry, IsFullFor, PutsEntry}
 use Rattle.ephemeron_table.specs.declared.stop.TableStop.TheVariants as stop
 use Rattle.ephemeron_table.specs.PairLaws.{WrittenEntriesShow}
 use Rattle.weak_pairs.specs.Tables.{value_in, value_offset}
@@ -59,7 +60,7 @@ replaces_by : {old new : Mutator} {graph : Graph} {map key : ℕ} {weak : WeakOb
     → FilledBy old new (table.at + value_offset place) (word_at (heap_of old) (table.at + value_offset place))
     (beside_content value)
     → (need : ℕ) × ReplacesValue old new (known has) place key what need
-    × (need ≡ wput_need_at (heap_of old) map (reference_word key) (is_wide what))
+    × (need ≡ wput_need (map_room old map weak) weak what number)
 replaces_by {old} value what has is_value held (FilledBy.slot room words needs) =
     let holds = new_value_held false value what held.shows in
     (_, slot_replaces value has holds is_value room words, sym needs ∙ entry_need has value what held.shows)
@@ -80,7 +81,7 @@ replaces_value : {old new : Mutator} {graph : Graph} {map key : ℕ} {weak : Wea
     → IsValue (length graph.objects) what → IsValueHeld old graph value what
     → FillsSlot old new (table.at + value_offset place) (beside_content value)
     → (need : ℕ) × ReplacesValue old new (known has) place key what need
-    × (need ≡ wput_need_at (heap_of old) map (reference_word key) (is_wide what))
+    × (need ≡ wput_need (map_room old map weak) weak what number)
 replaces_value {old} {new} {place = place} {table} value what has is_value held fills =
     let room = room_for_none old has.shows.tied has.shows.shows.whole in
     replaces_by value what has is_value held

@@ -18,22 +18,21 @@ use Rattle.heap_model.specs.Heaps.{words_of_cell}
 use Rattle.heap_model.specs.Slots.{reference_word, RefersToPlace}
 use Rattle.heap_model.specs.Kinds.{HasWord, Pair, count_offset}
 use Rattle.heap_model.specs.Showing.{ShowsValue}
-use Rattle.heap_model.specs.Needs.{capacity_at, count_at, wput_need_at}
+use Rattle.heap_model.specs.Needs.{capacity_at, count_at}
+use Rattle.heap_model.specs.Rooms.{room_put, wput_need}
 use Rattle.heap_model.proofs.WordsStay.{PlacesStay}
 use Rattle.write_barrier.specs.Mains.{Mutator, heap_of}
-use Rattle.object_cells.specs.HeldValues.{IsReachedValue, is_wide}
+use Rattle.object_cells.specs.HeldValues.{IsReachedValue}
 use Rattle.object_cells.specs.Capacities.{ChangesObject}
 use Rattle.object_cells.specs.Uses.{UsesMore}
 use Rattle.ephemeron_table.proofs.KeptTables.{tables_stay}
-use Rattle.ephemeron_table.specs.EntryChanges.{HasPutEntry}
-use Rattle.ephemeron_table.specs.Growth.{put_capacity_by}
+use Rattle.ephemeron_table.specs.EntryChanges.{map_room, HasPutEntry}
 use Rattle.weak_pairs.specs.Pairs.{IsFilledAt}
 use Rattle.ephemeron_table.specs.PairLaws.{RefillsWeak, PutsOne, WrittenEntriesShow, IsNewValue}
 use Rattle.weak_pairs.specs.Tables.{pairs_of}
 use Rattle.weak_pairs.specs.declared.table.Table.{Table}
 use Rattle.weak_pairs.proofs.CountedPairs.{count_filled, count_kept}
 use Rattle.ephemeron_table.proofs.EntryPairs.{HasEntryPair, shown, known, entry_filled, entry_refers, entry_only}
-use Rattle.ephemeron_table.proofs.EntryPairs.{entry_pair_of}
 use Rattle.ephemeron_table.proofs.KeysFound.{key_filled}
 use Rattle.ephemeron_table.proofs.KnownTables.{KnownMap, cell, count_is}
 use Rattle.weak_pairs.proofs.FilledPairs.{filled_elsewhere, still_filled, same_filled}
@@ -150,7 +149,7 @@ module _ {old new : Mutator} {graph : Graph} {map key : ℕ} {weak : WeakObject}
 
   -- so the entry has the value
   pub replaces_entry : WrittenEntriesShow → IsValue (length graph.objects) what → IsReachedValue graph what
-      → need ≡ wput_need_at (heap_of old) map (reference_word key) (is_wide what)
+      → need ≡ wput_need (map_room old map weak) weak what number
       → HasPutEntry old new graph map key weak number what
   replaces_entry entries_show fits reached need_is =
       let heap = heap_of old in
@@ -158,8 +157,8 @@ module _ {old new : Mutator} {graph : Graph} {map key : ℕ} {weak : WeakObject}
         few = λ lacks. none-some has.told.value (sym lacks.fresh ∙ has.told.is_entry);
         room = subst (HasRoom old.young) need_is replaces.room;
         uses = subst (UsesMore old new) need_is (record { beside = replaces.beside; young = replaces.young });
-        changes = subst (λ found. ChangesObject heap (heap_of new) map (put_capacity_by heap map found))
-            (sym (entry_pair_of has)) changes;
+        changes = subst (λ found. ChangesObject heap (heap_of new) map (room_put (map_room old map weak) found).capacity)
+            (sym has.told.is_entry) changes;
         shows = entries_show old new graph weak (cell (known has)) replaces.others replaces.made number (Some what)
             has.shows has.is.object has.is.reached has.is_key.reached
             (shown has).carries (shown has).shows

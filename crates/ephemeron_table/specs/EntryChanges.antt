@@ -2,19 +2,18 @@
 use Rattle.std.specs.Prelude.{◌≡◌, ℕ, ◌≤◌, length, Some, None, unwrap_or, Result, Ok, Err}
 use Rattle.object_graph.specs.declared.value.Value.{Value}
 use Rattle.object_graph.specs.declared.value.Value.TheVariants.{Undefined}
+use Rattle.object_graph.specs.declared.object.Object.TheVariants.{Weak}
 use Rattle.object_graph.specs.Objects.{entry_value, with_entry, without_entry}
 use Rattle.object_graph.specs.Graphs.{Graph, WeakObject}
 use Rattle.object_graph.specs.Meaning.{weak_most, reweave}
 use Rattle.nursery.specs.Young.{HasRoom}
 use Rattle.handle_roots.specs.declared.held.Held.{Held}
-use Rattle.heap_model.specs.Slots.{reference_word}
 use Rattle.heap_model.specs.Showing.{ShowsHeld}
-use Rattle.heap_model.specs.Needs.{capacity_at, wput_need_at}
+use Rattle.heap_model.specs.Needs.{capacity_at}
+use Rattle.heap_model.specs.Rooms.{Room, room_at, room_put, wput_need}
 use Rattle.write_barrier.specs.Mains.{Mutator, heap_of, MainShows}
-use Rattle.object_cells.specs.HeldValues.{is_wide}
 use Rattle.object_cells.specs.Uses.{UsesMore}
 use Rattle.object_cells.specs.Capacities.{ChangesObject}
-use Rattle.ephemeron_table.specs.Growth.{put_capacity_at}
 use Rattle.ephemeron_table.specs.declared.stop.TableStop.{TableStop}
 use Rattle.ephemeron_table.specs.declared.stop.TableStop.TheVariants as stop
 
@@ -22,6 +21,10 @@ use Rattle.ephemeron_table.specs.declared.stop.TableStop.TheVariants as stop
 pub record IsFullFor (weak : WeakObject) (number : ℕ) : Type 0 where
   pub fresh : entry_value weak.entries number ≡ None
   pub full : weak_most ≤ length weak.entries
+
+-- the room of the weak map whose cell stands at an address
+abbrev pub map_room : Mutator → ℕ → WeakObject → Room
+map_room main map weak = room_at (heap_of main) map (Weak weak.entries)
 
 -- How the entry of the key whose cell stands at an address comes to have a value, in the weak map whose cell stands at
 -- an address, which may be the same one: it allocates what that needs, for which there is room, and the heap shows the
@@ -31,9 +34,9 @@ pub record HasPutEntry (old new : Mutator) (graph : Graph) (map key : ℕ) (weak
     (value : Value)
     : Type 0 where
   pub few : IsFullFor weak number → ⊥
-  pub room : HasRoom old.young (wput_need_at (heap_of old) map (reference_word key) (is_wide value))
-  pub uses : UsesMore old new (wput_need_at (heap_of old) map (reference_word key) (is_wide value))
-  pub changes : ChangesObject (heap_of old) (heap_of new) map (put_capacity_at (heap_of old) map (reference_word key))
+  pub room : HasRoom old.young (wput_need (map_room old map weak) weak value number)
+  pub uses : UsesMore old new (wput_need (map_room old map weak) weak value number)
+  pub changes : ChangesObject (heap_of old) (heap_of new) map (room_put (map_room old map weak) (entry_value weak.entries number)).capacity
   pub shows : MainShows new (reweave graph weak (with_entry weak.entries number value))
 
 -- `put`: the entry of the key has the value; or the key is new and the map has as many entries as it may have, or there
@@ -45,7 +48,7 @@ PutsEntry old new graph map key weak number value (Err (stop.TableFull entries))
     IsFullFor weak number × (entries ≡ length weak.entries) × (new ≡ old)
 PutsEntry old new graph map key weak number value (Err (stop.Full room)) =
     (IsFullFor weak number → ⊥)
-    × (room.need ≡ wput_need_at (heap_of old) map (reference_word key) (is_wide value))
+    × (room.need ≡ wput_need (map_room old map weak) weak value number)
     × (HasRoom old.young room.need → ⊥) × (new ≡ old)
 
 -- `get`: what is held shows the value of the key's entry; undefined where there is none.

@@ -1,5 +1,4 @@
 pub mod WeakObjects
-pub mod Growth
 pub mod EntryChanges
 pub mod Pairs
 pub mod PairChanges

@@ -1,5 +1,5 @@
 -- What the calls on the entries of a weak map do of the pairs of its table.
-use Rattle.std.specs.Prelude.{◌≡◌, ℕ, ◌+◌, ◌≤◌, ◌<◌, List, Result, Ok, Err}
+use Rattle.std.specs.Prelude.{◌≡◌, ℕ, ◌+◌, ◌≤◌, ◌<◌, List, Result, Ok, Err, not, ◌&&◌}
 use Rattle.tagged_word.specs.declared.word.Class.{Class}
 use Rattle.tagged_word.specs.Words.{IsClass, bits_of}
 use Rattle.object_graph.specs.declared.value.Value.{Value}
@@ -11,7 +11,7 @@ use Rattle.handle_roots.specs.declared.held.Held.TheVariants.{Undefined}
 use Rattle.heap_model.specs.Heaps.{Heap}
 use Rattle.heap_model.specs.Slots.{reference_word}
 use Rattle.heap_model.specs.Kinds.{Pair}
-use Rattle.heap_model.specs.Needs.{count_at, wput_need_at}
+use Rattle.heap_model.specs.Needs.{box_need, capacity_at, count_at, is_box_word, table_need}
 use Rattle.write_barrier.specs.Mains.{Mutator, heap_of}
 use Rattle.write_barrier.specs.Values.{held_of_class}
 use Rattle.object_cells.specs.Made.{is_wide_held}
@@ -44,6 +44,14 @@ pub record HasPutPair (old new : Mutator) (map key : ℕ) (value : Held) (before
       → count_at (heap_of new) map ≡ count_at (heap_of old) map
   pub one_more : LacksPair before (reference_word key) → count_at (heap_of new) map ≡ count_at (heap_of old) map + 1
 
+-- So many words the pair of a key word and a value needs: where no pair has the key, a table that is absent or too full
+-- and a box where the value is wide; and else a box where the value is wide and the one before stands in none.
+pub record NeedsPair (heap : Heap) (map key : ℕ) (value : Held) (before : List Pair) (need : ℕ) : Type 0 where
+  pub fresh : LacksPair before key
+      → need ≡ table_need (capacity_at heap map) (count_at heap map) + box_need (is_wide_held value)
+  pub there : (place : ℕ) (pair : Pair) → IsPairOf before key place pair
+      → need ≡ box_need (is_wide_held value && not (is_box_word heap pair.value))
+
 -- `put`: the pair was put; or none has the key and the map has as many entries as it may have; or there is no room, in
 -- this order, and nothing has changed.
 abbrev pub PutsPair : Mutator → Mutator → (map key : ℕ) → Held → List Pair → Result Unit TableStop → Type 0
@@ -53,7 +61,7 @@ PutsPair old new map key value before (Err (stop.TableFull entries)) =
     × (weak_most ≤ count_at (heap_of old) map) × (new ≡ old)
 PutsPair old new map key value before (Err (stop.Full room)) =
     (LacksPair before (reference_word key) → count_at (heap_of old) map < weak_most)
-    × (room.need ≡ wput_need_at (heap_of old) map (reference_word key) (is_wide_held value))
+    × NeedsPair (heap_of old) map (reference_word key) value before room.need
     × (HasRoom old.young room.need → ⊥) × (new ≡ old)
 
 -- Both the entry of the key and its pair are put, or why they are not.

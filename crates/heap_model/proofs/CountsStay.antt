@@ -29,7 +29,7 @@ HasCountOf words (graph_object.List elements) = Unit {0}
 HasCountOf words (graph_object.Weak entries) = HasWord words count_offset (length entries)
 
 -- an object's own cell stands in its place
-place_of : {heap : Heap} {cell : Cell} {words : List ℕ} {number : ℕ} → HasCell heap cell words
+pub place_of : {heap : Heap} {cell : Cell} {words : List ℕ} {number : ℕ} → HasCell heap cell words
     → IsTrue (is_object_kind cell.layout.kind) → cell.header.object ≡ number → IsPlace heap number cell.at
 place_of {cell = cell} {words} has object carries =
     record { cell = cell; words = words; has = has; stands = refl; object = object; carries = carries }

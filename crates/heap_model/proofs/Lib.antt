@@ -46,3 +46,6 @@ pub mod KeptCells
 pub mod WordChanges
 pub mod Rewrites
 pub mod SlotWrites
+pub mod ShownRooms
+pub mod BoxShapes
+pub mod ShownBoxes

@@ -1,5 +1,5 @@
 -- What the words of a cell hold, by its kind: of every cell, one that nothing refers to as well.
-use Rattle.std.specs.Prelude.{◌≡◌, ℕ, ◌+◌, ◌<◌, ◌≤◌, ◌^◌, Bool, List, []}
+use Rattle.std.specs.Prelude.{◌≡◌, ℕ, ◌<◌, ◌≤◌, ◌^◌, Bool, List, []}
 use Rattle.std.specs.Prelude.{◌∷◌, ◌++◌, length, drop, All, Some, slice_get, nat_lt, count_by, not, ◌&&◌}
 use Rattle.std.specs.Prelude.{◌==◌, ◌⊎◌, ℤ, FitsSigned}
 use Rattle.std.specs.Int.{w64}

@@ -8,3 +8,4 @@ pub mod Changes
 pub mod Laws
 pub mod Needs
 pub mod Counting
+pub mod Rooms

@@ -2,6 +2,7 @@
 ghost use Rattle.heap_model.specs.Laws.{OwnChangesKeepWhole, OwnChangesShow, MadeCellsAreOwn};
 ghost use Rattle.heap_model.specs.Laws.{BindingsShow, NewBindingsShow, NewObjectsShow};
 ghost use Rattle.heap_model.specs.Laws.{NewObjectsAreNoKeys};
+ghost use Rattle.heap_model.specs.Rooms.{ShownObjectsHaveRooms};
 ghost use Rattle.heap_model.specs.Laws.{ChangesKeepCells, RewritesArePatches, RewritesKeepCells, SlotWritesKeepCells};
 
 /// A heap whose objects change inside their own cells is whole again, and shows the graph in which
@@ -32,4 +33,9 @@ pub fn laws_of_words()
     ensures rewrites { RewritesArePatches }
     ensures rewritten { RewritesKeepCells }
     ensures slots { SlotWritesKeepCells }
+{}
+
+/// The objects of a graph that a heap shows have rooms there.
+pub fn law_of_rooms()
+    ensures { ShownObjectsHaveRooms }
 {}

@@ -16,4 +16,4 @@ mod image;
 mod laws;
 
 pub use image::{HeapImage, HeapWords};
-pub use laws::{laws_of_bindings, laws_of_changes, laws_of_words};
+pub use laws::{law_of_rooms, laws_of_bindings, laws_of_changes, laws_of_words};

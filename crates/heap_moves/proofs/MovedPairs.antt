@@ -47,13 +47,13 @@ probed_moved pairs others number at are probed =
       steps = probed.steps;
       within = rw long probed.within;
       comes = rw long probed.comes;
-      filled = λ before now sooner there free.
+      filled = λ before sooner there.
           let place : ℕ = (number + before) % length pairs in
-          let there_it : slice_get others place ≡ Some now =
-          subst (λ n. slice_get others ((number + before) % n) ≡ Some now) long there in
-          let was = other_pair pairs others place now long there_it in
-          let both = are.each place was.0 now was.1 there_it in
-          probed.filled before was.0 sooner was.1 (free_before was.0 now both free);
+          let there_it : slice_get others place ≡ Some free_pair =
+          subst (λ n. slice_get others ((number + before) % n) ≡ Some free_pair) long there in
+          let was = other_pair pairs others place free_pair long there_it in
+          let both = are.each place was.0 free_pair was.1 there_it in
+          probed.filled before sooner (was.1 ∙ ap (λ pair. Some pair) (free_before was.0 free_pair both refl));
     }
 
 -- a pair is found by the same key

@@ -1,5 +1,5 @@
 -- What holds of a run on a heap holds of its image.
-use Rattle.std.proofs.Common.{◌≡◌, ℕ, ◌+◌, List, [], ◌∷◌, length, Option, Some, None, ap, ◌∙◌, sym}
+use Rattle.std.proofs.Common.{◌≡◌, ℕ, ◌+◌, List, [], ◌∷◌, Option, Some, None, ap, ◌∙◌, sym}
 use Rattle.std.proofs.Common.{subst, inl, inr, IsTrue}
 use Rattle.std.proofs.Common.{nat_lt}
 use Rattle.heap_command.specs.declared.command.Command.{Command}
@@ -7,23 +7,22 @@ use Rattle.heap_command.specs.Executed.{Executed}
 use Rattle.page_space.specs.Extents.{Space}
 use Rattle.object_graph.specs.Graphs.{Graph}
 use Rattle.script_text.specs.Scripts.{ScriptText}
-use Rattle.script_text.specs.Sound.{IsNumbered}
 use Rattle.heap_model.specs.Heaps.{Heap}
 use Rattle.heap_model.specs.Wholeness.{Whole}
+use Rattle.heap_model.specs.Showing.{Shows}
 use Rattle.collector.specs.Images.{IsImageOf}
-use Rattle.collector.specs.ImageLaws.{ImagesShow, ImagesKeepStores, ImagesNeedAsMuch}
+use Rattle.collector.specs.ImageLaws.{ImagesShow, ImagesKeepStores, ImagesHaveRooms}
 use Rattle.heap_script.specs.declared.finished.How.{How}
 use Rattle.heap_script.specs.declared.finished.How.TheVariants as how
 use Rattle.heap_script.specs.declared.finished.Finished.{Finished}
 use Rattle.heap_script.specs.Runs.{left_after, Reached, HasSpent, IsFull, IsFullFor, IsFullAt, ComesTo, FailedAt}
 use Rattle.heap_script.specs.Runs.{Writes, Finishes}
-use Rattle.heap_run.proofs.ExecutedNames.{NamesBelow, AllBelow, left_below}
 
 -- the laws of images
 pub record Laws : Type 0 where
   pub show : ImagesShow
   pub stores : ImagesKeepStores
-  pub need : ImagesNeedAsMuch
+  pub rooms : ImagesHaveRooms
 
 -- the run has come so far on the image too
 abbrev pub reached_imaged : {script : ScriptText} {heap image : Heap} {n : ℕ} → Laws → IsImageOf heap image
@@ -64,76 +63,68 @@ as_full {heap = heap} {image = image} graph need is full =
     (subst (λ (n : ℕ). IsTrue (nat_lt heap.space.sizes.young (heap.survivors + n + need))) used full))
 
 -- it is full for the command of a line, if the heap is
-full_for : {heap image : Heap} (graph : Graph) (need fields : ℕ) (command : Option Command) → Laws → Whole heap
-    → IsImageOf heap image → NamesBelow heap.space.variables fields command → IsFullFor heap graph need command
-    → IsFullFor image graph need command
-full_for graph need fields None laws whole is below full = full
-full_for {heap = heap} {image = image} graph need fields (Some command) laws whole is below (need-is, full) = (
-  need-is ∙ sym (laws.need heap image command fields whole is below),
-  as_full {heap = heap} {image = image} graph need is
-      full,
+full_for : {heap image : Heap} (graph : Graph) (need : ℕ) (command : Option Command) → Laws → Shows heap graph
+    → IsImageOf heap image → IsFullFor heap graph need command → IsFullFor image graph need command
+full_for graph need None laws shows is full = full
+full_for {heap = heap} {image = image} graph need (Some command) laws shows is (needs, full) = (
+  λ rooms has. needs rooms (laws.rooms heap image graph rooms shows is has),
+  as_full {heap = heap} {image = image} graph need is full,
 )
 
 -- so at the first of the lines that are left
-full_at : {heap image : Heap} (graph : Graph) (line need fields : ℕ) (lines : List Executed) → Laws → Whole heap
-    → IsImageOf heap image → AllBelow heap.space.variables fields lines
-    → IsFullAt heap graph line need lines → IsFullAt image graph line need lines
-full_at graph line need fields [] laws whole is below full = full
-full_at {heap = heap} {image = image} graph line need fields (next ∷ more) laws whole is below (number-is, full) =
-    (number-is, full_for {heap = heap} {image = image} graph need fields next.command laws whole is below.0 full)
+full_at : {heap image : Heap} (graph : Graph) (line need : ℕ) (lines : List Executed) → Laws → Shows heap graph
+    → IsImageOf heap image → IsFullAt heap graph line need lines → IsFullAt image graph line need lines
+full_at graph line need [] laws shows is full = full
+full_at {heap = heap} {image = image} graph line need (next ∷ more) laws shows is (number-is, full) =
+    (number-is, full_for {heap = heap} {image = image} graph need next.command laws shows is full)
 
 -- a run comes to the same on the image
-comes_imaged : {script : ScriptText} {heap image : Heap} {n : ℕ} (came : How) (line : ℕ) → Laws → IsNumbered script
+comes_imaged : {script : ScriptText} {heap image : Heap} {n : ℕ} (came : How) (line : ℕ) → Laws
     → IsImageOf heap image → (r : Reached script heap n) → ComesTo script heap n r.so_far came line
     → ComesTo script image n r.so_far came line
-comes_imaged how.End line laws numbered is r comes = comes
-comes_imaged (how.Fault word) line laws numbered is r comes = comes
-comes_imaged {script = script} {heap = heap} {image = image} {n = n} (how.HeapFull need) line laws numbered is r comes =
-    let fields : ℕ = length script.fields in
-    let below = subst (λ (count : ℕ). AllBelow count fields (left_after script n))
-    (sym r.variables) (left_below script n numbered) in
+comes_imaged how.End line laws is r comes = comes
+comes_imaged (how.Fault word) line laws is r comes = comes
+comes_imaged {script = script} {heap = heap} {image = image} {n = n} (how.HeapFull need) line laws is r comes =
     record {
       goes_on = comes.goes_on;
-      full = full_at {heap = heap} {image = image} r.so_far.graph line need fields
-          (left_after script n) laws r.shown.whole is
-          below
+      full = full_at {heap = heap} {image = image} r.so_far.graph line need (left_after script n) laws r.shown is
           comes.full;
     }
-comes_imaged (how.SinkFault need) line laws numbered is r comes = comes
-comes_imaged how.LineLimit line laws numbered is r comes = comes
+comes_imaged (how.SinkFault need) line laws is r comes = comes
+comes_imaged how.LineLimit line laws is r comes = comes
 
 -- the sink failed where it failed
-failed_imaged : {script : ScriptText} {heap image : Heap} {n : ℕ} (line need : ℕ) → Laws → IsNumbered script
+failed_imaged : {script : ScriptText} {heap image : Heap} {n : ℕ} (line need : ℕ) → Laws
     → IsImageOf heap image → (r : Reached script heap n) → FailedAt script heap n r.so_far line need
     → FailedAt script image n r.so_far line need
-failed_imaged line need laws numbered is r (inl between) = inl between
-failed_imaged line need laws numbered is r (inr (came, comes, same)) =
-    inr (came, comes_imaged came line laws numbered is r comes, same)
+failed_imaged line need laws is r (inl between) = inl between
+failed_imaged line need laws is r (inr (came, comes, same)) =
+    inr (came, comes_imaged came line laws is r comes, same)
 
 -- what was written was written
 writes_imaged : {script : ScriptText} {heap image : Heap} (came : How) (finished : Finished) (old new : List ℕ → Type 0)
-    (faults_old faults_new : ℕ) → Laws → IsNumbered script → IsImageOf heap image
+    (faults_old faults_new : ℕ) → Laws → IsImageOf heap image
     → (r : Reached script heap finished.executed)
     → Writes script heap finished r.so_far old new faults_old faults_new came
     → Writes script image finished r.so_far old new faults_old faults_new came
-writes_imaged how.End finished old new fo fn laws numbered is r (comes, appends, steady) =
-    (comes_imaged how.End finished.line laws numbered is r comes, appends, steady)
-writes_imaged (how.Fault word) finished old new fo fn laws numbered is r (comes, appends, steady) =
-    (comes_imaged (how.Fault word) finished.line laws numbered is r comes, appends, steady)
-writes_imaged (how.HeapFull need) finished old new fo fn laws numbered is r (comes, appends, steady) =
-    (comes_imaged (how.HeapFull need) finished.line laws numbered is r comes, appends, steady)
-writes_imaged (how.SinkFault need) finished old new fo fn laws numbered is r (failed, cut, rose) =
-    (failed_imaged finished.line need laws numbered is r failed, cut, rose)
-writes_imaged how.LineLimit finished old new fo fn laws numbered is r (comes, appends, steady) =
-    (comes_imaged how.LineLimit finished.line laws numbered is r comes, appends, steady)
+writes_imaged how.End finished old new fo fn laws is r (comes, appends, steady) =
+    (comes_imaged how.End finished.line laws is r comes, appends, steady)
+writes_imaged (how.Fault word) finished old new fo fn laws is r (comes, appends, steady) =
+    (comes_imaged (how.Fault word) finished.line laws is r comes, appends, steady)
+writes_imaged (how.HeapFull need) finished old new fo fn laws is r (comes, appends, steady) =
+    (comes_imaged (how.HeapFull need) finished.line laws is r comes, appends, steady)
+writes_imaged (how.SinkFault need) finished old new fo fn laws is r (failed, cut, rose) =
+    (failed_imaged finished.line need laws is r failed, cut, rose)
+writes_imaged how.LineLimit finished old new fo fn laws is r (comes, appends, steady) =
+    (comes_imaged how.LineLimit finished.line laws is r comes, appends, steady)
 
 -- the run finishes on the image as on the heap
 pub finishes_imaged : {script : ScriptText} {heap image : Heap} (finished : Finished) (old new : List ℕ → Type 0)
-    (faults_old faults_new : ℕ) → Laws → IsNumbered script → IsImageOf heap image
+    (faults_old faults_new : ℕ) → Laws → IsImageOf heap image
     → Finishes script heap finished old new faults_old faults_new
     → Finishes script image finished old new faults_old faults_new
-finishes_imaged finished old new fo fn laws numbered is f = record {
+finishes_imaged finished old new fo fn laws is f = record {
   reached = reached_imaged laws is f.reached;
   spent = spent_imaged laws f.reached.shown.whole is f.spent;
-  writes = writes_imaged finished.how finished old new fo fn laws numbered is f.reached f.writes;
+  writes = writes_imaged finished.how finished old new fo fn laws is f.reached f.writes;
 }

@@ -2,5 +2,4 @@ mod Pieces
 mod Excess
 mod Answering
 mod Concluding
-mod ExecutedNames
 mod Imaged

@@ -16,13 +16,12 @@ use Rattle.script_text.proofs.Left.{begins}
 use Rattle.object_graph.specs.Limits.{ideal_limits}
 use Rattle.page_space.specs.Extents.{Space, marks_start}
 use Rattle.heap_model.specs.Heaps.{Heap}
-use Rattle.heap_model.specs.Needs.{need_of}
-use Rattle.nursery.specs.Young.{Young, HasRoom}
-use Rattle.write_barrier.specs.Mains.{Mutator, heap_of, MainShows, IsTied, IsOpened}
-use Rattle.object_cells.specs.Uses.{UsesMore}
+use Rattle.heap_model.specs.Rooms.{Room, HasRooms, need_of}
+use Rattle.heap_model.proofs.ShownRooms.{shown_objects_have_rooms}
+use Rattle.nursery.specs.Young.{Young}
+use Rattle.write_barrier.specs.Mains.{Mutator, heap_of, MainShows, IsOpened}
 use Rattle.collector.specs.States.{HeapState, HeapShows, Spare, IsReady}
-use Rattle.mutator.specs.Capacities.{KeepsStores}
-use Rattle.mutator.specs.Carries.{Carries}
+use Rattle.mutator.specs.Carries.{Carries, TakesRoom}
 use Rattle.heap_script.specs.Runs.{left_after, Reached, Spends, Allocates, TellsAt}
 use Rattle.heap_script.specs.Progress.{objects_made, made_by, CarriesLine, Handed}
 use Rattle.heap_script.proofs.Counts.{length-does, makes_one}
@@ -77,16 +76,29 @@ next_at (first ∷ xs) zero x rest e = cc
 next_at (first ∷ xs) (suc n) x rest e = next_at xs n x rest e
 
 -- a command that has used its words allocates them
-allocates : {old new : Mutator} (command : Command) → IsTied old → HasRoom old.young (need_of (heap_of old) command)
-    → UsesMore old new (need_of (heap_of old) command) → KeepsStores (heap_of old) (heap_of new) command
-    → Allocates (heap_of old) (heap_of new) command
-allocates {old} {new} command tied room uses stores = record {
-  space = uses.beside.space;
-  room = not_lacking old (need_of (heap_of old) command) tied room;
-  used = ap (λ (young : Young). young.used) uses.young;
-  survivors = ap (λ (young : Young). young.survivors) uses.young;
-  stores = stores;
-}
+allocates : {old new : Mutator} {graph after : Graph} (command : Command) → MainShows old graph
+    → ((rooms : ℕ → Room) → HasRooms (heap_of old) graph rooms → TakesRoom old new graph after command rooms)
+    → Allocates (heap_of old) (heap_of new) graph after command
+allocates {old} {new} {graph} command shows takes =
+    let (rooms, has) = shown_objects_have_rooms (heap_of old) graph shows.shows in
+    let one = takes rooms has in
+    record {
+      space = one.uses.beside.space;
+      survivors = ap (λ (young : Young). young.survivors) one.uses.young;
+      uses = λ rooms has.
+          let taken = takes rooms has in
+          record {
+            room = not_lacking old (need_of graph rooms command) shows.tied taken.room;
+            used = ap (λ (young : Young). young.used) taken.uses.young;
+            stores = taken.stores;
+          };
+    }
+
+-- and keeps the regions
+pub takes_space : {old new : Mutator} {graph after : Graph} (command : Command) → MainShows old graph
+    → ((rooms : ℕ → Room) → HasRooms (heap_of old) graph rooms → TakesRoom old new graph after command rooms)
+    → new.seat.space ≡ old.seat.space
+takes_space command shows takes = (allocates command shows takes).space
 
 -- a script begins
 pub Running-start : (script : ScriptText) (heap : HeapState) (old : List ℕ → Type 0) → IsPlaced 0 script.lines
@@ -167,7 +179,7 @@ Running-passed script heap objects waiting old new at at' ts ts' n number r belo
     record {
       reached = reached;
       spends = Spends.one_more (heap_of heap.main) (heap_of heap.main) n line r.spends
-          (next_at (executed_lines script.lines) n line goes.rest goes.is) refl reached;
+          (next_at (executed_lines script.lines) n line goes.rest goes.is) r.reached reached refl;
       shown = r.shown;
       left = subst (IsLeft script.lines at' ts') (sym (dropped-next script n next)) goes.left;
       handed = r.handed;
@@ -202,7 +214,8 @@ pub Running-carried : (script : ScriptText) (heap after : HeapState) (objects : 
     → Running script after (objects + objects_made command) (waiting ++ text) old new at' ts' (n + 1)
 Running-carried script heap after objects waiting old new at at' ts ts' n number command text r below goes spare
     carries =
-    let (graph, does-is, shown, room, uses, stores) = carries in
+    let (graph, does-is, shown, takes) = carries in
+    let space = takes_space command r.shown.main takes in
     let so_far = r.reached.so_far in
     let later : Told = record { graph = graph; bytes = so_far.bytes ++ text } in
     let line = executed number (Some command) in
@@ -210,7 +223,7 @@ Running-carried script heap after objects waiting old new at at' ts ts' n number
     let reached : Reached script (heap_of after.main) (n + 1) = record {
       within = omega (arith, next.within);
       few = omega (arith, below);
-      variables = ap (λ (space : Space). space.variables) uses.beside.space ∙ r.reached.variables;
+      variables = ap (λ (space : Space). space.variables) space ∙ r.reached.variables;
       so_far = later;
       said = said-next script n so_far later line goes.rest next r.reached.said (ap (told_with so_far) does-is);
       shown = shown.shows;
@@ -218,9 +231,9 @@ Running-carried script heap after objects waiting old new at at' ts ts' n number
     record {
       reached = reached;
       spends = Spends.one_more (heap_of heap.main) (heap_of after.main) n line r.spends
-          (next_at (executed_lines script.lines) n line goes.rest goes.is)
-          (allocates command r.shown.main.tied room uses stores) reached;
-      shown = still_shows heap after graph r.shown spare uses.beside.space shown;
+          (next_at (executed_lines script.lines) n line goes.rest goes.is) r.reached reached
+          (allocates command r.shown.main takes);
+      shown = still_shows heap after graph r.shown spare space shown;
       left = subst (IsLeft script.lines at' ts') (sym (dropped-next script n next)) goes.left;
       handed = Handed-told text r.handed;
       made = ap (λ m. m + objects_made command) r.made
@@ -230,10 +243,11 @@ Running-carried script heap after objects waiting old new at at' ts ts' n number
 
 -- a line that was executed leaves the regions as they were
 pub same_space : (heap after : HeapState) (graph : Graph) (command : Option Command) (names : List (List ℕ))
-    (text : List ℕ)
+    (text : List ℕ) → MainShows heap.main graph
     → CarriesLine names heap.main after.main graph command text (Ok tt) → after.main.seat.space ≡ heap.main.seat.space
-same_space heap after graph None names text (same, nothing, is) = ap (λ (m : Mutator). m.seat.space) same
-same_space heap after graph (Some command) names text (next, does-is, shown, room, uses, stores) = uses.beside.space
+same_space heap after graph None names text shows (same, nothing, is) = ap (λ (m : Mutator). m.seat.space) same
+same_space heap after graph (Some command) names text shows (next, does-is, shown, takes) =
+    takes_space command shows takes
 
 -- a line was executed
 pub Running-line : (script : ScriptText) (heap after : HeapState) (objects : ℕ) (waiting : List ℕ)
@@ -270,7 +284,7 @@ TellsAt-line script heap old new at' ts' n number None text r goes (same, nothin
       adds = sym (append-nil r.so_far.bytes);
     })
 TellsAt-line script heap old new at' ts' n number (Some command) text r goes
-    (graph, does-is, shown, room, uses, stores) =
+    (graph, does-is, shown, takes) =
     let line = executed number (Some command) in
     let next = next-drop (executed_lines script.lines) n line goes.rest goes.is in
     let later : Told = record { graph = graph; bytes = r.so_far.bytes ++ text } in

@@ -14,7 +14,8 @@ use Rattle.script_text.specs.Sound.{IsBuilt}
 use Rattle.script_text.specs.Unrolled.{executed_lines}
 use Rattle.heap_model.specs.Heaps.{Heap}
 use Rattle.heap_model.specs.Slots.{IsPlace}
-use Rattle.heap_model.specs.Needs.{capacity_at, need_of, lacks_room}
+use Rattle.heap_model.specs.Needs.{capacity_at, lacks_room}
+use Rattle.heap_model.specs.Rooms.{Room, HasRooms, need_of}
 use Rattle.heap_model.specs.Showing.{Shows}
 use Rattle.mutator.specs.Capacities.{KeepsStores}
 use Rattle.mutator.specs.declared.output.TheConstants.{OUTPUT_BYTES, ROOM}
@@ -47,27 +48,32 @@ pub record Reached (script : ScriptText) (heap : Heap) (executed : ℕ) : Type 0
   pub said : told ideal_limits script.fields (take executed (executed_lines script.lines)) ≡ Some so_far
   pub shown : Shows heap so_far.graph
 
--- A command allocates on the heap: there was room for the words that it needs, and exactly so many more of eden are
--- used. The regions stay, and no survivor comes or goes. Property stores have the slots that the command gives them.
-pub record Allocates (old new : Heap) (command : Command) : Type 0 where
+-- Where objects have these rooms, there was room for the words that the command needs, and exactly so many more of eden
+-- are used; objects come to have the rooms that it gives them.
+pub record UsesNeed (old new : Heap) (graph after : Graph) (command : Command) (rooms : ℕ → Room) : Type 0 where
+  pub room : lacks_room old (need_of graph rooms command) ≡ false
+  pub used : new.used ≡ old.used + need_of graph rooms command
+  pub stores : KeepsStores old new graph after command rooms
+
+-- A command that leads from one graph to another allocates on the heap. The regions stay, and no survivor comes or goes.
+pub record Allocates (old new : Heap) (graph after : Graph) (command : Command) : Type 0 where
   pub space : new.space ≡ old.space
-  pub room : lacks_room old (need_of old command) ≡ false
-  pub used : new.used ≡ old.used + need_of old command
   pub survivors : new.survivors ≡ old.survivors
-  pub stores : KeepsStores old new command
+  pub uses : (rooms : ℕ → Room) → HasRooms old graph rooms → UsesNeed old new graph after command rooms
 
 -- what a line allocates; one that runs no command leaves the heap as it is
-abbrev pub LineAllocates : Heap → Heap → Option Command → Type 0
-LineAllocates old new None = new ≡ old
-LineAllocates old new (Some command) = Allocates old new command
+abbrev pub LineAllocates : Heap → Heap → Graph → Graph → Option Command → Type 0
+LineAllocates old new graph after None = new ≡ old
+LineAllocates old new graph after (Some command) = Allocates old new graph after command
 
 -- The words that the executed lines of a script spend, one line after another, up to this heap. No word is used before
--- the first line, and each line uses what its command needs on the heap that the lines before it left.
+-- the first line, and each line uses what its command needs, by the graph and the rooms that the lines before it led to.
 pub data Spends (script : ScriptText) : Heap → ℕ → Type 0 where
   none : (heap : Heap) → heap.used ≡ 0 → heap.survivors ≡ 0 → Reached script heap 0 → Spends script heap 0
   one_more : (old new : Heap) (executed : ℕ) (line : Executed) → Spends script old executed
-      → slice_get (executed_lines script.lines) executed ≡ Some line → LineAllocates old new line.command
-      → Reached script new (executed + 1) → Spends script new (executed + 1)
+      → slice_get (executed_lines script.lines) executed ≡ Some line
+      → (before : Reached script old executed) (after : Reached script new (executed + 1))
+      → LineAllocates old new before.so_far.graph after.so_far.graph line.command → Spends script new (executed + 1)
 
 -- The heap has the regions of the one to which the lines led that spent words, and as many words are used and have
 -- survived. Each object stands where it stands there, with a store of as many slots.
@@ -85,10 +91,12 @@ abbrev pub EndsAs : ScriptText → ℕ → Told → Ending → Type 0
 EndsAs script executed so_far ended =
     EndsAfter ideal_limits script.fields (executed_lines script.lines) executed so_far ended
 
--- the line runs a command that needs so many words, and the heap, which shows this graph, is full for them
+-- the line runs a command that needs so many words, by the rooms of objects, and the heap, which shows this graph, is
+-- full for them
 abbrev pub IsFullFor : Heap → Graph → ℕ → Option Command → Type 0
 IsFullFor heap graph need None = ⊥
-IsFullFor heap graph need (Some command) = (need ≡ need_of heap command) × IsFull heap graph need
+IsFullFor heap graph need (Some command) =
+    ((rooms : ℕ → Room) → HasRooms heap graph rooms → need ≡ need_of graph rooms command) × IsFull heap graph need
 
 -- of these lines the next one has this number, and the heap is full for its command
 abbrev pub IsFullAt : Heap → Graph → ℕ → ℕ → List Executed → Type 0

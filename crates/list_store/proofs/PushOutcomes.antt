@@ -1,5 +1,5 @@
 -- What comes of a push: the heap shows the graph in which the value is the list's last element.
-use Rattle.std.proofs.Common.{◌≡◌, ℕ, ◌+◌, ◌<◌, ◌==◌, ◌++◌, ◌∷◌, []}
+use Rattle.std.proofs.Common.{◌≡◌, ◌≢◌, ℕ, ◌+◌, ◌<◌, ◌==◌, ◌++◌, ◌∷◌, [], eq-eqb}
 use Rattle.std.proofs.Common.{true, false, length, length-append, cond, sym, ◌∙◌, ap}
 use Rattle.std.proofs.Common.{subst, arith}
 use Rattle.std.proofs.lemmas.Bool.Decides.{nat_tests}
@@ -13,13 +13,15 @@ use Rattle.heap_model.specs.Needs.{capacity_at}
 use Rattle.write_barrier.specs.Mains.{Mutator, heap_of}
 use Rattle.object_cells.specs.Capacities.{ChangesObject}
 use Rattle.object_cells.specs.Uses.{UsesMore}
-use Rattle.object_cells.proofs.HeldNeeds.{wide_is}
 use Rattle.object_cells.proofs.NewElements.{pushed_elements_are_new}
 use Rattle.object_cells.proofs.OneElement.{DiffersAt, pushed_differs}
-use Rattle.heap_model.specs.Needs.{count_at, grown_list, push_need_at}
+use Rattle.heap_model.specs.Needs.{grown_list}
+use Rattle.heap_model.specs.Rooms.{push_need, push_capacity}
+use Rattle.tagged_word.specs.Cells.{store_head}
+use Rattle.object_cells.specs.Made.{content_need, beside_content}
 use Rattle.list_store.specs.ListChanges.{HasPushed}
 use Rattle.list_store.specs.Pushes.{PushesAt}
-use Rattle.list_store.proofs.PushNeeds.{need_to_store, need_to_new_store}
+use Rattle.list_store.proofs.PushNeeds.{need_to_store, need_to_new_store, push_need_is}
 use Rattle.object_cells.proofs.ListChanging.{Changing, Elements}
 use Rattle.list_store.proofs.WrittenSlots.{slot_shown, slot_keeps}
 use Rattle.list_store.proofs.PushedToNewStore.{to_new_store_shown, to_new_store_becomes}
@@ -44,19 +46,20 @@ pub has_pushed : {old new : Mutator} {graph : Graph} {at count : ℕ} {list : Li
     → Changing old graph at list value what → count ≡ length list.elements → length list.elements < list_most
     → AreWithin old.seat.space.sizes old.seat.space.variables → PushesAt old new at count value
     → HasPushed old new graph at list what
-has_pushed {old} {new} {at = at} {count} {value = value} {what} known is few sizes
+has_pushed {old} {new} {at = at} {count} {list} {value} {what} known is few sizes
     (PushesAt.to_store store can room pushes) =
     let heap = heap_of old in
-    let need = sym (need_to_store value can (λ same. omega (arith, same, room)))
-    ∙ ap (push_need_at heap at) (wide_is value what known.held.shows) in
-    let test : (count_at heap at == capacity_at heap at) ≡ false =
-    grind (arith, nat_tests, can.ready.counted, can.is.capacity, room) in
-    let kept = ap (λ t. cond t (grown_list (count_at heap at)) (capacity_at heap at)) test in
+    let held : ℕ = capacity_at heap at in
+    let apart : count ≢ held = λ same. omega (arith, same, room, can.is.capacity) in
+    let need : content_need (beside_content value) ≡ push_need held list what =
+    sym (need_to_store held count value apart) ∙ push_need_is list held count value known.held.shows is in
+    let test : (length list.elements == held) ≡ false = grind (arith, nat_tests, is, can.is.capacity, room) in
     record {
       few = few;
       room = subst (HasRoom old.young) need pushes.room;
       uses = subst (UsesMore old new) need (record { beside = pushes.words.beside; young = pushes.words.young });
-      changes = subst (ChangesObject heap (heap_of new) at) (sym kept)
+      changes = subst (ChangesObject heap (heap_of new) at)
+          (sym (ap (λ t. cond t (grown_list (length list.elements)) held) test))
           (subst (λ a. ChangesObject heap (heap_of new) a (capacity_at heap a)) known.shown.stands
           (slot_keeps known (pushed_elements count known is few) can.is room (omega (arith, room)) pushes));
       shows = slot_shown known (pushed_elements count known is few) can.is room (omega (arith, room)) pushes;
@@ -64,20 +67,21 @@ has_pushed {old} {new} {at = at} {count} {value = value} {what} known is few siz
       holds = known.held.shows;
       puts = subst (λ n. PushesAt old new at n value) is (PushesAt.to_store store can room pushes);
     }
-has_pushed {old} {new} {at = at} {count} {value = value} {what} known is few sizes
+has_pushed {old} {new} {at = at} {count} {list} {value} {what} known is few sizes
     (PushesAt.to_new_store store can full pushes) =
     let heap = heap_of old in
-    let need = sym (need_to_new_store value can full)
-    ∙ ap (push_need_at heap at) (wide_is value what known.held.shows) in
-    let test : (count_at heap at == capacity_at heap at) ≡ true =
-    grind (arith, nat_tests, can.ready.counted, can.is.capacity, full) in
-    let grows = ap (λ t. cond t (grown_list (count_at heap at)) (capacity_at heap at)) test
-    ∙ ap grown_list can.ready.counted in
+    let held : ℕ = capacity_at heap at in
+    let full_now : count ≡ held = full ∙ sym can.is.capacity in
+    let need : store_head + grown_list count + content_need (beside_content value) ≡ push_need held list what =
+    sym (need_to_new_store held count value full_now) ∙ push_need_is list held count value known.held.shows is in
+    let test : (length list.elements == held) ≡ true = eq-eqb (length list.elements) held (sym is ∙ full_now) in
+    let grows : grown_list count ≡ push_capacity held (length list.elements) =
+    ap grown_list is ∙ sym (ap (λ t. cond t (grown_list (length list.elements)) held) test) in
     record {
       few = few;
       room = subst (HasRoom old.young) need pushes.room;
       uses = subst (UsesMore old new) need (record { beside = pushes.words.beside; young = pushes.words.young });
-      changes = subst (ChangesObject heap (heap_of new) at) (sym grows)
+      changes = subst (ChangesObject heap (heap_of new) at) grows
           (subst (λ a. ChangesObject heap (heap_of new) a (grown_list count)) known.shown.stands
           (to_new_store_becomes known can is few full pushes sizes));
       shows = to_new_store_shown known can is few full pushes;

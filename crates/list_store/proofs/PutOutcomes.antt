@@ -4,9 +4,7 @@ use Rattle.std.proofs.Common.{not, ◌&&◌, slice_get, get_or, set, length-set,
 use Rattle.std.proofs.Common.{refl, sym, ◌∙◌, ap, subst, arith}
 use Rattle.std.specs.Prelude.{slice_set}
 use Rattle.tagged_word.specs.declared.layout.Kind.TheVariants as kind
-use Rattle.tagged_word.specs.Cells.{store_head, store_slot}
-use Rattle.tagged_word.specs.Readings.{reference_in}
-use Rattle.tagged_word.proofs.Readings.{reference_to}
+use Rattle.tagged_word.specs.Cells.{store_head}
 use Rattle.page_space.specs.Sizes.{AreWithin}
 use Rattle.object_graph.specs.declared.value.Value.{Value}
 use Rattle.object_graph.specs.Graphs.{Graph, ListObject}
@@ -17,7 +15,7 @@ use Rattle.cell_layout.specs.declared.cell.Cell.{Cell}
 use Rattle.handle_roots.specs.declared.held.Held.{Held}
 use Rattle.heap_table.specs.Seats.{heap_words}
 use Rattle.heap_model.specs.Kinds.{count_offset}
-use Rattle.heap_model.specs.Needs.{capacity_at, word_at, beside_by, box_need, is_box_word}
+use Rattle.heap_model.specs.Needs.{capacity_at, word_at, box_need, is_box_word}
 use Rattle.heap_model.proofs.CellsApart.{IsOfCell, cells_apart}
 use Rattle.heap_model.proofs.CellWords.{words_by_kind, words_are_size}
 use Rattle.write_barrier.specs.Mains.{Mutator, heap_of}
@@ -25,7 +23,6 @@ use Rattle.object_cells.specs.declared.stores.Store.{Store}
 use Rattle.object_cells.specs.Capacities.{ChangesObject}
 use Rattle.object_cells.specs.Contents.{next_at, box_in, filling_of, filling_need, FillsSlot}
 use Rattle.object_cells.specs.Made.{IsStoreAt, with_content, content_need, content_word, beside_content, is_wide_held}
-use Rattle.object_cells.specs.HeldValues.{is_wide}
 use Rattle.object_cells.specs.Uses.{UsesMore}
 use Rattle.object_cells.proofs.CellsRead.{word_stands}
 use Rattle.object_cells.proofs.HeldNeeds.{wide_is}
@@ -35,8 +32,10 @@ use Rattle.object_cells.proofs.OneElement.{set_differs}
 use Rattle.object_cells.proofs.SlotBoxes.{box_of_word}
 use Rattle.object_cells.proofs.StoresRead.{stored_at}
 use Rattle.object_cells.proofs.UnusedWords.{cell_is_used, next_before_segments}
-use Rattle.object_cells.proofs.WordsTold.{cell_fits}
-use Rattle.heap_model.specs.Needs.{element_word, put_need_at}
+use Rattle.heap_model.specs.Rooms.{on_found, is_wide, put_need}
+use Rattle.heap_model.proofs.ShownBoxes.{value_boxed}
+use Rattle.object_graph.specs.declared.value.Value.TheVariants.{Undefined}
+use Rattle.std.proofs.lemmas.Option.{slice_get-get_or}
 use Rattle.object_cells.proofs.FilledSlots.{FilledBy, held_put, set_there}
 use Rattle.object_cells.proofs.NothingUsed.{room_for_none}
 use Rattle.list_store.specs.ListChanges.{HasPut}
@@ -79,32 +78,22 @@ module _ {old : Mutator} {graph : Graph} {at : ℕ} {list : ListObject} {value :
   pub word_is : word_at (heap_of old) (place_at store place) ≡ get_or known.shown.shows.slots place 0
   word_is = ap (λ found. unwrap_or found 0) slot.stands
 
-  -- it is the word of the element
-  pub element_is : AreWithin old.seat.space.sizes old.seat.space.variables
-      → element_word (heap_of old) at place ≡ word_at (heap_of old) (place_at store place)
-  element_is sizes =
-      let heap = heap_of old in
-      let shown = known.shown in
-      let found = (stored_at at shown.shows.store shown.shows.slots store is_store shown.has shown.stands
-      shown.shows.slot
-      shown.shows.has (omega (arith, below))).found in
-      let refers = ap (λ n. word_at heap (n + store_slot)) (sym shown.stands)
-      ∙ ap (λ o. unwrap_or o 0) (word_stands store_slot shown.shows.store shown.has shown.shows.slot) in
-      let told = reference_to shown.shows.store found.cell.at
-      (cell_fits known.shows.shows.whole.sized sizes found.refers.has) found.refers.refers in
-      let same : found.cell.at + store_head + place ≡ place_at store place = omega (arith, found.stands) in
-      ap (λ w. beside_by heap (reference_in w) place) refers ∙ ap (λ o. beside_by heap o place) told
-      ∙ ap (word_at heap) same
-
-  -- so many words it takes
-  pub put_need : AreWithin old.seat.space.sizes old.seat.space.variables
+  -- so many words it takes: those of a box, where the value is wide and the element is not
+  pub need_to_put : AreWithin old.seat.space.sizes old.seat.space.variables → place < length list.elements
       → filling_need (filling_of (box_in (heap_of old) (word_at (heap_of old) (place_at store place))) (next_at old)
-      (beside_content value)) ≡ put_need_at (heap_of old) at place (is_wide what)
-  put_need sizes =
+      (beside_content value)) ≡ put_need list what place
+  need_to_put sizes there =
       let heap = heap_of old in
+      let element : Value = get_or list.elements place Undefined in
+      let stands : slice_get list.elements place ≡ Some element = slice_get-get_or list.elements place Undefined there in
+      let word : ℕ = get_or known.shown.shows.slots place 0 in
+      let boxed = value_boxed word element sizes known.shows.shows.whole.sized
+      (known.shown.shows.each place element word stands slot.holds) in
       held_put heap (word_at heap (place_at store place)) (next_at old) value
-      ∙ ap (λ x. box_need (is_wide_held value && not (is_box_word heap x))) (sym (element_is sizes))
-      ∙ ap (put_need_at heap at place) (wide_is value what known.held.shows)
+      ∙ ap (λ w. box_need (is_wide_held value && not (is_box_word heap w))) word_is
+      ∙ ap (λ box. box_need (is_wide_held value && not box)) boxed
+      ∙ ap (λ wide. box_need (wide && not (is_wide element))) (wide_is value what known.held.shows)
+      ∙ ap (λ found. on_found found (λ before. box_need (is_wide what && not (is_wide before)))) (sym stands)
 
   -- the length stays
   pub count_stays : HasRoom old.young (content_need (beside_content value))
@@ -150,7 +139,7 @@ pub has_put : {old new : Mutator} {graph : Graph} {at : ℕ} {list : ListObject}
 has_put {old} {new} {at = at} {list} {value} {what} store place known is_store below there few enough sizes fills
     (FilledBy.slot room words needs) =
     let heap = heap_of old in
-    let need = sym needs ∙ put_need store place known is_store below sizes in
+    let need = sym needs ∙ need_to_put store place known is_store below sizes there in
     let pushes : WritesSlot old new at place (length list.elements) value store = record {
       room = room;
       words = record {
@@ -186,7 +175,7 @@ has_put {old} {new} {at = at} {list} {value} {what} store place known is_store b
     (beside_content value)) ≡ 0 =
     ap (λ o. filling_need (filling_of o (next_at old) (beside_content value))) found
     ∙ ap (λ holds. filling_need (filling_of (Some box) (next_at old) holds)) boxed in
-    let need = sym none ∙ put_need store place known is_store below sizes in
+    let need = sym none ∙ need_to_put store place known is_store below sizes there in
     let becomes = put_elements place known there few in
     record {
       room = subst (HasRoom old.young) need (room_for_none old known.shows.tied known.shows.shows.whole);

@@ -9,16 +9,16 @@ use Rattle.object_graph.specs.Meaning.{list_most, below, relist}
 use Rattle.nursery.specs.Young.{HasRoom}
 use Rattle.handle_roots.specs.declared.held.Held.{Held}
 use Rattle.heap_model.specs.Showing.{ShowsHeld}
-use Rattle.heap_model.specs.Needs.{capacity_at, push_need_at, put_need_at}
+use Rattle.heap_model.specs.Needs.{capacity_at}
+use Rattle.heap_model.specs.Rooms.{push_need, put_need, push_capacity}
 use Rattle.write_barrier.specs.Mains.{Mutator, heap_of, MainShows}
 use Rattle.object_cells.specs.ListObjects.{IsListAt}
-use Rattle.object_cells.specs.HeldValues.{IsValueHeld, is_wide}
+use Rattle.object_cells.specs.HeldValues.{IsValueHeld}
 use Rattle.object_cells.specs.declared.stores.Store.{Store}
 use Rattle.object_cells.specs.Contents.{FillsSlot}
 use Rattle.object_cells.specs.Made.{IsStoreAt, beside_content}
 use Rattle.object_cells.specs.Uses.{UsesMore}
 use Rattle.object_cells.specs.Capacities.{ChangesObject}
-use Rattle.list_store.specs.Growth.{push_capacity_at}
 use Rattle.list_store.specs.Pushes.{PushesAt}
 use Rattle.list_store.specs.declared.stop.PushStop.{PushStop}
 use Rattle.list_store.specs.declared.stop.PushStop.TheVariants as push
@@ -41,9 +41,9 @@ pub record IsShownSetting (main : Mutator) (at : ℕ) (held : Held) : Type 0 whe
 -- object's is.
 pub record HasPushed (old new : Mutator) (graph : Graph) (at : ℕ) (list : ListObject) (value : Value) : Type 0 where
   pub few : length list.elements < list_most
-  pub room : HasRoom old.young (push_need_at (heap_of old) at (is_wide value))
-  pub uses : UsesMore old new (push_need_at (heap_of old) at (is_wide value))
-  pub changes : ChangesObject (heap_of old) (heap_of new) at (push_capacity_at (heap_of old) at)
+  pub room : HasRoom old.young (push_need (capacity_at (heap_of old) at) list value)
+  pub uses : UsesMore old new (push_need (capacity_at (heap_of old) at) list value)
+  pub changes : ChangesObject (heap_of old) (heap_of new) at (push_capacity (capacity_at (heap_of old) at) (length list.elements))
   pub shows : MainShows new (relist graph list (list.elements ++ value ∷ []))
   pub held : Held
   pub holds : ShowsHeld (heap_of old) held (Some value)
@@ -55,7 +55,7 @@ abbrev pub PushesElement : Mutator → Mutator → Graph → ℕ → ListObject 
 PushesElement old new graph at list value (Ok _) = HasPushed old new graph at list value
 PushesElement old new graph at list value (Err push.ListFull) = (list_most ≤ length list.elements) × (new ≡ old)
 PushesElement old new graph at list value (Err (push.Full room)) =
-    (length list.elements < list_most) × (room.need ≡ push_need_at (heap_of old) at (is_wide value))
+    (length list.elements < list_most) × (room.need ≡ push_need (capacity_at (heap_of old) at) list value)
     × (HasRoom old.young room.need → ⊥) × (new ≡ old)
 
 -- the place that an index names in a list; none where it is below 0, or not below the length
@@ -70,8 +70,8 @@ IsOutside list index = below (length list.elements) index ≡ None
 -- and of a box that is made, or the integer of the box that stands there. Each store keeps its capacity.
 pub record HasPut (old new : Mutator) (graph : Graph) (at : ℕ) (list : ListObject) (place : ℕ)
     (value : Value) : Type 0 where
-  pub room : HasRoom old.young (put_need_at (heap_of old) at place (is_wide value))
-  pub uses : UsesMore old new (put_need_at (heap_of old) at place (is_wide value))
+  pub room : HasRoom old.young (put_need list value place)
+  pub uses : UsesMore old new (put_need list value place)
   pub changes : ChangesObject (heap_of old) (heap_of new) at (capacity_at (heap_of old) at)
   pub shows : MainShows new (relist graph list (slice_set list.elements place value))
   pub store : Store
@@ -88,7 +88,7 @@ PutsElement old new graph at list index value (Ok _) =
 PutsElement old new graph at list index value (Err put.Range) = IsOutside list index × (new ≡ old)
 PutsElement old new graph at list index value (Err (put.Full room)) =
     (place : ℕ) × IsPlaceIn list index place
-    × (room.need ≡ put_need_at (heap_of old) at place (is_wide value)) × (HasRoom old.young room.need → ⊥)
+    × (room.need ≡ put_need list value place) × (HasRoom old.young room.need → ⊥)
     × (new ≡ old)
 
 -- the element that an index names

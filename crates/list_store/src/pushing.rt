@@ -8,7 +8,7 @@ ghost use Rattle.write_barrier.specs.Mains.{heap_of, MainShows};
 ghost use Rattle.object_cells.specs.HeldValues.{IsValueHeld};
 ghost use Rattle.object_cells.specs.ListObjects.{IsListAt, IsListReady};
 ghost use Rattle.object_cells.specs.Made.{RefusesRoom, content_need, beside_content, is_wide_held};
-ghost use Rattle.heap_model.specs.Needs.{grown_list, push_need_at};
+ghost use Rattle.heap_model.specs.Needs.{box_need, capacity_at, grown_list, list_store_need};
 ghost use Rattle.list_store.specs.Pushes.{CanChange, PushesToStore, PushesToNewStore};
 ghost use Rattle.list_store.specs.Pushes.{PushesAt};
 ghost use Rattle.list_store.specs.ListChanges.{IsShownSetting, PushesElement};
@@ -83,7 +83,8 @@ fn push_value(main: &mut Main, list: u32, count: u32, value: Held) -> Result<(),
     requires ready { IsListReady main.old list count }
     requires few { count < list_most }
     ensures ok { OnOk result (PushesAt main.old main.new list count value) }
-    ensures refused { let need = push_need_at (heap_of main.old) list (is_wide_held value) in
+    ensures refused { let store = list_store_need (capacity_at (heap_of main.old) list) count in
+        let need = store + box_need (is_wide_held value) in
         IfErr result (RefusesRoom main.old main.new need) }
 {
     let store = store_of(main, list);

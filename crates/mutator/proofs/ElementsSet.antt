@@ -12,12 +12,11 @@ use Rattle.object_graph.specs.Graphs.{Graph, ListObject, value_of, list_at}
 use Rattle.object_graph.specs.Meaning.{relist}
 use Rattle.nursery.specs.Young.{HasRoom}
 use Rattle.handle_roots.specs.declared.held.Held.{Held}
-use Rattle.heap_model.specs.Needs.{need_of, push_need_at, put_need_at}
 use Rattle.write_barrier.specs.Mains.{Mutator, heap_of, MainShows}
 use Rattle.object_cells.specs.ListObjects.{IsListAt}
-use Rattle.object_cells.specs.HeldValues.{IsValueHeld, is_wide}
+use Rattle.object_cells.specs.HeldValues.{IsValueHeld}
 use Rattle.object_cells.specs.Uses.{UsesMore}
-use Rattle.list_store.specs.ListChanges.{IsShownSetting, HasPushed, PushesElement, IsPlaceIn, PutsElement}
+use Rattle.list_store.specs.ListChanges.{IsShownSetting, HasPushed, PushesElement, PutsElement}
 use Rattle.list_store.specs.declared.stop.PushStop.{PushStop}
 use Rattle.list_store.specs.declared.stop.PushStop.TheVariants as push
 use Rattle.list_store.specs.declared.stop.PutStop.{PutStop}
@@ -27,10 +26,10 @@ use Rattle.mutator.specs.Carries.{Carries}
 use Rattle.mutator.specs.Reading.{StandsFor, StandForBoth, IsFoundList}
 use Rattle.mutator.proofs.GivenValues.{IsGiven}
 use Rattle.mutator.proofs.IndexedLists.{IsIndexedList}
-use Rattle.mutator.proofs.KeptStores.{keeps_push, keeps_as_many}
 use Rattle.mutator.proofs.ListMeanings.{IsKnownList, push_done, push_full, put_done, put_outside}
-use Rattle.mutator.proofs.ListNeeds.{push_need_is, put_need_is}
-use Rattle.mutator.proofs.SetNeeds.{root_refers}
+use Rattle.heap_model.specs.Needs.{capacity_at}
+use Rattle.mutator.proofs.CommandRooms.{keeps_list, keeps_push, push_need_is, put_need_is}
+use Rattle.mutator.proofs.Rebinding.{reaches_no_more}
 use Rattle.mutator.proofs.StillShown.{shows_still, stands_still}
 
 -- what is known once the list of a `push` and the value were found
@@ -80,29 +79,30 @@ putting_shown {graph = graph} putting = record {
   is_held = putting.held;
 }
 
--- the words that `push` needs are those of the list
-pushing_need : {main : Mutator} {graph : Graph} {x at : ℕ} {v : Operand} {one : Held}
-    → (putting : IsPutting main graph x v at one)
-    → push_need_at (heap_of main) at (is_wide putting.value) ≡ need_of (heap_of main) (Push x v)
-pushing_need {x = x} {at} {v} putting =
-    sym (push_need_is x at v putting.value putting.list putting.shows putting.below putting.names putting.known.bound
-    putting.value_is putting.stands)
-
 -- an element that was pushed
 pub push_carried : {main new : Mutator} {graph : Graph} {x at : ℕ} {v : Operand} {one : Held} (names : List (List ℕ))
     → (putting : IsPutting main graph x v at one) → HasPushed main new graph at putting.list putting.value
     → Carries names main new graph (Push x v) [] (Ok tt)
 push_carried {main} {new} {graph} {x} {at} {v} names putting pushed =
     let list = putting.list in
-    let need = pushing_need putting in (
-      relist graph list (list.elements ++ putting.value ∷ []),
-      push_done names x v (Ref list.number) list putting.value putting.known putting.value_is pushed.few,
+    let elements = list.elements ++ putting.value ∷ [] in
+    let means = push_done names x v (Ref list.number) list putting.value putting.known putting.value_is pushed.few in (
+      relist graph list elements,
+      means,
       pushed.shows,
-      subst (HasRoom main.young) need pushed.room,
-      subst (UsesMore main new) need pushed.uses,
-      keeps_push x at v
-          (root_refers x at list.number putting.shows putting.below putting.known.bound putting.stands.place
-          putting.stands.reached) pushed.changes,
+      λ rooms has.
+          let need = push_need_is has v putting.value putting.known putting.value_is putting.stands in
+          record {
+            room = subst (HasRoom main.young) need pushed.room;
+            uses = subst (UsesMore main new) need pushed.uses;
+            stores = keeps_push (record {
+              shows = putting.shows;
+              shown = pushed.shows;
+              has = has;
+              stays = pushed.changes.stays;
+            }) (reaches_no_more names (Push x v) [] putting.shows means refl) v elements putting.known putting.stands
+                refl pushed.changes;
+          },
     )
 
 -- and one that was not
@@ -119,7 +119,7 @@ push_stopped {graph = graph} {x} {v = v} new names (push.Full room) putting push
       relist graph list (list.elements ++ putting.value ∷ []),
       [],
       push_done names x v (Ref list.number) list putting.value putting.known putting.value_is pushes.0,
-      pushes.1 ∙ pushing_need putting,
+      λ rooms has. pushes.1 ∙ push_need_is has v putting.value putting.known putting.value_is putting.stands,
       pushes.2,
       pushes.3,
     )
@@ -136,15 +136,6 @@ indexed_setting {graph = graph} indexed given = record {
   is_held = given.held;
 }
 
--- the words that `put` needs are those of the element
-putting_need : {main : Mutator} {graph : Graph} {x at : ℕ} {i v : Operand} {n : ℤ} {one : Held} (place : ℕ)
-    → (indexed : IsIndexedList main graph x i at n) → (given : IsGiven main graph v one)
-    → IsPlaceIn indexed.list n place
-    → put_need_at (heap_of main) at place (is_wide given.value) ≡ need_of (heap_of main) (Put x i v)
-putting_need {x = x} {at} {i} {v} {n} place indexed given is =
-    sym (put_need_is x at i v n place given.value indexed.list indexed.shows indexed.below indexed.names given.names
-    indexed.known.bound indexed.index given.is indexed.stands is)
-
 -- an element that was put
 pub put_carried : {old main new : Mutator} {graph : Graph} {x at : ℕ} {i v : Operand} {n told : ℤ} {one : Held}
     (names : List (List ℕ)) → main ≡ old → (indexed : IsIndexedList main graph x i at n)
@@ -156,14 +147,27 @@ put_carried {main = main} {new} {graph} {x} {at} {i} {v} {n} names same indexed 
     let value = given.value in
     let (place, is, has_put) =
     subst (λ (k : ℤ). PutsElement main new graph at list k value (Ok tt)) integer puts in
-    let need = putting_need place indexed given is in
+    let elements = slice_set list.elements place value in
+    let means = put_done names x i v (Ref list.number) list n place value indexed.known indexed.index given.is is in
     subst (λ main. Carries names main new graph (Put x i v) [] (Ok tt)) same (
-      relist graph list (slice_set list.elements place value),
-      put_done names x i v (Ref list.number) list n place value indexed.known indexed.index given.is is,
+      relist graph list elements,
+      means,
       has_put.shows,
-      subst (HasRoom main.young) need has_put.room,
-      subst (UsesMore main new) need has_put.uses,
-      keeps_as_many (Put x i v) at (λ other. refl) has_put.changes,
+      λ rooms has.
+          let need = put_need_is i v value indexed.known indexed.index given.is is rooms in
+          record {
+            room = subst (HasRoom main.young) need has_put.room;
+            uses = subst (UsesMore main new) need has_put.uses;
+            stores = keeps_list (record {
+              shows = indexed.shows;
+              shown = has_put.shows;
+              has = has;
+              stays = has_put.changes.stays;
+            }) (reaches_no_more names (Put x i v) [] indexed.shows means refl) (Put x i v) elements
+                (capacity_at (heap_of main) at) indexed.stands refl
+                (has list.number at _ indexed.stands.object indexed.stands.reached indexed.stands.place)
+                (λ number apart. refl) has_put.changes;
+          },
     )
 
 -- and one that was not
@@ -187,7 +191,7 @@ put_stopped {main} {graph} {x} {at} {i} {v} {n} new names (put.Full room) indexe
       relist graph list (slice_set list.elements place value),
       [],
       put_done names x i v (Ref list.number) list n place value indexed.known indexed.index given.is is,
-      need ∙ putting_need place indexed given is,
+      λ rooms has. need ∙ put_need_is i v value indexed.known indexed.index given.is is rooms,
       lacks,
       same,
     )

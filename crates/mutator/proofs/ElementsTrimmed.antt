@@ -1,37 +1,21 @@
 -- `shift` and `trunc` are carried out as the calls that trim lists say.
-use Rattle.std.proofs.Common.{◌≡◌, ℕ, suc, ◌≤◌, List, [], length, Ok, Err, Some, ◌∙◌, ap, subst, ℤ, arith}
+use Rattle.std.proofs.Common.{◌≡◌, ℕ, List, [], Ok, Err, refl, subst, ℤ}
 use Rattle.std.specs.Prelude.{take, drop}
 use Rattle.heap_command.specs.declared.command.Operand.{Operand}
 use Rattle.heap_command.specs.declared.command.Command.TheVariants.{Shift, Trunc}
 use Rattle.heap_command.specs.declared.command.FaultWord.TheVariants as word
 use Rattle.object_graph.specs.declared.value.Value.TheVariants.{Ref}
 use Rattle.object_graph.specs.Graphs.{Graph}
-use Rattle.object_graph.specs.Meaning.{list_most, relist}
-use Rattle.heap_model.specs.Needs.{element_of}
-use Rattle.write_barrier.specs.Mains.{Mutator, heap_of}
+use Rattle.object_graph.specs.Meaning.{relist}
+use Rattle.write_barrier.specs.Mains.{Mutator}
 use Rattle.object_cells.specs.declared.lists.Range.{Range}
-use Rattle.array_trim.specs.Trims.{IsCountIn, ShiftsElements, TruncatesElements}
+use Rattle.array_trim.specs.Trims.{ShiftsElements, TruncatesElements}
 use Rattle.mutator.specs.declared.stop.Stop.TheVariants.{Fault}
 use Rattle.mutator.specs.Carries.{Carries}
-use Rattle.mutator.proofs.KeptStores.{keeps_shift, keeps_trunc}
+use Rattle.mutator.proofs.CommandRooms.{keeps_shift, keeps_trunc}
 use Rattle.mutator.proofs.IndexedLists.{IsIndexedList}
-use Rattle.mutator.proofs.ListNeeds.{place_number, few_elements, element_told}
-use Rattle.mutator.proofs.Rebinding.{room_for_none}
-use Rattle.mutator.proofs.SetNeeds.{root_refers}
+use Rattle.mutator.proofs.Rebinding.{reaches_no_more, room_for_none}
 use Rattle.mutator.proofs.TrimMeanings.{shift_done, shift_outside, trunc_done, trunc_outside}
-
--- how many elements go or stay is told by the root word of the operand
-number_told : {main : Mutator} {graph : Graph} {x at : ℕ} {n : Operand} {k : ℤ} (count : ℕ)
-    → (indexed : IsIndexedList main graph x n at k) → IsCountIn indexed.list k count
-    → element_of (heap_of main) n ≡ count
-number_told {at = at} {n} {k} count indexed is =
-    let list = indexed.list in
-    let index = indexed.index in
-    let number = place_number (suc (length list.elements)) k count is in
-    let few : count ≤ list_most =
-    omega (arith, number.within, few_elements at list indexed.shows indexed.stands) in
-    element_told n index.value count indexed.shows indexed.names index.value_is
-    (index.integer ∙ ap (λ one. Some one) number.is) few
 
 -- first elements that went
 pub shift_carried : {old main new : Mutator} {graph : Graph} {x at : ℕ} {n : Operand} {k told : ℤ}
@@ -41,15 +25,23 @@ shift_carried {main = main} {new} {graph} {x} {at} {n} {k} names same indexed in
     let list = indexed.list in
     let (gone, is, shifted) =
     subst (λ (j : ℤ). ShiftsElements main new graph at list j (Ok tt)) integer trims in
+    let elements = drop gone list.elements in
+    let means = shift_done names x n (Ref list.number) list k gone indexed.known indexed.index is in
     subst (λ main. Carries names main new graph (Shift x n) [] (Ok tt)) same (
-      relist graph list (drop gone list.elements),
-      shift_done names x n (Ref list.number) list k gone indexed.known indexed.index is,
+      relist graph list elements,
+      means,
       shifted.trims.shows,
-      room_for_none indexed.shows,
-      shifted.trims.uses,
-      keeps_shift x at gone n
-          (root_refers x at list.number indexed.shows indexed.below indexed.known.bound indexed.stands.place
-          indexed.stands.reached) (number_told gone indexed is) shifted.trims.changes,
+      λ rooms has. record {
+        room = room_for_none indexed.shows;
+        uses = shifted.trims.uses;
+        stores = keeps_shift (record {
+          shows = indexed.shows;
+          shown = shifted.trims.shows;
+          has = has;
+          stays = shifted.trims.changes.stays;
+        }) (reaches_no_more names (Shift x n) [] indexed.shows means refl) n elements indexed.known indexed.index is
+            indexed.stands refl shifted.trims.changes;
+      },
     )
 
 -- and none that did
@@ -70,15 +62,23 @@ trunc_carried {main = main} {new} {graph} {x} {at} {n} {k} names same indexed in
     let list = indexed.list in
     let (kept, is, truncated) =
     subst (λ (j : ℤ). TruncatesElements main new graph at list j (Ok tt)) integer trims in
+    let elements = take kept list.elements in
+    let means = trunc_done names x n (Ref list.number) list k kept indexed.known indexed.index is in
     subst (λ main. Carries names main new graph (Trunc x n) [] (Ok tt)) same (
-      relist graph list (take kept list.elements),
-      trunc_done names x n (Ref list.number) list k kept indexed.known indexed.index is,
+      relist graph list elements,
+      means,
       truncated.trims.shows,
-      room_for_none indexed.shows,
-      truncated.trims.uses,
-      keeps_trunc x at kept n
-          (root_refers x at list.number indexed.shows indexed.below indexed.known.bound indexed.stands.place
-          indexed.stands.reached) (number_told kept indexed is) truncated.trims.changes,
+      λ rooms has. record {
+        room = room_for_none indexed.shows;
+        uses = truncated.trims.uses;
+        stores = keeps_trunc (record {
+          shows = indexed.shows;
+          shown = truncated.trims.shows;
+          has = has;
+          stays = truncated.trims.changes.stays;
+        }) (reaches_no_more names (Trunc x n) [] indexed.shows means refl) n elements indexed.known indexed.index is
+            indexed.stands refl truncated.trims.changes;
+      },
     )
 
 -- and all that do

@@ -11,10 +11,7 @@ use Rattle.object_graph.specs.Graphs.{Graph, WeakObject, value_of, weak_at}
 use Rattle.object_graph.specs.Meaning.{reweave}
 use Rattle.nursery.specs.Young.{HasRoom}
 use Rattle.handle_roots.specs.declared.held.Held.{Held}
-use Rattle.heap_model.specs.Slots.{reference_word}
-use Rattle.heap_model.specs.Needs.{need_of, wput_need_at}
-use Rattle.write_barrier.specs.Mains.{Mutator, heap_of, MainShows}
-use Rattle.object_cells.specs.HeldValues.{is_wide}
+use Rattle.write_barrier.specs.Mains.{Mutator, MainShows}
 use Rattle.object_cells.specs.Uses.{UsesMore}
 use Rattle.ephemeron_table.specs.WeakObjects.{IsWeakAt, IsKeyAt, IsShownKey, IsShownPutting}
 use Rattle.ephemeron_table.specs.EntryChanges.{HasPutEntry, PutsEntry, DeletesEntry}
@@ -24,12 +21,10 @@ use Rattle.mutator.specs.Stops.{stop_of_table}
 use Rattle.mutator.specs.Carries.{Carries}
 use Rattle.mutator.specs.Reading.{StandsFor, StandForBoth, IsFoundWeak, IsFoundKey}
 use Rattle.mutator.proofs.GivenValues.{IsGiven}
-use Rattle.mutator.proofs.KeptStores.{keeps_wput, keeps_as_many}
-use Rattle.mutator.proofs.Rebinding.{room_for_none}
-use Rattle.mutator.proofs.SetNeeds.{root_refers}
+use Rattle.mutator.proofs.Rebinding.{reaches_no_more, room_for_none}
 use Rattle.mutator.proofs.StillShown.{shows_still, stands_still}
 use Rattle.mutator.proofs.WeakMeanings.{IsKnownWeak, wput_done, wput_full, wdel_done}
-use Rattle.mutator.proofs.WeakNeeds.{key_told, wput_need_is}
+use Rattle.mutator.proofs.CommandRooms.{keeps_wput, keeps_wdel, wput_need_is}
 
 -- what is known once the weak map of a command and the key were found
 pub record IsEntering (main : Mutator) (graph : Graph) (m : ℕ) (k : Operand) (at key : ℕ) : Type 0 where
@@ -94,15 +89,6 @@ putting_entry_shown {graph = graph} entering given = record {
   is_held = given.held;
 }
 
--- the words that `wput` needs are those of the entry
-entering_need : {main : Mutator} {graph : Graph} {m at key : ℕ} {k v : Operand} {one : Held}
-    → (entering : IsEntering main graph m k at key) → (given : IsGiven main graph v one)
-    → wput_need_at (heap_of main) at (reference_word key) (is_wide given.value)
-    ≡ need_of (heap_of main) (WPut m k v)
-entering_need {m = m} {at} {key} {k} {v} entering given =
-    sym (wput_need_is m at key k v entering.number given.value entering.weak entering.shows entering.below
-    entering.names given.names entering.known.bound entering.named given.is entering.stands entering.key_stands)
-
 -- an entry that was put
 pub wput_carried : {main new : Mutator} {graph : Graph} {m at key : ℕ} {k v : Operand} {one : Held}
     (names : List (List ℕ)) → (entering : IsEntering main graph m k at key) → (given : IsGiven main graph v one)
@@ -110,18 +96,25 @@ pub wput_carried : {main new : Mutator} {graph : Graph} {m at key : ℕ} {k v : 
     → Carries names main new graph (WPut m k v) [] (Ok tt)
 wput_carried {main} {new} {graph} {m} {at} {key} {k} {v} names entering given has_put =
     let weak = entering.weak in
-    let need = entering_need entering given in (
-      reweave graph weak (with_entry weak.entries entering.number given.value),
-      wput_done names m k v (Ref weak.number) weak entering.number given.value entering.known entering.named given.is
-          has_put.few,
+    let after : Graph = reweave graph weak (with_entry weak.entries entering.number given.value) in
+    let means = wput_done names m k v (Ref weak.number) weak entering.number given.value entering.known entering.named
+    given.is has_put.few in (
+      after,
+      means,
       has_put.shows,
-      subst (HasRoom main.young) need has_put.room,
-      subst (UsesMore main new) need has_put.uses,
-      keeps_wput m at (reference_word key) k v
-          (root_refers m at weak.number entering.shows entering.below entering.known.bound entering.stands.place
-          entering.stands.reached)
-          (key_told k key entering.number entering.shows entering.names entering.named entering.key_stands)
-          has_put.changes,
+      λ rooms has.
+          let need = wput_need_is has k v given.value entering.known entering.named given.is entering.stands in
+          record {
+            room = subst (HasRoom main.young) need has_put.room;
+            uses = subst (UsesMore main new) need has_put.uses;
+            stores = keeps_wput (record {
+              shows = entering.shows;
+              shown = has_put.shows;
+              has = has;
+              stays = has_put.changes.stays;
+            }) (reaches_no_more names (WPut m k v) [] entering.shows means refl) k v given.value entering.known
+                entering.named entering.stands refl has_put.changes;
+          },
     )
 
 -- and one that was not
@@ -142,7 +135,8 @@ wput_stopped {graph = graph} {m} {k = k} {v} new names (table.Full room) enterin
       [],
       wput_done names m k v (Ref weak.number) weak entering.number given.value entering.known entering.named given.is
           few,
-      need ∙ entering_need entering given,
+      λ rooms has.
+          need ∙ wput_need_is has k v given.value entering.known entering.named given.is entering.stands,
       lacks,
       same,
     )
@@ -152,12 +146,22 @@ pub wdel_carried : {main new : Mutator} {graph : Graph} {m at key : ℕ} {k : Op
     → (entering : IsEntering main graph m k at key)
     → DeletesEntry main new graph at entering.weak entering.number
     → Carries names main new graph (WDel m k) [] (Ok tt)
-wdel_carried {graph = graph} {m} {at} {k = k} names entering deletes =
-    let weak = entering.weak in (
-      reweave graph weak (without_entry weak.entries entering.number),
-      wdel_done names m k (Ref weak.number) weak entering.number entering.known entering.named,
+wdel_carried {main} {new} {graph} {m} {at} {k = k} names entering deletes =
+    let weak = entering.weak in
+    let after : Graph = reweave graph weak (without_entry weak.entries entering.number) in
+    let means = wdel_done names m k (Ref weak.number) weak entering.number entering.known entering.named in (
+      after,
+      means,
       deletes.shows,
-      room_for_none entering.shows,
-      deletes.uses,
-      keeps_as_many (WDel m k) at (λ other. refl) deletes.changes,
+      λ rooms has. record {
+        room = room_for_none entering.shows;
+        uses = deletes.uses;
+        stores = keeps_wdel (record {
+          shows = entering.shows;
+          shown = deletes.shows;
+          has = has;
+          stays = deletes.changes.stays;
+        }) (reaches_no_more names (WDel m k) [] entering.shows means refl) k entering.known entering.named
+            entering.stands refl deletes.changes;
+      },
     )

@@ -1,5 +1,5 @@
 -- `set` is carried out as the call on fields says.
-use Rattle.std.proofs.Common.{◌≡◌, ℕ, ◌<◌, List, [], Ok, Err, Some, sym, ◌∙◌, ap, subst}
+use Rattle.std.proofs.Common.{◌≡◌, refl, ℕ, ◌<◌, List, [], Ok, Err, Some, sym, ◌∙◌, ap, subst}
 use Rattle.std.specs.FinMap.{get}
 use Rattle.heap_command.specs.declared.command.Operand.{Operand}
 use Rattle.heap_command.specs.declared.command.Command.TheVariants.{Set}
@@ -13,10 +13,9 @@ use Rattle.object_graph.specs.Meaning.{refill}
 use Rattle.object_graph.specs.Limits.{paths_most}
 use Rattle.nursery.specs.Young.{HasRoom}
 use Rattle.handle_roots.specs.declared.held.Held.{Held}
-use Rattle.heap_model.specs.Needs.{need_of, set_need_at}
-use Rattle.write_barrier.specs.Mains.{Mutator, heap_of, MainShows}
+use Rattle.write_barrier.specs.Mains.{Mutator, MainShows}
 use Rattle.object_cells.specs.PlainObjects.{IsPlainAt}
-use Rattle.object_cells.specs.HeldValues.{IsValueHeld, is_wide}
+use Rattle.object_cells.specs.HeldValues.{IsValueHeld}
 use Rattle.object_cells.specs.Uses.{UsesMore}
 use Rattle.shape_change.specs.FieldChanges.{IsShownSetting, HasSetField}
 use Rattle.shape_change.specs.FieldChanges.{SetsField}
@@ -27,8 +26,8 @@ use Rattle.mutator.specs.declared.reading.Found.{Found}
 use Rattle.mutator.specs.Carries.{Carries}
 use Rattle.mutator.specs.Reading.{StandForBoth, IsFound}
 use Rattle.mutator.proofs.FieldMeanings.{IsKnown, reshape_done, reshape_full, paths_there, set_room, set_full}
-use Rattle.mutator.proofs.KeptStores.{keeps_set}
-use Rattle.mutator.proofs.SetNeeds.{root_refers, set_need_is}
+use Rattle.mutator.proofs.CommandRooms.{keeps_set, set_need_is}
+use Rattle.mutator.proofs.Rebinding.{reaches_no_more}
 use Rattle.mutator.proofs.StillShown.{shows_still, stands_still}
 
 -- what is known once the variables of a `set` and its object were found
@@ -76,14 +75,6 @@ setting_shown {graph = graph} setting = record {
   is_held = setting.held;
 }
 
--- the words that the command needs are those of the field
-setting_need : {main : Mutator} {graph : Graph} {x at : ℕ} {v : Operand} {one : Held} (f : ℕ)
-    → (setting : IsSetting main graph x v at one)
-    → set_need_at (heap_of main) at f (is_wide setting.value) ≡ need_of (heap_of main) (Set x f v)
-setting_need {x = x} {at} {v} f setting =
-    sym (set_need_is x f at v setting.value setting.plain setting.shows setting.below setting.names setting.known.bound
-    setting.value_is setting.stands)
-
 -- a field that was set
 pub set_carried : {main new : Mutator} {graph : Graph} {x at : ℕ} {v : Operand} {one : Held} (names : List (List ℕ))
     (f : ℕ)
@@ -91,17 +82,25 @@ pub set_carried : {main new : Mutator} {graph : Graph} {x at : ℕ} {v : Operand
     → Carries names main new graph (Set x f v) [] (Ok tt)
 set_carried {main} {new} {graph} {x} {at} {v} names f setting sets =
     let fields = with_field setting.plain.fields f setting.value in
-    let need = setting_need f setting in (
-      refill graph setting.plain fields sets.shows.paths,
-      set_room names graph x f v (Ref setting.plain.number) setting.value setting.plain setting.known setting.value_is
-          sets.few
-          ∙ reshape_done graph setting.plain fields sets.shows.paths sets.shows.added,
+    let after : Graph = refill graph setting.plain fields sets.shows.paths in
+    let means = set_room names graph x f v (Ref setting.plain.number) setting.value setting.plain setting.known
+    setting.value_is sets.few ∙ reshape_done graph setting.plain fields sets.shows.paths sets.shows.added in (
+      after,
+      means,
       sets.shows.shows,
-      subst (HasRoom main.young) need sets.room,
-      subst (UsesMore main new) need sets.uses,
-      keeps_set x f at v
-          (root_refers x at setting.plain.number setting.shows setting.below setting.known.bound setting.stands.place
-          setting.stands.reached) sets.changes,
+      λ rooms has.
+          let need = set_need_is has f v setting.value setting.known setting.value_is setting.stands in
+          record {
+            room = subst (HasRoom main.young) need sets.room;
+            uses = subst (UsesMore main new) need sets.uses;
+            stores = keeps_set (record {
+              shows = setting.shows;
+              shown = sets.shows.shows;
+              has = has;
+              stays = sets.changes.stays;
+            }) (reaches_no_more names (Set x f v) [] setting.shows means refl) f v fields setting.known setting.stands
+                refl sets.changes;
+          },
     )
 
 -- and one that was not
@@ -129,7 +128,7 @@ set_stopped {graph = graph} {x} {v = v} new names f (Full room) setting sets =
       set_room names graph x f v (Ref setting.plain.number) setting.value setting.plain setting.known setting.value_is
           sets.0
           ∙ reshape_done graph setting.plain fields more added,
-      sets.2 ∙ setting_need f setting,
+      λ rooms has. sets.2 ∙ set_need_is has f v setting.value setting.known setting.value_is setting.stands,
       sets.3,
       sets.4,
     )

@@ -21,7 +21,7 @@ use Rattle.object_graph.specs.Limits.{ideal_limits}
 use Rattle.shape_tree.proofs.GrownPaths.{missing-there}
 use Rattle.shape_tree.proofs.LedPaths.{with_path-added}
 use Rattle.heap_model.proofs.SlotWords.{All-slice_get}
-use Rattle.write_barrier.specs.Mains.{Mutator, MainShows}
+use Rattle.write_barrier.specs.Mains.{Mutator, heap_of, MainShows}
 use Rattle.object_cells.specs.PlainObjects.{IsPlainAt, LacksPaths}
 use Rattle.shape_change.specs.FieldChanges.{HasDeletedField}
 use Rattle.mutator.specs.declared.stop.Stop.TheVariants.{Fault}
@@ -29,8 +29,10 @@ use Rattle.mutator.specs.declared.reading.Found.{Found}
 use Rattle.mutator.specs.Carries.{Carries}
 use Rattle.mutator.specs.Reading.{IsFound}
 use Rattle.mutator.proofs.FieldMeanings.{IsKnown, reshape_done, reshape_full, del_known}
-use Rattle.mutator.proofs.KeptStores.{keeps_as_many}
-use Rattle.mutator.proofs.Rebinding.{room_for_none}
+use Rattle.mutator.proofs.KeptStores.{keeps_still}
+use Rattle.heap_model.specs.Needs.{capacity_at}
+use Rattle.mutator.proofs.CommandRooms.{keeps_plain}
+use Rattle.mutator.proofs.Rebinding.{reaches_no_more, room_for_none}
 use Rattle.mutator.proofs.StillShown.{shows_still}
 
 -- the same of a first field and the others, by whether it is the one
@@ -89,26 +91,41 @@ taken_by : {main new : Mutator} {graph : Graph} {x at : ℕ} (names : List (List
     → HasDeletedField main new graph at taking.plain f → Carries names main new graph (Del x f) [] (Ok tt)
 taken_by {main} {new} {graph} {x} {at} names f None taking is taken =
     let plain = taking.plain in
-    let fields = without_field plain.fields f in (
+    let fields = without_field plain.fields f in
+    let same = taken.none is in (
       graph,
       del_known names graph x f (Ref plain.number) plain taking.known
           ∙ ap (λ one. reshape_if ideal_limits graph plain one fields) is,
-      shows_still (taken.none is) taking.shows,
-      room_for_none taking.shows,
-      taken.uses,
-      keeps_as_many (Del x f) at (λ other. refl) taken.changes,
+      shows_still same taking.shows,
+      λ rooms has. record {
+        room = room_for_none taking.shows;
+        uses = taken.uses;
+        stores = keeps_still (Del x f) same taking.shows (shows_still same taking.shows) has (λ number marked. marked)
+            refl (λ number. refl);
+      },
     )
 taken_by {main} {new} {graph} {x} {at} names f (Some value) taking is taken =
     let plain = taking.plain in
-    let fields = without_field plain.fields f in (
+    let fields = without_field plain.fields f in
+    let means = del_known names graph x f (Ref plain.number) plain taking.known
+    ∙ ap (λ one. reshape_if ideal_limits graph plain one fields) is
+    ∙ reshape_done graph plain fields taken.shows.paths taken.shows.added in
+    let stands = taking.stands in (
       refill graph plain fields taken.shows.paths,
-      del_known names graph x f (Ref plain.number) plain taking.known
-          ∙ ap (λ one. reshape_if ideal_limits graph plain one fields) is
-          ∙ reshape_done graph plain fields taken.shows.paths taken.shows.added,
+      means,
       taken.shows.shows,
-      room_for_none taking.shows,
-      taken.uses,
-      keeps_as_many (Del x f) at (λ other. refl) taken.changes,
+      λ rooms has. record {
+        room = room_for_none taking.shows;
+        uses = taken.uses;
+        stores = keeps_plain (record {
+          shows = taking.shows;
+          shown = taken.shows.shows;
+          has = has;
+          stays = taken.changes.stays;
+        }) (reaches_no_more names (Del x f) [] taking.shows means refl) (Del x f) fields
+            (capacity_at (heap_of main) at) stands refl
+            (has plain.number at _ stands.object stands.reached stands.place) (λ number apart. refl) taken.changes;
+      },
     )
 
 -- a field that was taken out, or was not there

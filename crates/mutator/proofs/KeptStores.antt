@@ -1,56 +1,185 @@
--- How many slots the property stores of objects have after each command.
-use Rattle.std.proofs.Common.{◌≡◌, ℕ, suc, ◌<◌, ◌==◌, true, false, List, [], inl, inr, Some, cond}
-use Rattle.std.proofs.Common.{sym, ◌∙◌, ap, subst, arith, eq-eqb}
-use Rattle.std.proofs.lemmas.Bool.{cases_eq}
-use Rattle.std.proofs.lemmas.Bool.Decides.{nat_tests}
+-- Which rooms objects have after each command.
+use Rattle.std.proofs.Common.{◌≡◌, ◌≢◌, ℕ, suc, ◌<◌, List, [], ◌∷◌, ◌++◌, length, inl, inr, Some}
+use Rattle.std.proofs.Common.{IsTrue, slice_get, refl, cond, sym, ◌∙◌, ap, subst, arith, eq-eqb}
+use Rattle.std.specs.Prelude.{slice_set}
+use Rattle.std.proofs.lemmas.Bool.{cases_eq, ne_eqb}
+use Rattle.std.proofs.lemmas.Option.{slice_get_within, same_Some}
 use Rattle.tagged_word.specs.Cells.{store_slot}
-use Rattle.tagged_word.specs.Readings.{reference_in}
 use Rattle.tagged_word.proofs.Members.{one_in, first_in}
 use Rattle.heap_command.specs.declared.command.Command.{Command}
-use Rattle.heap_command.specs.declared.command.Command.TheVariants.{Set, Push, Shift, Trunc, WPut}
-use Rattle.heap_command.specs.declared.command.Operand.{Operand}
+use Rattle.object_graph.specs.declared.object.Object.{Object}
+use Rattle.object_graph.specs.declared.object.Object.TheVariants.{Plain, Weak, List as ListOf}
+use Rattle.object_graph.specs.Graphs.{Graph}
+use Rattle.object_graph.specs.Reach.{is_marked, reach}
+use Rattle.object_graph.proofs.Lists.{slice_get-set_same, slice_get-set_other}
 use Rattle.cell_layout.specs.declared.cell.Cell.{Cell}
 use Rattle.handle_roots.specs.declared.held.Held.{Held}
-use Rattle.handle_roots.specs.Roots.{root_at}
 use Rattle.heap_model.specs.Heaps.{Heap, words_of_cell}
 use Rattle.heap_model.specs.Slots.{undefined_word, IsPlace}
 use Rattle.heap_model.specs.Kinds.{HasWord}
 use Rattle.heap_model.specs.Wholeness.{Whole}
-use Rattle.heap_model.specs.Needs.{word_at, capacity_at, element_of, key_of}
-use Rattle.heap_model.specs.Laws.{bound}
+use Rattle.heap_model.specs.Needs.{capacity_at}
+use Rattle.heap_model.specs.Rooms.{Room, no_room, room_at, HasRooms, with_room, rooms_after}
+use Rattle.heap_model.specs.Laws.{ReachesNoMore, bound}
 use Rattle.heap_model.proofs.BoundHeaps.{none_in, bound_moves}
+use Rattle.heap_model.proofs.CellWords.{slice_get-append_left, slice_get-append_right}
+use Rattle.heap_model.proofs.CountsStay.{place_of}
 use Rattle.heap_model.proofs.Fates.{CellsMove, cells_move, places_stay}
 use Rattle.heap_model.proofs.PlacesBefore.{place_before}
-use Rattle.write_barrier.specs.Mains.{Mutator, heap_of}
-use Rattle.object_cells.specs.Capacities.{ChangesObject, set_capacity_at}
+use Rattle.heap_model.proofs.ReachedStays.{reach_below}
+use Rattle.heap_model.proofs.ShownObjects.{object_of_shown}
+use Rattle.write_barrier.specs.Mains.{Mutator, heap_of, MainShows}
+use Rattle.object_cells.specs.Capacities.{ChangesObject}
 use Rattle.object_cells.proofs.CellsRead.{word_stands}
 use Rattle.object_cells.proofs.KeptCapacities.{kept_where_none_went, capacity_of_none}
-use Rattle.list_store.specs.Growth.{push_capacity_at}
-use Rattle.array_trim.specs.Trims.{shifted_capacity_at, truncated_capacity_at}
-use Rattle.ephemeron_table.specs.Growth.{put_capacity_at}
-use Rattle.mutator.specs.Capacities.{KeepsStores, capacity_set, capacity_pushed, capacity_shifted, capacity_truncated}
-use Rattle.mutator.specs.Capacities.{capacity_after, capacity_entered}
+use Rattle.mutator.specs.Capacities.{KeepsStores}
 use Rattle.mutator.proofs.NewCells.{NewCell, cell_of, IsFresh}
 use Rattle.mutator.proofs.PutCells.{next_at, IsPutCell}
+use Rattle.mutator.proofs.SameHeld.{one_address, one_number}
 
--- the command changes no capacity
-abbrev pub KeepsCapacities : Heap → Command → Type 0
-KeepsCapacities heap command = (at : ℕ) → capacity_after heap command at ≡ capacity_at heap at
+-- each object stands where it stood
+abbrev pub PlacesStay : Heap → Heap → Type 0
+PlacesStay old new = (number at : ℕ) → IsPlace old number at → IsPlace new number at
+
+-- A heap that showed a graph, of which objects had these rooms, shows another one, and each object stands where it
+-- stood.
+pub record IsAfter (old new : Mutator) (graph after : Graph) (rooms : ℕ → Room) : Type 0 where
+  pub shows : MainShows old graph
+  pub shown : MainShows new after
+  pub has : HasRooms (heap_of old) graph rooms
+  pub stays : PlacesStay (heap_of old) (heap_of new)
+
+-- an object that is in both graphs and can be reached in both
+record InBoth (graph after : Graph) (number : ℕ) (what : Object) : Type 0 where
+  was : slice_get graph.objects number ≡ Some what
+  marked_was : IsTrue (is_marked (reach graph) number)
+  is : slice_get after.objects number ≡ Some what
+  marked : IsTrue (is_marked (reach after) number)
+
+-- its place is the one that it had
+stood : {old new : Mutator} {graph after : Graph} {rooms : ℕ → Room} (number at : ℕ) (what : Object)
+    → IsAfter old new graph after rooms → InBoth graph after number what → IsPlace (heap_of new) number at
+    → IsPlace (heap_of old) number at
+stood {old} {graph = graph} number at what one both place =
+    let was = one.shows.shows.reached number what both.was both.marked_was in
+    let object = object_of_shown (heap_of old) (reach graph) was.cell was.words what was.shows in
+    let before : IsPlace (heap_of old) number was.cell.at = place_of was.has object was.carries in
+    let once = (one.shown.shows.reached number what both.is both.marked).once in
+    subst (IsPlace (heap_of old) number) (once was.cell.at (one.stays number was.cell.at before) ∙ sym (once at place))
+    before
+
+-- and it has the room that it had, where it keeps its capacity
+room_stays : {old new : Mutator} {graph after : Graph} {rooms : ℕ → Room} (number at : ℕ) (what : Object)
+    → IsAfter old new graph after rooms → InBoth graph after number what → IsPlace (heap_of old) number at
+    → IsPlace (heap_of new) number at → capacity_at (heap_of new) at ≡ capacity_at (heap_of old) at
+    → room_at (heap_of new) at what ≡ room_at (heap_of old) at what
+room_stays {old} {new} number at (Plain cap fields) one both was place keeps =
+    ap (λ n. record { capacity = n; entries = 0 }) keeps
+room_stays {old} {new} number at (ListOf elements) one both was place keeps =
+    ap (λ n. record { capacity = n; entries = 0 }) keeps
+room_stays {old} {new} number at (Weak entries) one both was place keeps =
+    let counts = one.shown.counts number at entries both.is both.marked place
+    ∙ sym (one.shows.counts number at entries both.was both.marked_was was) in
+    λ i. record { capacity = keeps i; entries = counts i }
+
+-- A command that leaves all objects as they are, and their stores, leaves all rooms.
+pub keeps_all : {old new : Mutator} {graph after : Graph} {rooms : ℕ → Room} (command : Command)
+    → IsAfter old new graph after rooms → ReachesNoMore graph after → after.objects ≡ graph.objects
+    → ((number : ℕ) → rooms_after graph rooms command number ≡ rooms number)
+    → ((number at : ℕ) → IsPlace (heap_of old) number at → capacity_at (heap_of new) at ≡ capacity_at (heap_of old) at)
+    → ((number at : ℕ) → IsPlace (heap_of new) number at → IsPlace (heap_of old) number at)
+    → KeepsStores (heap_of old) (heap_of new) graph after command rooms
+keeps_all {old} {new} {graph} {after} {rooms} command one fewer same rooms_stay capacities none_made = record {
+  has = λ number at what there marked place.
+      let was = ap (λ objects. slice_get objects number) (sym same) ∙ there in
+      let both : InBoth graph after number what =
+      record { was = was; marked_was = fewer number marked; is = there; marked = marked } in
+      let before = stood number at what one both place in
+      rooms_stay number ∙ one.has number at what was both.marked_was before
+      ∙ sym (room_stays number at what one both before place (capacities number at before));
+  stays = one.stays;
+  others = λ number at place same_room. capacities number at place;
+  made = λ number at place apart. absurd (apart (none_made number at place));
+}
+
+-- The object of this number, which stands at the address, was changed: it came to be this one, with this room.
+pub record ChangesOne (old new : Mutator) (graph after : Graph) (rooms : ℕ → Room) (command : Command) (of at : ℕ)
+    (was now : Object) (room : Room) : Type 0 where
+  pub there : slice_get graph.objects of ≡ Some was
+  pub reached : IsTrue (is_marked (reach graph) of)
+  pub place : IsPlace (heap_of old) of at
+  pub objects : after.objects ≡ slice_set graph.objects of now
+  pub becomes : rooms_after graph rooms command of ≡ room
+  pub others : (number : ℕ) → number ≢ of → rooms_after graph rooms command number ≡ rooms number
+  pub own : slice_get after.objects of ≡ Some now → IsTrue (is_marked (reach after) of)
+      → IsPlace (heap_of new) of at → room ≡ room_at (heap_of new) at now
+  pub changes : ChangesObject (heap_of old) (heap_of new) at room.capacity
+
+-- Then all other objects keep their rooms.
+pub keeps_others : {old new : Mutator} {graph after : Graph} {rooms : ℕ → Room} (command : Command) (of at : ℕ)
+    (was now : Object) (room : Room) → IsAfter old new graph after rooms → ReachesNoMore graph after
+    → ChangesOne old new graph after rooms command of at was now room
+    → KeepsStores (heap_of old) (heap_of new) graph after command rooms
+keeps_others {old} {new} {graph} {after} {rooms} command of at was now room one fewer is = record {
+  has = λ number other what there marked place.
+      elim (cases_eq number of) [
+        | inl same ↦
+            let it_is : slice_get after.objects of ≡ Some now =
+            ap (λ objects. slice_get objects of) is.objects
+            ∙ slice_get-set_same graph.objects of now (slice_get_within graph.objects of was is.there) in
+            let what_is : now ≡ what =
+            same_Some now what (sym it_is ∙ ap (slice_get after.objects) (sym same) ∙ there) in
+            let marked_of = subst (λ n. IsTrue (is_marked (reach after) n)) same marked in
+            let once = (one.shown.shows.reached of now it_is marked_of).once in
+            let stands : at ≡ other =
+            once at (one.stays of at is.place)
+            ∙ sym (once other (subst (λ n. IsPlace (heap_of new) n other) same place)) in
+            ap (rooms_after graph rooms command) same ∙ is.becomes
+            ∙ is.own it_is marked_of (one.stays of at is.place) ∙ ap (λ a. room_at (heap_of new) a now) stands
+            ∙ ap (room_at (heap_of new) other) what_is
+        | inr apart ↦
+            let there_was : slice_get graph.objects number ≡ Some what =
+            sym (slice_get-set_other graph.objects of number now apart)
+            ∙ ap (λ objects. slice_get objects number) (sym is.objects) ∙ there in
+            let both : InBoth graph after number what =
+            record { was = there_was; marked_was = fewer number marked; is = there; marked = marked } in
+            let before = stood number other what one both place in
+            let elsewhere : other ≢ at = λ same. apart (one_number number of other at before is.place same) in
+            is.others number apart ∙ one.has number other what there_was both.marked_was before
+            ∙ sym (room_stays number other what one both before place
+            (is.changes.others number other before elsewhere))
+      ];
+  stays = one.stays;
+  others = λ number other place same_room.
+      elim (cases_eq number of) [
+        | inl same ↦
+            let stands : at ≡ other = one_address of number at other one.shows is.reached is.place place (sym same) in
+            let keeps : room ≡ room_at (heap_of old) at was =
+            sym is.becomes ∙ ap (rooms_after graph rooms command) (sym same) ∙ same_room ∙ ap rooms same
+            ∙ one.has of at was is.there is.reached is.place in
+            subst (λ a. capacity_at (heap_of new) a ≡ capacity_at (heap_of old) a) stands
+            (is.changes.own ∙ ap (λ (r : Room). r.capacity) keeps)
+        | inr apart ↦
+            is.changes.others number other place
+            (λ same. apart (one_number number of other at place is.place same))
+      ];
+  made = λ number other place apart. absurd (apart (is.changes.none_made number other place));
+}
+
+-- with another room of one object, that one has it
+pub with_room-same : (rooms : ℕ → Room) (number : ℕ) (room : Room) → with_room rooms number room number ≡ room
+with_room-same rooms number room = ap (λ t. cond t room (rooms number)) (eq-eqb number number refl)
+
+-- and the others have theirs
+pub with_room-other : (rooms : ℕ → Room) (number : ℕ) (room : Room) (other : ℕ) → other ≢ number
+    → with_room rooms number room other ≡ rooms other
+with_room-other rooms number room other apart =
+    ap (λ t. cond t room (rooms other)) (ne_eqb other number apart)
 
 -- a place stays where no cell went
 none_went : {old new : Heap} {made : List Cell} (number at : ℕ) → CellsMove old new [] [] made → IsPlace old number at
     → IsPlace new number at
 none_went number at cells place = places_stay cells (λ cell there. absurd (none_in cell there)) number at place
-
--- so it is where nothing has changed
-pub keeps_still : {old new : Mutator} (command : Command) → new ≡ old → KeepsCapacities (heap_of old) command
-    → KeepsStores (heap_of old) (heap_of new) command
-keeps_still command same keeps = record {
-  stood = λ number at place. ap (λ main. capacity_at (heap_of main) at) same ∙ sym (keeps at);
-  stays = λ number at place. subst (λ (main : Mutator). IsPlace (heap_of main) number at) (sym same) place;
-  made = λ number at place apart.
-      absurd (apart (subst (λ (main : Mutator). IsPlace (heap_of main) number at) same place));
-}
 
 -- an object stood where no cell changed but the roots
 stood_before : {heap : Heap} {number at : ℕ} (x : ℕ) (one : Held) → x < heap.space.variables → Whole heap
@@ -59,95 +188,38 @@ stood_before {heap} {number} x one below whole place =
     place_before (suc number) (bound_moves heap x one below whole) (λ cell there. absurd (none_in cell there))
     (omega arith) place
 
+-- rooms stay where nothing has changed
+pub keeps_still : {old new : Mutator} {graph after : Graph} {rooms : ℕ → Room} (command : Command) → new ≡ old
+    → MainShows old graph → MainShows new after → HasRooms (heap_of old) graph rooms → ReachesNoMore graph after
+    → after.objects ≡ graph.objects → ((number : ℕ) → rooms_after graph rooms command number ≡ rooms number)
+    → KeepsStores (heap_of old) (heap_of new) graph after command rooms
+keeps_still command same shows shown has fewer objects rooms_stay =
+    keeps_all command (record {
+      shows = shows;
+      shown = shown;
+      has = has;
+      stays = λ number at place. subst (λ (main : Mutator). IsPlace (heap_of main) number at) (sym same) place;
+    }) fewer objects rooms_stay
+    (λ number at place. ap (λ (main : Mutator). capacity_at (heap_of main) at) same)
+    (λ number at place. subst (λ (main : Mutator). IsPlace (heap_of main) number at) same place)
+
 -- and where a variable was bound anew
-pub keeps_bound : {heap : Heap} (command : Command) (x : ℕ) (one : Held) → x < heap.space.variables → Whole heap
-    → KeepsCapacities heap command → KeepsStores heap (bound heap x one) command
-keeps_bound {heap} command x one below whole keeps = record {
-  stood = λ number at place.
-      kept_where_none_went at whole (bound_moves heap x one below whole).cells place ∙ sym (keeps at);
-  stays = λ number at place. none_went number at (bound_moves heap x one below whole).cells place;
-  made = λ number at place apart. absurd (apart (stood_before x one below whole place));
-}
-
--- so it is where an object keeps its own
-pub keeps_as_many : {old new : Heap} (command : Command) (at : ℕ) → KeepsCapacities old command
-    → ChangesObject old new at (capacity_at old at) → KeepsStores old new command
-keeps_as_many {old} {new} command at keeps stores = record {
-  stood = λ number other place.
-      elim (cases_eq other at) [
-        | inl same ↦ subst (λ n. capacity_at new n ≡ capacity_at old n) (sym same) stores.own ∙ sym (keeps other)
-        | inr apart ↦ stores.others number other place apart ∙ sym (keeps other)
-      ];
-  stays = stores.stays;
-  made = λ number other place apart. absurd (apart (stores.none_made number other place));
-}
-
--- The command changes the capacity of the object at an address alone, to this one.
-abbrev KeepsOthers : Heap → Command → ℕ → (ℕ → ℕ) → Type 0
-KeepsOthers heap command at capacity =
-    (other : ℕ) → capacity_after heap command other ≡ cond (other == at) (capacity other) (capacity_at heap other)
-
--- and where it comes to have that
-keeps_others : {old new : Heap} (command : Command) (at : ℕ) (capacity : ℕ → ℕ)
-    → KeepsOthers old command at capacity → ChangesObject old new at (capacity at) → KeepsStores old new command
-keeps_others {old} {new} command at capacity by_root stores = record {
-  stood = λ number other place.
-      let set : ℕ = capacity other in
-      let kept : ℕ = capacity_at old other in
-      elim (cases_eq other at) [
-        | inl same ↦
-            let test : (other == at) ≡ true = eq-eqb other at same in
-            subst (λ n. capacity_at new n ≡ capacity n) (sym same) stores.own
-            ∙ sym (by_root other ∙ ap (λ t. cond t set kept) test)
-        | inr apart ↦
-            let test : (other == at) ≡ false = grind (arith, nat_tests) in
-            stores.others number other place apart ∙ sym (by_root other ∙ ap (λ t. cond t set kept) test)
-      ];
-  stays = stores.stays;
-  made = λ number other place apart. absurd (apart (stores.none_made number other place));
-}
-
--- a field was set of the object to which the variable's root refers
-pub keeps_set : {old new : Heap} (x name at : ℕ) (v : Operand)
-    → reference_in (word_at old (root_at old.space x)) ≡ Some at
-    → ChangesObject old new at (set_capacity_at old at name) → KeepsStores old new (Set x name v)
-keeps_set {old} x name at v refers stores =
-    keeps_others (Set x name v) at (λ other. set_capacity_at old other name)
-    (λ other. ap (λ found. capacity_set old found name other) refers) stores
-
--- an element was pushed to the list to which it refers
-pub keeps_push : {old new : Heap} (x at : ℕ) (v : Operand) → reference_in (word_at old (root_at old.space x)) ≡ Some at
-    → ChangesObject old new at (push_capacity_at old at) → KeepsStores old new (Push x v)
-keeps_push {old} x at v refers stores =
-    keeps_others (Push x v) at (push_capacity_at old)
-    (λ other. ap (λ found. capacity_pushed old found other) refers) stores
-
--- the first elements, so many, went of the list to which it refers
-pub keeps_shift : {old new : Heap} (x at gone : ℕ) (n : Operand)
-    → reference_in (word_at old (root_at old.space x)) ≡ Some at → element_of old n ≡ gone
-    → ChangesObject old new at (shifted_capacity_at old at gone) → KeepsStores old new (Shift x n)
-keeps_shift {old} x at gone n refers told stores =
-    keeps_others (Shift x n) at (λ other. shifted_capacity_at old other gone)
-    (λ other. ap (λ found. capacity_shifted old found (element_of old n) other) refers
-    ∙ ap (λ count. capacity_shifted old (Some at) count other) told) stores
-
--- the first elements alone, so many, stayed of the list to which it refers
-pub keeps_trunc : {old new : Heap} (x at kept : ℕ) (n : Operand)
-    → reference_in (word_at old (root_at old.space x)) ≡ Some at → element_of old n ≡ kept
-    → ChangesObject old new at (truncated_capacity_at old at kept) → KeepsStores old new (Trunc x n)
-keeps_trunc {old} x at kept n refers told stores =
-    keeps_others (Trunc x n) at (λ other. truncated_capacity_at old other kept)
-    (λ other. ap (λ found. capacity_truncated old found (element_of old n) other) refers
-    ∙ ap (λ count. capacity_truncated old (Some at) count other) told) stores
-
--- the entry of a key word was put in the weak map to which it refers
-pub keeps_wput : {old new : Heap} (m at key : ℕ) (k v : Operand)
-    → reference_in (word_at old (root_at old.space m)) ≡ Some at → key_of old k ≡ key
-    → ChangesObject old new at (put_capacity_at old at key) → KeepsStores old new (WPut m k v)
-keeps_wput {old} m at key k v refers told stores =
-    keeps_others (WPut m k v) at (λ other. put_capacity_at old other key)
-    (λ other. ap (λ found. capacity_entered old found (key_of old k) other) refers
-    ∙ ap (λ word. capacity_entered old (Some at) word other) told) stores
+pub keeps_bound : {old new : Mutator} {graph after : Graph} {rooms : ℕ → Room} (command : Command) (x : ℕ) (one : Held)
+    → x < old.seat.space.variables → heap_of new ≡ bound (heap_of old) x one
+    → MainShows old graph → MainShows new after → HasRooms (heap_of old) graph rooms → ReachesNoMore graph after
+    → after.objects ≡ graph.objects → ((number : ℕ) → rooms_after graph rooms command number ≡ rooms number)
+    → KeepsStores (heap_of old) (heap_of new) graph after command rooms
+keeps_bound {old} command x one below is shows shown has fewer objects rooms_stay =
+    let whole = shows.shows.whole in
+    let cells = (bound_moves (heap_of old) x one below whole).cells in
+    keeps_all command (record {
+      shows = shows;
+      shown = shown;
+      has = has;
+      stays = λ number at place. subst (λ heap. IsPlace heap number at) (sym is) (none_went number at cells place);
+    }) fewer objects rooms_stay
+    (λ number at place. ap (λ heap. capacity_at heap at) is ∙ kept_where_none_went at whole cells place)
+    (λ number at place. stood_before x one below whole (subst (λ heap. IsPlace heap number at) is place))
 
 -- a cell that was put has no store
 put_has_none : {heap now : Heap} {one : NewCell} → IsFresh one → IsPutCell heap now one
@@ -176,19 +248,83 @@ put_or_stood {heap} {one = one} put place apart =
       }))
     ]
 
--- a cell was put, and a variable bound to it
-pub keeps_made : {heap now : Heap} {one : NewCell} (command : Command) (x : ℕ) (held : Held) → Whole heap → IsFresh one
-    → IsPutCell heap now one → x < now.space.variables → KeepsCapacities heap command
-    → KeepsStores heap (bound now x held) command
-keeps_made {heap} {now} command x held whole fresh put below keeps =
+-- What a heap owes in which a cell was put and a variable bound to it: places and capacities stay, and the new one has
+-- no store.
+pub record MakesOne (old new : Heap) : Type 0 where
+  pub stays : PlacesStay old new
+  pub keeps : (number at : ℕ) → IsPlace old number at → capacity_at new at ≡ capacity_at old at
+  pub made : (number at : ℕ) → IsPlace new number at → (IsPlace old number at → ⊥) → capacity_at new at ≡ 0
+
+-- so it is
+pub makes_one : {heap now : Heap} {one : NewCell} (x : ℕ) (held : Held) → Whole heap → IsFresh one
+    → IsPutCell heap now one → x < now.space.variables → MakesOne heap (bound now x held)
+makes_one {heap} {now} x held whole fresh put below =
     let moves = bound_moves now x held below put.whole in
     record {
-      stood = λ number at place.
-          kept_where_none_went at put.whole moves.cells (none_went number at (cells_move put.cells) place)
-          ∙ kept_where_none_went at whole (cells_move put.cells) place ∙ sym (keeps at);
       stays = λ number at place. none_went number at moves.cells (none_went number at (cells_move put.cells) place);
+      keeps = λ number at place.
+          kept_where_none_went at put.whole moves.cells (none_went number at (cells_move put.cells) place)
+          ∙ kept_where_none_went at whole (cells_move put.cells) place;
       made = λ number at place apart.
           let place_now = stood_before x held below put.whole place in
           kept_where_none_went at put.whole moves.cells place_now
           ∙ ap (capacity_at now) (sym (put_or_stood put place_now apart)) ∙ put_has_none fresh put;
     }
+
+-- an object that was just made has no entry
+abbrev pub HasNoEntry : Object → Type 0
+HasNoEntry (Plain cap fields) = Unit {0}
+HasNoEntry (ListOf elements) = Unit {0}
+HasNoEntry (Weak entries) = entries ≡ []
+
+-- so it has no room
+empty_room : {new : Mutator} {after : Graph} (number at : ℕ) (what : Object) → MainShows new after → HasNoEntry what
+    → slice_get after.objects number ≡ Some what → IsTrue (is_marked (reach after) number)
+    → IsPlace (heap_of new) number at → capacity_at (heap_of new) at ≡ 0 → no_room ≡ room_at (heap_of new) at what
+empty_room number at (Plain cap fields) shown none there marked place is =
+    ap (λ n. record { capacity = n; entries = 0 }) (sym is)
+empty_room number at (ListOf elements) shown none there marked place is =
+    ap (λ n. record { capacity = n; entries = 0 }) (sym is)
+empty_room number at (Weak entries) shown none there marked place is =
+    let counts = ap (λ (all : List _). length all) (sym none) ∙ sym (shown.counts number at entries there marked place) in
+    λ i. record { capacity = sym is i; entries = counts i }
+
+-- an object was made, and all others keep their rooms
+pub keeps_made : {old new : Mutator} {graph after : Graph} {rooms : ℕ → Room} (command : Command) (what : Object)
+    → IsAfter old new graph after rooms
+    → ((number : ℕ) → IsTrue (is_marked (reach after) number) → number ≢ length graph.objects
+    → IsTrue (is_marked (reach graph) number))
+    → after.objects ≡ graph.objects ++ what ∷ [] → HasNoEntry what
+    → ((number : ℕ) → rooms_after graph rooms command number ≡ with_room rooms (length graph.objects) no_room number)
+    → MakesOne (heap_of old) (heap_of new) → KeepsStores (heap_of old) (heap_of new) graph after command rooms
+keeps_made {old} {new} {graph} {after} {rooms} command what one fewer objects none gives makes = record {
+  has = λ number at other there marked place.
+      elim (cases_eq number (length graph.objects)) [
+        | inl same ↦
+            let is : what ≡ other =
+            same_Some what other
+            (sym (slice_get-append_right graph.objects (what ∷ []) 0 number (omega (arith, same)))
+            ∙ ap (λ all. slice_get all number) (sym objects) ∙ there) in
+            let new_one : IsPlace (heap_of old) number at → ⊥ = λ was.
+            omega (arith, one.shows.shows.made number at was, same) in
+            gives number ∙ ap (λ n. with_room rooms (length graph.objects) no_room n) same
+            ∙ with_room-same rooms (length graph.objects) no_room
+            ∙ empty_room number at other one.shown (subst HasNoEntry is none) there marked place
+            (makes.made number at place new_one)
+        | inr apart ↦
+            let marked_was = fewer number marked apart in
+            let below : number < length graph.objects = reach_below graph number marked_was in
+            let was : slice_get graph.objects number ≡ Some other =
+            sym (slice_get-append_left graph.objects (what ∷ []) number below)
+            ∙ ap (λ all. slice_get all number) (sym objects) ∙ there in
+            let both : InBoth graph after number other =
+            record { was = was; marked_was = marked_was; is = there; marked = marked } in
+            let before = stood number at other one both place in
+            gives number ∙ with_room-other rooms (length graph.objects) no_room number apart
+            ∙ one.has number at other was marked_was before
+            ∙ sym (room_stays number at other one both before place (makes.keeps number at before))
+      ];
+  stays = one.stays;
+  others = λ number at place same_room. makes.keeps number at place;
+  made = makes.made;
+}

@@ -17,7 +17,6 @@ pub mod PutCells
 pub mod MadeObjects
 pub mod OnlyMade
 pub mod FieldMeanings
-pub mod SetNeeds
 pub mod FieldsSet
 pub mod StoppedBy
 pub mod GivenValues
@@ -27,13 +26,12 @@ pub mod ShapeTexts
 pub mod ListsAt
 pub mod ListMeanings
 pub mod IndexedLists
-pub mod ListNeeds
 pub mod ElementsSet
 pub mod TrimMeanings
 pub mod ElementsTrimmed
 pub mod EmptyWeaks
 pub mod WeakMapsAt
 pub mod WeakMeanings
-pub mod WeakNeeds
 pub mod EntriesSet
 mod KeptStores
+mod CommandRooms

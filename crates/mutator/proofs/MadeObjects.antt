@@ -30,7 +30,7 @@ use Rattle.cell_layout.specs.declared.cell.Cell.{Cell}
 use Rattle.heap_model.specs.Heaps.{Heap, HasCell, words_of_cell}
 use Rattle.heap_model.specs.Counting.{CountsEntries}
 use Rattle.heap_model.specs.Kinds.{count_offset}
-use Rattle.heap_model.specs.Needs.{need_of}
+use Rattle.heap_model.specs.Rooms.{Room, no_room, need_of, rooms_after, with_room}
 use Rattle.heap_model.specs.Wholeness.{HasSizes}
 use Rattle.heap_model.specs.Showing.{Shows, ShowsObject}
 use Rattle.heap_model.specs.Laws.{IsNoEntryKey, ReachesOneMore, bound}
@@ -44,7 +44,6 @@ use Rattle.write_barrier.specs.Values.{with_range}
 use Rattle.object_cells.specs.Uses.{UsesMore}
 use Rattle.object_cells.proofs.UnusedWords.{run_before_marks}
 use Rattle.object_cells.proofs.WordsBeside.{range_beside, variable_beside}
-use Rattle.mutator.specs.Capacities.{KeepsStores}
 use Rattle.mutator.specs.Carries.{Carries}
 use Rattle.mutator.proofs.NewCells.{NewCell, cell_of}
 use Rattle.mutator.proofs.EmptyCells.{no_fields, plain_cell, plain_fresh, plain_laid, IsEmptyCell, empty_is_sound}
@@ -52,7 +51,7 @@ use Rattle.mutator.proofs.EmptyCells.{empty_shows}
 use Rattle.mutator.proofs.EmptyCounted.{counted_cell, counted_fits, list_is_counted, weak_is_counted}
 use Rattle.mutator.proofs.EmptyLists.{list_is_sound, list_shows}
 use Rattle.mutator.proofs.EmptyWeaks.{weak_is_sound, weak_shows}
-use Rattle.mutator.proofs.KeptStores.{KeepsCapacities, keeps_made}
+use Rattle.mutator.proofs.KeptStores.{HasNoEntry, MakesOne, makes_one, keeps_made}
 use Rattle.mutator.proofs.PutCells.{next_at, with_cell, with_cell_words, HasRoomFor, IsSoundThere, with_cell_put}
 use Rattle.mutator.proofs.Rebinding.{HoldsAnew, heap_bound}
 
@@ -66,15 +65,17 @@ no_entry_key graph is holder at entries entry there stands same =
     omega (arith, one.key, same)
 
 -- what a command is that makes an object: it needs the words of its cell, and changes no store
-pub record IsMaking (heap : Heap) (graph : Graph) (command : Command) (x size : ℕ) (what : Object) : Type 0 where
+pub record IsMaking (graph : Graph) (command : Command) (x size : ℕ) (what : Object) : Type 0 where
   pub fits : FitsCommand command
   pub done : (names : List (List ℕ)) → does ideal_limits names graph command ≡ done (make graph x what) []
-  pub need : need_of heap command ≡ size
-  pub keeps : KeepsCapacities heap command
+  pub need : (rooms : ℕ → Room) → need_of graph rooms command ≡ size
+  pub gives : (rooms : ℕ → Room) (number : ℕ)
+      → rooms_after graph rooms command number ≡ with_room rooms (length graph.objects) no_room number
+  pub none : HasNoEntry what
 
 -- a new object is the only one that can be reached and could not be before
-reaches_one_more : {heap : Heap} {graph : Graph} {command : Command} {x size : ℕ} {what : Object} → IsGraph graph
-    → IsMaking heap graph command x size what → ReachesOneMore graph (make graph x what) (length graph.objects)
+reaches_one_more : {graph : Graph} {command : Command} {x size : ℕ} {what : Object} → IsGraph graph
+    → IsMaking graph command x size what → ReachesOneMore graph (make graph x what) (length graph.objects)
 reaches_one_more {graph = graph} {command} {x} {what = what} is making number marked apart =
     elim (only_made_is_new ideal_limits [] graph command (make graph x what) [] number is (making.done []) marked) [
       | inl before ↦ before
@@ -142,7 +143,7 @@ pub record IsMade (heap : Heap) (graph : Graph) (x : ℕ) (one : NewCell) (what 
 -- so it shows the graph in which the object is made
 made_shows : {old mid filled new : Mutator} {graph : Graph} {command : Command} {x at : ℕ} {one : NewCell}
     {what : Object}
-    → MainShows old graph → IsMaking (heap_of old) graph command x one.size what
+    → MainShows old graph → IsMaking graph command x one.size what
     → MakesObject old mid filled new x at one → IsMade (heap_of old) graph x one what → at < 2 ^ 32
     → x < old.seat.space.variables → Shows (heap_of new) (make graph x what)
 made_shows {old} {mid} {filled} {new} {graph} {command} {x} {at} {one} {what} shows making makes made small below =
@@ -159,7 +160,7 @@ made_shows {old} {mid} {filled} {new} {graph} {command} {x} {at} {one} {what} sh
 
 -- and weak maps count their entries: a cell that stood stands
 made_counts : {old mid filled new : Mutator} {graph : Graph} {command : Command} {x at : ℕ} {one : NewCell}
-    {what : Object} → MainShows old graph → IsMaking (heap_of old) graph command x one.size what
+    {what : Object} → MainShows old graph → IsMaking graph command x one.size what
     → MakesObject old mid filled new x at one → IsMade (heap_of old) graph x one what → x < old.seat.space.variables
     → Shows (heap_of new) (make graph x what) → CountsEntries (heap_of new) (make graph x what)
 made_counts {old} {new = new} {graph} {x = x} {one = one} {what} shows making makes made below shown =
@@ -179,7 +180,7 @@ made_counts {old} {new = new} {graph} {x = x} {one = one} {what} shows making ma
 -- and the command is carried out
 pub making_carried : {old mid filled new : Mutator} {graph : Graph} {command : Command} {x at : ℕ} {one : NewCell}
     {what : Object} (names : List (List ℕ)) → MainShows old graph
-    → IsMaking (heap_of old) graph command x one.size what → MakesObject old mid filled new x at one
+    → IsMaking graph command x one.size what → MakesObject old mid filled new x at one
     → IsMade (heap_of old) graph x one what → at < 2 ^ 32 → x < old.seat.space.variables → HasRoom old.young one.size
     → Carries names old new graph command [] (Ok tt)
 making_carried {old} {new = new} {graph} {command} {x} {at} {one} {what} names shows making makes made small below
@@ -211,15 +212,22 @@ making_carried {old} {new = new} {graph} {command} {x} {at} {one} {what} names s
       young = ap (λ (now : Mutator). now.young) whole;
     } in
     let put = with_cell_put shows.shows.whole made.fits made.sound in
-    let keeps = subst (λ heap. KeepsStores (heap_of old) heap command) (sym (bound_heap shows.tied makes))
-    (keeps_made command x (held.Ref (next_at (heap_of old))) shows.shows.whole made.fits.fresh put below
-    making.keeps) in (
+    let makes_it : MakesOne (heap_of old) (heap_of new) =
+    subst (MakesOne (heap_of old)) (sym (bound_heap shows.tied makes))
+    (makes_one x (held.Ref (next_at (heap_of old))) shows.shows.whole made.fits.fresh put below) in (
       after,
       making.done names,
       main,
-      subst (HasRoom old.young) (sym making.need) room,
-      subst (UsesMore old new) (sym making.need) uses,
-      keeps,
+      λ rooms has. record {
+        room = subst (HasRoom old.young) (sym (making.need rooms)) room;
+        uses = subst (UsesMore old new) (sym (making.need rooms)) uses;
+        stores = keeps_made command what (record {
+          shows = shows;
+          shown = main;
+          has = has;
+          stays = makes_it.stays;
+        }) (reaches_one_more shows.is_graph making) refl making.none (making.gives rooms) makes_it;
+      },
     )
 
 -- the layout word of a shape of paths is that of plain cells, so the cell of a plain object without fields is made

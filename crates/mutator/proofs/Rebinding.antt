@@ -21,7 +21,7 @@ use Rattle.heap_table.specs.Seats.{heap_words, StaysBeside}
 use Rattle.cell_layout.specs.declared.cell.Cell.{Cell}
 use Rattle.heap_model.specs.Heaps.{Heap, HasCell}
 use Rattle.heap_model.specs.Counting.{CountsEntries}
-use Rattle.heap_model.specs.Needs.{need_of}
+use Rattle.heap_model.specs.Rooms.{Room, need_of, rooms_after}
 use Rattle.heap_model.specs.Showing.{ShowsHeld, Shows}
 use Rattle.heap_model.specs.Laws.{ReachesNoMore, BindsAnew, bound}
 use Rattle.heap_model.proofs.BoundHeaps.{none_in, bound_moves}
@@ -31,9 +31,8 @@ use Rattle.write_barrier.specs.Mains.{Mutator, heap_of, IsTied, MainShows, with_
 use Rattle.object_cells.specs.Uses.{UsesMore}
 use Rattle.object_cells.proofs.WordsBeside.{variable_beside}
 use Rattle.mutator.specs.Binding.{Binds}
-use Rattle.mutator.specs.Capacities.{KeepsStores}
 use Rattle.mutator.specs.Carries.{Carries}
-use Rattle.mutator.proofs.KeptStores.{KeepsCapacities, keeps_bound}
+use Rattle.mutator.proofs.KeptStores.{keeps_bound}
 
 -- a variable was made to hold a value, and only its root words changed
 pub record HoldsAnew (old new : Mutator) (x : ℕ) (one : Held) : Type 0 where
@@ -109,21 +108,28 @@ rebound_shows {old} {new} {graph} {after} names command text x one shows carried
           (counts_stay shows.shows bound_shows shows.counts anew.objects fewer kept);
     }
 
+-- the command needs no words, and leaves each room
+abbrev pub NeedsNone : Graph → Command → Type 0
+NeedsNone graph command =
+    (rooms : ℕ → Room) → (need_of graph rooms command ≡ 0)
+    × ((number : ℕ) → rooms_after graph rooms command number ≡ rooms number)
+
 -- so the command is carried out, if it is one that binds a variable and needs no words
 pub binding_carried : {old new : Mutator} {graph : Graph} (after : Graph) (names : List (List ℕ)) (command : Command)
     (x : ℕ)
     (one : Held) → MainShows old graph → does ideal_limits names graph command ≡ done after []
     → made_for command ≡ None → FitsCommand command → BindsAnew graph after x → x < old.seat.space.variables
     → FitsHeld one → ShowsHeld (heap_of old) one (get after.bindings x) → HoldsAnew old new x one
-    → need_of (heap_of old) command ≡ 0 → KeepsCapacities (heap_of old) command
-    → Carries names old new graph command [] (Ok tt)
+    → NeedsNone graph command → Carries names old new graph command [] (Ok tt)
 binding_carried {old} {new} after names command x one shows carried none fits anew below held_fits shown holds no_need
-    keeps = (
+    = let shown_after = rebound_shows names command [] x one shows carried none fits anew below held_fits shown holds in (
       after,
       carried,
-      rebound_shows names command [] x one shows carried none fits anew below held_fits shown holds,
-      subst (HasRoom old.young) (sym no_need) (room_for_none shows),
-      subst (UsesMore old new) (sym no_need) (uses_none x one holds below),
-      subst (λ heap. KeepsStores (heap_of old) heap command) (sym (heap_bound x one holds))
-          (keeps_bound command x one below shows.shows.whole keeps),
+      shown_after,
+      λ rooms has. record {
+        room = subst (HasRoom old.young) (sym (no_need rooms).0) (room_for_none shows);
+        uses = subst (UsesMore old new) (sym (no_need rooms).0) (uses_none x one holds below);
+        stores = keeps_bound command x one below (heap_bound x one holds) shows shown_after has
+            (reaches_no_more names command [] shows carried none) anew.objects (no_need rooms).1;
+      },
     )

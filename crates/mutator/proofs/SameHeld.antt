@@ -52,7 +52,7 @@ tests_alike a b c d there back =
     same_from_decides (a == b) (c == d) (Decides-like (a == b) there back (Decides-eqb a b)) (Decides-eqb c d)
 
 -- an address is the place of one object
-one_number : {heap : Heap} (number other at to : ℕ) → IsPlace heap number at → IsPlace heap other to → at ≡ to
+pub one_number : {heap : Heap} (number other at to : ℕ) → IsPlace heap number at → IsPlace heap other to → at ≡ to
     → number ≡ other
 one_number number other at to place place_too same =
     let one : place.cell ≡ place_too.cell =

@@ -1,17 +1,16 @@
 -- A command that writes a text and leaves the heap as it is.
-use Rattle.std.proofs.Common.{◌≡◌, ℕ, List, Ok, sym, ◌∙◌, ap, subst, add-zero}
+use Rattle.std.proofs.Common.{◌≡◌, refl, ℕ, List, Ok, sym, ◌∙◌, ap, subst, add-zero}
 use Rattle.heap_command.specs.declared.command.Command.{Command}
 use Rattle.object_graph.specs.Graphs.{Graph}
 use Rattle.object_graph.specs.Meaning.{done, does}
 use Rattle.object_graph.specs.Limits.{ideal_limits}
 use Rattle.nursery.specs.Young.{HasRoom}
-use Rattle.heap_model.specs.Needs.{need_of}
-use Rattle.write_barrier.specs.Mains.{Mutator, heap_of, MainShows}
+use Rattle.write_barrier.specs.Mains.{Mutator, MainShows}
 use Rattle.object_cells.specs.Uses.{UsesMore}
 use Rattle.object_cells.proofs.WordsBeside.{same_beside}
 use Rattle.mutator.specs.Carries.{Carries}
-use Rattle.mutator.proofs.KeptStores.{KeepsCapacities, keeps_still}
-use Rattle.mutator.proofs.Rebinding.{room_for_none}
+use Rattle.mutator.proofs.KeptStores.{keeps_still}
+use Rattle.mutator.proofs.Rebinding.{NeedsNone, room_for_none}
 use Rattle.mutator.proofs.StillShown.{shows_still}
 
 -- a heap that is the same uses no word more
@@ -25,13 +24,15 @@ uses_none_still {old} same = record {
 -- so it is carried out, if it needs no words
 pub writing_carried : {old new : Mutator} {graph : Graph} (names : List (List ℕ)) (command : Command) (text : List ℕ)
     → new ≡ old → MainShows old graph → does ideal_limits names graph command ≡ done graph text
-    → need_of (heap_of old) command ≡ 0 → KeepsCapacities (heap_of old) command
-    → Carries names old new graph command text (Ok tt)
-writing_carried {old} {new} {graph} names command text same shows carried no_need keeps = (
+    → NeedsNone graph command → Carries names old new graph command text (Ok tt)
+writing_carried {old} {new} {graph} names command text same shows carried no_need = (
   graph,
   carried,
   shows_still same shows,
-  subst (HasRoom old.young) (sym no_need) (room_for_none shows),
-  subst (UsesMore old new) (sym no_need) (uses_none_still same),
-  keeps_still command same keeps,
+  λ rooms has. record {
+    room = subst (HasRoom old.young) (sym (no_need rooms).0) (room_for_none shows);
+    uses = subst (UsesMore old new) (sym (no_need rooms).0) (uses_none_still same);
+    stores = keeps_still command same shows (shows_still same shows) has (λ number marked. marked) refl
+        (no_need rooms).1;
+  },
 )

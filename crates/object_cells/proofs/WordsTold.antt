@@ -1,9 +1,9 @@
 -- What the words of slots and fields tell.
 use Rattle.std.proofs.Common.{◌≡◌, ℕ, ◌+◌, ◌<◌, Bool, true, false, List, Some, refl, sym}
-use Rattle.std.proofs.Common.{◌∙◌, ap, subst, arith, IsTrue}
+use Rattle.std.proofs.Common.{◌∙◌, ap, subst, arith}
 use Rattle.std.proofs.Common.{Fits, rules}
-use Rattle.std.specs.Prelude.{ℤ, FitsSigned, pos, negsuc}
-use Rattle.std.specs.Int.{w32, w64, cast_signed, cast_unsigned}
+use Rattle.std.specs.Prelude.{ℤ}
+use Rattle.std.specs.Int.{w64, cast_signed, cast_unsigned}
 use Rattle.std.proofs.lemmas.Int.{to_z-of_z, of_z-to_z}
 use Rattle.tagged_word.specs.declared.word.Class.{Class}
 use Rattle.tagged_word.specs.Words.{IsClass, bits_of}
@@ -26,7 +26,8 @@ use Rattle.heap_model.specs.Wholeness.{HasSizes}
 use Rattle.heap_model.proofs.WordClasses.{same_reference, undefined_refers_not, hole_refers_not, small_refers_not}
 use Rattle.write_barrier.specs.Values.{held_of_class}
 use Rattle.write_barrier.specs.ValueLaws.{ShowsByClass}
-use Rattle.write_barrier.proofs.ShownHeld.{cell_before, box_by_class, shown_values_are_held}
+use Rattle.heap_model.proofs.ShownBoxes.{cell_before}
+use Rattle.write_barrier.proofs.ShownHeld.{box_by_class, shown_values_are_held}
 use Rattle.object_cells.specs.CellsAt.{HasCellAt}
 use Rattle.object_cells.proofs.CellsRead.{cell_at_before_marks, fits_address}
 

@@ -1,7 +1,6 @@
 -- The cells that calls touch, by their addresses.
-use Rattle.std.specs.Prelude.{◌≡◌, ℕ, ◌<◌, List, length, ℤ, IsTrue, FitsSigned}
+use Rattle.std.specs.Prelude.{◌≡◌, ℕ, ◌<◌, List, length}
 use Rattle.std.specs.Prelude.{Some, slice_get, nat_lt}
-use Rattle.std.specs.Int.{w64}
 use Rattle.object_graph.specs.declared.path.PathField.{PathField}
 use Rattle.object_graph.specs.declared.value.Value.{Value}
 use Rattle.shape_tree.specs.Shapes.{shape_path}
@@ -10,10 +9,8 @@ use Rattle.tagged_word.specs.declared.header.Header.{Header}
 use Rattle.tagged_word.specs.declared.layout.Kind.TheVariants as kind
 use Rattle.cell_layout.specs.declared.cell.Cell.{Cell}
 use Rattle.handle_roots.specs.declared.held.Held.{Held}
-use Rattle.handle_roots.specs.declared.held.Held.TheVariants as held
 use Rattle.heap_table.specs.declared.phase.Phase.TheVariants.{Quiet}
 use Rattle.heap_model.specs.Heaps.{Heap, HasCell}
-use Rattle.heap_model.specs.Slots.{raw_word, is_object_kind}
 use Rattle.heap_model.specs.Kinds.{HasWord, HasSlots}
 use Rattle.heap_model.specs.Wholeness.{Whole}
 use Rattle.write_barrier.specs.Mains.{Mutator, heap_of}

@@ -1,18 +1,18 @@
 -- The fields of a plain object of which one was set: it stands where it stood.
-use Rattle.std.proofs.Common.{◌≡◌, ℕ, zero, suc, ◌==◌, true, false, List, [], ◌∷◌, map, Some, slice_get, set}
+use Rattle.std.proofs.Common.{◌≡◌, ℕ, zero, suc, ◌==◌, true, false, List, [], ◌∷◌, map, Some, None, slice_get, set, inl, inr}
 use Rattle.std.proofs.Common.{refl, sym, ◌∙◌, ap, cond}
 use Rattle.std.specs.Prelude.{option_map}
 use Rattle.std.specs.List.{IsDistinct}
-use Rattle.std.proofs.lemmas.Bool.{eq-eqb}
+use Rattle.std.proofs.lemmas.Bool.{eq-eqb, ne_eqb, cases_eq}
 use Rattle.std.proofs.lemmas.Option.{none-some, same_Some, slice_get-map}
 use Rattle.object_graph.specs.declared.value.Value.{Value}
 use Rattle.object_graph.specs.declared.object.Field.{Field}
 use Rattle.object_graph.specs.declared.path.Path.{Path}
 use Rattle.object_graph.specs.declared.path.PathField.{PathField}
-use Rattle.object_graph.specs.Objects.{with_field, revalued}
+use Rattle.object_graph.specs.Objects.{with_field, revalued, field_value}
 use Rattle.object_graph.specs.Paths.{path_of}
 use Rattle.shape_tree.specs.Shapes.{changed, changed_fields}
-use Rattle.heap_model.specs.Needs.{index_of}
+use Rattle.heap_model.specs.Rooms.{field_place}
 use Rattle.object_cells.proofs.FieldsFound.{apart_at}
 
 -- the name of a later field is not that of the first
@@ -40,19 +40,31 @@ first_named : (first field : Field) (name : ℕ) → Some first ≡ Some field �
 first_named first field name there is =
     eq-eqb first.name name (ap (λ (f : Field). f.name) (same_Some first field there) ∙ is)
 
--- a field's place in its path is found by its name
-pub index_found : (cap : ℕ) (fields : List Field) (k : ℕ) (field : Field) (name : ℕ)
+-- a field is found by its name
+pub place_found : (fields : List Field) (k : ℕ) (field : Field) (name : ℕ)
     → IsDistinct ◌==◌ (map (λ (one : Field). one.name) fields)
-    → slice_get fields k ≡ Some field → field.name ≡ name
-    → index_of (path_of cap fields).fields name ≡ Some k
-index_found cap [] k field name distinct there is = absurd (none-some field there)
-index_found cap (first ∷ fields) zero field name distinct there is =
-    ap (λ t. cond t (Some 0) (option_map suc (index_of (path_of cap fields).fields name)))
-    (first_named first field name there is)
-index_found cap (first ∷ fields) (suc k) field name distinct there is =
-    ap (λ t. cond t (Some 0) (option_map suc (index_of (path_of cap fields).fields name)))
+    → slice_get fields k ≡ Some field → field.name ≡ name → field_place fields name ≡ Some k
+place_found [] k field name distinct there is = absurd (none-some field there)
+place_found (first ∷ fields) zero field name distinct there is =
+    ap (λ t. cond t (Some 0) (option_map suc (field_place fields name))) (first_named first field name there is)
+place_found (first ∷ fields) (suc k) field name distinct there is =
+    ap (λ t. cond t (Some 0) (option_map suc (field_place fields name)))
     (later_apart first fields k field name distinct there is)
-    ∙ ap (option_map suc) (index_found cap fields k field name (later_distinct first fields distinct) there is)
+    ∙ ap (option_map suc) (place_found fields k field name (later_distinct first fields distinct) there is)
+
+-- and none is where none has the name
+pub no_place : (fields : List Field) (name : ℕ) → field_value fields name ≡ None → field_place fields name ≡ None
+no_place [] name fresh = refl
+no_place (first ∷ fields) name fresh = elim (cases_eq first.name name) [
+  | inl same ↦
+      let test = eq-eqb first.name name same in
+      absurd (none-some first.value (sym fresh ∙ ap (λ t. cond t (Some first.value) (field_value fields name)) test))
+  | inr apart ↦
+      let test = ne_eqb first.name name apart in
+      let later = sym (ap (λ t. cond t (Some first.value) (field_value fields name)) test) ∙ fresh in
+      ap (λ t. cond t (Some 0) (option_map suc (field_place fields name))) test
+      ∙ ap (option_map suc) (no_place fields name later)
+]
 
 -- the field of a name that is there is given the value where it stands
 pub with_field_found : (fields : List Field) (k : ℕ) (field : Field) (name : ℕ) (value : Value)

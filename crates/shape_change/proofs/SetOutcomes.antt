@@ -1,95 +1,71 @@
 -- What came of setting a field that is there.
 use Rattle.std.proofs.Common.{◌≡◌, ℕ, ◌+◌, List, ◌++◌, length, Some, slice_get, set}
-use Rattle.std.proofs.Common.{refl, sym, ◌∙◌, ap, subst, arith, inl, inr, not, ◌&&◌}
+use Rattle.std.proofs.Common.{refl, sym, ◌∙◌, ap, subst, arith, inl, inr, nat_lt}
 use Rattle.std.proofs.lemmas.Option.{cond_some}
 use Rattle.tagged_word.specs.declared.header.Header.{Header}
 use Rattle.tagged_word.specs.Headers.{header_bits}
 use Rattle.object_graph.specs.declared.value.Value.{Value}
 use Rattle.object_graph.specs.declared.path.Path.{Path}
-use Rattle.object_graph.specs.declared.path.PathField.{PathField}
+use Rattle.object_graph.specs.declared.object.Field.{Field}
 use Rattle.object_graph.specs.Paths.{path_of, with_path, missing, may_have}
 use Rattle.object_graph.specs.Objects.{revalued}
 use Rattle.object_graph.specs.Graphs.{Graph, PlainObject}
 use Rattle.object_graph.specs.Limits.{paths_most}
 use Rattle.page_space.specs.Sizes.{AreWithin}
 use Rattle.page_space.specs.Extents.{Space}
-use Rattle.shape_tree.specs.Shapes.{shape_path, IsShapeOf}
+use Rattle.shape_tree.specs.Shapes.{IsShapeOf}
 use Rattle.nursery.specs.Young.{Young, HasRoom}
 use Rattle.heap_table.specs.Seats.{heap_words, StaysBeside}
 use Rattle.heap_model.specs.Heaps.{Heap, words_of_cell}
-use Rattle.heap_model.specs.Needs.{set_need_at, set_need_by, path_at, index_of, field_word, is_raw_after, box_need}
-use Rattle.heap_model.specs.Needs.{is_box_word, capacity_at}
+use Rattle.heap_model.specs.Needs.{capacity_at}
+use Rattle.heap_model.specs.Rooms.{on_found, field_need, set_need, set_need_by, set_capacity, set_capacity_by}
 use Rattle.heap_model.proofs.CellsApart.{first_of_cell, has_is_cell}
 use Rattle.write_barrier.specs.Mains.{Mutator, heap_of, with_word}
 use Rattle.object_cells.specs.declared.content.Content.{Content}
 use Rattle.object_cells.specs.declared.content.Filling.{Filling}
 use Rattle.object_cells.specs.declared.content.Filling.TheVariants as filling
 use Rattle.shape_change.specs.declared.slots.Place.{Place}
-use Rattle.object_cells.specs.HeldValues.{is_wide}
 use Rattle.object_cells.specs.Uses.{UsesMore}
-use Rattle.object_cells.specs.Capacities.{ChangesObject, set_capacity_at, set_capacity_by}
+use Rattle.object_cells.specs.Capacities.{ChangesObject}
 use Rattle.shape_change.specs.FieldChanges.{HasSetField}
 use Rattle.object_cells.specs.Contents.{box_in, next_at, filling_of, filling_at, filling_need, filled, FillsSlot}
 use Rattle.shape_change.specs.Fillings.{FillsWider}
 use Rattle.shape_change.specs.Places.{place_at, IsPlaceOf}
-use Rattle.object_cells.proofs.FieldWords.{path_field}
-use Rattle.shape_change.proofs.FieldsSet.{index_found, path_stays}
+use Rattle.shape_change.proofs.FieldsSet.{place_found, path_stays}
 use Rattle.shape_change.proofs.Filled.{allocates_paths}
 use Rattle.shape_change.proofs.FilledFields.{next_head}
-use Rattle.shape_change.proofs.FoundPlaces.{field_word_at}
 use Rattle.object_cells.proofs.OneWord.{IsReady}
 use Rattle.object_cells.proofs.OwnCells.{cell_below_layouts}
 use Rattle.object_cells.proofs.PlainFields.{plain_sound, names_distinct}
 use Rattle.shape_change.proofs.ReadyHeaps.{ready_allocated, ready_laid}
 use Rattle.shape_change.proofs.Settings.{Setting, name_is_there, path_is_there}
 use Rattle.shape_change.proofs.SettingNeeds.{need_there}
-use Rattle.object_cells.proofs.SlotBoxes.{shape_read}
 use Rattle.shape_change.proofs.SetFields.{IsNextShape}
-use Rattle.shape_change.proofs.SetShown.{FillsAt, was_field_word, fill_shown}
+use Rattle.shape_change.proofs.SetShown.{FillsAt, fill_shown}
 use Rattle.object_cells.proofs.UnusedWords.{cell_is_used, next_before_segments}
 use Rattle.object_cells.proofs.WordsPut.{HasHead}
 
 -- how many words it takes to set the field
 pub setting_need : {old : Mutator} {graph : Graph} {object slot : ℕ} {plain : PlainObject} {what : Value} {name : ℕ}
-    (place : Place) (word : ℕ) (content : Content) (s : Setting old graph object slot plain what name)
-    → AreWithin old.seat.space.sizes old.seat.space.variables
-    → IsPlaceOf (heap_of old) s.cell.at s.cell.layout.cap slot place → FillsAt s (place_at s.cell.at place) word content
-    → set_need_at (heap_of old) s.cell.at name (is_wide what)
-    ≡ filling_need (filling_at old (place_at s.cell.at place) content)
-setting_need {old} {slot = slot} {plain} {what} {name} place word content s within is fills =
+    (capacity : ℕ) (place : Place) (word : ℕ) (content : Content) (s : Setting old graph object slot plain what name)
+    → AreWithin old.seat.space.sizes old.seat.space.variables → FillsAt s (place_at s.cell.at place) word content
+    → set_need capacity plain name what ≡ filling_need (filling_at old (place_at s.cell.at place) content)
+setting_need {old} {slot = slot} {plain} {what} {name} capacity place word content s within fills =
     let heap : Heap = heap_of old in
-    let at : ℕ = s.cell.at in
-    let wide = is_wide what in
-    let path : Path = path_of s.cell.layout.cap plain.fields in
-    let is_path : path_at heap at ≡ path = ap (shape_path heap.paths) (shape_read s.has) ∙ s.shown.path in
-    let by_path = ap (λ (p : Path). set_need_by heap at p (index_of p.fields name) wide) is_path in
-    let index = index_found s.cell.layout.cap plain.fields slot s.field name (names_distinct s.shows s.is) s.there
-    s.named in
-    let by_index = ap (λ found. set_need_by heap at path found wide) index in
-    let read : field_word heap at path.cap slot ≡ word = field_word_at heap at path.cap slot place is ∙ fills.reads in
-    let raw = is_raw_after path slot (slice_get path.fields slot) in
-    let by_word = ap (λ w. box_need (wide && not raw && not (is_box_word heap w))) read in
-    let field : PathField = record { name = s.field.name; rep = s.field.rep } in
-    let there : slice_get path.fields slot ≡ Some field =
-    path_field s.cell.layout.cap plain.fields slot s.field s.there in
-    let by_field = ap (λ found. box_need (wide && not (is_raw_after path slot found) && not (is_box_word heap word)))
-    there in
-    let need = need_there word (next_at old) s.shows.shows.whole.sized within fills.comes (was_field_word s fills) in
-    let by_filling = ap (λ w. filling_need (filling_of (box_in heap w) (next_at old) content)) (sym fills.reads) in
-    by_path ∙ by_index ∙ by_word ∙ by_field ∙ need ∙ by_filling
+    let shows = s.shown.each slot s.field word s.there fills.holds in
+    ap (set_need_by capacity plain what) (place_found plain.fields slot s.field name (names_distinct s.shows s.is)
+    s.there s.named)
+    ∙ ap (λ found. on_found found (λ (one : Field). field_need (nat_lt slot plain.cap) one what)) s.there
+    ∙ ap (λ cap. field_need (nat_lt slot cap) s.field what) (sym s.cap)
+    ∙ need_there word (next_at old) within s.shows.shows.whole.sized fills.comes shows
+    ∙ ap (λ w. filling_need (filling_of (box_in heap w) (next_at old) content)) (sym fills.reads)
 
 -- its object keeps the capacity of its property store
 setting_capacity : {old : Mutator} {graph : Graph} {object slot : ℕ} {plain : PlainObject} {what : Value} {name : ℕ}
-    (s : Setting old graph object slot plain what name)
-    → set_capacity_at (heap_of old) s.cell.at name ≡ capacity_at (heap_of old) s.cell.at
-setting_capacity {old} {slot = slot} {plain} {name = name} s =
-    let heap : Heap = heap_of old in
-    let at : ℕ = s.cell.at in
-    let path : Path = path_of s.cell.layout.cap plain.fields in
-    let is_path : path_at heap at ≡ path = ap (shape_path heap.paths) (shape_read s.has) ∙ s.shown.path in
-    ap (λ (p : Path). set_capacity_by heap at p (index_of p.fields name)) is_path
-    ∙ ap (set_capacity_by heap at path)
-    (index_found s.cell.layout.cap plain.fields slot s.field name (names_distinct s.shows s.is) s.there s.named)
+    (capacity : ℕ) (s : Setting old graph object slot plain what name) → set_capacity capacity plain name ≡ capacity
+setting_capacity {slot = slot} {plain} {name = name} capacity s =
+    ap (set_capacity_by capacity plain)
+    (place_found plain.fields slot s.field name (names_distinct s.shows s.is) s.there s.named)
 
 -- where a slot is filled, what is used stays
 filled_young : (main : Mutator) (at : ℕ) (filling : Filling) → (filled main at filling).young ≡ main.young
@@ -159,19 +135,19 @@ pub has_set_field : {old mid new : Mutator} {graph : Graph} {object slot : ℕ} 
 has_set_field {old} {new = new} {graph} {object} {plain = plain} {what} {name} place word next content s within is
     fills ready shape beside head =
     let at : ℕ = place_at s.cell.at place in
-    let need = setting_need place word content s within is fills in
+    let capacity : ℕ = capacity_at (heap_of old) object in
+    let need = setting_need capacity place word content s within fills in
     let P : ℕ → Type 0 = λ n. HasRoom old.young n × UsesMore old new n in
     let uses = uses_more s.cell.at (next_head s next) at (filling_at old at content) ready beside head in
     let used = subst P (sym need) (ready.room, uses) in
-    let at_object = subst (λ a. P (set_need_at (heap_of old) a name (is_wide what))) s.stands used in
     let shown = fill_shown at word next content s fills ready shape head in
     let Q : ℕ → ℕ → Type 0 = λ a n. ChangesObject (heap_of old) (heap_of new) a n in
     record {
       few = λ lacks. name_is_there s lacks;
-      room = at_object.0;
-      uses = at_object.1;
-      changes = subst (λ a. Q a (set_capacity_at (heap_of old) a name)) s.stands
-          (subst (Q s.cell.at) (sym (setting_capacity s)) shown.changes);
+      room = used.0;
+      uses = used.1;
+      changes = subst (Q object) (sym (setting_capacity capacity s))
+          (subst (λ a. Q a (capacity_at (heap_of old) a)) s.stands shown.changes);
       shows = shown.shows;
     }
 

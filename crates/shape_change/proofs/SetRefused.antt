@@ -11,14 +11,13 @@ use Rattle.object_graph.specs.Limits.{paths_most}
 use Rattle.shape_tree.specs.declared.full.ShapesFull.{ShapesFull}
 use Rattle.shape_tree.specs.Shapes.{IsFullFor}
 use Rattle.page_space.specs.Sizes.{AreWithin}
-use Rattle.heap_model.specs.Needs.{set_need_at}
+use Rattle.heap_model.specs.Needs.{capacity_at}
 use Rattle.write_barrier.specs.Mains.{Mutator, heap_of}
 use Rattle.write_barrier.specs.declared.room.NoRoom.{NoRoom}
 use Rattle.object_cells.specs.declared.content.Content.{Content}
 use Rattle.shape_change.specs.declared.slots.Place.{Place}
 use Rattle.shape_change.specs.declared.stop.FieldStop.{FieldStop}
 use Rattle.shape_change.specs.declared.stop.FieldStop.TheVariants as stop
-use Rattle.object_cells.specs.HeldValues.{is_wide}
 use Rattle.shape_change.specs.FieldChanges.{SetsField, IsFullOfPaths}
 use Rattle.object_cells.proofs.SlotBoxes.{lacks_need}
 use Rattle.object_cells.specs.Contents.{filling_at, LacksRoom}
@@ -63,12 +62,11 @@ pub refused_room : {old new : Mutator} {graph : Graph} {object slot : ℕ} {plai
     → SetsField old new graph object plain name what (Err (stop.Full full))
 refused_room {old} {object = object} {what = what} {name} place word path content full s within is fills is_path enough
     lacks same =
-    let need = setting_need place word content s within is fills in
-    let lack = lacks_need old (filling_at old (place_at s.cell.at place) content) full lacks in
-    let at_object = ap (λ a. set_need_at (heap_of old) a name (is_wide what)) (sym s.stands) in (
+    let need = setting_need (capacity_at (heap_of old) object) place word content s within fills in
+    let lack = lacks_need old (filling_at old (place_at s.cell.at place) content) full lacks in (
       (λ lacks. name_is_there s lacks),
       (λ none. enough (sym (paths_lack path s is_path) ∙ none)),
-      lack.0 ∙ sym need ∙ sym at_object,
+      lack.0 ∙ sym need,
       lack.1,
       same,
     )

@@ -11,12 +11,13 @@ use Rattle.shape_tree.specs.Shapes.{IsFullFor}
 use Rattle.shape_tree.specs.declared.full.ShapesFull.{ShapesFull}
 use Rattle.nursery.specs.Young.{HasRoom}
 use Rattle.handle_roots.specs.declared.held.Held.{Held}
-use Rattle.heap_model.specs.Needs.{set_need_at, capacity_at}
+use Rattle.heap_model.specs.Needs.{capacity_at}
+use Rattle.heap_model.specs.Rooms.{set_need, set_capacity}
 use Rattle.write_barrier.specs.Mains.{Mutator, heap_of, MainShows}
 use Rattle.object_cells.specs.PlainObjects.{IsPlainAt, ShowsRefilled, LacksPaths, LacksFields}
-use Rattle.object_cells.specs.HeldValues.{IsValueHeld, is_wide}
+use Rattle.object_cells.specs.HeldValues.{IsValueHeld}
 use Rattle.object_cells.specs.Uses.{UsesMore}
-use Rattle.object_cells.specs.Capacities.{ChangesObject, set_capacity_at}
+use Rattle.object_cells.specs.Capacities.{ChangesObject}
 use Rattle.shape_change.specs.declared.stop.FieldStop.{FieldStop}
 use Rattle.shape_change.specs.declared.stop.FieldStop.TheVariants as stop
 
@@ -36,9 +37,9 @@ pub record IsShownSetting (main : Mutator) (at : ℕ) (held : Held) : Type 0 whe
 pub record HasSetField (old new : Mutator) (graph : Graph) (at : ℕ) (plain : PlainObject) (name : ℕ) (value : Value)
     : Type 0 where
   pub few : LacksFields plain name → ⊥
-  pub room : HasRoom old.young (set_need_at (heap_of old) at name (is_wide value))
-  pub uses : UsesMore old new (set_need_at (heap_of old) at name (is_wide value))
-  pub changes : ChangesObject (heap_of old) (heap_of new) at (set_capacity_at (heap_of old) at name)
+  pub room : HasRoom old.young (set_need (capacity_at (heap_of old) at) plain name value)
+  pub uses : UsesMore old new (set_need (capacity_at (heap_of old) at) plain name value)
+  pub changes : ChangesObject (heap_of old) (heap_of new) at (set_capacity (capacity_at (heap_of old) at) plain name)
   pub shows : ShowsRefilled new graph plain (with_field plain.fields name value)
 
 -- There may not be as many paths as the object with these fields needs; the refusal says how many there are, and how
@@ -56,7 +57,7 @@ SetsField old new graph at plain name value (Err (stop.ShapesFull full)) =
     (LacksFields plain name → ⊥) × IsFullOfPaths graph plain (with_field plain.fields name value) full × (new ≡ old)
 SetsField old new graph at plain name value (Err (stop.Full room)) =
     (LacksFields plain name → ⊥) × (LacksPaths graph plain (with_field plain.fields name value) → ⊥)
-    × (room.need ≡ set_need_at (heap_of old) at name (is_wide value)) × (HasRoom old.young room.need → ⊥) × (new ≡ old)
+    × (room.need ≡ set_need (capacity_at (heap_of old) at) plain name value) × (HasRoom old.young room.need → ⊥) × (new ≡ old)
 
 -- How a field is taken out: the heap shows the graph in which the object lacks it, and nothing changes where it lacked
 -- it before. Only words of the object change, and each property store stays.

@@ -1,7 +1,8 @@
 //! A field of a name that is new to its object. One that is there is in `set_field.rt`.
 ghost use Rattle.heap_model.specs.Needs as needs;
+ghost use Rattle.heap_model.specs.Rooms.{new_field_need};
 ghost use Rattle.std.specs.Prelude.{◌≡◌, ℕ, ℤ, ◌+◌, ◌-◌, ◌<◌, ◌≤◌, false, OnOk, IfOk, IfErr, None};
-ghost use Rattle.std.specs.Prelude.{slice_set};
+ghost use Rattle.std.specs.Prelude.{slice_set, length};
 ghost use Rattle.tagged_word.specs.Cells.{plain_head, store_head, cell_words_most};
 ghost use Rattle.page_space.specs.Extents.{marks_start};
 ghost use Rattle.object_graph.specs.Graphs.{Graph, PlainObject};
@@ -115,8 +116,9 @@ fn add_field(main: &mut Main, object: u32, header: Header, new: NewField) -> Res
         IsNewField paths header.shape new.field.name new.value new }
     ensures ok { let name = new.field.name in
         OnOk result (AddsField main.old main.new object header name new.value) }
-    ensures refused { let heap = heap_of main.old in
-        let need = needs.set_need_at heap object new.field.name (is_wide_held new.value) in
+    ensures refused { let path = shape_path main.old.paths header.shape in
+        let capacity = needs.capacity_at (heap_of main.old) object in
+        let need = new_field_need capacity path.cap (length path.fields) (is_wide_held new.value) in
         IfErr result (RefusesRoom main.old main.new need) }
 {
     if new.slot < new.cap {

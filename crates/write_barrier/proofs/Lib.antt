@@ -7,5 +7,4 @@ mod PutLayouts
 mod Starting
 mod Ranges
 mod ClassValues
-mod BoxShapes
 pub mod ShownHeld

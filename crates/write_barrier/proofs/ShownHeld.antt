@@ -11,9 +11,6 @@ use Rattle.tagged_word.specs.Readings.{reference_in}
 use Rattle.tagged_word.proofs.Readings.{reference_from}
 use Rattle.page_space.specs.Extents.{marks_start}
 use Rattle.page_space.specs.RegionLaws.{IsSpace}
-use Rattle.page_space.proofs.Starts.{layouts_start_is, marks_start_is, board_start_is, words_count_is}
-use Rattle.page_space.proofs.Limits.{words_count_most}
-use Rattle.page_space.proofs.CellEnds.{end_before_roots, before_end}
 use Rattle.object_graph.specs.declared.value.Value.TheVariants.{Int, Ref}
 use Rattle.cell_layout.specs.declared.cell.Cell.{Cell}
 use Rattle.handle_roots.specs.declared.held.Held.{Held}
@@ -24,41 +21,16 @@ use Rattle.heap_model.specs.Slots.{reference_word, raw_word, RefersToPlace, Refe
 use Rattle.heap_model.specs.Wholeness.{HasSizes}
 use Rattle.heap_model.specs.Needs.{word_at, is_box_at}
 use Rattle.heap_model.specs.Showing.{ShowsValue, ShowsHeld}
-use Rattle.heap_model.proofs.CellsApart.{has_is_cell}
+use Rattle.heap_model.proofs.BoxShapes.{told_box, told_object}
+use Rattle.heap_model.proofs.ShownBoxes.{cell_before, address_fits}
 use Rattle.heap_model.proofs.WordClasses.{same_reference, undefined_refers_not, small_refers_not}
 use Rattle.heap_model.proofs.WordsRead.{word_of_cell}
 use Rattle.write_barrier.specs.Values.{held_at, held_of_class}
 use Rattle.write_barrier.specs.ValueLaws.{ShowsByClass, ShownValuesAreHeld}
-use Rattle.write_barrier.proofs.BoxShapes.{told_box, told_object}
 
 -- a small integer has 64 bits
 small_fits : (v : ℤ) → IsTrue (small v) → FitsSigned w64 v
 small_fits v is = grind (arith, ints)
-
--- the words of a cell's address and of the one behind it are before the marks, and the address has 32 bits
-pub cell_before : {heap : Heap} {cell : Cell} {words : List ℕ} → HasCell heap cell words
-    → cell.at + 1 < marks_start heap.space
-cell_before {heap} {cell} has =
-    let is_cell = has_is_cell has in
-    omega (
-      arith,
-      before_end heap.space cell.at is_cell.end is_cell.stands,
-      end_before_roots heap.space cell.at is_cell.end is_cell.stands,
-      layouts_start_is heap.space,
-      marks_start_is heap.space,
-    )
-
--- the address of a cell has 32 bits
-address_fits : {heap : Heap} {cell : Cell} {words : List ℕ} → IsSpace heap.space → HasCell heap cell words
-    → cell.at < 2 ^ 32
-address_fits {heap} space has =
-    omega (
-      arith,
-      cell_before has,
-      words_count_most heap.space space,
-      board_start_is heap.space,
-      words_count_is heap.space,
-    )
 
 -- the address of a word that refers to a cell is the cell's
 refers_within : {heap : Heap} {cell : Cell} {words : List ℕ} (word at : ℕ) → HasCell heap cell words

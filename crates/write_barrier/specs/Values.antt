@@ -1,17 +1,12 @@
 -- Words of slots and the values that they stand for, and the words of the cells that hold these.
-use Rattle.std.specs.Prelude.{ℕ, ◌+◌, Bool, true, false, List, ◌∷◌, ◌++◌, length, take, drop, replicate}
-use Rattle.std.specs.Prelude.{Option, Some, None, ℤ}
+use Rattle.std.specs.Prelude.{ℕ, ◌+◌, Bool, true, false, List, ◌++◌, length, take, drop}
+use Rattle.std.specs.Prelude.{Some}
 use Rattle.std.specs.Int.{cast_signed, w64}
-use Rattle.tagged_word.specs.declared.header.Header.{Header}
 use Rattle.tagged_word.specs.declared.word.Class.{Class}
 use Rattle.tagged_word.specs.declared.word.Class.TheVariants as of_class
-use Rattle.tagged_word.specs.Words.{small}
-use Rattle.tagged_word.specs.Headers.{header_bits}
-use Rattle.tagged_word.specs.Shapes.{box_shape, store_shape}
 use Rattle.handle_roots.specs.declared.held.Held.{Held}
-use Rattle.handle_roots.specs.declared.held.Held.TheVariants.{Unbound, Undefined, Int, Ref}
+use Rattle.handle_roots.specs.declared.held.Held.TheVariants.{Undefined, Int, Ref}
 use Rattle.heap_model.specs.Heaps.{Heap}
-use Rattle.heap_model.specs.Slots.{small_word, undefined_word, hole_word, reference_word}
 use Rattle.heap_model.specs.Needs.{word_at, is_box_at}
 
 -- what a reference stands for: the integer in a box, and else the object at the address

@@ -1,6 +1,5 @@
 use Rattle.collector.proofs.ImagesShow.{images_show, images_are_blank}
-use Rattle.collector.proofs.ImageStores.{images_keep_stores}
-use Rattle.collector.proofs.ImageNeeds.{images_need_as_much}
+use Rattle.collector.proofs.ImageStores.{images_keep_stores, images_have_rooms}
 use Rattle.collector.proofs.laws.laws_of_images.Goals as goal
 
 pub returns : goal.returns
@@ -8,5 +7,5 @@ returns c = record {
   show = images_show;
   blank = images_are_blank;
   stores = images_keep_stores;
-  need = images_need_as_much;
+  rooms = images_have_rooms;
 }

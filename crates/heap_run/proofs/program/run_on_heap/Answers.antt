@@ -4,8 +4,8 @@ use Rattle.heap_model.specs.Heaps.{Heap}
 use Rattle.heap_model.specs.Images.{image_heap}
 use Rattle.write_barrier.specs.Mains.{heap_of}
 use Rattle.collector.proofs.ImagesShow.{images_show, images_are_blank}
-use Rattle.collector.proofs.ImageStores.{images_keep_stores}
-use Rattle.collector.proofs.ImageNeeds.{images_need_as_much}
+use Rattle.collector.proofs.ImageStores.{images_keep_stores, images_have_rooms}
+
 use Rattle.heap_run.proofs.Concluding.{IsKeepable, Runs-finished}
 use Rattle.heap_run.proofs.Imaged.{Laws, finishes_imaged}
 use Rattle.heap_run.proofs.program.run_on_heap.Goals as goal
@@ -20,8 +20,8 @@ returns g c = λ bytes is.
     let heap : Heap = heap_of c.run_script-finished.new.heap.main in
     let image = c.into_image.result in
     let imaged = c.into_image.ensures in
-    let laws : Laws = record { show = images_show; stores = images_keep_stores; need = images_need_as_much } in
-    let finishes = finishes_imaged finished _ _ _ _ laws c.lines-lines.ensures.numbered imaged ran.finishes in
+    let laws : Laws = record { show = images_show; stores = images_keep_stores; rooms = images_have_rooms } in
+    let finishes = finishes_imaged finished _ _ _ _ laws imaged ran.finishes in
     let keepable : IsKeepable space.sizes script image = record {
       regions = imaged.space ∙ ran.space
           ∙ ap (λ (n : ℕ). record { sizes = space.sizes; variables = n }) c.requires.variables;

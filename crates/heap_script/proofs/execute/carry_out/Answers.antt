@@ -2,7 +2,7 @@ use Rattle.std.proofs.Common.{◌∙◌, ap, refl}
 use Rattle.write_barrier.specs.Mains.{MainShows}
 use Rattle.collector.specs.States.{HeapState}
 use Rattle.mutator.specs.Carries.{field_numbers}
-use Rattle.heap_script.proofs.Carrying.{refused, fewer_after}
+use Rattle.heap_script.proofs.Carrying.{refused, still_lacks}
 use Rattle.heap_script.proofs.Running.{same_heap}
 use Rattle.heap_script.proofs.execute.carry_out.Goals as goal
 
@@ -61,8 +61,7 @@ tries-smaller c =
     c.in-Err-NoRoom.need shows (rw (c.main_mut.ensures.main, now.heap) c.requires.within)
     (rw c.in-Err-NoRoom.field-0-is at carries) in
     let same = ap (λ (heap : HeapState). heap.main) c.ensure_room.ensures.same in
-    rw c.main_mut.ensures.main at
-    (fewer_after lent c.execute.new.main c.ensure_room.new.heap.main c.args.command.now c.in-Err-NoRoom.need told same
+    absurd (still_lacks lent c.execute.new.main c.ensure_room.new.heap.main c.in-Err-NoRoom.need told same
     (c.ensure_room.ensures.room c.if-not-ensure_room.false))
 
 pub returns-then-not-ensure_room-clause-carried : goal.returns-then-not-ensure_room-clause-carried

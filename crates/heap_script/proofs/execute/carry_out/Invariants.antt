@@ -1,5 +1,4 @@
 use Rattle.std.proofs.Common.{◌≡◌}
-use Rattle.heap_script.proofs.Lacking.{tries_left}
 use Rattle.heap_script.proofs.execute.carry_out.Given as goal
 
 abbrev pub invariant-tries : goal.invariant-tries
@@ -10,4 +9,4 @@ invariant-tries l = record {
 }
 
 abbrev pub decreases-tries : goal.decreases-tries
-decreases-tries l = tries_left l.heap.main l.command
+decreases-tries l = 0

@@ -161,6 +161,6 @@ loop-at-preserved g c =
           (Running-line script heap c.execute_line.new.heap c.loop-at.objects c.make_room.new.out _ _
           c.loop-at.at _ c.loop-at.turns _ n line.number _ text r below goes ran.spare carries);
       holds = rw out-is holds;
-      space = same_space heap c.execute_line.new.heap _ _ script.fields text carries ∙ c.loop-at.invariant.space;
+      space = same_space heap c.execute_line.new.heap _ _ script.fields text r.shown.main carries ∙ c.loop-at.invariant.space;
       steady = c.in-Ok.ensures.steady ∙ c.loop-at.invariant.steady;
     }

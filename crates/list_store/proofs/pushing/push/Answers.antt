@@ -1,13 +1,13 @@
 -- A value is pushed, or refused.
-use Rattle.std.proofs.Common.{◌<◌, length, refl, ◌∙◌, ap, subst, rules, arith}
+use Rattle.std.proofs.Common.{◌<◌, length, refl, ◌∙◌, subst, rules, arith}
 use Rattle.object_graph.specs.Meaning.{list_most}
 use Rattle.nursery.specs.Young.{HasRoom}
 use Rattle.handle_roots.specs.Roots.{FitsHeld}
 use Rattle.write_barrier.specs.Mains.{heap_of}
-use Rattle.object_cells.proofs.HeldNeeds.{wide_is}
-use Rattle.heap_model.specs.Needs.{push_need_at}
+use Rattle.heap_model.specs.Needs.{capacity_at}
 use Rattle.object_cells.proofs.ListCells.{list_shown, shown_there, shown_ready, count_shown}
 use Rattle.object_cells.proofs.ListChanging.{changing}
+use Rattle.list_store.proofs.PushNeeds.{push_need_is}
 use Rattle.list_store.proofs.PushOutcomes.{has_pushed}
 use Rattle.list_store.proofs.pushing.push.Goals as goal
 
@@ -35,8 +35,9 @@ returns-in-Err c graph one what shows is holds =
     let refused = c.in-Err.ensures.refused in
     let few : length one.elements < list_most = omega (arith, counted) in (
       few,
-      refused.need_is ∙ ap (push_need_at (heap_of c.args.main.now) c.args.list)
-          (wide_is c.args.value what holds.shows),
+      refused.need_is
+          ∙ push_need_is one (capacity_at (heap_of c.args.main.now) c.args.list) c.count_of-count.result c.args.value
+          holds.shows counted,
       λ room. refused.lacks (subst (HasRoom c.args.main.now.young) refused.need_is room),
       refused.same,
     )

@@ -1,6 +1,8 @@
 -- A value comes to the list's store, or to a new one.
-use Rattle.std.proofs.Common.{◌≡◌, sym, subst, arith}
+use Rattle.std.proofs.Common.{◌≡◌, sym, ◌∙◌, subst, arith}
 use Rattle.std.proofs.lemmas.Result.{on_ok_weaker, IfErr-weaker}
+use Rattle.heap_model.specs.Needs.{capacity_at}
+use Rattle.write_barrier.specs.Mains.{heap_of}
 use Rattle.object_cells.specs.Made.{RefusesRoom}
 use Rattle.list_store.specs.Pushes.{PushesAt}
 use Rattle.object_cells.proofs.ListCells.{list_beside, store_has_room}
@@ -23,8 +25,8 @@ returns-then-count-store-clause-ok c =
 
 pub returns-then-count-store-clause-refused : goal.returns-then-count-store-clause-refused
 returns-then-count-store-clause-refused c =
-    let need = need_to_store c.args.value (record { ready = c.requires.ready; is = c.store_of-store.ensures })
-    (λ same. omega (arith, same)) in
+    let need = need_to_store (capacity_at (heap_of c.args.main.now) c.args.list) c.args.count c.args.value
+    (λ same. omega (arith, same, c.store_of-store.ensures.capacity)) in
     IfErr-weaker c.push_to_store.result _ _
     (λ no_room lacks. subst (λ n. RefusesRoom c.args.main.now c.push_to_store.new.main n no_room) (sym need) lacks)
     c.push_to_store.ensures.refused
@@ -42,8 +44,8 @@ pub returns-else-count-store-clause-refused : goal.returns-else-count-store-clau
 returns-else-count-store-clause-refused c =
     let full : c.args.count ≡ c.store_of-store.result.capacity =
     omega (arith, store_has_room c.store_of-store.result c.requires.ready c.store_of-store.ensures) in
-    let need = need_to_new_store c.args.value (record { ready = c.requires.ready; is = c.store_of-store.ensures })
-    full in
+    let need = need_to_new_store (capacity_at (heap_of c.args.main.now) c.args.list) c.args.count c.args.value
+    (full ∙ sym c.store_of-store.ensures.capacity) in
     IfErr-weaker c.push_to_new_store.result _ _
     (λ no_room lacks. subst (λ n. RefusesRoom c.args.main.now c.push_to_new_store.new.main n no_room) (sym need) lacks)
     c.push_to_new_store.ensures.refused

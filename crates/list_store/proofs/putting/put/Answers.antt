@@ -16,7 +16,7 @@ use Rattle.object_cells.proofs.ListCells.{store_has_room}
 use Rattle.object_cells.proofs.ElementsRead.{place_below, slot_read}
 use Rattle.object_cells.proofs.NamedPlaces.{index_named, place_stands}
 use Rattle.object_cells.proofs.ListChanging.{changing}
-use Rattle.list_store.proofs.PutOutcomes.{put_need, has_put}
+use Rattle.list_store.proofs.PutOutcomes.{need_to_put, has_put}
 use Rattle.list_store.proofs.putting.put.Goals as goal
 
 pub count_of-requires-clause-there : goal.count_of-requires-clause-there
@@ -96,7 +96,8 @@ returns-in-Err c graph one what shows is holds =
       place,
       index_named c.count_of.result c.args.index c.place_of.result shown c.count_of.ensures.counted index
           c.place_of.ensures ∙ c.in-Some.is,
-      lacks.0 ∙ put_need store place known c.store_of-store.ensures stands.below c.addresses_fit.ensures.within,
+      lacks.0 ∙ need_to_put store place known c.store_of-store.ensures stands.below c.addresses_fit.ensures.within
+          (omega (arith, below, c.count_of.ensures.counted, count_shown shown)),
       lacks.1,
       c.in-Err.ensures.1,
     )

@@ -44,6 +44,6 @@ returns c = record {
       (binding_carried (bind graph y value) names (Get y c.args.x c.args.f) y held shown
       (get_done names graph y c.args.x c.args.f target found.plain is found.refers) refl
       tt (binds_anew graph y value) below c.hold.ensures.holds.fits read
-      (record { held = c.hold.ensures.held; heap = c.hold.ensures.heap }) refl (λ at. refl));
+      (record { held = c.hold.ensures.held; heap = c.hold.ensures.heap }) (λ rooms. (refl, λ number. refl)));
   binds = binds_after c.args.y c.get-value.result c.bound.ensures.same c.hold.ensures.held;
 }

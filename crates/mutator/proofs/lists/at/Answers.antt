@@ -47,7 +47,7 @@ returns-clause-carried c graph names shows =
     subst (λ main. Carries names main c.hold.new.self graph (At y c.args.x c.args.i) [] (Ok tt)) same
     (binding_carried (bind graph y value) names (At y c.args.x c.args.i) y held indexed.shows carried refl
     tt (binds_anew graph y value) below c.hold.ensures.holds.fits read
-    (record { held = c.hold.ensures.held; heap = c.hold.ensures.heap }) refl (λ at. refl))
+    (record { held = c.hold.ensures.held; heap = c.hold.ensures.heap }) (λ rooms. (refl, λ number. refl)))
 
 pub returns-clause-binds : goal.returns-clause-binds
 returns-clause-binds c = binds_after c.args.y c.in_ok-value.value c.operands.ensures.same c.hold.ensures.held

@@ -13,7 +13,7 @@ pub returns-in-Ok : goal.returns-in-Ok
 returns-in-Ok c = record {
   carried = λ graph names shows count.
       making_carried names shows
-      (record { fits = tt; done = λ other. refl; need = refl; keeps = λ at. refl })
+      (record { fits = tt; done = λ other. refl; need = λ rooms. refl; gives = λ rooms number. refl; none = tt })
       (record {
         run = c.in-Ok.ensures.run.at;
         taken = c.in-Ok.ensures.reserved;
@@ -35,7 +35,7 @@ returns-in-Err c = record {
     make graph c.args.x (ListOf []),
     [],
     refl,
-    c.in-Err.ensures.need,
+    λ rooms has. c.in-Err.ensures.need,
     λ room. c.in-Err.ensures.refused.0 refl (subst (HasRoom c.args.main.now.young) c.in-Err.ensures.need room),
     c.in-Err.ensures.unchanged,
   );

@@ -19,7 +19,7 @@ returns-in-Ok c = record {
       c.shapes.ensures c.root-shape.ensures in
       let header : Header = record { shape = c.root-shape.result; object = c.args.object } in
       making_carried names shows
-      (record { fits = c.requires.within.1; done = λ other. refl; need = refl; keeps = λ at. refl })
+      (record { fits = c.requires.within.1; done = λ other. refl; need = λ rooms. refl; gives = λ rooms number. refl; none = tt })
       (record {
         run = c.in-Ok.ensures.run.at;
         taken = c.in-Ok.ensures.reserved;
@@ -48,7 +48,7 @@ returns-in-Err c = record {
     make graph c.args.x (Plain c.args.cap []),
     [],
     refl,
-    c.in-Err.ensures.need,
+    λ rooms has. c.in-Err.ensures.need,
     λ room. c.in-Err.ensures.refused.0 refl (subst (HasRoom c.args.main.now.young) c.in-Err.ensures.need room),
     c.in-Err.ensures.unchanged,
   );

@@ -31,6 +31,6 @@ returns-clause-carried c graph names shows =
     let text : List ℕ = line (truth_text truth) in (
       text,
       writing_carried names (Alike c.args.x c.args.y) text same shows
-          (rw (both.is_first, both.is_second, a.refers, b.refers)) refl (λ at. refl),
+          (rw (both.is_first, both.is_second, a.refers, b.refers)) (λ rooms. (refl, λ number. refl)),
       c.put_truth.ensures ∙ ap (λ t. c.args.out.now ++ line (truth_text t)) (found_alike shown a b),
     )

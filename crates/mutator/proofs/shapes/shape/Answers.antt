@@ -31,7 +31,7 @@ returns-clause-carried c graph shows =
     let names = c.args.script.now.fields in
     let text : List ℕ = line (shape_text names found.plain.cap found.plain.fields) in (
       text,
-      writing_carried names (Shape c.args.x) text same shows (rw (is, found.refers)) refl (λ at. refl),
+      writing_carried names (Shape c.args.x) text same shows (rw (is, found.refers)) (λ rooms. (refl, λ number. refl)),
       c.put_shape.ensures found.plain.cap found.plain.fields
           (ap (λ (paths : List Path). shape_path paths c.in_ok-found.found.shape) c.shapes.ensures
           ∙ found.shaped.of_path),

@@ -36,7 +36,7 @@ returns c = record {
       (add_done names graph x c.args.v both.first both.second first second both.is_first both.is_second
       (c.in_ok-first.ensures old graph both.first both.stands_first)
       (c.in_ok-second.ensures old graph both.second both.stands_second) sum_fits) refl
-      tt (binds_anew graph x (Int sum)) c.requires.within.0 sum_fits shown holds refl (λ at. refl);
+      tt (binds_anew graph x (Int sum)) c.requires.within.0 sum_fits shown holds (λ rooms. (refl, λ number. refl));
   binds = binds_after c.args.x (held.Int (to_z w64 (of_z w64 c.in-Some.sum))) c.operands.ensures.same
       c.hold.ensures.held;
 }

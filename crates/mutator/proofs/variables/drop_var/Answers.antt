@@ -21,6 +21,6 @@ returns c = record {
       ShowsHeld.unbound in
       binding_carried (unbind graph x) names (DropVar x) x held.Unbound shows
       (ap (λ found. given Unbound found (λ _. done (unbind graph x) [])) is) refl
-      tt (unbinds_anew graph x) c.requires.within tt shown holds refl (λ at. refl);
+      tt (unbinds_anew graph x) c.requires.within tt shown holds (λ rooms. (refl, λ number. refl));
   binds = binds_after c.args.x held.Unbound c.bound.ensures.same c.hold.ensures.held;
 }

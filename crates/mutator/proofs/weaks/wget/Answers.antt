@@ -50,6 +50,6 @@ returns c = record {
       subst (λ main. Carries names main c.hold.new.self graph (WGet y c.args.m c.args.k) [] (Ok tt)) same
       (binding_carried (bind graph y value) names (WGet y c.args.m c.args.k) y held entering.shows carried refl
       tt (binds_anew graph y value) below c.hold.ensures.holds.fits read
-      (record { held = c.hold.ensures.held; heap = c.hold.ensures.heap }) refl (λ at. refl));
+      (record { held = c.hold.ensures.held; heap = c.hold.ensures.heap }) (λ rooms. (refl, λ number. refl)));
   binds = binds_after c.args.y c.get-value.result c.operands.ensures.same c.hold.ensures.held;
 }

@@ -21,7 +21,7 @@ returns-clause-carried c graph names shows =
     let same = c.operand.ensures.same in (
       text,
       writing_carried names (Print c.args.v) text same shows
-          (ap (λ found. given Unbound found (λ one. done graph (line (value_text graph.objects one)))) is) refl
-          (λ at. refl),
+          (ap (λ found. given Unbound found (λ one. done graph (line (value_text graph.objects one)))) is)
+          (λ rooms. (refl, λ number. refl)),
       c.put_value.ensures graph value (shows_still same shows) (stands_still same stands),
     )

@@ -15,6 +15,6 @@ returns-clause-carried c graph names shows =
     both.stands_second in (
       text,
       writing_carried names (Same c.args.a c.args.b) text c.operands.ensures.same shows
-          (rw (both.is_first, both.is_second)) refl (λ at. refl),
+          (rw (both.is_first, both.is_second)) (λ rooms. (refl, λ number. refl)),
       c.put_truth.ensures ∙ ap (λ truth. c.args.out.now ++ line (truth_text truth)) (c.eq.ensures ∙ told),
     )

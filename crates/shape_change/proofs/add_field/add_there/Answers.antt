@@ -1,17 +1,19 @@
 -- A field of a new name is added, or refused.
-use Rattle.std.proofs.Common.{sym, ◌∙◌, ap, subst, rules}
+use Rattle.std.proofs.Common.{sym, ◌∙◌, subst, rules, length}
 use Rattle.handle_roots.specs.Roots.{FitsHeld}
-use Rattle.heap_model.specs.Needs.{set_need_at}
+use Rattle.shape_tree.specs.Shapes.{shape_path}
+use Rattle.heap_model.specs.Needs.{capacity_at}
+use Rattle.heap_model.specs.Rooms.{new_field_need}
 use Rattle.nursery.specs.Young.{HasRoom}
 use Rattle.shape_tree.proofs.LedPaths.{refused_with}
 use Rattle.write_barrier.specs.Mains.{heap_of}
 use Rattle.object_cells.specs.Made.{RefusesRoom, is_wide_held}
-use Rattle.object_cells.proofs.HeldNeeds.{wide_is, held_is_value}
+use Rattle.object_cells.proofs.HeldNeeds.{held_is_value}
 use Rattle.shape_change.specs.FieldChanges.{SetsField}
 use Rattle.shape_change.specs.declared.stop.FieldStop.TheVariants as stop
 use Rattle.shape_change.specs.Additions.{IsNewField, AddsField, CanAdd}
 use Rattle.shape_change.proofs.AddedShown.{adding}
-use Rattle.shape_change.proofs.FieldAdded.{field_is_set}
+use Rattle.shape_change.proofs.FieldAdded.{field_is_set, new_need_is}
 use Rattle.shape_change.proofs.NewNames.{shown_shape, field_refused, lacks_no_field, lacks_no_path, can_add}
 use Rattle.shape_change.proofs.add_field.add_there.Goals as goal
 
@@ -61,17 +63,20 @@ returns-in_err-add_field c graph plain what shows is holds fresh =
     let new = c.in_ok-new.ensures.new in
     let known = shown_shape c.args.object c.args.header shows is c.requires.headed in
     let no_room = c.in_err-add_field.field-0.0 in
-    let need = set_need_at (heap_of old) c.args.object in
-    let refused =
-    subst (λ v. RefusesRoom old c.add_field.new.main (need c.args.name (is_wide_held v)) no_room) new.value_is
-    (subst (λ n. RefusesRoom old c.add_field.new.main (need n (is_wide_held c.in_ok-new.new.value)) no_room) new.named
-    c.in_err-add_field.ensures.refused) in
+    let path = shape_path old.paths c.args.header.shape in
+    let capacity = capacity_at (heap_of old) c.args.object in
+    let can = can_add c.requires.shown c.requires.headed c.requires.is_new new.few new.may in
+    let fits : FitsHeld c.args.value = search rules in
+    let held = adding can shows is holds (held_is_value c.args.value what shows fits holds.shows) fresh in
+    let refused = subst (λ v. RefusesRoom old c.add_field.new.main
+    (new_field_need capacity path.cap (length path.fields) (is_wide_held v)) no_room) new.value_is
+    c.in_err-add_field.ensures.refused in
     refused_with (SetsField old c.add_field.new.main graph c.args.object plain c.args.name what)
     c.from_residual-in_err-add_field.result (stop.Full no_room)
     c.from_residual-in_err-add_field.ensures.1 (
       lacks_no_field c.args.name known new.few,
       lacks_no_path c.args.name c.args.value shows known holds.shows fresh new.may,
-      refused.need_is ∙ ap (need c.args.name) (wide_is c.args.value what holds.shows),
+      refused.need_is ∙ new_need_is capacity held,
       λ room. refused.lacks (subst (HasRoom old.young) refused.need_is room),
       refused.same,
     )

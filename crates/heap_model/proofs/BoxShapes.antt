@@ -2,19 +2,14 @@
 use Rattle.std.proofs.Common.{◌≡◌, ℕ, zero, suc, true, false, List, Option}
 use Rattle.std.proofs.Common.{Some, None, slice_get, unwrap_or, IsTrue, refl, sym, ◌∙◌, ap, subst, arith}
 use Rattle.std.specs.Prelude.{option_map}
-use Rattle.std.specs.Option.{option_and_then}
 use Rattle.std.proofs.lemmas.Bool.{ne_eqb, eq-eqb, false≢true}
 use Rattle.std.proofs.lemmas.Option.{same_Some, slice_get-map}
-use Rattle.tagged_word.specs.declared.header.Header.{Header}
 use Rattle.tagged_word.specs.declared.layout.Kind.{Kind}
 use Rattle.tagged_word.specs.declared.layout.Kind.TheVariants as kind
 use Rattle.tagged_word.specs.declared.layout.LayoutWord.{LayoutWord}
-use Rattle.tagged_word.specs.Headers.{header_bits}
 use Rattle.tagged_word.specs.Layouts.{layout_bits, IsLayoutOfKind}
-use Rattle.tagged_word.specs.Readings.{header_in}
 use Rattle.tagged_word.specs.Shapes.{box_shape}
 use Rattle.tagged_word.proofs.Layouts.{same_layout}
-use Rattle.tagged_word.proofs.Readings.{header_to}
 use Rattle.object_graph.specs.declared.path.Path.{Path}
 use Rattle.shape_tree.specs.ShapeLayouts.{layout_of, layout_word}
 use Rattle.cell_layout.specs.declared.cell.Cell.{Cell}
@@ -24,6 +19,7 @@ use Rattle.heap_model.specs.Slots.{is_object_kind}
 use Rattle.heap_model.specs.Wholeness.{HasSizes}
 use Rattle.heap_model.specs.Needs.{shape_at, is_box_at}
 use Rattle.heap_model.proofs.CellsApart.{has_is_cell}
+use Rattle.heap_model.proofs.WordsRead.{shape_is}
 
 -- the layout word of a path
 abbrev word_of : Path → ℕ
@@ -81,15 +77,6 @@ shape_of_box {heap} {cell} sized has same =
     let none : IsLayoutOfKind kind.Boxed cell.layout =
     subst (λ (k : Kind). IsLayoutOfKind k cell.layout) same (has_is_cell has).reads.is_layout in
     box_word_is heap.paths cell.header.shape (sym (bits_are sized has) ∙ box_bits cell.layout none same)
-
--- the shape that is read at a cell is its own
-shape_is : {heap : Heap} {cell : Cell} {words : List ℕ} → HasCell heap cell words
-    → shape_at heap cell.at ≡ cell.header.shape
-shape_is {heap} {cell} has =
-    let reads = (has_is_cell has).reads in
-    let shape : Option Header → ℕ = λ found. unwrap_or (option_map (λ (header : Header). header.shape) found) 0 in
-    ap (λ found. shape (option_and_then header_in found)) reads.first
-    ∙ ap shape (header_to (header_bits cell.header) cell.header reads.is_header refl)
 
 -- a box is told
 pub told_box : {heap : Heap} {cell : Cell} {words : List ℕ} → HasSizes heap → HasCell heap cell words
