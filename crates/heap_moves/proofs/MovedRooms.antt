@@ -140,7 +140,8 @@ module _ {old new : Heap} {to : ℕ → Option ℕ} (moved : IsMoved old new to)
             ∙ sym (ap (λ w. capacity_by old (reference_in w)) (word_of_cell store_slot store has slot));
         count = λ one its_words has_one at counted.
             let same : one ≡ cell = one_at has_one has at in
-            let of_kind = subst (λ (c : Cell). (c.layout.kind ≡ kind.List) ⊎ (c.layout.kind ≡ kind.Weak)) same counted in
+            let of_kind =
+            subst (λ (c : Cell). (c.layout.kind ≡ kind.List) ⊎ (c.layout.kind ≡ kind.Weak)) same counted in
             let count = count_there has of_kind in
             raw_read now count_offset count.0 has stood.has stood.are count.1 (count_not_visited has of_kind);
       }
