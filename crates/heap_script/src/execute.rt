@@ -7,6 +7,7 @@ ghost use Rattle.object_graph.specs.Graphs.{Graph};
 ghost use Rattle.object_graph.specs.Run.{lines_most};
 ghost use Rattle.heap_command.specs.Commands.{IsWithin};
 ghost use Rattle.script_text.specs.declared.script.What.TheVariants.{Run};
+ghost use Rattle.script_text.specs.Limits.{open_most};
 ghost use Rattle.script_text.specs.Table.{unbuilt_today};
 ghost use Rattle.script_text.specs.Sound.{IsBuilt, NamesWithin, AreShort};
 ghost use Rattle.nursery.specs.Young.{HasRoom};

@@ -11,11 +11,14 @@ ghost use Rattle.shape_tree.specs.Shapes.{stepped};
 ghost use Rattle.write_barrier.specs.Mains.{IsOpened};
 ghost use Rattle.collector.specs.States.{HeapShows};
 
-use crate::opened_words::{EDEN, RUNS, SMALL, SMALL_WORDS, TURNS, USUAL, USUAL_WORDS, VALUES};
+use crate::opened_words::{
+    EDEN, RUNS, SLOTS, SMALL, SMALL_WORDS, TURNS, USUAL, USUAL_WORDS, VALUES,
+};
 use cell_layout::{Cell, NotACell, cell_at};
 use collector::{Full, Heap};
 use handle_roots::Held;
 use heap_table::HeapTable;
+use object_cells::{Content, content_of, fill_store, make_box, rep_of};
 use page_space::{Regions, Run, Sizes};
 use shape_tree::{PathField, Rep, ShapesFull};
 use std::alloc::Global;
@@ -34,8 +37,10 @@ pub(crate) enum Act {
     Store(u32, u32, u64),
     /// The header of a box.
     BoxHeader(u32),
-    /// So many holes from an address on.
-    FillHoles(u32, u32),
+    /// A box of an integer.
+    MakeBox(u32, i64),
+    /// A store of so many slots.
+    FillStore(u32, u32),
     /// A copy of so many words, from an address to one before it.
     CopySlots(u32, u32, u32),
     /// A value of the variable.
@@ -206,10 +211,16 @@ fn carry_out(rt: &impl Abort, main: &mut Main, act: Act)
                 },
             );
         }
-        FillHoles(a, count) => {
+        MakeBox(a, v) => {
             assert!(rt; a < end);
-            assert!(rt; count <= end - a);
-            main.fill_holes(a, count);
+            assert!(rt; end - a > 1);
+            make_box(main, a, v);
+        }
+        FillStore(a, capacity) => {
+            assert!(rt; a < end);
+            assert!(rt; end - a > 2);
+            assert!(rt; capacity <= end - a - 2);
+            fill_store(main, a, capacity);
         }
         CopySlots(from, to, count) => {
             assert!(rt; from < end);
@@ -280,5 +291,12 @@ fn calls_write_their_words_alone(rt: HostRuntime) -> Result<(), Fail> {
     ];
     assert_eq!(rt; sizes, [2_048, 2, 0]);
     adds_a_path(&rt, main);
+    for (value, word) in &SLOTS {
+        let held = match content_of(false, rep_of(*value), *value) {
+            Content::Tagged(held) => Some(held),
+            Content::Raw(_) | Content::Boxed(_) => None,
+        };
+        assert_eq!(rt; held, *word);
+    }
     Ok(())
 }

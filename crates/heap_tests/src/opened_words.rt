@@ -75,15 +75,12 @@ pub(crate) const SMALL_WORDS: [(u32, u64); 28] = [
 
 /// A box, and behind it a store of three slots: the first comes to refer to the box, and both others
 /// are copied from behind the store. Then the header of a box, a second box, and a variable.
-pub(crate) const TURNS: [Turn; 16] = [
-    (BoxHeader(EDEN), EDEN, &[22, 0]),
-    (Write(EDEN + 1, 1 << 40), EDEN, &[22, 1 << 40, 0]),
+pub(crate) const TURNS: [Turn; 12] = [
+    (MakeBox(EDEN, 1 << 40), EDEN, &[22, 1 << 40, 0]),
     (Write(EDEN + 7, 10), EDEN + 6, &[0, 10, 0]),
     (Write(EDEN + 8, 12), EDEN + 6, &[0, 10, 12, 0]),
-    (Write(EDEN + 2, 14), EDEN, &[22, 1 << 40, 14, 0]),
-    (Write(EDEN + 3, 3), EDEN, &[22, 1 << 40, 14, 3, 0]),
     (
-        FillHoles(EDEN + 4, 3),
+        FillStore(EDEN + 2, 3),
         EDEN,
         &[22, 1 << 40, 14, 3, 7, 7, 7, 10],
     ),
@@ -98,9 +95,8 @@ pub(crate) const TURNS: [Turn; 16] = [
         &[0x2001, 10, 12, 10, 12],
     ),
     (BoxHeader(EDEN + 12), EDEN + 11, &[0, 22, 0]),
-    (BoxHeader(EDEN + 14), EDEN + 13, &[0, 22, 0]),
     (
-        Write(EDEN + 15, 0xffff_ffff_ffff_ffff),
+        MakeBox(EDEN + 14, -1),
         EDEN + 13,
         &[0, 22, 0xffff_ffff_ffff_ffff, 0],
     ),
@@ -117,6 +113,14 @@ pub(crate) const VALUES: [(Word, Option<(bool, Held)>); 5] = [
     (Word(0x2001), Some((true, Held::Int(1 << 40)))),
     (Word(0x2039), Some((true, Held::Int(-1)))),
     (Word(0x15), Some((false, Held::Ref(5)))),
+];
+
+/// Values, and their words in the slot of a store: none where a value needs a box.
+pub(crate) const SLOTS: [(Held, Option<Word>); 4] = [
+    (Held::Int(5), Some(Word(10))),
+    (Held::Int(1 << 40), None),
+    (Held::Ref(EDEN), Some(Word(0x2001))),
+    (Held::Undefined, Some(Word(3))),
 ];
 
 /// Words that are asked for of eden, and where they stand; nowhere where eden has no room.

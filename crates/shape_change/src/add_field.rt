@@ -27,8 +27,7 @@ use crate::transitions::{set_shape, step_to};
 use handle_roots::Held;
 use heap_model::cells::FIRST_CAPACITY;
 use object_cells::{
-    Content, Store, boxed_word, content_of, make_store, need_of, rep_of, room_for,
-    store_of,
+    Content, Store, boxed_word, content_of, make_store, need_of, rep_of, room_for, store_of,
 };
 use object_graph::PathField;
 use object_graph::limits::FIELDS_MOST;
