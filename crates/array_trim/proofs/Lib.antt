@@ -11,8 +11,8 @@ mod TrimmedGraphs
 mod StorePieces
 mod Covers
 mod ListStores
-mod ShiftedWords
-mod TruncatedWords
+mod CutWords
 mod TrimsPut
+mod CutLists
 mod ShiftedLists
 mod TruncatedLists

@@ -19,6 +19,13 @@ use Rattle.object_cells.specs.Made.{PutsWords}
 use Rattle.array_trim.proofs.StorePieces.{HadCell}
 use Rattle.array_trim.proofs.ListStores.{ListStored, of_list, of_store, list_before_layouts, store_before_layouts}
 
+-- a list's store has at most as many words as a cell may
+pub small_store : {main : Mutator} {at store : ℕ} {list : ListObject} (stored : ListStored main at list store)
+    → store_head + stored.cell.length ≤ cell_words_most
+small_store {main} stored =
+    let most = cells_have_words main.seat.space (heap_words main.seat) stored.cell (has_is_cell stored.refers.has) in
+    omega (arith, most.1, stored.size)
+
 module _ {old new : Mutator} {at store : ℕ} {list : ListObject} (stored : ListStored old at list store) (words : List ℕ)
     (puts : PutsWords old new words) (long : length words ≡ length (heap_words old.seat))
     (stays : (a : ℕ) → (at ≤ a → a < at + 3 → ⊥) → (store ≤ a → a < store + (store_head + stored.cell.length)
@@ -75,12 +82,6 @@ module _ {old new : Mutator} {at store : ℕ} {list : ListObject} (stored : List
   -- and as many survive
   pub put_survivors : new.young.survivors ≡ old.young.survivors
   put_survivors = ap (λ (young : Young). young.survivors) puts.young
-
-  -- the store has at most as many words as a cell may
-  pub store_small : store_head + stored.cell.length ≤ cell_words_most
-  store_small =
-      let most = cells_have_words old.seat.space (heap_words old.seat) stored.cell (has_is_cell stored.refers.has) in
-      omega (arith, most.1, stored.size)
 
   -- a row over its words
   pub store_row : (pieces : List Cell)

@@ -1,14 +1,17 @@
--- What an image shows: it is a heap in which nothing has changed.
-use Rattle.std.proofs.Common.{◌≡◌, ℕ, inl, inr, List, [], refl, sym, subst}
-use Rattle.std.proofs.Common.{append-nil, arith}
-use Rattle.object_graph.specs.Graphs.{Graph}
+-- What an image shows: it is the heap, moved, where each cell stays where it is.
+use Rattle.std.proofs.Common.{◌≡◌, ℕ, ◌+◌, List, Option, Some, sym, ◌∙◌, subst, arith, refl}
+use Rattle.std.proofs.lemmas.Option.{same_Some}
+use Rattle.page_space.proofs.Starts.{layouts_start_is}
+use Rattle.handle_roots.specs.Roots.{root_at}
 use Rattle.heap_model.specs.Heaps.{Heap}
-use Rattle.heap_model.specs.Changes.{written, CellsChange, IsGraphChange}
+use Rattle.heap_model.specs.Changes.{written}
 use Rattle.heap_model.specs.Wholeness.{Whole, Blank}
 use Rattle.heap_model.specs.Showing.{Shows}
-use Rattle.heap_model.proofs.BoundHeaps.{none_in, no_own_change}
-use Rattle.heap_model.proofs.WholeStays.{own_changes_keep_whole}
-use Rattle.heap_model.proofs.ShownGraphs.{own_changes_show}
+use Rattle.heap_moves.specs.Moved.{IsFrom, IsMoved}
+use Rattle.heap_moves.specs.Standing.{Stays}
+use Rattle.heap_moves.proofs.AllStands.{shows_for}
+use Rattle.heap_moves.proofs.Unmoved.{word_unmoved, stands_unmoved, fits_unmoved}
+use Rattle.heap_moves.proofs.MovedGraphs.{moves_show}
 use Rattle.collector.specs.Images.{IsImageOf}
 use Rattle.collector.specs.ImageLaws.{ImagesShow, ImagesAreBlank}
 use Rattle.collector.proofs.CopiedCells.{Copying, cell_stays, cell_stood, has_rows, has_sizes, is_blank}
@@ -27,46 +30,38 @@ image_is heap image is = λ i. record {
 pub copying : {heap image : Heap} → Whole heap → IsImageOf heap image → Copying heap image.words
 copying whole is = record { sized = whole.sized; rows = whole.rows; are = is.words }
 
--- no cell has gone, come or been made
-cells_stay : {heap : Heap} {words : List ℕ} → Copying heap words → CellsChange heap (written heap words) [] [] []
-cells_stay {heap} copying = record {
-  same_space = refl;
-  more = [];
-  paths = sym (append-nil heap.paths);
-  went = λ cell there. absurd (none_in cell there);
-  comes = λ cell there. absurd (none_in cell there);
-  kept = λ cell words has stays. cell_stays copying has;
-  back = λ cell words has. inr (cell_stood copying has, none_in cell);
-  new_places = λ cell other words there has. absurd (none_in cell there);
-  roots_stay = copying.are.roots;
-}
+-- each cell stays where it is
+abbrev pub same_place : ℕ → Option ℕ
+same_place at = Some at
 
--- the graph that they show is the same
-graph_stays : {heap : Heap} {words : List ℕ} {graph : Graph} → Shows heap graph
-    → IsGraphChange heap (written heap words) graph graph [] [] []
-graph_stays shows = record {
-  paths = shows.paths;
-  bindings = refl;
-  few = omega arith;
-  reached = λ number reached. reached;
-  each = λ number what there reached.
-      inl record { same = there; stood = λ cell gone object. absurd (none_in cell gone) };
-  numbered = λ cell there object. absurd (none_in cell there);
+-- the words of an image are those of the heap, moved
+pub words_moved : {heap : Heap} {words : List ℕ} → Copying heap words → IsMoved heap (written heap words) same_place
+words_moved {heap} copied = record {
+  space = refl;
+  paths = refl;
+  sized = has_sizes copied;
+  rows = has_rows copied;
+  apart = λ one other words others now has has_other stays stays_too. same_Some _ _ (stays ∙ sym stays_too);
+  fits = λ cell words now has stays. fits_unmoved cell.at now stays;
+  stands = λ cell words now has stays. stands_unmoved now (cell_stays copied has) stays;
+  back = λ cell words has. IsFrom.stood cell words (cell_stood copied has) refl;
+  roots = λ variable below.
+      let at : ℕ = root_at heap.space variable in
+      let end = layouts_start_is heap.space in
+      record {
+        first = λ word now there there_too.
+            word_unmoved word now (same_Some now word
+            (sym there_too ∙ copied.are.roots at (omega arith) (omega (arith, end, below)) ∙ there));
+        second = copied.are.roots (at + 1) (omega arith) (omega (arith, end, below));
+      };
 }
-
--- the words of an image are whole
-pub words_whole : {heap : Heap} {words : List ℕ} → Whole heap → Copying heap words → Whole (written heap words)
-words_whole {heap} {words} whole copying =
-    own_changes_keep_whole heap (written heap words) [] [] [] whole (has_sizes copying) (has_rows copying)
-    (cells_stay copying) (no_own_change heap (written heap words))
 
 -- an image shows what the heap shows
 pub images_show : ImagesShow
 images_show heap image graph shows is =
-    let copied = copying shows.whole is in
     subst (λ (one : Heap). Shows one graph) (sym (image_is heap image is))
-    (own_changes_show heap (written heap image.words) graph graph [] [] [] shows (words_whole shows.whole copied)
-    (cells_stay copied) (no_own_change heap (written heap image.words)) (graph_stays shows))
+    (moves_show heap (written heap image.words) same_place graph (shows_for (Stays same_place) shows)
+    (words_moved (copying shows.whole is)))
 
 -- an image is blank
 pub images_are_blank : ImagesAreBlank

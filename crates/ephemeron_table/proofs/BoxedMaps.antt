@@ -121,7 +121,11 @@ module _ {old new : Mutator} {graph : Graph} {map key : ℕ} {weak : WeakObject}
 
   -- and the table stays where it is
   abbrev stays : StaysTable old new map table (known has) (some has) both []
-  stays = record { written = written; among = rest_in the_box (cell_of_table ∷ []) cell_of_table (first_in cell_of_table []); slot = slot_stays }
+  stays = record {
+    written = written;
+    among = rest_in the_box (cell_of_table ∷ []) cell_of_table (first_in cell_of_table []);
+    slot = slot_stays;
+  }
 
   -- objects keep their places
   places : PlacesStay (heap_of old) (heap_of new)
@@ -202,7 +206,12 @@ module _ {old new : Mutator} {graph : Graph} {map key : ℕ} {weak : WeakObject}
   box_replaces = record {
     others = both;
     made = [];
-    refills = record { whole = (known has).whole; writes = integer.writes put_it; paths = ap (λ (m : Mutator). m.paths) puts_it; pairs = refills };
+    refills = record {
+      whole = (known has).whole;
+      writes = integer.writes put_it;
+      paths = ap (λ (m : Mutator). m.paths) puts_it;
+      pairs = refills;
+    };
     now = has.told.pair;
     before_is = refl;
     now_is = same_pairs ∙ sym (set_there before place has.told.pair (entry_filled has).stands);

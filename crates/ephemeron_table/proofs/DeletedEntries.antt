@@ -1,4 +1,4 @@
--- An entry of a weak map was taken out.
+-- An entry of a weak map was removed.
 use Rattle.std.proofs.Common.{◌≡◌, ◌≢◌, ℕ, ◌+◌, Bool, true, false, cond, List, [], ◌∷◌, length, Some, None, slice_get}
 use Rattle.std.proofs.Common.{get_or, set, refl, sym, ◌∙◌, ap, subst, arith, ◌==◌}
 use Rattle.std.specs.Prelude.{slice_set}
@@ -26,14 +26,14 @@ use Rattle.ephemeron_table.specs.EntryChanges.{DeletesEntry}
 use Rattle.ephemeron_table.specs.WeakObjects.{IsWeakAt}
 use Rattle.weak_pairs.specs.Pairs.{IsFilledAt}
 use Rattle.ephemeron_table.specs.PairLaws.{PutsOne, WrittenEntriesShow}
-use Rattle.ephemeron_table.specs.Takings.{TakesAt}
+use Rattle.ephemeron_table.specs.Removals.{RemovesAt}
 use Rattle.weak_pairs.specs.Tables.{pairs_of}
 use Rattle.weak_pairs.specs.declared.table.Table.{Table}
 use Rattle.weak_pairs.proofs.CountedPairs.{count_filled}
 use Rattle.ephemeron_table.proofs.EntryPairs.{HasEntryPair, shown, known, some, entry_filled, entry_refers}
 use Rattle.ephemeron_table.proofs.EntryPairs.{entry_only}
 use Rattle.ephemeron_table.proofs.KnownTables.{KnownMap, count_is}
-use Rattle.ephemeron_table.proofs.TakenMaps.{refills_weak, refers_back, slot_stays, count_after}
+use Rattle.ephemeron_table.proofs.MapsWithout.{refills_weak, refers_back, slot_stays, count_after}
 use Rattle.weak_pairs.proofs.FilledPairs.{free_not_filled, same_filled}
 
 -- without an entry that has a value there is one less, by whether the first has the key
@@ -51,7 +51,7 @@ length-without_entry [] key value is = absurd (none-some value is)
 length-without_entry (entry ∷ entries) key value is =
     less_by (entry.key == key) entry entries key value is (length-without_entry entries key value)
 
--- where no entry has the key, none is taken out, by whether the first has it
+-- where no entry has the key, none is removed, by whether the first has it
 same_by : (test : Bool) (entry : Entry) (entries : List Entry) (key : ℕ)
     → cond test (Some entry.value) (entry_value entries key) ≡ None
     → (entry_value entries key ≡ None → without_entry entries key ≡ entries)
@@ -90,11 +90,11 @@ deletes_none main graph map weak number shows is none =
       shows = subst (MainShows main) (sym same) shows;
     }
 
--- The pair of an entry that is shown was taken out.
+-- The pair of an entry that is shown was removed.
 pub record IsDeleting (old new : Mutator) (graph : Graph) (map key : ℕ) (weak : WeakObject) (number place : ℕ)
     (table : Table) : Type 0 where
   pub has : HasEntryPair old graph map key weak number place table
-  pub takes : TakesAt old new map table place
+  pub removes : RemovesAt old new map table place
 
 module _ {old new : Mutator} {graph : Graph} {map key : ℕ} {weak : WeakObject} {number place : ℕ} {table : Table}
     (deleting : IsDeleting old new graph map key weak number place table) where
@@ -110,36 +110,36 @@ module _ {old new : Mutator} {graph : Graph} {map key : ℕ} {weak : WeakObject}
 
   -- so all pairs but this are kept
   puts_one : PutsOne (heap_of old) (heap_of new)
-      (refills_weak is_known (some its) deleting.takes one (entry_filled its)).pairs number None
+      (refills_weak is_known (some its) deleting.removes one (entry_filled its)).pairs number None
   puts_one =
-      let takes = deleting.takes in
+      let removes = deleting.removes in
       record {
         kept = λ at pair is_filled other.
             let apart : at ≢ place = λ same. other (subst (λ (p : Pair). RefersToPlace (heap_of old) p.key number)
             (same_filled (pairs_of (heap_words old.seat) table) place at one pair (sym same) (entry_filled its)
             is_filled)
             (entry_refers its)) in
-            let kept = takes.taken.kept at pair is_filled apart in (
+            let kept = removes.removed.kept at pair is_filled apart in (
               kept.0,
               kept.1,
               kept.2,
-              λ same. free_not_filled (pairs_of (heap_words new.seat) table) takes.hole pair takes.free
+              λ same. free_not_filled (pairs_of (heap_words new.seat) table) removes.hole pair removes.free
                   (subst (λ n. IsFilledAt (pairs_of (heap_words new.seat) table) n pair) same kept.1),
             );
         own = λ at pair is_filled refers_now.
-            let from = takes.taken.from at pair is_filled in
-            absurd (from.1 (entry_only its (takes.taken.origin at) pair from.0
-            (refers_back is_known (some its) takes one (entry_filled its) pair.key number refers_now)));
+            let from = removes.removed.from at pair is_filled in
+            absurd (from.1 (entry_only its (removes.removed.origin at) pair from.0
+            (refers_back is_known (some its) removes one (entry_filled its) pair.key number refers_now)));
         shown = λ what is. absurd (none-some what is);
         none_put = λ is pair is_filled.
-            free_not_filled (pairs_of (heap_words new.seat) table) takes.hole pair takes.free is_filled;
+            free_not_filled (pairs_of (heap_words new.seat) table) removes.hole pair removes.free is_filled;
       }
 
   -- so many entries are left as are counted
   counted : HasWord (words_of_cell (heap_of new) (shown its).cell) count_offset
       (length (without_entry weak.entries number))
   counted =
-      let takes = deleting.takes in
+      let removes = deleting.removes in
       let all : count_at (heap_of old) map ≡ length weak.entries =
       its.shows.counts weak.number map weak.entries its.is.object its.is.reached its.is.place in
       let same : count_filled (pairs_of (heap_words new.seat) table) ≡ length (without_entry weak.entries number) =
@@ -147,24 +147,24 @@ module _ {old new : Mutator} {graph : Graph} {map key : ℕ} {weak : WeakObject}
         arith,
         all,
         count_is is_known,
-        takes.taken.counted one (entry_filled its),
+        removes.removed.counted one (entry_filled its),
         length-without_entry weak.entries number its.told.value its.told.is_entry,
       ) in
       subst (HasWord (words_of_cell (heap_of new) (shown its).cell) count_offset) same
-      (count_after is_known (some its) takes one (entry_filled its))
+      (count_after is_known (some its) removes one (entry_filled its))
 
   pub deletes_entry : WrittenEntriesShow → DeletesEntry old new graph map weak number
   deletes_entry entries_show =
-      let takes = deleting.takes in
-      let refills = refills_weak is_known (some its) takes one (entry_filled its) in
+      let removes = deleting.removes in
+      let refills = refills_weak is_known (some its) removes one (entry_filled its) in
       record {
         none = λ no_entry. absurd (none-some its.told.value (sym no_entry ∙ its.told.is_entry));
-        uses = uses_none takes.rest takes.young;
+        uses = uses_none removes.rest removes.young;
         changes = subst (λ at. ChangesObject (heap_of old) (heap_of new) at (capacity_at (heap_of old) at))
             (shown its).stands (tables_stay refills
-            (slot_stays is_known (some its) takes one (entry_filled its)));
+            (slot_stays is_known (some its) removes one (entry_filled its)));
         shows = entries_show old new graph weak (shown its).cell _ [] number None its.shows its.is.object its.is.reached
             its.is_key.reached (shown its).carries (shown its).shows (λ what is. absurd (none-some what is))
-            (ap (λ (y : Young). y.space) takes.young ∙ its.shows.tied ∙ sym takes.rest.space)
-            (takes.rest.phase ∙ its.shows.quiet) refills puts_one counted;
+            (ap (λ (y : Young). y.space) removes.young ∙ its.shows.tied ∙ sym removes.rest.space)
+            (removes.rest.phase ∙ its.shows.quiet) refills puts_one counted;
       }

@@ -1,4 +1,4 @@
--- The pair of a key was taken out of a weak map that is shown, or there was none.
+-- The pair of a key was removed from a weak map that is shown, or there was none.
 use Rattle.std.proofs.Common.{◌≡◌, ℕ, List, None, refl, subst}
 use Rattle.page_space.specs.Sizes.{AreWithin}
 use Rattle.object_graph.specs.Objects.{entry_value}
@@ -13,7 +13,7 @@ use Rattle.ephemeron_table.specs.Pairs.{RemovesPair}
 use Rattle.ephemeron_table.specs.PairChanges.{DeletesPair}
 use Rattle.ephemeron_table.specs.PairLaws.{WrittenPairsAreOwn}
 use Rattle.ephemeron_table.specs.Probes.{IsTableAt}
-use Rattle.ephemeron_table.specs.Takings.{TakesAt}
+use Rattle.ephemeron_table.specs.Removals.{RemovesAt}
 use Rattle.weak_pairs.specs.declared.table.Table.{Table}
 use Rattle.ephemeron_table.proofs.KeysFound.{WeakShown, weak_shown, TellsPair}
 use Rattle.ephemeron_table.proofs.DeletedEntries.{deletes_none}
@@ -22,17 +22,17 @@ use Rattle.ephemeron_table.proofs.KnownTables.{KnownMap, shown_known}
 use Rattle.ephemeron_table.proofs.PairsByKey.{lacks_pair, one_pair_of, pairs_shown, told_pair}
 use Rattle.ephemeron_table.proofs.RemovedPairs.{removes_pair}
 
--- the pair that was taken out was the one with the key
+-- the pair that was removed was the one with the key
 pub deletes_pair : {old new : Mutator} {graph : Graph} {map key : ℕ} {weak : WeakObject} {number place : ℕ}
     {table : Table} {before : List Pair} → (shows : MainShows old graph) → (is : IsWeakAt old graph map weak)
     → IsKeyAt old graph key number
     → AreWithin old.seat.space.sizes old.seat.space.variables → IsTableAt (heap_of old) map table
     → TellsPair old (weak_shown shows is).shows.pairs table place key weak.entries number
-    → HasPairsAt (heap_of old) map before → TakesAt old new map table place → WrittenPairsAreOwn
+    → HasPairsAt (heap_of old) map before → RemovesAt old new map table place → WrittenPairsAreOwn
     → DeletesPair old new map key before
 deletes_pair {old} {new} {graph} {map} {key} {weak} {number} {place} {table} {before} shows is is_key sizes is_table
     told
-    has takes are_own =
+    has removes are_own =
     let shown : WeakShown old graph map weak = weak_shown shows is in
     let known : KnownMap old map table = shown_known shows is sizes is_table in
     let same = pairs_shown known shown has in
@@ -41,7 +41,7 @@ deletes_pair {old} {new} {graph} {map} {key} {weak} {number} {place} {table} {be
       there = λ at pair theirs.
           let one = one_pair_of shown is_key same told.value told.is_entry place at told.pair pair its theirs in
           subst (λ n. RemovesPair old new map n before) one
-          (removes_pair known before has has its.filled takes shows.quiet are_own);
+          (removes_pair known before has has its.filled removes shows.quiet are_own);
       none = λ lacks. absurd (lacks place told.pair its);
     }
 
@@ -60,7 +60,7 @@ deletes_no_pair {main} {graph} {map} {key} {weak} {table = table} {before} shows
       none = λ lacks. refl;
     }
 
--- so nothing is taken out of the entries or the pairs
+-- so nothing is removed from the entries or the pairs
 pub deletes_nothing : {main : Mutator} {map key : ℕ} {table : Table} → IsShownKey main map key
     → AreWithin main.seat.space.sizes main.seat.space.variables → IsTableAt (heap_of main) map table
     → LacksEntry main map key

@@ -12,7 +12,7 @@ use Rattle.write_barrier.specs.Mains.{Mutator, heap_of}
 use Rattle.object_cells.proofs.CellsRead.{place_before_marks}
 use Rattle.object_cells.proofs.UnusedWords.{cell_apart}
 use Rattle.object_cells.proofs.WordsTold.{cell_fits}
-use Rattle.ephemeron_table.specs.Movings.{CanGrow, IsUsed, KeysUsed}
+use Rattle.ephemeron_table.specs.Rehashing.{CanGrow, IsUsed, KeysUsed}
 use Rattle.weak_pairs.specs.declared.table.Table.{Table}
 use Rattle.ephemeron_table.proofs.KnownTables.{KnownMap, each_found, found, other_has, other_long}
 use Rattle.ephemeron_table.proofs.TablesRead.{count_within}

@@ -11,7 +11,7 @@ use Rattle.object_cells.specs.Contents.{next_at}
 use Rattle.object_cells.specs.Made.{PutsWords, with_content}
 use Rattle.object_cells.proofs.MadeBoxes.{length-with_content, with_content_stays}
 use Rattle.object_cells.proofs.UnusedWords.{next_before_segments, next_before_marks}
-use Rattle.ephemeron_table.specs.Movings.{CanGrow, MovesPairs}
+use Rattle.ephemeron_table.specs.Rehashing.{CanGrow, RehashesPairs}
 use Rattle.weak_pairs.specs.Pairs.{HoldNothing, IsFilledAt}
 use Rattle.weak_pairs.specs.Tables.{IsBesideTable, KeysMovable, pairs_of}
 use Rattle.weak_pairs.specs.Probes.{HasFree}
@@ -104,7 +104,7 @@ module _ {old : Mutator} {map key count : ℕ} {table : Table} (can : CanGrow ol
         subst (λ all. HoldNothing (pairs_of all made)) (sym begun_words)
         (begun_nothing (heap_words old.seat) made grown_within)
 
-    module _ {moved boxed : Mutator} (holds : Content) (moves : MovesPairs begun moved table made table.capacity)
+    module _ {moved boxed : Mutator} (holds : Content) (moves : RehashesPairs begun moved table made table.capacity)
         (boxes : PutsWords moved boxed
         (with_content (heap_words moved.seat) holds (at + (store_head + 2 * capacity)))) where
       boxed_long : length (heap_words boxed.seat) ≡ length (heap_words old.seat)

@@ -25,7 +25,7 @@ use Rattle.object_cells.specs.Made.{beside_content}
 use Rattle.object_cells.proofs.HeldContents.{HoldsValue}
 use Rattle.object_cells.proofs.HeldNeeds.{content_need_is, wide_is}
 use Rattle.object_cells.proofs.ContentValues.{content_shows}
-use Rattle.ephemeron_table.specs.Movings.{CanGrow, PutsInNewTable, new_table_need}
+use Rattle.ephemeron_table.specs.Rehashing.{CanGrow, PutsInNewTable, new_table_need}
 use Rattle.weak_pairs.specs.Pairs.{IsFilledAt}
 use Rattle.ephemeron_table.specs.PairLaws.{PutsOne}
 use Rattle.ephemeron_table.specs.Probes.{IsTableAt}
@@ -63,7 +63,8 @@ module _ {old new : Mutator} {map key count earlier number : ℕ} {table : Table
             refers = refl;
             place = places known can puts objects key_place holds fits counted number key key_place;
           };
-          value = content_shows (behind known can puts) holds (places known can puts objects key_place holds fits counted)
+          value = content_shows (behind known can puts) holds
+              (places known can puts objects key_place holds fits counted)
               (refers_box known can puts objects key_place holds fits counted);
         })
 

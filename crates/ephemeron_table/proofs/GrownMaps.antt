@@ -35,7 +35,7 @@ use Rattle.object_cells.proofs.WordsTold.{cell_fits}
 use Rattle.object_cells.proofs.ContentValues.{content_shows, content_comes, is_made_box}
 use Rattle.object_cells.proofs.FieldWords.{value_word}
 use Rattle.ephemeron_table.proofs.PairComes.{PairComes, value_comes, pair_shows}
-use Rattle.ephemeron_table.specs.Movings.{CanGrow, PutsInNewTable}
+use Rattle.ephemeron_table.specs.Rehashing.{CanGrow, PutsInNewTable}
 use Rattle.weak_pairs.specs.Pairs.{HasPairs, IsFilledAt}
 use Rattle.ephemeron_table.specs.PairWrites.{RefillsPairs, HasValue}
 use Rattle.ephemeron_table.specs.PairLaws.{RefillsWeak}
@@ -43,7 +43,8 @@ use Rattle.weak_pairs.specs.declared.table.Table.{Table}
 use Rattle.weak_pairs.proofs.CountedPairs.{count_filled}
 use Rattle.ephemeron_table.proofs.GrownPairs.{before, after, place, origin, origin_other, all_apart, all_found, moved}
 use Rattle.ephemeron_table.proofs.GrownPairs.{one_more, NowFilled, now_filled}
-use Rattle.ephemeron_table.proofs.GrownWords.{pair, made, made_table, other, boxes, behind, capacity, box_stands, puts_weak}
+use Rattle.ephemeron_table.proofs.GrownWords.{pair, made, made_table, other, boxes, behind, capacity, box_stands}
+use Rattle.ephemeron_table.proofs.GrownWords.{puts_weak}
 use Rattle.ephemeron_table.proofs.GrownWords.{writes, capacity_word, fits_new}
 use Rattle.ephemeron_table.proofs.LinkedMaps.{count_word, slot_word}
 use Rattle.weak_pairs.proofs.GrownPowers.{first_power, grown_power}
@@ -238,4 +239,9 @@ module _ {old new : Mutator} {map key count earlier number : ℕ} {table : Table
   }
 
   abbrev pub refills_weak : RefillsWeak (heap_of old) (heap_of new) map_cell [] all_made
-  refills_weak = record { whole = known.whole; writes = writes known can puts; paths = (puts_weak known can puts).puts.paths; pairs = refills }
+  refills_weak = record {
+    whole = known.whole;
+    writes = writes known can puts;
+    paths = (puts_weak known can puts).puts.paths;
+    pairs = refills;
+  }

@@ -19,20 +19,20 @@ use Rattle.write_barrier.specs.Mains.{Mutator, heap_of}
 use Rattle.object_cells.specs.Contents.{next_at}
 use Rattle.object_cells.specs.Made.{beside_content, content_need}
 use Rattle.weak_pairs.specs.Rehashing.{AreRehashed}
-use Rattle.ephemeron_table.specs.Movings.{CanGrow, IsUsed, PutsInNewTable}
+use Rattle.ephemeron_table.specs.Rehashing.{CanGrow, IsUsed, PutsInNewTable}
 use Rattle.weak_pairs.specs.Pairs.{IsFilledAt}
 use Rattle.weak_pairs.specs.Tables.{number_at, numbers, number_of, pairs_of}
 use Rattle.weak_pairs.specs.declared.table.Table.{Table}
 use Rattle.weak_pairs.proofs.CountedPairs.{count_filled, count_put}
 use Rattle.ephemeron_table.proofs.GrowingTables.{boxed_pairs, grown_pairs_stay}
 use Rattle.ephemeron_table.proofs.GrownWords.{pair, made_table, capacity, need, ends, keys_boxed, fits_boxed}
-use Rattle.ephemeron_table.proofs.GrownWords.{begun_stays, boxed_stays, run_word, fits_new, settled_as_long}
+use Rattle.ephemeron_table.proofs.GrownWords.{begun_stays, boxed_stays, run_word, fits_new, inserted_as_long}
 use Rattle.ephemeron_table.proofs.KeysFound.{key_filled}
 use Rattle.ephemeron_table.proofs.KnownTables.{KnownMap, pairs_long}
 use Rattle.weak_pairs.proofs.PairsPut.{at_place}
 use Rattle.weak_pairs.proofs.PairLists.{pairs_stay}
 use Rattle.weak_pairs.proofs.KeyedPairs.{free_or_filled}
-use Rattle.ephemeron_table.proofs.SettledPairs.{settled_found, settled_pairs}
+use Rattle.ephemeron_table.proofs.RehashedPairs.{rehashed_found, rehashed_pairs}
 use Rattle.weak_pairs.proofs.InsertedPairs.{inserted_free}
 use Rattle.weak_pairs.proofs.FilledPairs.{filled_elsewhere, free_not_filled, still_filled}
 
@@ -78,7 +78,7 @@ module _ {old new : Mutator} {map key count earlier : ℕ} {table : Table} {valu
   after = pairs_of (heap_words new.seat) (made_table known can puts)
 
   abbrev pub place : ℕ
-  place = puts.settles.place
+  place = puts.inserts.place
 
   abbrev one : Pair
   one = pair known can puts
@@ -89,24 +89,24 @@ module _ {old new : Mutator} {map key count earlier : ℕ} {table : Table} {valu
       (content_need (beside_content value))
       puts.room refl refl refl puts.begins (beside_content value) puts.moves puts.boxes
 
-  settled_are : pairs_of (heap_words puts.settled.seat) (made_table known can puts) ≡ slice_set far place one
-  settled_are =
-      settled_pairs (fits_boxed known can puts) (keys_boxed known can puts) puts.settles
+  inserted_are : pairs_of (heap_words puts.inserted.seat) (made_table known can puts) ≡ slice_set far place one
+  inserted_are =
+      rehashed_pairs (fits_boxed known can puts) (keys_boxed known can puts) puts.inserts
       ∙ ap (λ pairs. slice_set pairs place one) boxed_same
 
   -- the pairs after are those that were moved, with the new one
   pub after_is : after ≡ slice_set far place one
   after_is =
-      sym (pairs_stay (heap_words new.seat) (heap_words puts.settled.seat) (made_table known can puts)
-      (fits_new known can puts) (settled_as_long known can puts)
+      sym (pairs_stay (heap_words new.seat) (heap_words puts.inserted.seat) (made_table known can puts)
+      (fits_new known can puts) (inserted_as_long known can puts)
       (λ a from below. sym (run_word known can puts a (omega (arith, from)) (omega (arith, below)))))
-      ∙ settled_are
+      ∙ inserted_are
 
   -- its place was free
   place_free : slice_get far place ≡ Some free_pair
   place_free =
       ap (λ all. slice_get all place) (sym boxed_same)
-      ∙ inserted_free (fits_boxed known can puts) (keys_boxed known can puts) puts.settles.first
+      ∙ inserted_free (fits_boxed known can puts) (keys_boxed known can puts) puts.inserts.first
 
   one_filled : one ≢ free_pair
   one_filled = key_filled one key refl
@@ -216,6 +216,6 @@ module _ {old new : Mutator} {map key count earlier : ℕ} {table : Table} {valu
       (boxed_stays known can puts key (used_not_new key can.key_used)) in
       let far_found : FindsAll (numbers (heap_of old) far) = subst FindsAll far_numbers puts.moves.found in
       let boxed_found = subst (λ pairs. FindsAll (numbers (heap_of old) pairs)) (sym boxed_same) far_found in
-      let settled = settled_found (heap_of old) (fits_boxed known can puts) (keys_boxed known can puts) puts.settles
+      let inserted = rehashed_found (heap_of old) (fits_boxed known can puts) (keys_boxed known can puts) puts.inserts
       boxed_number boxed_found refers in
-      subst (λ pairs. FindsAll (numbers (heap_of old) pairs)) (settled_are ∙ sym after_is) settled
+      subst (λ pairs. FindsAll (numbers (heap_of old) pairs)) (inserted_are ∙ sym after_is) inserted

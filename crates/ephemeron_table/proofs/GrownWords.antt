@@ -24,7 +24,7 @@ use Rattle.object_cells.proofs.MadeBoxes.{made_boxes, BoxStands, with_content_st
 use Rattle.object_cells.proofs.MadeBoxes.{row_with_box}
 use Rattle.object_cells.proofs.UnusedWords.{cell_is_used, next_before_segments}
 use Rattle.object_cells.proofs.OwnPuts.{PutsOwn, own_sized, own_writes, box_put}
-use Rattle.ephemeron_table.specs.Movings.{CanGrow, PutsInNewTable, new_table, new_table_need, box_behind}
+use Rattle.ephemeron_table.specs.Rehashing.{CanGrow, PutsInNewTable, new_table, new_table_need, box_behind}
 use Rattle.ephemeron_table.specs.PairWrites.{WritesWeak}
 use Rattle.ephemeron_table.specs.Puttings.{begun_table}
 use Rattle.weak_pairs.specs.Tables.{IsBesidePairs, made_pair, pairs_of}
@@ -87,51 +87,51 @@ module _ {old new : Mutator} {map key count earlier : ℕ} {table : Table} {valu
       puts.begins (beside_content value) puts.moves puts.boxes
 
   -- the new pair's place is one of the table
-  pub place_below : puts.settles.place < capacity
-  place_below = inserted_below fits_boxed keys_boxed puts.settles.first
+  pub place_below : puts.inserts.place < capacity
+  place_below = inserted_below fits_boxed keys_boxed puts.inserts.first
 
   begun_long : length (heap_words puts.begun.seat) ≡ length (heap_words old.seat)
   begun_long =
       begun_words_long can counted (next_at old) capacity (content_need (beside_content value)) puts.room refl refl refl
       puts.begins
 
-  pub settled_long : length (heap_words puts.settled.seat) ≡ length (heap_words old.seat)
-  settled_long =
-      ap length puts.settles.words.heap
-      ∙ length-with_pair (heap_words puts.boxed.seat) (next_at old) puts.settles.place pair
+  pub inserted_long : length (heap_words puts.inserted.seat) ≡ length (heap_words old.seat)
+  inserted_long =
+      ap length puts.inserts.words.heap
+      ∙ length-with_pair (heap_words puts.boxed.seat) (next_at old) puts.inserts.place pair
       ∙ ap length puts.boxes.heap ∙ length-with_content (heap_words puts.moved.seat) (beside_content value) behind
       ∙ puts.moves.changes.long ∙ begun_long
 
   -- the words with the reference to it
   abbrev pub linked : List ℕ
-  linked = slice_set (heap_words puts.settled.seat) (map + store_slot) (reference_word (next_at old))
+  linked = slice_set (heap_words puts.inserted.seat) (map + store_slot) (reference_word (next_at old))
 
   pub new_long : length (heap_words new.seat) ≡ length (heap_words old.seat)
   new_long =
       ap length puts.words.heap ∙ length-set linked (map + count_offset) count
-      ∙ length-set (heap_words puts.settled.seat) (map + store_slot) (reference_word (next_at old)) ∙ settled_long
+      ∙ length-set (heap_words puts.inserted.seat) (map + store_slot) (reference_word (next_at old)) ∙ inserted_long
 
-  pub settled_as_long : length (heap_words puts.settled.seat) ≡ length (heap_words new.seat)
-  settled_as_long = settled_long ∙ sym new_long
+  pub inserted_as_long : length (heap_words puts.inserted.seat) ≡ length (heap_words new.seat)
+  inserted_as_long = inserted_long ∙ sym new_long
 
   -- the table ends in them
   pub fits_new : next_at old + (store_head + 2 * capacity) ≤ length (heap_words new.seat)
   fits_new = omega (arith, ends, within, counted, new_long)
 
-  -- a word that is not of the map is that with the pair settled
+  -- a word that is not of the map is that with the pair inserted
   beside_map : (a : ℕ) → a ≢ map + count_offset → a ≢ map + store_slot
-      → slice_get (heap_words new.seat) a ≡ slice_get (heap_words puts.settled.seat) a
+      → slice_get (heap_words new.seat) a ≡ slice_get (heap_words puts.inserted.seat) a
   beside_map a not_count not_slot =
       ap (λ all. slice_get all a) puts.words.heap
       ∙ slice_get-set_other linked (map + count_offset) a count not_count
-      ∙ slice_get-set_other (heap_words puts.settled.seat) (map + store_slot) a (reference_word (next_at old)) not_slot
+      ∙ slice_get-set_other (heap_words puts.inserted.seat) (map + store_slot) a (reference_word (next_at old)) not_slot
 
   -- one beside the pairs is that with the box
-  beside_settled : (a : ℕ) → IsBesidePairs made_table a
-      → slice_get (heap_words puts.settled.seat) a ≡ slice_get (heap_words puts.boxed.seat) a
-  beside_settled a beside =
-      ap (λ all. slice_get all a) puts.settles.words.heap
-      ∙ beside_put (heap_words puts.boxed.seat) made_table puts.settles.place a pair place_below beside
+  beside_inserted : (a : ℕ) → IsBesidePairs made_table a
+      → slice_get (heap_words puts.inserted.seat) a ≡ slice_get (heap_words puts.boxed.seat) a
+  beside_inserted a beside =
+      ap (λ all. slice_get all a) puts.inserts.words.heap
+      ∙ beside_put (heap_words puts.boxed.seat) made_table puts.inserts.place a pair place_below beside
 
   -- one that is not the box's either is that of the table that holds nothing
   boxed_begun : (a : ℕ) → IsBesidePairs made_table a
@@ -172,16 +172,16 @@ module _ {old new : Mutator} {map key count earlier : ℕ} {table : Table} {valu
       → (next_at old ≤ a → a < next_at old + need → ⊥)
       → slice_get (heap_words new.seat) a ≡ slice_get (heap_words old.seat) a
   word_stays a not_count not_slot not_run =
-      beside_map a not_count not_slot ∙ beside_settled a (run_beside a not_run) ∙ boxed_stays a not_run
+      beside_map a not_count not_slot ∙ beside_inserted a (run_beside a not_run) ∙ boxed_stays a not_run
 
   -- no word from the marks on was put
   grown_beside : StaysBeside old.seat new.seat
   grown_beside =
-      stays_beside_again old.seat puts.settled.seat new.seat
-      (stays_beside_again old.seat puts.boxed.seat puts.settled.seat
+      stays_beside_again old.seat puts.inserted.seat new.seat
+      (stays_beside_again old.seat puts.boxed.seat puts.inserted.seat
       (stays_beside_again old.seat puts.moved.seat puts.boxed.seat
       (stays_beside_again old.seat puts.begun.seat puts.moved.seat puts.begins.beside puts.moves.changes.rest)
-      puts.boxes.beside) puts.settles.words.beside) puts.words.beside
+      puts.boxes.beside) puts.inserts.words.beside) puts.words.beside
 
   -- so words of the map's own cell were put
   pub puts_weak : PutsOwn kind.Weak old new map_cell [] need (heap_words new.seat)
@@ -194,9 +194,9 @@ module _ {old new : Mutator} {map key count earlier : ℕ} {table : Table} {valu
     room = puts.room;
     puts = record {
       beside = grown_beside;
-      paths = puts.words.paths ∙ puts.settles.words.paths ∙ puts.boxes.paths ∙ puts.moves.changes.paths
+      paths = puts.words.paths ∙ puts.inserts.words.paths ∙ puts.boxes.paths ∙ puts.moves.changes.paths
           ∙ puts.begins.paths;
-      young = puts.words.young ∙ puts.settles.words.young ∙ puts.boxes.young ∙ puts.moves.changes.young
+      young = puts.words.young ∙ puts.inserts.words.young ∙ puts.boxes.young ∙ puts.moves.changes.young
           ∙ puts.begins.young;
       heap = refl;
     };
@@ -209,9 +209,9 @@ module _ {old new : Mutator} {map key count earlier : ℕ} {table : Table} {valu
         not_run;
   }
 
-  -- a word that was reserved is that with the pair settled
+  -- a word that was reserved is that with the pair inserted
   pub run_word : (b : ℕ) → next_at old ≤ b → b < next_at old + need
-      → slice_get (heap_words new.seat) b ≡ slice_get (heap_words puts.settled.seat) b
+      → slice_get (heap_words new.seat) b ≡ slice_get (heap_words puts.inserted.seat) b
   run_word b from below =
       beside_map b (not_new (map + count_offset) b (of_map known 2 (omega arith)) from below)
       (not_new (map + store_slot) b (of_map known 1 (omega arith)) from below)
@@ -221,7 +221,7 @@ module _ {old new : Mutator} {map key count earlier : ℕ} {table : Table} {valu
       ≡ slice_get (begun_table (heap_words old.seat) made_table) (next_at old + k)
   head_word k below =
       run_word (next_at old + k) (omega arith) (omega (arith, below))
-      ∙ beside_settled (next_at old + k) (inl (omega (arith, below)))
+      ∙ beside_inserted (next_at old + k) (inl (omega (arith, below)))
       ∙ boxed_begun (next_at old + k) (inl (omega (arith, below))) (λ from high. omega (arith, from, below))
       ∙ ap (λ all. slice_get all (next_at old + k)) begun_is
 
@@ -231,7 +231,7 @@ module _ {old new : Mutator} {map key count earlier : ℕ} {table : Table} {valu
       ≡ slice_get (with_content (heap_words puts.moved.seat) (beside_content value) behind) b
   box_word b from below =
       run_word b (omega (arith, from)) (omega (arith, below))
-      ∙ beside_settled b (inr (omega (arith, from))) ∙ ap (λ all. slice_get all b) puts.boxes.heap
+      ∙ beside_inserted b (inr (omega (arith, from))) ∙ ap (λ all. slice_get all b) puts.boxes.heap
 
   -- the box stands there
   pub box_stands : BoxStands (heap_of new) (beside_content value) behind

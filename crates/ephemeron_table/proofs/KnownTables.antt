@@ -175,7 +175,8 @@ module _ {old : Mutator} {map : ℕ} {table : Table} (known : KnownMap old map t
       → probing.IsProbed None (numbers (heap_of old) pairs) number at → IsProbed pairs number at
   probed_pair pairs number at probed =
       still_probed (numbers (heap_of old) pairs) pairs number at (sym (length-numbers (heap_of old) pairs))
-      (λ place free. slice_get-map (number_of (heap_of old)) pairs place ∙ ap (option_map (number_of (heap_of old))) free)
+      (λ place free. slice_get-map (number_of (heap_of old)) pairs place
+      ∙ ap (option_map (number_of (heap_of old))) free)
       probed
 
   module _ (some : 0 < table.capacity) where

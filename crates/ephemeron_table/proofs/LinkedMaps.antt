@@ -8,9 +8,9 @@ use Rattle.heap_model.specs.Slots.{reference_word}
 use Rattle.heap_model.specs.Kinds.{count_offset}
 use Rattle.write_barrier.specs.Mains.{Mutator}
 use Rattle.object_cells.specs.Contents.{next_at}
-use Rattle.ephemeron_table.specs.Movings.{CanGrow, PutsInNewTable}
+use Rattle.ephemeron_table.specs.Rehashing.{CanGrow, PutsInNewTable}
 use Rattle.weak_pairs.specs.declared.table.Table.{Table}
-use Rattle.ephemeron_table.proofs.GrownWords.{counted, linked, settled_long}
+use Rattle.ephemeron_table.proofs.GrownWords.{counted, linked, inserted_long}
 use Rattle.ephemeron_table.proofs.KnownTables.{KnownMap}
 
 module _ {old new : Mutator} {map key count earlier : ℕ} {table : Table} {value : Held} (known : KnownMap old map table)
@@ -25,8 +25,8 @@ module _ {old new : Mutator} {map key count earlier : ℕ} {table : Table} {valu
       ap (λ all. slice_get all (map + store_slot)) puts.words.heap
       ∙ slice_get-set_other (linked known can puts) (map + count_offset) (map + store_slot) count
       (λ same. omega (arith, same))
-      ∙ slice_get-set_same (heap_words puts.settled.seat) (map + store_slot) (reference_word (next_at old))
-      (omega (arith, settled_long known can puts, map_in 1 (omega arith)))
+      ∙ slice_get-set_same (heap_words puts.inserted.seat) (map + store_slot) (reference_word (next_at old))
+      (omega (arith, inserted_long known can puts, map_in 1 (omega arith)))
 
   -- and has so many entries
   pub count_word : slice_get (heap_words new.seat) (map + count_offset) ≡ Some count
@@ -35,7 +35,7 @@ module _ {old new : Mutator} {map key count earlier : ℕ} {table : Table} {valu
       ∙ slice_get-set_same (linked known can puts) (map + count_offset) count
       (omega (
         arith,
-        length-set (heap_words puts.settled.seat) (map + store_slot) (reference_word (next_at old)),
-        settled_long known can puts,
+        length-set (heap_words puts.inserted.seat) (map + store_slot) (reference_word (next_at old)),
+        inserted_long known can puts,
         map_in 2 (omega arith),
       ))

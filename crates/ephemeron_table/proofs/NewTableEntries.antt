@@ -29,7 +29,7 @@ use Rattle.object_cells.proofs.UnusedWords.{marks_fit, next_before_marks}
 use Rattle.ephemeron_table.proofs.KeptTables.{tables_grow}
 use Rattle.ephemeron_table.specs.EntryChanges.{map_room, HasPutEntry, IsFullFor, PutsEntry}
 use Rattle.ephemeron_table.specs.declared.stop.TableStop.TheVariants as stop
-use Rattle.ephemeron_table.specs.Movings.{CanGrow, PutsInNewTable, new_table_need}
+use Rattle.ephemeron_table.specs.Rehashing.{CanGrow, PutsInNewTable, new_table_need}
 use Rattle.ephemeron_table.specs.PairLaws.{RefillsWeak, WrittenEntriesShow, IsNewValue}
 use Rattle.weak_pairs.specs.declared.table.Table.{Table}
 use Rattle.weak_pairs.proofs.CountedPairs.{count_filled}

@@ -221,4 +221,9 @@ module _ {old new : Mutator} {map place key count number : ℕ} {table : Table} 
   }
 
   abbrev pub refills_weak : RefillsWeak (heap_of old) (heap_of new) map_cell (table_cell ∷ []) boxes_made
-  refills_weak = record { whole = known.whole; writes = writes known below puts; paths = (puts_weak known below puts).puts.paths; pairs = refills }
+  refills_weak = record {
+    whole = known.whole;
+    writes = writes known below puts;
+    paths = (puts_weak known below puts).puts.paths;
+    pairs = refills;
+  }

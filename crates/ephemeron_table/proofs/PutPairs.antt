@@ -78,7 +78,8 @@ module _ {old new : Mutator} {map place key count : ℕ} {table : Table} {value 
     room = puts.room;
     puts = puts.words;
     long = long;
-    stay = λ a not_cell not_others not_new. word_stays a (beside_table known some a (not_others table_cell (first_in table_cell [])))
+    stay = λ a not_cell not_others not_new. word_stays a
+        (beside_table known some a (not_others table_cell (first_in table_cell [])))
         (λ same. let of_cell = of_map known 2 (omega arith) in
         not_cell (record { from = omega (arith, same, of_cell.from); below = omega (arith, same, of_cell.below) }))
         not_new;

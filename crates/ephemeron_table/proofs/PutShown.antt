@@ -148,7 +148,11 @@ module _ {old new : Mutator} {graph : Graph} {map key : ℕ} {weak : WeakObject}
       λ is. apart (puts.one.own at pair filled (refers_now pair is)).0,
     );
     apart = λ at other pair another filled filled_too not_put not_put_too same.
-        puts.refills.pairs.refills.apart at other pair.value another.value (pair, filled, refl) (another, filled_too, refl)
+        puts.refills.pairs.refills.apart at other pair.value another.value (pair, filled, refl) (
+          another,
+          filled_too,
+          refl,
+        )
         same;
     kept = λ at pair filled other. puts.one.kept at pair filled (λ refers. other (key_word pair refers));
   }

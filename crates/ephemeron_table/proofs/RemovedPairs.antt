@@ -1,4 +1,4 @@
--- A pair of a weak map was taken out.
+-- A pair of a weak map was removed.
 use Rattle.std.proofs.Common.{◌≡◌, ◌+◌, ◌*◌, ◌≤◌, ◌⊎◌, inl, inr, unwrap_or, ℕ, ◌<◌, List, [], sym, ◌∙◌, ap, subst}
 use Rattle.std.proofs.Common.{arith}
 use Rattle.heap_model.specs.Slots.{reference_word}
@@ -20,15 +20,15 @@ use Rattle.ephemeron_table.proofs.KeptTables.{tables_stay}
 use Rattle.ephemeron_table.specs.Pairs.{RemovesPair}
 use Rattle.ephemeron_table.specs.PairLaws.{WrittenPairsAreOwn}
 use Rattle.ephemeron_table.specs.Probes.{IsTableAt}
-use Rattle.ephemeron_table.specs.Takings.{TakesAt}
+use Rattle.ephemeron_table.specs.Removals.{RemovesAt}
 use Rattle.weak_pairs.specs.Tables.{pairs_of, IsBesidePairs}
 use Rattle.weak_pairs.specs.declared.table.Table.{Table}
 use Rattle.weak_pairs.proofs.CountedPairs.{count_freed}
 use Rattle.ephemeron_table.proofs.KnownTables.{KnownMap, cell, count_is, within_words}
 use Rattle.weak_pairs.proofs.PairLists.{pairs_are}
-use Rattle.ephemeron_table.proofs.TakenMaps.{refills_weak, slot_stays, map_has, are_after}
+use Rattle.ephemeron_table.proofs.MapsWithout.{refills_weak, slot_stays, map_has, are_after}
 
--- the map whose pair is to be taken out is known
+-- the map whose pair is to be removed is known
 pub known_map : {old : Mutator} {map : ℕ} {pairs : List Pair} (table : Table) → IsWhole old → IsTied old
     → AreWithin old.seat.space.sizes old.seat.space.variables → HasPairsAt (heap_of old) map pairs
     → IsTableAt (heap_of old) map table → KnownMap old map table
@@ -95,40 +95,40 @@ beside_pairs {table = table} known has some word (inr behind) = inr (omega (arit
 pub removes_pair : {old new : Mutator} {map place : ℕ} {table : Table} {pairs : List Pair} {pair : Pair}
     → (known : KnownMap old map table) → (before : List Pair) → HasPairsAt (heap_of old) map before
     → HasPairsAt (heap_of old) map pairs → IsFilledAt pairs place pair
-    → TakesAt old new map table place → old.seat.phase ≡ Quiet → WrittenPairsAreOwn
+    → RemovesAt old new map table place → old.seat.phase ≡ Quiet → WrittenPairsAreOwn
     → RemovesPair old new map place before
-removes_pair {old} {new} {map} {place} {table} {pairs} {pair} known before has there filled takes quiet are_own =
+removes_pair {old} {new} {map} {place} {table} {pairs} {pair} known before has there filled removes quiet are_own =
     let some : 0 < table.capacity = omega (arith, place_below table known.is there filled) in
     let is = filled_place known there filled in
-    let refills = refills_weak known some takes pair is in
+    let refills = refills_weak known some removes pair is in
     let same : pairs_of (heap_words old.seat) table ≡ before = pairs_known known has in
     let stands : (cell known).at ≡ map = known.there.stands in
     record {
       whole = record {
-        quiet = takes.rest.phase ∙ quiet;
+        quiet = removes.rest.phase ∙ quiet;
         whole = (are_own (heap_of old) (heap_of new) (cell known) _ [] refills).3;
       };
-      uses = uses_none takes.rest takes.young;
-      paths = takes.paths;
+      uses = uses_none removes.rest removes.young;
+      paths = removes.paths;
       changes = subst (λ a. ChangesObject (heap_of old) (heap_of new) a (capacity_at (heap_of old) a)) stands
-          (tables_stay refills (slot_stays known some takes pair is));
-      stay = λ word not_count no_pair. takes.beside word
+          (tables_stay refills (slot_stays known some removes pair is));
+      stay = λ word not_count no_pair. removes.beside word
           (beside_pairs known has some word (no_pair table.at (refers_there known has some))) not_count;
       after = pairs_of (heap_words new.seat) table;
       are = record {
         cell = cell known;
         words = words_of_cell (heap_of new) (cell known);
-        has = map_has known some takes pair is;
+        has = map_has known some removes pair is;
         stands = stands;
         of_kind = known.there.of_kind;
-        are = are_after known some takes pair is;
+        are = are_after known some removes pair is;
       };
       without = subst (λ all. AreWithout all (pairs_of (heap_words new.seat) table) place) same (record {
-        long = takes.taken.long;
-        origin = takes.taken.origin;
-        from = takes.taken.from;
-        apart = takes.taken.apart;
-        kept = takes.taken.kept;
-        below = λ free none. takes.below free none pair is;
+        long = removes.removed.long;
+        origin = removes.removed.origin;
+        from = removes.removed.from;
+        apart = removes.removed.apart;
+        kept = removes.removed.kept;
+        below = λ free none. removes.below free none pair is;
       });
     }

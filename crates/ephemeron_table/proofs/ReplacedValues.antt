@@ -157,7 +157,8 @@ module _ {old new : Mutator} {graph : Graph} {map key : ℕ} {weak : WeakObject}
         few = λ lacks. none-some has.told.value (sym lacks.fresh ∙ has.told.is_entry);
         room = subst (HasRoom old.young) need_is replaces.room;
         uses = subst (UsesMore old new) need_is (record { beside = replaces.beside; young = replaces.young });
-        changes = subst (λ found. ChangesObject heap (heap_of new) map (room_put (map_room old map weak) found).capacity)
+        changes = subst (λ found. ChangesObject heap (heap_of new) map
+            (room_put (map_room old map weak) found).capacity)
             (sym has.told.is_entry) changes;
         shows = entries_show old new graph weak (cell (known has)) replaces.others replaces.made number (Some what)
             has.shows has.is.object has.is.reached has.is_key.reached

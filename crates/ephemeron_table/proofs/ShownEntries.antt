@@ -1,4 +1,4 @@
--- The cell of a weak map whose pairs were written shows its entries with that of one key put, or taken out.
+-- The cell of a weak map whose pairs were written shows its entries with that of one key put, or removed.
 use Rattle.std.proofs.Common.{◌≡◌, ◌≢◌, ℕ, ◌⊎◌, inl, inr, Bool, List, map, Option, Some, None, slice_get, refl, sym}
 use Rattle.std.proofs.Common.{◌∙◌, ap, subst}
 use Rattle.std.specs.Prelude.{◌==◌, IsTrue, IsSome}
@@ -67,7 +67,7 @@ known_key {heap} marks entries pair number refers has = elim (cases_Bool (is_mar
   | inr unmarked ↦ IsKnownKey.unreached number refers unmarked
 ]
 
--- The pairs of a weak map that shows these entries of a graph were written, so that of one key was put or taken out.
+-- The pairs of a weak map that shows these entries of a graph were written, so that of one key was put or removed.
 pub record Reweaving (old new : Heap) (graph : Graph) (cell : Cell) (others made : List Cell) (entries : List Entry)
     (number : ℕ) (value : Option Value) : Type 0 where
   pub refills : RefillsWeak old new cell others made
@@ -100,9 +100,11 @@ module _ {old new : Heap} {graph : Graph} {cell : Cell} {others made : List Cell
       record { at = key.at; refers = key.refers; place = came_before key.at key.place }
 
   -- the pair that was put is of this key
-  put_key : (at : ℕ) (pair : Pair) → IsFilledAt pairs.now at pair → at ≡ pairs.refills.one → RefersToPlace new pair.key number
+  put_key : (at : ℕ) (pair : Pair) → IsFilledAt pairs.now at pair → at ≡ pairs.refills.one
+      → RefersToPlace new pair.key number
   put_key at pair filled is_one =
-      let there : IsFilledAt pairs.now pairs.refills.one pair = subst (λ n. IsFilledAt pairs.now n pair) is_one filled in
+      let there : IsFilledAt pairs.now pairs.refills.one pair =
+      subst (λ n. IsFilledAt pairs.now n pair) is_one filled in
       elim (given_or_not value) [
         | inl given ↦
             let shown = weaving.puts.shown given.0 given.1 in
@@ -124,7 +126,8 @@ module _ {old new : Heap} {graph : Graph} {cell : Cell} {others made : List Cell
       }
 
   -- a pair that is not the one that was put has none of the boxes that were written
-  no_box_written : (at : ℕ) (pair : Pair) → IsFilledAt pairs.now at pair → at ≢ pairs.refills.one → IsNoBoxOf others pair.value
+  no_box_written : (at : ℕ) (pair : Pair) → IsFilledAt pairs.now at pair → at ≢ pairs.refills.one
+      → IsNoBoxOf others pair.value
   no_box_written at pair filled apart = elim (pairs.each_pair at pair filled) [
     | ShowsPair.kept stood no_box ↦ no_box
     | ShowsPair.put one is_one is ↦ absurd (apart is_one)
@@ -148,7 +151,8 @@ module _ {old new : Heap} {graph : Graph} {cell : Cell} {others made : List Cell
       → pairs.refills.origin at ≡ once.at
   from_shown entry once at pair other filled key = elim (pairs.each_pair at pair filled) [
     | ShowsPair.kept stood no_box ↦
-        once.once (pairs.refills.origin at) pair (ap (λ all. slice_get all (pairs.refills.origin at)) (sym before_are) ∙ stood.stands)
+        once.once (pairs.refills.origin at) pair (ap (λ all. slice_get all (pairs.refills.origin at)) (sym before_are)
+        ∙ stood.stands)
         (key_before key)
     | ShowsPair.put one is_one is ↦
         absurd (other (one_number new pair.key entry.key number key (put_key at pair filled is_one)))
@@ -170,7 +174,11 @@ module _ {old new : Heap} {graph : Graph} {cell : Cell} {others made : List Cell
         shows = entry_kept kept.0 once.pair entry kept.1 kept.3 once.shows;
         once = λ at another there key.
             let filled : IsFilledAt pairs.now at another = key_filled at another there key in
-            pairs.refills.apart at kept.0 another.value once.pair.value (another, filled, refl) (once.pair, kept.1, refl)
+            pairs.refills.apart at kept.0 another.value once.pair.value (another, filled, refl) (
+              once.pair,
+              kept.1,
+              refl,
+            )
             (from_shown entry once at another other filled key ∙ sym kept.2);
       }
 

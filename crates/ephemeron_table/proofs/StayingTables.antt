@@ -1,4 +1,4 @@
--- What stays where words of a weak map's own cells have changed, and what the map has where its table stays where it is.
+-- What stays where words of a weak map's own cells have changed, and what the map has where its table stays.
 use Rattle.std.proofs.Common.{◌≡◌, ◌⊎◌, ℕ, ◌+◌, ◌<◌, List, ◌∷◌, ◌++◌, length, drop, Contains, Some, slice_get, sym, ◌∙◌}
 use Rattle.std.proofs.Common.{ap, subst, arith}
 use Rattle.std.specs.Prelude.{option_map}

@@ -136,7 +136,8 @@ module _ {old new : Heap} {cell : Cell} {others made : List Cell} (refills : Ref
       let told = refills.pairs.refills.stores other there is in
       let words : List ℕ = words_of_cell new other in
       let has : HasCell new other words = weak_step.cells.comes other (rest_in cell (others ++ made) other there) in
-      let refers : RefersTo new refills.pairs.are.store other words = record { refers = one_table ∙ told.1; has = has } in
+      let refers : RefersTo new refills.pairs.are.store other words =
+      record { refers = one_table ∙ told.1; has = has } in
       let are = is_table_of refills.pairs.are.store refills.pairs.now refills.pairs.are.table refers in
       store_is_sound words told.0
       (λ k word stands. table_slot k word

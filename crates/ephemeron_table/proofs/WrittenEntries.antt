@@ -1,4 +1,4 @@
--- Where the pairs of a weak map were written so that the entry of one key was put or taken out, the heap shows the
+-- Where the pairs of a weak map were written so that the entry of one key was put or removed, the heap shows the
 -- graph in which it was.
 use Rattle.std.proofs.Common.{◌≡◌, ℕ, ◌<◌, true, List, ◌∷◌, length, Option, Some, None, slice_get, refl, sym, ◌∙◌, ap}
 use Rattle.std.proofs.Common.{subst, arith}
@@ -47,7 +47,7 @@ entries_are : (graph : Graph) (weak : WeakObject) → IsGraph graph
 entries_are graph weak is there =
     All-slice_get (IsObject (length graph.objects)) graph.objects weak.number (Weak weak.entries) is.made there
 
--- so are they with one put or taken out
+-- so are they with one put or removed
 entries_held : (count : ℕ) (entries : List Entry) (number : ℕ) (value : Option Value) → number < count
     → ((what : Value) → value ≡ Some what → IsValue count what) → AreEntries count entries
     → AreEntries count (entries_with entries number value)

@@ -36,7 +36,8 @@ pub record HasPutEntry (old new : Mutator) (graph : Graph) (map key : ℕ) (weak
   pub few : IsFullFor weak number → ⊥
   pub room : HasRoom old.young (wput_need (map_room old map weak) weak value number)
   pub uses : UsesMore old new (wput_need (map_room old map weak) weak value number)
-  pub changes : ChangesObject (heap_of old) (heap_of new) map (room_put (map_room old map weak) (entry_value weak.entries number)).capacity
+  pub changes : ChangesObject (heap_of old) (heap_of new) map
+      (room_put (map_room old map weak) (entry_value weak.entries number)).capacity
   pub shows : MainShows new (reweave graph weak (with_entry weak.entries number value))
 
 -- `put`: the entry of the key has the value; or the key is new and the map has as many entries as it may have, or there

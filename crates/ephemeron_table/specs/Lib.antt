@@ -5,7 +5,7 @@ pub mod PairChanges
 pub mod PairWrites
 pub mod PairLaws
 pub mod Probes
-pub mod Takings
+pub mod Removals
 pub mod Puttings
-pub mod Movings
+pub mod Rehashing
 pub mod PutWords

@@ -76,7 +76,7 @@ pub record TellsPairValue (main : Mutator) (key : ℕ) (pairs : List Pair) (held
       → WordStandsFor (heap_of main) pair.value held
   pub none : LacksPair pairs (reference_word key) → held ≡ Undefined
 
--- `delete`: the pair with the key was taken out; where none has it, nothing has changed.
+-- `delete`: the pair with the key was removed; where none has it, nothing has changed.
 pub record DeletesPair (old new : Mutator) (map key : ℕ) (before : List Pair) : Type 0 where
   pub there : (place : ℕ) (pair : Pair) → IsPairOf before (reference_word key) place pair
       → RemovesPair old new map place before

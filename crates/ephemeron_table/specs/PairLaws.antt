@@ -36,8 +36,8 @@ WrittenPairsAreOwn =
     → HasRows new × CellsChange old new (cell ∷ others) (cell ∷ others) made
     × IsOwnChange old new (cell ∷ others) (cell ∷ others) made × Whole new
 
--- The entry of one key was put, or taken out: the pairs of all other keys are kept, and its own, if there is one, is
--- the one that was put, which shows it. Where it was taken out, no pair was put.
+-- The entry of one key was put, or removed: the pairs of all other keys are kept, and its own, if there is one, is
+-- the one that was put, which shows it. Where it was removed, no pair was put.
 pub record PutsOne (old new : Heap) {cell : Cell} {others made : List Cell}
     (pairs : RefillsPairs old new cell others made)
     (number : ℕ) (value : Option Value) : Type 0 where
@@ -55,7 +55,7 @@ pub record IsNewValue (graph : Graph) (value : Value) : Type 0 where
   pub is : IsValue (length graph.objects) value
   pub reached : IsReachedValue graph value
 
--- So a heap that showed a graph shows it with the entry of this key put in the map, or taken out.
+-- So a heap that showed a graph shows it with the entry of this key put in the map, or removed.
 abbrev pub WrittenEntriesShow : Type 0
 WrittenEntriesShow =
     (old new : Mutator) (graph : Graph) (weak : WeakObject) (cell : Cell) (others made : List Cell) (number : ℕ)

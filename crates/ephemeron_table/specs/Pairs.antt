@@ -1,4 +1,4 @@
--- The pairs of a weak map's table, and what is left of them once one was taken out.
+-- The pairs of a weak map's table, and what is left of them once one was removed.
 use Rattle.std.specs.Prelude.{◌≡◌, ◌≢◌, ℕ, ◌+◌, ◌*◌, ◌<◌, ◌≤◌, ◌⊎◌, List, slice_get}
 use Rattle.tagged_word.specs.Cells.{store_head, store_slot}
 use Rattle.heap_model.specs.Heaps.{Heap}
@@ -18,7 +18,7 @@ IsNoPairWord heap map word =
     (table : ℕ) → word_at heap (map + store_slot) ≡ reference_word table
     → (word < table + store_head) ⊎ (table + (store_head + 2 * capacity_at heap map) ≤ word)
 
--- The pair at a place of the weak map at an address was taken out: the heap is whole again. Only the map's count
+-- The pair at a place of the weak map at an address was removed: the heap is whole again. Only the map's count
 -- changed, and words of its table's pairs; no word more is used, and each object stands where it stood.
 pub record RemovesPair (old new : Mutator) (map place : ℕ) (before : List Pair) : Type 0 where
   pub whole : IsWhole new

@@ -7,7 +7,7 @@ use Rattle.heap_model.specs.Needs.{count_at}
 use Rattle.write_barrier.specs.Mains.{Mutator, heap_of}
 use Rattle.object_cells.specs.Contents.{FillsSlot}
 use Rattle.object_cells.specs.Made.{beside_content}
-use Rattle.ephemeron_table.specs.Movings.{CanGrow, PutsInNewTable}
+use Rattle.ephemeron_table.specs.Rehashing.{CanGrow, PutsInNewTable}
 use Rattle.ephemeron_table.specs.Probes.{EndsBy, IsTableAt}
 use Rattle.weak_pairs.specs.Tables.{key_in, number_at, value_offset}
 use Rattle.ephemeron_table.specs.Puttings.{PutsInTable}

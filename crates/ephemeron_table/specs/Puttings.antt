@@ -38,7 +38,7 @@ begun_table words table =
     (table.at + store_head) (replicate (2 * table.capacity) hole_word)
 
 -- the pair of a key and a value comes to the first free place on the way of the key's number
-pub record Settles (old new : Mutator) (table : Table) (key value : ℕ) : Type 0 where
+pub record InsertsRehashed (old new : Mutator) (table : Table) (key value : ℕ) : Type 0 where
   pub place : ℕ
   pub first : IsFirstFree (heap_of old) table (number_at (heap_of old) key) place
   pub words : PutsWords old new (with_pair (heap_words old.seat) table.at place (made_pair (reference_word key) value))

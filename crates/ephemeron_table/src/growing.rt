@@ -9,9 +9,9 @@ ghost use Rattle.write_barrier.specs.Mains.{heap_of};
 ghost use Rattle.object_cells.specs.Made.{PutsWords, RefusesRoom};
 ghost use Rattle.weak_pairs.specs.Pairs.{HoldNothing};
 ghost use Rattle.weak_pairs.specs.Tables.{IsBesideTable, KeysMovable, IsWithin, pairs_of};
-ghost use Rattle.ephemeron_table.specs.Movings.{MovesPairs, CanGrow, PutsInNewTable, new_table_need};
+ghost use Rattle.ephemeron_table.specs.Rehashing.{RehashesPairs, CanGrow, PutsInNewTable, new_table_need};
 ghost use Rattle.weak_pairs.specs.Probes.{FreeBy, HasFree};
-ghost use Rattle.ephemeron_table.specs.Puttings.{Settles, begun_table};
+ghost use Rattle.ephemeron_table.specs.Puttings.{InsertsRehashed, begun_table};
 
 use crate::probing::{key_of, place};
 use crate::removing::put_pair;
@@ -71,7 +71,7 @@ pub(crate) fn insert_rehashed(main: &mut Main, table: Table, key: u32, value: Wo
     requires within { IsWithin (heap_of main.old) table }
     requires key { key < marks_start main.old.seat.space }
     requires free { HasFree (heap_of main.old) table }
-    ensures { Settles main.old main.new table key value.0 }
+    ensures { InsertsRehashed main.old main.new table key value.0 }
 {
     let number = number_at(main, key);
     match free_place(main, table, number) {
@@ -89,7 +89,7 @@ fn rehash(main: &mut Main, from: Table, to: Table)
     requires apart { IsBesideTable from to }
     requires keys { KeysMovable (heap_of main.old) from to }
     requires empty { HoldNothing (pairs_of (heap_words main.old.seat) to) }
-    ensures { MovesPairs main.old main.new from to from.capacity }
+    ensures { RehashesPairs main.old main.new from to from.capacity }
 {
     main.addresses_fit();
     for at in 0..from.capacity {

@@ -8,7 +8,7 @@ pub fn laws_of_pairs()
 {}
 
 /// Where the pairs of all keys but one are kept, and that of this key is the one that was
-/// put, a heap that showed a graph shows it with this key's entry put or taken out.
+/// put, a heap that showed a graph shows it with this key's entry put or removed.
 pub fn laws_of_entries()
     ensures show { WrittenEntriesShow }
 {}

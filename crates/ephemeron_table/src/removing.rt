@@ -1,4 +1,4 @@
-//! How a pair is taken out of a table.
+//! How a pair is removed from a table.
 ghost use Rattle.std.specs.Prelude.{◌≡◌, ◌+◌, ◌<◌};
 ghost use Rattle.heap_table.specs.Seats.{heap_words};
 ghost use Rattle.heap_table.specs.declared.phase.Phase.TheVariants.{Quiet};
@@ -10,7 +10,7 @@ ghost use Rattle.write_barrier.specs.Mains.{heap_of};
 ghost use Rattle.object_cells.specs.Made.{PutsWords};
 ghost use Rattle.weak_pairs.specs.Tables.{IsWithin, key_in, value_in, KeysBeside, IsBesidePairs, made_pair};
 ghost use Rattle.weak_pairs.specs.Tables.{with_pair};
-ghost use Rattle.ephemeron_table.specs.Takings.{ClosesAt, TakesAt};
+ghost use Rattle.ephemeron_table.specs.Removals.{ShiftsBack, RemovesAt};
 
 use crate::probing::{key_of, place};
 use crate::table::number_at;
@@ -66,7 +66,7 @@ pub(crate) fn backward_shift(main: &mut Main, table: Table, at: u32) -> u32
     requires within { IsWithin (heap_of main.old) table }
     requires place { at < table.capacity }
     requires keys { KeysBeside (heap_of main.old) table }
-    ensures { ClosesAt main.old main.new table at result }
+    ensures { ShiftsBack main.old main.new table at result }
 {
     main.addresses_fit();
     let mut hole = at;
@@ -97,7 +97,7 @@ pub(crate) fn remove_pair(main: &mut Main, map: u32, table: Table, at: u32)
     requires map { map + count_offset < marks_start main.old.seat.space }
     requires beside { IsBesidePairs table (map + count_offset) }
     requires some { 0 < count_at (heap_of main.old) map }
-    ensures { TakesAt main.old main.new map table at }
+    ensures { RemovesAt main.old main.new map table at }
 {
     main.addresses_fit();
     let hole = backward_shift(main, table, at);

@@ -13,3 +13,6 @@ pub mod MovedLinks
 pub mod MovedReach
 pub mod MovedGraphs
 pub mod MovedRooms
+pub mod Unmoved
+pub mod AllStands
+pub mod RoomsStay

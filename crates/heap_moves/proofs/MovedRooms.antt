@@ -1,27 +1,25 @@
 -- An object that stays keeps its room: a store of as many slots or a table of as many pairs, and its count.
 use Rattle.std.proofs.Common.{◌≡◌, ℕ, ◌+◌, ◌*◌, ◌^◌, ◌<◌, ◌≤◌, ◌⊎◌, inl, inr, List, length, get_or, Contains, Option}
 use Rattle.std.proofs.Common.{Some, None, IsTrue, refl, sym, ◌∙◌, ap, subst, arith}
-use Rattle.std.proofs.lemmas.Bool.{cases_lt, eqb-true, false≢true}
+use Rattle.std.proofs.lemmas.Bool.{cases_lt, false≢true}
 use Rattle.std.proofs.lemmas.Option.{slice_get-get_or}
 use Rattle.tagged_word.specs.declared.layout.Kind.{Kind}
 use Rattle.tagged_word.specs.declared.layout.Kind.TheVariants as kind
 use Rattle.tagged_word.specs.Cells.{words_of, scavenge_offsets, store_slot, length_offset, store_head}
 use Rattle.tagged_word.specs.Readings.{reference_in}
-use Rattle.tagged_word.specs.Shapes.{list_shape, weak_shape}
 use Rattle.tagged_word.proofs.Readings.{reference_from, reference_to}
 use Rattle.tagged_word.proofs.Members.{one_in, range_bounds}
 use Rattle.cell_layout.specs.declared.cell.Cell.{Cell}
 use Rattle.heap_model.specs.Heaps.{Heap, HasCell}
 use Rattle.heap_model.specs.Slots.{reference_word, is_object_kind, RefersTo}
 use Rattle.heap_model.specs.Kinds.{HasWord, count_offset}
-use Rattle.heap_model.specs.Needs.{word_at, shape_at, capacity_by, is_list_at, is_weak_at}
-use Rattle.heap_model.specs.Wholeness.{HasSizes}
+use Rattle.heap_model.specs.Needs.{word_at, capacity_by}
+use Rattle.heap_model.proofs.CellsApart.{one_at}
 use Rattle.heap_model.proofs.WordClasses.{same_reference, undefined_refers_not}
 use Rattle.heap_model.proofs.WordsRead.{word_of_cell, shape_is}
 use Rattle.heap_model.proofs.CellWords.{words_by_kind, slots_of_kind}
 use Rattle.heap_model.proofs.ObjectSlots.{store_slot_in}
 use Rattle.heap_model.proofs.SlotWords.{IsStoreKind, IsStoreWord, store_word_of}
-use Rattle.heap_model.proofs.FixedShapes.{shape_is_list, shape_is_weak}
 use Rattle.heap_moves.specs.Moved.{IsMovedWord, AreMoved, moved_to, IsMoved}
 use Rattle.heap_moves.specs.Standing.{Stays, WholeFor}
 use Rattle.heap_moves.specs.Laws.{IsPlaceMoved, MovesKeepRoom}
@@ -82,15 +80,6 @@ count_there {words = words} has (inl is) =
 count_there {words = words} has (inr is) =
     (get_or words 2 0, slice_get-get_or words 2 0 (omega (arith, words_by_kind kind.Weak has is)))
 
--- a cell of the shape of lists or of weak maps is one
-counted_kind : {heap : Heap} {cell : Cell} {words : List ℕ} → HasSizes heap → HasCell heap cell words
-    → IsTrue (is_list_at heap cell.at) ⊎ IsTrue (is_weak_at heap cell.at)
-    → (cell.layout.kind ≡ kind.List) ⊎ (cell.layout.kind ≡ kind.Weak)
-counted_kind {heap} {cell} sized has (inl is) =
-    inl (shape_is_list sized has (sym (shape_is has) ∙ eqb-true (shape_at heap cell.at) list_shape is))
-counted_kind {heap} {cell} sized has (inr is) =
-    inr (shape_is_weak sized has (sym (shape_is has) ∙ eqb-true (shape_at heap cell.at) weak_shape is))
-
 module _ {old new : Heap} {to : ℕ → Option ℕ} (moved : IsMoved old new to) (whole : WholeFor old (Stays to)) where
   -- a word of a cell that no scavenge visits is read where the cell stands
   raw_read : {cell : Cell} {words others : List ℕ} (now offset word : ℕ) → HasCell old cell words
@@ -149,8 +138,10 @@ module _ {old new : Heap} {to : ℕ → Option ℕ} (moved : IsMoved old new to)
         capacity = ap (λ w. capacity_by new (reference_in w)) (word_of_cell store_slot next.0 stood.has next.1)
             ∙ store_capacity is next.2
             ∙ sym (ap (λ w. capacity_by old (reference_in w)) (word_of_cell store_slot store has slot));
-        count = λ counted.
-            let of_kind = counted_kind whole.sized has counted in
+        count = λ one its_words has_one at counted.
+            let same : one ≡ cell = one_at has_one has at in
+            let of_kind =
+            subst (λ (c : Cell). (c.layout.kind ≡ kind.List) ⊎ (c.layout.kind ≡ kind.Weak)) same counted in
             let count = count_there has of_kind in
             raw_read now count_offset count.0 has stood.has stood.are count.1 (count_not_visited has of_kind);
       }

@@ -18,6 +18,7 @@ use cell_layout::{Cell, NotACell, cell_at};
 use collector::{Full, Heap};
 use handle_roots::Held;
 use heap_table::HeapTable;
+use object_cells::{Content, content_of, fill_store, make_box, rep_of};
 use page_space::{Regions, Run, Sizes};
 use shape_tree::{PathField, Rep, ShapesFull};
 use std::alloc::Global;
@@ -25,7 +26,7 @@ use std::process::Abort;
 use std::test::Fail;
 use tagged_word::{Header, Word};
 use word_store::Reads;
-use write_barrier::{Main, NoRoom, slot_word};
+use write_barrier::{Main, NoRoom};
 
 /// A call of the mutator's side, by what it is given.
 #[derive(Clone, Copy)]
@@ -213,13 +214,13 @@ fn carry_out(rt: &impl Abort, main: &mut Main, act: Act)
         MakeBox(a, v) => {
             assert!(rt; a < end);
             assert!(rt; end - a > 1);
-            main.make_box(a, v);
+            make_box(main, a, v);
         }
         FillStore(a, capacity) => {
             assert!(rt; a < end);
             assert!(rt; end - a > 2);
             assert!(rt; capacity <= end - a - 2);
-            main.fill_store(a, capacity);
+            fill_store(main, a, capacity);
         }
         CopySlots(from, to, count) => {
             assert!(rt; from < end);
@@ -291,7 +292,11 @@ fn calls_write_their_words_alone(rt: HostRuntime) -> Result<(), Fail> {
     assert_eq!(rt; sizes, [2_048, 2, 0]);
     adds_a_path(&rt, main);
     for (value, word) in &SLOTS {
-        assert_eq!(rt; slot_word(*value), *word);
+        let held = match content_of(false, rep_of(*value), *value) {
+            Content::Tagged(held) => Some(held),
+            Content::Raw(_) | Content::Boxed(_) => None,
+        };
+        assert_eq!(rt; held, *word);
     }
     Ok(())
 }

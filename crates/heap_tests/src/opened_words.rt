@@ -115,12 +115,12 @@ pub(crate) const VALUES: [(Word, Option<(bool, Held)>); 5] = [
     (Word(0x15), Some((false, Held::Ref(5)))),
 ];
 
-/// Values, and their words in a slot: none where a value needs a box, or is none.
+/// Values, and their words in the slot of a store: none where a value needs a box.
 pub(crate) const SLOTS: [(Held, Option<Word>); 4] = [
     (Held::Int(5), Some(Word(10))),
     (Held::Int(1 << 40), None),
     (Held::Ref(EDEN), Some(Word(0x2001))),
-    (Held::Unbound, None),
+    (Held::Undefined, Some(Word(3))),
 ];
 
 /// Words that are asked for of eden, and where they stand; nowhere where eden has no room.

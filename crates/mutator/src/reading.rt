@@ -11,7 +11,6 @@ ghost use Rattle.mutator.specs.Reading.{FindsInteger, FindsKey, FindsList, Finds
 
 use handle_roots::Held;
 use heap_command::{FaultWord, Operand};
-use shape_change::header_at;
 use tagged_word::shape;
 use write_barrier::Main;
 
@@ -89,7 +88,7 @@ fn plain_at(main: &Main, at: u32) -> Result<Found, FaultWord>
     ensures { (graph : Graph) (value : Value) → MainShows main.now graph →
         StandsFor main.now graph value (Held.Ref at) → FindsPlain main.now graph value result }
 {
-    let shape = header_at(main, at).shape;
+    let shape = main.header(at).shape;
     // The shapes before those of the paths are those of lists, weak maps and cells of no object.
     if shape < shape::PATHS {
         return Err(FaultWord::NotObject);
@@ -117,7 +116,7 @@ fn list_found_at(main: &Main, at: u32) -> Result<u32, FaultWord>
     ensures { (graph : Graph) (value : Value) → MainShows main.now graph →
         StandsFor main.now graph value (Held.Ref at) → FindsList main.now graph value result }
 {
-    if header_at(main, at).shape != shape::LIST {
+    if main.header(at).shape != shape::LIST {
         return Err(FaultWord::NotList);
     }
     Ok(at)
@@ -143,7 +142,7 @@ fn weak_found_at(main: &Main, at: u32) -> Result<u32, FaultWord>
     ensures { (graph : Graph) (value : Value) → MainShows main.now graph →
         StandsFor main.now graph value (Held.Ref at) → FindsWeak main.now graph value result }
 {
-    if header_at(main, at).shape != shape::WEAK {
+    if main.header(at).shape != shape::WEAK {
         return Err(FaultWord::NotWeak);
     }
     Ok(at)

@@ -16,7 +16,6 @@ use crate::stop::Stop;
 use handle_roots::Held;
 use heap_command::{Command, Operand};
 use itoa::Buffer;
-use shape_change::header_at;
 use tagged_word::shape;
 use write_barrier::Main;
 
@@ -88,7 +87,7 @@ fn put_value(main: &Main, value: Held, out: &mut Output)
         Held::Unbound | Held::Undefined => out.put(b"undefined"),
         Held::Int(v) => out.put(buffer.format(v).as_bytes()),
         Held::Ref(at) => {
-            let header = header_at(main, at);
+            let header = main.header(at);
             out.put(noun(header.shape));
             out.put(buffer.format(header.object).as_bytes());
         }

@@ -1,8 +1,8 @@
 //! Shape change: the fields of plain objects, by the addresses of their cells.
 //!
 //! Model: none of its own. `specs/FieldChanges.antt` says what `get`, `set` and `delete` do of each
-//! graph that the heap shows, and `header_at` reads the header of any cell. What the words that the
-//! calls write make of the object's cells and of the graph is in `object_cells`.
+//! graph that the heap shows. What the words that the calls write make of the object's cells and of
+//! the graph is in `object_cells`.
 //! Invariant: none. `IsShownPlain` of `specs/FieldChanges.antt` is what a call needs: the heap
 //! shows a graph, and a plain object of it stands at the address.
 #![tactic(auto)]
@@ -19,5 +19,4 @@ mod transitions;
 pub use delete_field::delete;
 pub use get_field::get;
 pub use set_field::set;
-pub use slots::header_at;
 pub use stop::FieldStop;

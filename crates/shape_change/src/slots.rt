@@ -11,7 +11,7 @@ ghost use Rattle.shape_tree.specs.Shapes.{IsPathShape, shape_path};
 ghost use Rattle.heap_model.specs.Slots.{IsFieldWord};
 ghost use Rattle.heap_model.specs.Showing.{ShowsHeld, ShowsField};
 ghost use Rattle.write_barrier.specs.Mains.{heap_of, IsTied};
-ghost use Rattle.object_cells.specs.CellsAt.{IsWhole, HasCellAt, HasPlainSlot, IsHeaderAt, IsCapAt};
+ghost use Rattle.object_cells.specs.CellsAt.{IsWhole, HasPlainSlot, IsCapAt};
 ghost use Rattle.heap_table.specs.declared.phase.Phase.TheVariants.{Quiet};
 ghost use Rattle.heap_model.specs.Needs.{word_at};
 ghost use Rattle.object_cells.specs.Contents.{Allocates, LacksRoom, HoldsSlotWord, IsBeforeMarks};
@@ -19,8 +19,8 @@ ghost use Rattle.object_cells.specs.Contents.{Allocates, LacksRoom, HoldsSlotWor
 use handle_roots::Held;
 use object_cells::{Content, Filling};
 use object_graph::Rep;
+use tagged_word::Word;
 use tagged_word::cell::{PLAIN_HEAD, STORE_HEAD, STORE_SLOT};
-use tagged_word::{Header, Word};
 use write_barrier::{Main, NoRoom};
 
 /// Where a field of a plain object stands.
@@ -39,16 +39,6 @@ impl Place {
     {
         matches!(self, Place::InObject(_))
     }
-}
-
-/// The header of the cell at an address.
-#[inline(always)]
-pub fn header_at(main: &Main, at: u32) -> Header
-    requires whole { IsWhole main.now }
-    requires there { HasCellAt (heap_of main.now) at }
-    ensures { IsHeaderAt (heap_of main.now) at result }
-{
-    main.header(at)
 }
 
 // Whether a slot is raw, by where it stands and its representation.

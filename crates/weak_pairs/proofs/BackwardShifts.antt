@@ -40,7 +40,7 @@ pub record HasShifted (heap : Heap) (before now : List Pair) (place hole passed 
   pub removal : IsRemoval (numbers heap before) place (numbers heap now) hole passed
   pub going : IsGoing before (slice_set now hole free_pair) place hole passed
 
--- it begins at the place
+-- the removal begins at the place
 pub shift_begins : (heap : Heap) (pairs : List Pair) (place : ℕ) → place < length pairs
     → HasShifted heap pairs pairs place place 0
 shift_begins heap pairs place within = record {
@@ -76,7 +76,7 @@ module _ (old now : Heap) (table : Table) {place hole passed : ℕ}
   pub hole_below : hole < table.capacity
   hole_below = omega (arith, shifting.removal.within, numbers_long)
 
-  -- where a pair was free, what stands below the place stood below it
+  -- what stands below the place stood below it, where a pair was free
   pub stays_below : (free : ℕ) → slice_get before free ≡ Some free_pair → (one : Pair) → IsFilledAt before place one
       → StaysBelow shifting.going.removed
   stays_below free is_free one filled =
@@ -128,7 +128,7 @@ module _ (old now : Heap) (table : Table) {place hole passed : ℕ}
     free_hole : slice_get (slice_set far hole free_pair) hole ≡ Some free_pair
     free_hole = slice_get-set_same far hole free_pair (omega (arith, hole_below, far_long))
 
-    -- where it has no key, the hole may be free
+    -- the hole may be free where the next pair has no key
     pub ends_here : reference_in read.pair.key ≡ None → FindsAll (numbers old before)
         → FindsAll (slice_set (numbers old far) hole None)
     ends_here none =
@@ -159,7 +159,7 @@ module _ (old now : Heap) (table : Table) {place hole passed : ℕ}
             number_read old far next read.pair read.there ∙ ap (option_map (number_at old)) refers
             ∙ ap Some (sym number_same ∙ sym number_is)
 
-        -- it stays
+        -- the next pair stays where probing does not pass the hole
         pub passes_on : steps ≤ passed → HasShifted old before far place hole (passed + 1)
         passes_on near = record {
           removal = turn_passes (numbers old before) (numbers old far) place table.capacity hole passed next number
@@ -172,13 +172,14 @@ module _ (old now : Heap) (table : Table) {place hole passed : ℕ}
           };
         }
 
-        -- or moves
+        -- the next pair moves to the hole where probing passes that
         module _ {new : List ℕ} (far_from : passed < steps)
             (puts : new ≡ with_pair now.words table.at hole
             (made_pair (key_in now table.at next) (value_in now table.at next))) where
           same_pair : made_pair (key_in now table.at next) (value_in now table.at next) ≡ read.pair
           same_pair =
-              ap (λ k. made_pair k (value_in now table.at next)) read.key ∙ ap (λ v. made_pair read.pair.key v) read.value
+              ap (λ k. made_pair k (value_in now table.at next)) read.key
+              ∙ ap (λ v. made_pair read.pair.key v) read.value
 
           pairs_new : pairs_of new table ≡ slice_set far hole read.pair
           pairs_new =

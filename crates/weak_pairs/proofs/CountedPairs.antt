@@ -12,7 +12,7 @@ use Rattle.heap_model.specs.Kinds.{Pair, free_pair, is_free_pair}
 abbrev pub count_filled : List Pair → ℕ
 count_filled pairs = count_by (λ pair. not (is_free_pair pair)) pairs
 
--- one or none
+-- one where the test passes, or none
 abbrev pub one_if : Bool → ℕ
 one_if test = cond test 1 0
 
@@ -51,7 +51,7 @@ pub filled_counts : (pair : Pair) → pair ≢ free_pair → not (is_free_pair p
 filled_counts pair filled =
     ap not (both_by (pair.key == hole_word) (pair.value == hole_word) pair refl refl filled)
 
--- one less is counted once it was made free
+-- one pair less is counted once it was made free
 pub count_freed : (pairs : List Pair) (at : ℕ) (pair : Pair) → slice_get pairs at ≡ Some pair → pair ≢ free_pair
     → count_filled (slice_set pairs at free_pair) + 1 ≡ count_filled pairs
 count_freed pairs at pair there filled =
@@ -61,7 +61,7 @@ count_freed pairs at pair there filled =
       ap one_if (filled_counts pair filled),
     )
 
--- and one more once one was put where none was
+-- one pair more is counted once one was put where none was
 pub count_put : (pairs : List Pair) (at : ℕ) (pair : Pair) → slice_get pairs at ≡ Some free_pair → pair ≢ free_pair
     → count_filled (slice_set pairs at pair) ≡ count_filled pairs + 1
 count_put pairs at pair there filled =
@@ -71,7 +71,7 @@ count_put pairs at pair there filled =
       ap one_if (filled_counts pair filled),
     )
 
--- and as many where one that holds something takes the place of another
+-- as many pairs are counted where one that holds something takes the place of another
 pub count_kept : (pairs : List Pair) (at : ℕ) (was pair : Pair) → slice_get pairs at ≡ Some was → was ≢ free_pair
     → pair ≢ free_pair → count_filled (slice_set pairs at pair) ≡ count_filled pairs
 count_kept pairs at was pair there was_filled filled =

@@ -40,7 +40,7 @@ first_apart true entry entries key same found = absurd (none-some entry.value (s
 first_apart false entry entries key other found =
     (λ same. false≢true (sym other ∙ eq-eqb entry.key key same), found)
 
--- nor that of any
+-- a key that has no value is not that of any entry
 pub entry_apart : (entries : List Entry) (key at : ℕ) (entry : Entry) → entry_value entries key ≡ None
     → slice_get entries at ≡ Some entry → entry.key ≢ key
 entry_apart [] key at entry none there same = none-some entry there

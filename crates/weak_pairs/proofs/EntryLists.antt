@@ -21,19 +21,19 @@ pub record IsEntryOf (entries : List Entry) (entry : Entry) : Type 0 where
   pub at : ℕ
   pub stands : slice_get entries at ≡ Some entry
 
--- so it does behind one more
+-- an entry stands behind one more entry too
 later : (first : Entry) (entries : List Entry) (entry : Entry) → IsEntryOf entries entry
     → IsEntryOf (first ∷ entries) entry
 later first entries entry is = record { at = suc is.at; stands = is.stands }
 
--- Once the entry of a key was put or taken out, an entry is the one that was put, or one of another key that stood
+-- Once the entry of a key was put or removed, an entry is the one that was put, or one of another key that stood
 -- before.
 pub data EntryComes (entries : List Entry) (number : ℕ) (value : Option Value) (entry : Entry) : Type 0 where
   put : (what : Value) → value ≡ Some what → entry ≡ record { key = number; value = what }
       → EntryComes entries number value entry
   stayed : entry.key ≢ number → IsEntryOf entries entry → EntryComes entries number value entry
 
--- so it is where there was one more
+-- an entry comes from where it may behind one more entry too
 comes_later : (first : Entry) (entries : List Entry) (number : ℕ) (value : Option Value) (entry : Entry)
     → EntryComes entries number value entry → EntryComes (first ∷ entries) number value entry
 comes_later first entries number value entry (EntryComes.put what is same) = EntryComes.put what is same
@@ -44,7 +44,7 @@ comes_later first entries number value entry (EntryComes.stayed other is) =
 abbrev pub HasNoEntry : List Entry → ℕ → Type 0
 HasNoEntry entries number = (entry : Entry) → IsEntryOf entries entry → entry.key ≢ number
 
--- where a key differs from all of them, none has it
+-- no entry has a key that differs from all of theirs
 no_key_at : (key : ℕ) (entries : List Entry) (k : ℕ) (entry : Entry)
     → AllByRecursion (λ other. (key == other) ≡ false) (keys_in entries) → slice_get entries k ≡ Some entry
     → entry.key ≢ key
@@ -55,13 +55,13 @@ no_key_at key (first ∷ entries) zero entry all there same =
     absurd (grind (arith, nat_tests))
 no_key_at key (first ∷ entries) (suc k) entry all there same = no_key_at key entries k entry all.1 there same
 
--- where no key stands twice, none behind the first has its key
+-- no entry behind the first has its key, where no key stands twice
 no_second : (first : Entry) (entries : List Entry) → IsDistinct ◌==◌ (keys_in (first ∷ entries))
     → HasNoEntry entries first.key
 no_second first entries distinct entry is =
     no_key_at first.key entries is.at entry (IsDistinct-head ◌==◌ first.key (keys_in entries) distinct) is.stands
 
--- where the entry of a key is put, by whether the first has it
+-- an entry comes from where it may once that of a key was put, by whether the first has the key
 with_comes_by : (test : Bool) (first : Entry) (entries more : List Entry) (number : ℕ) (what : Value) (k : ℕ)
     (entry : Entry) → (test ≡ true → HasNoEntry entries number) → (test ≡ false → first.key ≢ number)
     → ((i : ℕ) → slice_get more i ≡ Some entry → EntryComes entries number (Some what) entry)
@@ -78,13 +78,13 @@ with_comes_by false first entries more number what zero entry none other rest th
 with_comes_by false first entries more number what (suc k) entry none other rest there =
     comes_later first entries number (Some what) entry (rest k there)
 
--- where the first has the key and none stands twice, no other has it
+-- no other entry has the key that the first has, where none stands twice
 none_behind : (first : Entry) (entries : List Entry) (number : ℕ) → IsDistinct ◌==◌ (keys_in (first ∷ entries))
     → (first.key == number) ≡ true → HasNoEntry entries number
 none_behind first entries number distinct test =
     subst (HasNoEntry entries) (eqb-true first.key number test) (no_second first entries distinct)
 
--- where the entry of a key is put
+-- an entry comes from where it may once that of a key was put
 with_comes : (entries : List Entry) (number : ℕ) (what : Value) (k : ℕ) (entry : Entry)
     → IsDistinct ◌==◌ (keys_in entries) → slice_get (with_entry entries number what) k ≡ Some entry
     → EntryComes entries number (Some what) entry
@@ -96,7 +96,7 @@ with_comes (first ∷ entries) number what k entry distinct there =
     (none_behind first entries number distinct) (eqb-false first.key number)
     (λ i. with_comes entries number what i entry (IsDistinct-tail ◌==◌ first.key (keys_in entries) distinct)) there
 
--- where it is taken out, by whether the first has it
+-- an entry comes from where it may once that of a key was removed, by whether the first has the key
 without_comes_by : (test : Bool) (first : Entry) (entries fewer : List Entry) (number k : ℕ) (entry : Entry)
     → (test ≡ true → HasNoEntry entries number) → (test ≡ false → first.key ≢ number)
     → ((i : ℕ) → slice_get fewer i ≡ Some entry → EntryComes entries number None entry)
@@ -110,7 +110,7 @@ without_comes_by false first entries fewer number zero entry none other rest the
 without_comes_by false first entries fewer number (suc k) entry none other rest there =
     comes_later first entries number None entry (rest k there)
 
--- where it is taken out
+-- an entry comes from where it may once that of a key was removed
 without_comes : (entries : List Entry) (number k : ℕ) (entry : Entry) → IsDistinct ◌==◌ (keys_in entries)
     → slice_get (without_entry entries number) k ≡ Some entry → EntryComes entries number None entry
 without_comes [] number k entry distinct there = absurd (none-some entry there)
@@ -141,7 +141,7 @@ not_first : (first entry : Entry) (number : ℕ) → entry.key ≢ number → (f
 not_first first entry number other test same =
     other (sym (ap (λ (e : Entry). e.key) same) ∙ eqb-true first.key number test)
 
--- so it stays where one is put
+-- an entry of another key stays where one is put
 with_stays : (entries : List Entry) (number : ℕ) (what : Value) (k : ℕ) (entry : Entry) → entry.key ≢ number
     → slice_get entries k ≡ Some entry → IsEntryOf (with_entry entries number what) entry
 with_stays [] number what k entry other there = absurd (none-some entry there)
@@ -150,7 +150,7 @@ with_stays (first ∷ entries) number what k entry other there =
     (with_entry entries number what) k entry (not_first first entry number other)
     (λ i. with_stays entries number what i entry other) there
 
--- and where one is taken out, by whether the first has the key
+-- an entry of another key stays where one is removed, by whether the first has the key
 without_stays_by : (test : Bool) (first : Entry) (entries fewer : List Entry) (k : ℕ) (entry : Entry)
     → (test ≡ true → first ≢ entry) → ((i : ℕ) → slice_get entries i ≡ Some entry → IsEntryOf fewer entry)
     → slice_get (first ∷ entries) k ≡ Some entry → IsEntryOf (cond test entries (first ∷ fewer)) entry
@@ -160,7 +160,7 @@ without_stays_by true first entries fewer (suc k) entry other rest there = recor
 without_stays_by false first entries fewer zero entry other rest there = record { at = 0; stands = there }
 without_stays_by false first entries fewer (suc k) entry other rest there = later first fewer entry (rest k there)
 
--- so it stays where one is taken out
+-- an entry of another key stays where one is removed
 without_stays : (entries : List Entry) (number k : ℕ) (entry : Entry) → entry.key ≢ number
     → slice_get entries k ≡ Some entry → IsEntryOf (without_entry entries number) entry
 without_stays [] number k entry other there = absurd (none-some entry there)
@@ -174,7 +174,7 @@ pub entry_stays : (entries : List Entry) (number : ℕ) (value : Option Value) (
 entry_stays entries number (Some what) k entry other there = with_stays entries number what k entry other there
 entry_stays entries number None k entry other there = without_stays entries number k entry other there
 
--- one that is put is there, by whether the first has the key
+-- the entry that is put is there, by whether the first has the key
 put_there_by : (test : Bool) (first one : Entry) (entries more : List Entry) → IsEntryOf more one
     → IsEntryOf (cond test (one ∷ entries) (first ∷ more)) one
 put_there_by true first one entries more rest = record { at = 0; stands = refl }

@@ -16,7 +16,7 @@ both_holes true true pair key value both =
 both_holes true false pair key value both = absurd (false≢true both)
 both_holes false two pair key value both = absurd (false≢true both)
 
--- where fewer pairs than all hold something, one is free, by whether the first is
+-- one pair is free where fewer than all hold something, by whether the first is
 free_by : (test : Bool) (pair : Pair) (pairs : List Pair) → is_free_pair pair ≡ test
     → count_filled (pair ∷ pairs) < length (pair ∷ pairs)
     → (count_filled pairs < length pairs → (free : ℕ) × (slice_get pairs free ≡ Some free_pair))
@@ -29,7 +29,7 @@ free_by false pair pairs is fewer rest =
     let later = rest (omega (arith, fewer, more, one)) in
     (suc later.0, later.1)
 
--- so it is of all
+-- one pair is free where fewer than all hold something
 pub one_is_free : (pairs : List Pair) → count_filled pairs < length pairs
     → (free : ℕ) × (slice_get pairs free ≡ Some free_pair)
 one_is_free [] fewer = absurd (omega arith)

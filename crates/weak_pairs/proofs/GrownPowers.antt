@@ -11,7 +11,7 @@ doubled_power n power =
     let next : 2 ^ (power.0 + 1) ≡ 2 * 2 ^ power.0 = omega (arith, pow-add 2 power.0 1) in
     (power.0 + 1, ap (λ m. 2 * m) power.1 ∙ sym next)
 
--- so the table that takes the place of one has as many pairs as a power of two
+-- the table that takes the place of one has as many pairs as a power of two
 pub grown_power : (capacity : ℕ) → IsPowerOfTwo capacity → IsPowerOfTwo (grown_table capacity)
 grown_power capacity power = elim (cases_lt (2 * capacity) 512) [
   | inl low ↦ elim (cases_lt (2 * capacity) 4) [
@@ -23,6 +23,6 @@ grown_power capacity power = elim (cases_lt (2 * capacity) 512) [
   | inr high ↦ (9, omega (arith, high))
 ]
 
--- and so has one that is made where there is none
+-- a table that is made where there is none has as many pairs as a power of two
 pub first_power : (capacity : ℕ) → capacity ≡ 0 → IsPowerOfTwo (grown_table capacity)
 first_power capacity none = (2, omega (arith, none))

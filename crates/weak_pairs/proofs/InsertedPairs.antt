@@ -21,7 +21,7 @@ use Rattle.weak_pairs.proofs.KeyedPairs.{HaveKeys, free_without}
 use Rattle.weak_pairs.proofs.PairLists.{pairs_read}
 use Rattle.weak_pairs.proofs.PairNumbers.{ReadsPair, reads_pair, length-numbers, number_place}
 
--- where fewer pairs than all hold something, one is free
+-- one pair of a table is free where fewer than all hold something
 pub has_free : (heap : Heap) (table : Table) → table.at + (store_head + 2 * table.capacity) ≤ length heap.words
     → count_filled (pairs_of heap.words table) < table.capacity → HasFree heap table
 has_free heap table within fewer =
@@ -48,7 +48,7 @@ module _ {now : Heap} {table : Table} {number place : ℕ}
   inserted_below =
       omega (arith, first.comes, place_after_within table.capacity number first.steps (omega (arith, first.few)))
 
-  -- where a pair is free
+  -- the pair at the place is free
   pub inserted_free : slice_get far place ≡ Some free_pair
   inserted_free =
       let read : ReadsPair now table place = reads_pair now table place within inserted_below in
@@ -81,7 +81,7 @@ module _ {now : Heap} {table : Table} {number place : ℕ}
               filled_on_way before few (ap (slice_get (numbers heap far)) (way before) ∙ free);
         }
 
-    -- so probing finds all again
+    -- probing finds all again once the pair stands there
     pub inserted_found : (pair : Pair) → number_of heap pair ≡ Some number → FindsAll (numbers heap far)
         → FindsAll (numbers heap (slice_set far place pair))
     inserted_found pair is all =

@@ -19,11 +19,11 @@ free_by_test : (test : Bool) (pair : Pair) → is_free_pair pair ≡ test → (p
 free_by_test true pair is = inl (both_holes (pair.key == hole_word) (pair.value == hole_word) pair refl refl is)
 free_by_test false pair is = inr (λ free. false≢true (sym is ∙ ap is_free_pair free))
 
--- so each pair holds nothing or something
+-- each pair holds nothing or something
 pub free_or_filled : (pair : Pair) → (pair ≡ free_pair) ⊎ (pair ≢ free_pair)
 free_or_filled pair = free_by_test (is_free_pair pair) pair refl
 
--- one without a key holds nothing
+-- a pair without a key holds nothing
 pub free_without : (pairs : List Pair) (place : ℕ) (pair : Pair) → HaveKeys pairs → slice_get pairs place ≡ Some pair
     → reference_in pair.key ≡ None → pair ≡ free_pair
 free_without pairs place pair keys there none = elim (free_or_filled pair) [

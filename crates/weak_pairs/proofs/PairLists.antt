@@ -68,7 +68,7 @@ same_pairs words table pairs others are are_too =
     (same_Some _ _ (sym (are.keys k (get_or pairs k d) one) ∙ are_too.keys k (get_or others k d) two))
     (same_Some _ _ (sym (are.values k (get_or pairs k d) one) ∙ are_too.values k (get_or others k d) two)))
 
--- so they are those that are read
+-- the pairs that a table's words stand for are those that are read
 pub pairs_are : (words : List ℕ) (table : Table) (pairs : List Pair)
     → table.at + (store_head + 2 * table.capacity) ≤ length words → ArePairsIn words table pairs
     → pairs_of words table ≡ pairs

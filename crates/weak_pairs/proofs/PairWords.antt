@@ -13,8 +13,8 @@ use Rattle.heap_model.specs.Wholeness.{HasSlotAt}
 use Rattle.heap_model.proofs.WordClasses.{undefined_refers_not}
 use Rattle.heap_model.proofs.CellsApart.{IsOfCell, one_words}
 use Rattle.heap_model.proofs.NewKeys.{one_table}
-use Rattle.heap_model.proofs.CellWords.{slice_get-drop, words_are_size, words_by_kind, slots_by_kind, slots_of_kind, behind_head}
-use Rattle.heap_model.proofs.CellWords.{behind_head_few}
+use Rattle.heap_model.proofs.CellWords.{slice_get-drop, words_are_size, words_by_kind, slots_by_kind}
+use Rattle.heap_model.proofs.CellWords.{slots_of_kind, behind_head, behind_head_few}
 use Rattle.heap_model.proofs.ObjectSlots.{pair_words}
 use Rattle.heap_model.proofs.SlotWords.{same_target}
 use Rattle.weak_pairs.specs.Pairs.{HasPairs}
@@ -49,7 +49,7 @@ pub data IsPairWord (pairs : List Pair) (k word : ℕ) : Type 0 where
   as_value : (at : ℕ) (pair : Pair) → slice_get pairs at ≡ Some pair → pair.value ≡ word → k ≡ suc (2 * at)
       → IsPairWord pairs k word
 
--- so it is behind one pair more
+-- a word of pairs is one behind one pair more too
 pair_word_later : (first : Pair) (pairs : List Pair) (k word : ℕ) → IsPairWord pairs k word
     → IsPairWord (first ∷ pairs) (suc (suc k)) word
 pair_word_later first pairs k word (IsPairWord.as_key at pair there is) = IsPairWord.as_key (suc at) pair there is

@@ -42,7 +42,7 @@ key_put words table place pair within =
     (table + key_offset place) pair.value (λ same. omega (arith, same))
     ∙ slice_get-set_same words (table + key_offset place) pair.key (omega (arith, within))
 
--- and that of its value
+-- the word of the value that was put
 value_put : (words : List ℕ) (table place : ℕ) (pair : Pair) → table + value_offset place < length words
     → slice_get (with_pair words table place pair) (table + value_offset place) ≡ Some pair.value
 value_put words table place pair within =
@@ -59,7 +59,7 @@ key_other words table place other pair apart =
     ∙ slice_get-set_other words (table + key_offset place) (table + key_offset other) pair.key
     (λ same. apart (omega (arith, same)))
 
--- and so does that of its value
+-- the word of the value of another pair stays
 value_other : (words : List ℕ) (table place other : ℕ) (pair : Pair) → other ≢ place
     → slice_get (with_pair words table place pair) (table + value_offset other)
     ≡ slice_get words (table + value_offset other)
@@ -105,7 +105,7 @@ pairs_put words table pairs place pair within below are = record {
   ];
 }
 
--- so they are read
+-- the pairs that are read are those with the one that was put
 pub pairs_now : (words : List ℕ) (table : Table) (place : ℕ) (pair : Pair)
     → table.at + (store_head + 2 * table.capacity) ≤ length words → place < table.capacity
     → pairs_of (with_pair words table.at place pair) table ≡ slice_set (pairs_of words table) place pair

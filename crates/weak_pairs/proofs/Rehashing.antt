@@ -1,5 +1,5 @@
 -- What the pairs of a table are while those of another one come to it, one after the other.
-use Rattle.std.proofs.Common.{◌≡◌, ◌≢◌, ℕ, zero, suc, ◌+◌, ◌<◌, inl, inr, Bool, true, false, List, [], ◌∷◌, length}
+use Rattle.std.proofs.Common.{◌≡◌, ◌≢◌, ℕ, zero, suc, ◌+◌, ◌<◌, inl, inr, List, [], ◌∷◌, length}
 use Rattle.std.proofs.Common.{drop, Some, slice_get, refl, sym, ◌∙◌, ap, subst, arith, cond, not, ◌==◌}
 use Rattle.std.specs.Prelude.{slice_set}
 use Rattle.std.proofs.lemmas.Bool.{cases_eq, cases_lt, eq-eqb, ne_eqb}
@@ -11,9 +11,9 @@ use Rattle.weak_pairs.specs.Rehashing.{AreRehashed}
 use Rattle.weak_pairs.specs.Pairs.{HoldNothing, IsFilledAt}
 use Rattle.weak_pairs.proofs.CountedPairs.{count_filled, count_put, one_if, filled_counts}
 use Rattle.weak_pairs.proofs.PairsPut.{at_place}
-use Rattle.weak_pairs.proofs.FilledPairs.{filled_elsewhere, free_not_filled, still_filled}
+use Rattle.weak_pairs.proofs.FilledPairs.{origin_by, filled_elsewhere, free_not_filled, still_filled}
 
--- those behind a place are one pair fewer than those from it on
+-- the pairs behind a place are one fewer than those from it on
 count_from : (pairs : List Pair) (at : ℕ) (pair : Pair) → slice_get pairs at ≡ Some pair
     → count_filled (drop at pairs) ≡ one_if (not (is_free_pair pair)) + count_filled (drop (suc at) pairs)
 count_from [] at pair there = absurd (none-some pair there)
@@ -29,7 +29,7 @@ count_behind pairs at pair there =
     let next : suc at ≡ at + 1 = omega arith in
     count_from pairs at pair there ∙ ap (λ n. one_if (not (is_free_pair pair)) + count_filled (drop n pairs)) next
 
--- where none holds something, none is counted
+-- no pair is counted where none holds something
 pub none_counted : (pairs : List Pair) → HoldNothing pairs → count_filled pairs ≡ 0
 none_counted [] nothing = refl
 none_counted (first ∷ pairs) nothing =
@@ -41,7 +41,7 @@ none_counted (first ∷ pairs) nothing =
       none_counted pairs (λ at pair there. nothing (suc at) pair there),
     )
 
--- it begins with none
+-- the first table comes to a second one that holds nothing, beginning with none of its pairs
 pub rehashed_begins : (before after : List Pair) → HoldNothing after → AreRehashed before after 0
 rehashed_begins before after nothing = record {
   origin = λ at. at;
@@ -52,14 +52,9 @@ rehashed_begins before after nothing = record {
   counted = omega (arith, none_counted after nothing);
 }
 
--- by a test, the one place or the other
-abbrev origin_by : Bool → ℕ → ℕ → ℕ
-origin_by true here there = here
-origin_by false here there = there
-
 module _ {before after : List Pair} {at : ℕ} (moved : AreRehashed before after at) (pair : Pair)
     (there : slice_get before at ≡ Some pair) where
-  -- one that holds nothing is passed
+  -- a pair that holds nothing is passed
   pub rehashed_passes : pair ≡ free_pair → AreRehashed before after (at + 1)
   rehashed_passes free = record {
     origin = moved.origin;
@@ -79,11 +74,11 @@ module _ {before after : List Pair} {at : ℕ} (moved : AreRehashed before after
   }
 
   module _ (place : ℕ) (free : slice_get after place ≡ Some free_pair) (filled : pair ≢ free_pair) where
-    -- one that holds something comes to a free place
+    -- the pairs after, with a pair that holds something at a free place
     abbrev put : List Pair
     put = slice_set after place pair
 
-    -- where each comes from then
+    -- the place from which each comes then
     abbrev origin : ℕ → ℕ
     origin one = origin_by (one == place) at (moved.origin one)
 

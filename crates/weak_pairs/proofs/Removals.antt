@@ -1,5 +1,5 @@
 -- What is left of the pairs of a table while one is removed.
-use Rattle.std.proofs.Common.{◌≡◌, ◌≢◌, ℕ, ◌<◌, inl, inr, Bool, true, false, List, length, Some, slice_get, refl, sym}
+use Rattle.std.proofs.Common.{◌≡◌, ◌≢◌, ℕ, ◌<◌, inl, inr, List, length, Some, slice_get, refl, sym}
 use Rattle.std.proofs.Common.{◌∙◌, ap, subst, arith, length-set, ◌==◌}
 use Rattle.std.specs.Prelude.{slice_set}
 use Rattle.std.proofs.lemmas.Bool.{cases_eq, eq-eqb, ne_eqb}
@@ -10,10 +10,10 @@ use Rattle.weak_pairs.specs.Pairs.{IsFilledAt}
 use Rattle.weak_pairs.specs.Removals.{IsRemoved}
 use Rattle.weak_pairs.proofs.PairsPut.{at_place}
 use Rattle.weak_pairs.proofs.CountedPairs.{count_freed, count_put}
-use Rattle.weak_pairs.proofs.FilledPairs.{free_not_filled, filled_apart, filled_elsewhere}
+use Rattle.weak_pairs.proofs.FilledPairs.{origin_by, free_not_filled, filled_apart, filled_elsewhere}
 use Rattle.weak_pairs.proofs.FilledPairs.{still_filled, same_filled}
 
--- where nothing has moved, the pair is taken out
+-- the pair is removed where it alone was made free
 pub removed_begins : (before : List Pair) (place : ℕ) → IsRemoved before (slice_set before place free_pair) place
 removed_begins before place = record {
   long = length-set before place free_pair;
@@ -26,17 +26,12 @@ removed_begins before place = record {
   counted = λ pair filled. count_freed before place pair filled.stands filled.filled;
 }
 
--- then each comes from its own place
+-- each pair comes from its own place where nothing has moved
 pub begins_origin : (before : List Pair) (place at : ℕ) → (removed_begins before place).origin at ≡ at
 unfolding removed_begins
 begins_origin before place at = refl
 
--- by a test, the one place or the other
-abbrev origin_by : Bool → ℕ → ℕ → ℕ
-origin_by true here there = here
-origin_by false here there = there
-
-module _ {before after : List Pair} {place : ℕ} (taken : IsRemoved before after place) (hole next : ℕ) (pair : Pair)
+module _ {before after : List Pair} {place : ℕ} (removed : IsRemoved before after place) (hole next : ℕ) (pair : Pair)
     (free : slice_get after hole ≡ Some free_pair) (there : slice_get after next ≡ Some pair)
     (filled : pair ≢ free_pair)
     (apart : hole ≢ next) where
@@ -44,15 +39,15 @@ module _ {before after : List Pair} {place : ℕ} (taken : IsRemoved before afte
   abbrev pub moved : List Pair
   moved = slice_set (slice_set after hole pair) next free_pair
 
-  -- where each comes from then
+  -- the place from which each comes then
   abbrev origin : ℕ → ℕ
-  origin at = origin_by (at == hole) (taken.origin next) (taken.origin at)
+  origin at = origin_by (at == hole) (removed.origin next) (removed.origin at)
 
-  origin_here : (at : ℕ) → at ≡ hole → origin at ≡ taken.origin next
-  origin_here at same = ap (λ test. origin_by test (taken.origin next) (taken.origin at)) (eq-eqb at hole same)
+  origin_here : (at : ℕ) → at ≡ hole → origin at ≡ removed.origin next
+  origin_here at same = ap (λ test. origin_by test (removed.origin next) (removed.origin at)) (eq-eqb at hole same)
 
-  origin_other : (at : ℕ) → at ≢ hole → origin at ≡ taken.origin at
-  origin_other at other = ap (λ test. origin_by test (taken.origin next) (taken.origin at)) (ne_eqb at hole other)
+  origin_other : (at : ℕ) → at ≢ hole → origin at ≡ removed.origin at
+  origin_other at other = ap (λ test. origin_by test (removed.origin next) (removed.origin at)) (ne_eqb at hole other)
 
   -- the pair stood there
   next_filled : IsFilledAt after next pair
@@ -61,7 +56,7 @@ module _ {before after : List Pair} {place : ℕ} (taken : IsRemoved before afte
   hole_within : hole < length after
   hole_within = slice_get_within after hole free_pair free
 
-  -- and stands in the hole
+  -- the pair stands in the hole
   moved_filled : IsFilledAt moved hole pair
   moved_filled =
       still_filled (slice_set after hole pair) next hole free_pair pair apart
@@ -83,17 +78,17 @@ module _ {before after : List Pair} {place : ℕ} (taken : IsRemoved before afte
         | inr other ↦ Filled.elsewhere other not_next (filled_elsewhere after hole at pair found other first)
       ]
 
-  -- from where each comes
+  -- each comes from a place where it stood before, and not from that of the pair that is removed
   comes_from : (at : ℕ) (found : Pair) → Filled at found
       → IsFilledAt before (origin at) found × (origin at ≢ place)
   comes_from at found (Filled.here same is) =
-      let was = taken.from next pair next_filled in
+      let was = removed.from next pair next_filled in
       let from = origin_here at same in (
-        subst (λ n. IsFilledAt before n found) (sym from) (subst (IsFilledAt before (taken.origin next)) is was.0),
+        subst (λ n. IsFilledAt before n found) (sym from) (subst (IsFilledAt before (removed.origin next)) is was.0),
         λ bad. was.1 (sym from ∙ bad),
       )
   comes_from at found (Filled.elsewhere other not_next now) =
-      let was = taken.from at found now in
+      let was = removed.from at found now in
       let from = origin_other at other in
       (subst (λ n. IsFilledAt before n found) (sym from) was.0, λ bad. was.1 (sym from ∙ bad))
 
@@ -102,27 +97,27 @@ module _ {before after : List Pair} {place : ℕ} (taken : IsRemoved before afte
       → at ≡ other
   stay_apart at other found another (Filled.here same is) (Filled.here same_too is_too) from = same ∙ sym same_too
   stay_apart at other found another (Filled.here same is) (Filled.elsewhere not_hole not_next now) from =
-      absurd (not_next (sym (taken.apart next other pair another next_filled now
+      absurd (not_next (sym (removed.apart next other pair another next_filled now
       (sym (origin_here at same) ∙ from ∙ origin_other other not_hole))))
   stay_apart at other found another (Filled.elsewhere not_hole not_next now) (Filled.here same is) from =
-      absurd (not_next (taken.apart at next found pair now next_filled
+      absurd (not_next (removed.apart at next found pair now next_filled
       (sym (origin_other at not_hole) ∙ from ∙ origin_here other same)))
   stay_apart at other found another (Filled.elsewhere not_hole not_next now)
       (Filled.elsewhere not_hole_too not_next_too too) from =
-      taken.apart at other found another now too
+      removed.apart at other found another now too
       (sym (origin_other at not_hole) ∙ from ∙ origin_other other not_hole_too)
 
   -- each that stood elsewhere stands somewhere
   stays_there : (at : ℕ) (found : Pair) → IsFilledAt before at found → at ≢ place
       → (now : ℕ) × IsFilledAt moved now found × (origin now ≡ at)
   stays_there at found was other =
-      let kept = taken.kept at found was other in
+      let kept = removed.kept at found was other in
       elim (cases_eq kept.0 next) [
         | inl same ↦ (
           hole,
           subst (IsFilledAt moved hole)
               (same_filled after next kept.0 pair found (sym same) next_filled kept.1) moved_filled,
-          origin_here hole refl ∙ ap taken.origin (sym same) ∙ kept.2,
+          origin_here hole refl ∙ ap removed.origin (sym same) ∙ kept.2,
         )
         | inr not_next ↦
             let not_hole : kept.0 ≢ hole = λ same.
@@ -134,10 +129,10 @@ module _ {before after : List Pair} {place : ℕ} (taken : IsRemoved before afte
             )
       ]
 
-  -- so the pair at the place is still taken out
+  -- the pair at the place is still removed after the move
   pub removed_moves : IsRemoved before moved place
   removed_moves = record {
-    long = length-set (slice_set after hole pair) next free_pair ∙ length-set after hole pair ∙ taken.long;
+    long = length-set (slice_set after hole pair) next free_pair ∙ length-set after hole pair ∙ removed.long;
     origin = origin;
     from = λ at found now. comes_from at found (filled_by at found now);
     apart = λ at other found another one two. stay_apart at other found another (filled_by at found one)
@@ -145,18 +140,18 @@ module _ {before after : List Pair} {place : ℕ} (taken : IsRemoved before afte
     kept = stays_there;
     counted = λ found was. omega (
       arith,
-      taken.counted found was,
+      removed.counted found was,
       count_put after hole pair free filled,
       count_freed (slice_set after hole pair) next pair
           (slice_get-set_other after hole next pair (λ same. apart (sym same)) ∙ there) filled,
     );
   }
 
-  -- from where each comes then
-  pub moved_here : removed_moves.origin hole ≡ taken.origin next
+  -- the pair in the hole comes from where that at the next place came from
+  pub moved_here : removed_moves.origin hole ≡ removed.origin next
   unfolding removed_moves
   moved_here = origin_here hole refl
 
-  pub moved_other : (at : ℕ) → at ≢ hole → removed_moves.origin at ≡ taken.origin at
+  pub moved_other : (at : ℕ) → at ≢ hole → removed_moves.origin at ≡ removed.origin at
   unfolding removed_moves
   moved_other at other = origin_other at other

@@ -30,7 +30,7 @@ pub record IsFilledAt (pairs : List Pair) (at : ℕ) (pair : Pair) : Type 0 wher
 abbrev pub HoldNothing : List Pair → Type 0
 HoldNothing pairs = (at : ℕ) (pair : Pair) → slice_get pairs at ≡ Some pair → pair ≡ free_pair
 
--- The pairs once that at a place was taken out. Each that holds something stood at another place before, no two at one
+-- The pairs once that at a place was removed. Each that holds something stood at another place before, no two at one
 -- place, and each other one that did stands somewhere. Where some pair was free before, what stands below the place
 -- stood below it.
 pub record AreWithout (before after : List Pair) (place : ℕ) : Type 0 where

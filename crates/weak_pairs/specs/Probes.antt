@@ -36,7 +36,7 @@ pub record IsFirstFree (heap : Heap) (table : Table) (number place : ℕ) : Type
   pub filled : FilledBefore heap table number steps
   pub free : key_in heap table.at place ≡ hole_word
 
--- it is this place, or none is free
+-- the first free place is this one, or none is free
 abbrev pub FreeBy : Heap → Table → ℕ → Option ℕ → Type 0
 FreeBy heap table number (Some place) = IsFirstFree heap table number place
 FreeBy heap table number None = FilledBefore heap table number table.capacity

@@ -10,10 +10,11 @@ use Rattle.heap_model.specs.Needs.{word_at}
 use Rattle.weak_pairs.specs.Pairs.{IsFilledAt}
 use Rattle.weak_pairs.specs.declared.table.Table.{Table}
 
--- the offsets of the words of a pair in its table
+-- the offset of the key of a pair in its table
 abbrev pub key_offset : ℕ → ℕ
 key_offset place = store_head + 2 * place
 
+-- the offset of the value of a pair in its table
 abbrev pub value_offset : ℕ → ℕ
 value_offset place = store_head + (2 * place + 1)
 
@@ -21,7 +22,7 @@ value_offset place = store_head + (2 * place + 1)
 abbrev pub key_in : Heap → ℕ → ℕ → ℕ
 key_in heap table place = word_at heap (table + key_offset place)
 
--- and that of its value
+-- the word of the value of a pair of the table at an address
 abbrev pub value_in : Heap → ℕ → ℕ → ℕ
 value_in heap table place = word_at heap (table + value_offset place)
 
@@ -68,7 +69,7 @@ number_at heap at = unwrap_or (option_map (λ header. header.object) (header_at 
 abbrev pub number_of : Heap → Pair → Option ℕ
 number_of heap pair = option_map (number_at heap) (reference_in pair.key)
 
--- and of those of all pairs
+-- the numbers of the keys of all pairs
 abbrev pub numbers : Heap → List Pair → List (Option ℕ)
 numbers heap pairs = map (number_of heap) pairs
 
@@ -77,7 +78,7 @@ pub record IsKeyBeside (heap : Heap) (table : Table) (at : ℕ) : Type 0 where
   pub within : at < marks_start heap.space
   pub beside : IsBesidePairs table at
 
--- so it is of each key of the table
+-- each key of the table is such an address
 abbrev pub KeysBeside : Heap → Table → Type 0
 KeysBeside heap table =
     (place at : ℕ) (pair : Pair) → slice_get (pairs_of heap.words table) place ≡ Some pair

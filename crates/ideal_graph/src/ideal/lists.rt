@@ -9,8 +9,8 @@ ghost use Rattle.ideal_graph.specs.Steps.{ComesTo, Steps};
 use super::{Ideal, IdealStop, Said};
 use heap_command::{FaultWord, Operand};
 use ideal_parts::{bind, count_of, element_at, integer, place_in};
-use object_graph::{Elements, Object, Value};
 use object_graph::limits::ELEMENTS_MOST;
+use object_graph::{Elements, Object, Value};
 
 impl Ideal {
     /// Puts the value last in the list `x`.

@@ -12,9 +12,9 @@ use ideal_parts::{
     bind, has_no_room, missing, path_of, same_path, shape_text, value_under, with_value,
     without_key,
 };
+use object_graph::limits::PATHS_MOST;
 use object_graph::{Field, Fields, Object, Path, Value};
 use std::alloc::Global;
-use object_graph::limits::PATHS_MOST;
 
 impl Ideal {
     /// Gives the field `f` of `x` the value.

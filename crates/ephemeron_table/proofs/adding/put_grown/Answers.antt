@@ -1,7 +1,7 @@
 -- The entry is put in a table that is made, or there is no room.
 use Rattle.std.proofs.Common.{◌+◌, rules, sym, subst, arith}
 use Rattle.handle_roots.specs.Roots.{FitsHeld}
-use Rattle.ephemeron_table.specs.Movings.{PutsInNewTable}
+use Rattle.ephemeron_table.specs.Rehashing.{PutsInNewTable}
 use Rattle.ephemeron_table.proofs.FullTables.{put_known}
 use Rattle.ephemeron_table.proofs.GrowableMaps.{can_grow}
 use Rattle.ephemeron_table.proofs.GrownEntries.{IsGrowing}

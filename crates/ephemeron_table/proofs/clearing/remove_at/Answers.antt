@@ -1,4 +1,4 @@
--- The pair is taken out, and the heap is whole again.
+-- The pair is removed, and the heap is whole again.
 use Rattle.std.proofs.Common.{arith}
 use Rattle.ephemeron_table.proofs.KnownTables.{keys_beside, map_beside}
 use Rattle.ephemeron_table.proofs.TablesRead.{count_within}

@@ -1,4 +1,4 @@
--- The pair of the entry is taken out.
+-- The pair of the entry is removed.
 use Rattle.std.proofs.Common.{◌∙◌, arith}
 use Rattle.object_cells.proofs.CellsRead.{place_before_marks}
 use Rattle.ephemeron_table.proofs.EntryPairs.{entry_pair}
@@ -63,7 +63,7 @@ returns-in-Key c =
       entry = λ graph weak number shows is is_key.
           let has = entry_pair table place shows is is_key sizes is_table within key_read in
           let deleting : IsDeleting c.args.main.now c.remove_pair.new.main graph c.args.map c.args.key weak number place
-          table = record { has = has; takes = c.remove_pair.ensures } in
+          table = record { has = has; removes = c.remove_pair.ensures } in
           deletes_entry deleting c.laws_of_entries.ensures.show;
       pairs = λ before has_pairs.
           let told = key_told table place (weak_shown asked.shows asked.is) asked.is_key is_table within key_read in
@@ -75,13 +75,17 @@ returns-in-Key c =
 pub returns-in-Free : goal.returns-in-Free
 returns-in-Free c =
     let is_table = c.table_of-table.ensures in
-    let left = deletes_nothing c.requires.shown c.addresses_fit.ensures.within is_table (λ graph weak number shows is is_key.
-    none_at_free _ _ shows (weak_shown shows is) is_key is_table c.number_at.ensures c.reference.ensures c.in-Free.ensures) in
+    let left = deletes_nothing c.requires.shown c.addresses_fit.ensures.within is_table
+    (λ graph weak number shows is is_key.
+    none_at_free _ _ shows (weak_shown shows is) is_key is_table c.number_at.ensures c.reference.ensures
+    c.in-Free.ensures) in
     record { entry = left.0; pairs = left.1 }
 
 pub returns-in-Nowhere : goal.returns-in-Nowhere
 returns-in-Nowhere c =
     let is_table = c.table_of-table.ensures in
-    let left = deletes_nothing c.requires.shown c.addresses_fit.ensures.within is_table (λ graph weak number shows is is_key.
-    none_passed _ _ shows (weak_shown shows is) is_key is_table c.number_at.ensures c.reference.ensures c.in-Nowhere.ensures) in
+    let left = deletes_nothing c.requires.shown c.addresses_fit.ensures.within is_table
+    (λ graph weak number shows is is_key.
+    none_passed _ _ shows (weak_shown shows is) is_key is_table c.number_at.ensures c.reference.ensures
+    c.in-Nowhere.ensures) in
     record { entry = left.0; pairs = left.1 }

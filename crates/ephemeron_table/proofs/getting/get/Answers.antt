@@ -72,12 +72,14 @@ pub returns-in-Free : goal.returns-in-Free
 returns-in-Free c =
     let is_table = c.table_of-table.ensures in
     let told = tells_none c.requires.shown c.addresses_fit.ensures.within is_table (λ graph weak number shows is is_key.
-    none_at_free _ _ shows (weak_shown shows is) is_key is_table c.number_at.ensures c.reference.ensures c.in-Free.ensures) in
+    none_at_free _ _ shows (weak_shown shows is) is_key is_table c.number_at.ensures c.reference.ensures
+    c.in-Free.ensures) in
     record { entry = told.0; pairs = told.1 }
 
 pub returns-in-Nowhere : goal.returns-in-Nowhere
 returns-in-Nowhere c =
     let is_table = c.table_of-table.ensures in
     let told = tells_none c.requires.shown c.addresses_fit.ensures.within is_table (λ graph weak number shows is is_key.
-    none_passed _ _ shows (weak_shown shows is) is_key is_table c.number_at.ensures c.reference.ensures c.in-Nowhere.ensures) in
+    none_passed _ _ shows (weak_shown shows is) is_key is_table c.number_at.ensures c.reference.ensures
+    c.in-Nowhere.ensures) in
     record { entry = told.0; pairs = told.1 }

@@ -153,7 +153,8 @@ store-requires-clause-quiet c =
 
 pub store-requires-clause-within : goal.store-requires-clause-within
 store-requires-clause-within c =
-    let space = ap (λ (main : Mutator). main.seat.space) c.made.ensures.same ∙ c.insert_rehashed.ensures.words.beside.space
+    let space = ap (λ (main : Mutator). main.seat.space) c.made.ensures.same
+    ∙ c.insert_rehashed.ensures.words.beside.space
     ∙ c.boxed_word-word.ensures.made.beside.space ∙ c.rehash.ensures.changes.rest.space
     ∙ c.begin_table.ensures.beside.space ∙ ap (λ (main : Mutator). main.seat.space) c.in_ok-at.ensures.reserved in
     subst (λ (s : Space). c.args.map + 1 < marks_start s) (sym space) (slot_before _ _ c.requires.can.map_within)
@@ -189,19 +190,19 @@ returns-clause-ok c =
     let begun : Mutator = c.begin_table.new.main in
     let moved : Mutator = c.rehash.new.main in
     let boxed : Mutator = c.boxed_word-word.new.main in
-    let settled : Mutator = c.insert_rehashed.new.main in
+    let inserted : Mutator = c.insert_rehashed.new.main in
     let told : Mutator = c.made.new.self in
     let linked : Mutator = c.store.new.self in
-    let reached : StaysBeside old.seat settled.seat =
-    stays_beside_again old.seat boxed.seat settled.seat
+    let reached : StaysBeside old.seat inserted.seat =
+    stays_beside_again old.seat boxed.seat inserted.seat
     (stays_beside_again old.seat moved.seat boxed.seat
     (stays_beside_again old.seat begun.seat moved.seat
     (stays_beside_again old.seat c.room_for.new.main.seat begun.seat
     (reserved_beside old _ c.in_ok-at.ensures.reserved) c.begin_table.ensures.beside)
     c.rehash.ensures.changes.rest) c.boxed_word-word.ensures.made.beside) c.insert_rehashed.ensures.words.beside in
-    let still : StaysBeside settled.seat told.seat = same_beside c.made.ensures.same in
+    let still : StaysBeside inserted.seat told.seat = same_beside c.made.ensures.same in
     let marks = ap (λ (s : Space). marks_start s) reached.space in
-    let named : StaysBeside settled.seat linked.seat =
+    let named : StaysBeside inserted.seat linked.seat =
     put_beside (c.args.map + 1) _ still c.store.ensures.stored
     (omega (arith, c.requires.can.map_within, marks, ap (λ (s : Space). marks_start s) still.space)) in
     record {
@@ -212,8 +213,8 @@ returns-clause-ok c =
       moves = search rules;
       boxed = boxed;
       boxes = search rules;
-      settled = settled;
-      settles = search rules;
+      inserted = inserted;
+      inserts = search rules;
       words = record {
         beside = put_beside (c.args.map + 2) _ named c.write_slot.ensures.written
             (omega (arith, c.requires.can.map_within, marks, ap (λ (s : Space). marks_start s) named.space));

@@ -2,15 +2,16 @@
 use Rattle.std.proofs.Common.{◌+◌, unwrap_or, sym, ◌∙◌, ap, subst}
 use Rattle.tagged_word.specs.Readings.{reference_in}
 use Rattle.write_barrier.specs.Mains.{Mutator}
-use Rattle.ephemeron_table.specs.Movings.{MovesPairs}
-use Rattle.ephemeron_table.proofs.MovingTables.{moving_begins, moving_free, moving_key, moving_passes, moving_settles}
-use Rattle.ephemeron_table.proofs.MovingTables.{next_read}
+use Rattle.ephemeron_table.specs.Rehashing.{RehashesPairs}
+use Rattle.ephemeron_table.proofs.RehashedTables.{rehashing_begins, rehashing_free, rehashing_key, rehashing_passes}
+use Rattle.ephemeron_table.proofs.RehashedTables.{rehashing_inserts}
+use Rattle.ephemeron_table.proofs.RehashedTables.{next_read}
 use Rattle.ephemeron_table.proofs.TableBounds.{none_from_not_some, table_within}
 use Rattle.ephemeron_table.proofs.growing.rehash.Goals as goal
 use Rattle.ephemeron_table.proofs.growing.rehash.Goals.{in-Some, in_default}
 
 pub loop-at-init : goal.loop-at-init
-loop-at-init c = moving_begins c.args.main.now c.args.from c.args.to c.requires.empty
+loop-at-init c = rehashing_begins c.args.main.now c.args.from c.args.to c.requires.empty
 
 pub insert_rehashed-requires-clause-key : goal.insert_rehashed-requires-clause-key
 insert_rehashed-requires-clause-key c =
@@ -19,7 +20,7 @@ insert_rehashed-requires-clause-key c =
     let within = table_within c.args.main.now c.args.to c.requires.to counted in
     let read = next_read within_from within c.requires.more c.requires.apart c.requires.keys c.loop-at.invariant
     c.loop-at-test.true in
-    moving_key within_from within c.requires.more c.requires.apart c.requires.keys c.loop-at.invariant
+    rehashing_key within_from within c.requires.more c.requires.apart c.requires.keys c.loop-at.invariant
     c.loop-at-test.true
     c.in-Some.key (sym (c.address.ensures ∙ ap reference_in (c.key_of.ensures ∙ read.key)) ∙ c.in-Some.is)
 
@@ -28,7 +29,7 @@ insert_rehashed-requires-clause-free c =
     let counted = c.addresses_fit.ensures.heap_counted in
     let within_from = table_within c.args.main.now c.args.from c.requires.from counted in
     let within = table_within c.args.main.now c.args.to c.requires.to counted in
-    moving_free within_from within c.requires.more c.requires.apart c.requires.keys c.loop-at.invariant
+    rehashing_free within_from within c.requires.more c.requires.apart c.requires.keys c.loop-at.invariant
     c.loop-at-test.true
 
 pub loop-at-preserved : goal.loop-at-preserved
@@ -40,13 +41,13 @@ loop-at-preserved c =
     c.loop-at-test.true in
     let address = c.address.ensures ∙ ap reference_in (c.key_of.ensures ∙ read.key) in
     let now = λ (main : Mutator).
-    MovesPairs c.args.main.now main c.args.from c.args.to (c.loop-at.at + 1) in
+    RehashesPairs c.args.main.now main c.args.from c.args.to (c.loop-at.at + 1) in
     elim c.match-address.branch [
       | in-Some w ↦ subst now (sym w.main-is)
-          (moving_settles within_from within c.requires.more c.requires.apart c.requires.keys c.loop-at.invariant
+          (rehashing_inserts within_from within c.requires.more c.requires.apart c.requires.keys c.loop-at.invariant
           c.loop-at-test.true w.in-Some.key (sym address ∙ w.in-Some.is) w.slot.result
           (ap (λ found. unwrap_or found 0) (sym w.slot.ensures.of_heap) ∙ read.value) w.insert_rehashed.ensures)
       | in_default w ↦ subst now (sym w.main-is)
-          (moving_passes within_from within c.requires.more c.requires.apart c.requires.keys c.loop-at.invariant
+          (rehashing_passes within_from within c.requires.more c.requires.apart c.requires.keys c.loop-at.invariant
           c.loop-at-test.true (sym address ∙ none_from_not_some c.address.result w.in_default.not-Some))
     ]

@@ -8,7 +8,7 @@ use Rattle.write_barrier.specs.Mains.{heap_of}
 use Rattle.object_cells.proofs.CellsRead.{fits_address}
 use Rattle.weak_pairs.specs.Tables.{numbers, pairs_of}
 use Rattle.weak_pairs.proofs.PairLists.{pairs_read}
-use Rattle.ephemeron_table.proofs.ClosedPairs.{nothing_changed, pair_changed}
+use Rattle.ephemeron_table.proofs.ChangedPairs.{nothing_changed, pair_changed}
 use Rattle.weak_pairs.proofs.BackwardShifts.{shift_begins, read, key_beside, numbers_long, hole_below, stays_below}
 use Rattle.weak_pairs.proofs.BackwardShifts.{ends_here, passes_on, moves_on, less_left}
 use Rattle.ephemeron_table.proofs.TableBounds.{none_from_not_some, table_within}
@@ -29,7 +29,13 @@ overflow_add-passed c =
     let within = table_within c.args.main.now c.args.table c.requires.within c.addresses_fit.ensures.heap_counted in
     let far = c.loop-passed.invariant in
     let below : c.loop-passed.passed + 1 < marks_start c.args.main.now.seat.space =
-    omega (arith, far.shifting.removal.few, numbers_long (heap_of c.args.main.now) (heap_of c.loop-passed.main) c.args.table within far.changes.long far.shifting, c.requires.within) in
+    omega (
+      arith,
+      far.shifting.removal.few,
+      numbers_long (heap_of c.args.main.now) (heap_of c.loop-passed.main)
+          c.args.table within far.changes.long far.shifting,
+      c.requires.within,
+    ) in
     fits_address below c.addresses_fit.ensures.within
 
 pub returns-in_default : goal.returns-in_default
@@ -38,16 +44,20 @@ returns-in_default c =
     let far = c.loop-passed.invariant in
     let few = c.loop-passed-test.true in
     let next : ℕ = c.place-next.result in
-    let one = read (heap_of c.args.main.now) (heap_of c.loop-passed.main) c.args.table within far.changes.long far.shifting next few c.place-next.ensures in
+    let one = read (heap_of c.args.main.now) (heap_of c.loop-passed.main) c.args.table within far.changes.long
+    far.shifting next few c.place-next.ensures in
     let none : reference_in one.pair.key ≡ None =
     sym (c.address.ensures ∙ ap reference_in (c.key_of.ensures ∙ one.key))
     ∙ none_from_not_some c.address.result c.in_default.not-Some in
     record {
       changes = far.changes;
-      within = hole_below (heap_of c.args.main.now) (heap_of c.loop-passed.main) c.args.table within far.changes.long far.shifting;
-      taken = far.shifting.going.removed;
-      below = stays_below (heap_of c.args.main.now) (heap_of c.loop-passed.main) c.args.table within far.changes.long far.shifting;
-      found = ends_here (heap_of c.args.main.now) (heap_of c.loop-passed.main) c.args.table within far.changes.long far.shifting next few c.place-next.ensures none;
+      within = hole_below (heap_of c.args.main.now) (heap_of c.loop-passed.main) c.args.table within far.changes.long
+          far.shifting;
+      removed = far.shifting.going.removed;
+      below = stays_below (heap_of c.args.main.now) (heap_of c.loop-passed.main) c.args.table within far.changes.long
+          far.shifting;
+      found = ends_here (heap_of c.args.main.now) (heap_of c.loop-passed.main) c.args.table within far.changes.long
+          far.shifting next few c.place-next.ensures none;
     }
 
 pub number_at-number-requires-clause-within : goal.number_at-number-requires-clause-within
@@ -56,10 +66,12 @@ number_at-number-requires-clause-within c =
     let far = c.loop-passed.invariant in
     let few = c.loop-passed-test.true in
     let next : ℕ = c.place-next.result in
-    let one = read (heap_of c.args.main.now) (heap_of c.loop-passed.main) c.args.table within far.changes.long far.shifting next few c.place-next.ensures in
+    let one = read (heap_of c.args.main.now) (heap_of c.loop-passed.main) c.args.table within far.changes.long
+    far.shifting next few c.place-next.ensures in
     let refers : reference_in one.pair.key ≡ Some c.in-Some.key =
     sym (c.address.ensures ∙ ap reference_in (c.key_of.ensures ∙ one.key)) ∙ c.in-Some.is in
-    let beside = key_beside (heap_of c.args.main.now) (heap_of c.loop-passed.main) c.args.table within far.changes.long far.shifting next few c.place-next.ensures far.changes.beside c.in-Some.key refers
+    let beside = key_beside (heap_of c.args.main.now) (heap_of c.loop-passed.main) c.args.table within
+    far.changes.long far.shifting next few c.place-next.ensures far.changes.beside c.in-Some.key refers
     c.requires.keys in
     subst (λ (space : Space). c.in-Some.key < marks_start space) (sym far.changes.rest.space) beside.within
 
@@ -69,12 +81,14 @@ loop-passed-preserved-then-steps-passed c =
     let far = c.loop-passed.invariant in
     let few = c.loop-passed-test.true in
     let next : ℕ = c.place-next.result in
-    let one = read (heap_of c.args.main.now) (heap_of c.loop-passed.main) c.args.table within far.changes.long far.shifting next few c.place-next.ensures in
+    let one = read (heap_of c.args.main.now) (heap_of c.loop-passed.main) c.args.table within far.changes.long
+    far.shifting next few c.place-next.ensures in
     let refers : reference_in one.pair.key ≡ Some c.in-Some.key =
     sym (c.address.ensures ∙ ap reference_in (c.key_of.ensures ∙ one.key)) ∙ c.in-Some.is in
     record {
       changes = far.changes;
-      shifting = passes_on (heap_of c.args.main.now) (heap_of c.loop-passed.main) c.args.table within far.changes.long far.shifting next few c.place-next.ensures far.changes.beside c.in-Some.key refers
+      shifting = passes_on (heap_of c.args.main.now) (heap_of c.loop-passed.main) c.args.table within far.changes.long
+          far.shifting next few c.place-next.ensures far.changes.beside c.in-Some.key refers
           c.requires.keys
           c.number_at-number.result c.steps.result c.number_at-number.ensures c.steps.ensures c.if-steps-passed.true;
     }
@@ -82,7 +96,8 @@ loop-passed-preserved-then-steps-passed c =
 pub copy_pair-requires-clause-to : goal.copy_pair-requires-clause-to
 copy_pair-requires-clause-to c =
     let within = table_within c.args.main.now c.args.table c.requires.within c.addresses_fit.ensures.heap_counted in
-    hole_below (heap_of c.args.main.now) (heap_of c.loop-passed.main) c.args.table within c.loop-passed.invariant.changes.long c.loop-passed.invariant.shifting
+    hole_below (heap_of c.args.main.now) (heap_of c.loop-passed.main) c.args.table within
+    c.loop-passed.invariant.changes.long c.loop-passed.invariant.shifting
 
 pub loop-passed-smaller : goal.loop-passed-smaller
 loop-passed-smaller c =
@@ -90,10 +105,12 @@ loop-passed-smaller c =
     let far = c.loop-passed.invariant in
     let few = c.loop-passed-test.true in
     let next : ℕ = c.place-next.result in
-    let one = read (heap_of c.args.main.now) (heap_of c.loop-passed.main) c.args.table within far.changes.long far.shifting next few c.place-next.ensures in
+    let one = read (heap_of c.args.main.now) (heap_of c.loop-passed.main) c.args.table within far.changes.long
+    far.shifting next few c.place-next.ensures in
     let refers : reference_in one.pair.key ≡ Some c.in-Some.key =
     sym (c.address.ensures ∙ ap reference_in (c.key_of.ensures ∙ one.key)) ∙ c.in-Some.is in
-    less_left (heap_of c.args.main.now) (heap_of c.loop-passed.main) c.args.table within far.changes.long far.shifting next few c.place-next.ensures far.changes.beside c.in-Some.key refers c.requires.keys
+    less_left (heap_of c.args.main.now) (heap_of c.loop-passed.main) c.args.table within far.changes.long far.shifting
+    next few c.place-next.ensures far.changes.beside c.in-Some.key refers c.requires.keys
     c.number_at-number.result c.steps.result c.number_at-number.ensures c.steps.ensures c.if-steps-passed.false
     c.copy_pair.ensures.heap
 
@@ -103,13 +120,16 @@ loop-passed-preserved c =
     let far = c.loop-passed.invariant in
     let few = c.loop-passed-test.true in
     let next : ℕ = c.place-next.result in
-    let one = read (heap_of c.args.main.now) (heap_of c.loop-passed.main) c.args.table within far.changes.long far.shifting next few c.place-next.ensures in
+    let one = read (heap_of c.args.main.now) (heap_of c.loop-passed.main) c.args.table within far.changes.long
+    far.shifting next few c.place-next.ensures in
     let refers : reference_in one.pair.key ≡ Some c.in-Some.key =
     sym (c.address.ensures ∙ ap reference_in (c.key_of.ensures ∙ one.key)) ∙ c.in-Some.is in
     record {
-      changes = pair_changed c.args.table c.loop-passed.hole _ far.changes (hole_below (heap_of c.args.main.now) (heap_of c.loop-passed.main) c.args.table within far.changes.long far.shifting)
+      changes = pair_changed c.args.table c.loop-passed.hole _ far.changes (hole_below (heap_of c.args.main.now)
+          (heap_of c.loop-passed.main) c.args.table within far.changes.long far.shifting)
           c.copy_pair.ensures;
-      shifting = moves_on (heap_of c.args.main.now) (heap_of c.loop-passed.main) c.args.table within far.changes.long far.shifting next few c.place-next.ensures far.changes.beside c.in-Some.key refers c.requires.keys
+      shifting = moves_on (heap_of c.args.main.now) (heap_of c.loop-passed.main) c.args.table within far.changes.long
+          far.shifting next few c.place-next.ensures far.changes.beside c.in-Some.key refers c.requires.keys
           c.number_at-number.result c.steps.result c.number_at-number.ensures c.steps.ensures c.if-steps-passed.false
           c.copy_pair.ensures.heap;
     }
@@ -118,12 +138,15 @@ pub returns : goal.returns
 returns c =
     let within = table_within c.args.main.now c.args.table c.requires.within c.addresses_fit.ensures.heap_counted in
     let far = c.loop-passed.invariant in
-    let long = numbers_long (heap_of c.args.main.now) (heap_of c.loop-passed.main) c.args.table within far.changes.long far.shifting in
+    let long = numbers_long (heap_of c.args.main.now) (heap_of c.loop-passed.main) c.args.table within
+    far.changes.long far.shifting in
     record {
       changes = far.changes;
-      within = hole_below (heap_of c.args.main.now) (heap_of c.loop-passed.main) c.args.table within far.changes.long far.shifting;
-      taken = far.shifting.going.removed;
-      below = stays_below (heap_of c.args.main.now) (heap_of c.loop-passed.main) c.args.table within far.changes.long far.shifting;
+      within = hole_below (heap_of c.args.main.now) (heap_of c.loop-passed.main) c.args.table within far.changes.long
+          far.shifting;
+      removed = far.shifting.going.removed;
+      below = stays_below (heap_of c.args.main.now) (heap_of c.loop-passed.main) c.args.table within far.changes.long
+          far.shifting;
       found = ends_at_last (numbers (heap_of c.args.main.now) (pairs_of (heap_words c.args.main.now.seat) c.args.table))
           (numbers (heap_of c.args.main.now) (pairs_of (heap_words c.loop-passed.main.seat) c.args.table)) c.args.at
           c.args.table.capacity c.loop-passed.hole c.loop-passed.passed far.shifting.removal long

@@ -1,8 +1,8 @@
--- What is taken out so far, and what is left to do.
+-- What is removed so far, and what is left to do.
 use Rattle.heap_table.specs.Seats.{heap_words}
 use Rattle.write_barrier.specs.Mains.{heap_of}
 use Rattle.linear_probing.proofs.Removals.{left}
-use Rattle.ephemeron_table.specs.Takings.{ChangesPairs}
+use Rattle.ephemeron_table.specs.Removals.{ChangesPairs}
 use Rattle.weak_pairs.specs.Tables.{numbers, pairs_of}
 use Rattle.weak_pairs.proofs.BackwardShifts.{HasShifted}
 use Rattle.ephemeron_table.proofs.removing.backward_shift.Given as goal

@@ -4,16 +4,16 @@ use Rattle.heap_table.specs.Seats.{heap_words}
 use Rattle.write_barrier.specs.Mains.{Mutator}
 use Rattle.object_cells.specs.Made.{PutsWords}
 use Rattle.weak_pairs.specs.Tables.{made_pair, with_pair}
-use Rattle.ephemeron_table.proofs.TakenOut.{takes_at}
+use Rattle.ephemeron_table.proofs.RemovalEnds.{removes_at}
 use Rattle.ephemeron_table.proofs.removing.remove_pair.Goals as goal
 
 pub returns : goal.returns
 returns c =
-    let closed : Mutator = c.backward_shift-hole.new.main in
-    let puts = subst (λ pair. PutsWords closed c.put_pair.new.main
-    (with_pair (heap_words closed.seat) c.args.table.at c.backward_shift-hole.result pair))
+    let shifted : Mutator = c.backward_shift-hole.new.main in
+    let puts = subst (λ pair. PutsWords shifted c.put_pair.new.main
+    (with_pair (heap_words shifted.seat) c.args.table.at c.backward_shift-hole.result pair))
     (ap (λ w. made_pair w w) c.odd-free.ensures) c.put_pair.ensures in
-    takes_at c.args.map c.args.at c.backward_shift-hole.result c.slot-count.result c.args.table
+    removes_at c.args.map c.args.at c.backward_shift-hole.result c.slot-count.result c.args.table
     (omega (arith, c.requires.within, c.addresses_fit.ensures.heap_counted))
     (omega (arith, c.requires.map, c.addresses_fit.ensures.heap_counted))
     c.requires.map c.requires.beside c.backward_shift-hole.ensures puts c.slot-count.ensures.of_heap

@@ -1,4 +1,4 @@
--- What was taken out of a weak map's table: its pair, and one of the count.
+-- What was removed from a weak map's table: its pair, and one of the count.
 use Rattle.std.proofs.Common.{◌≡◌, ℕ, ◌+◌, ◌-◌, ◌*◌, ◌≤◌, ◌<◌, List, length, Some, None, slice_get, unwrap_or, sym}
 use Rattle.std.proofs.Common.{◌∙◌, ap, subst, arith, length-set}
 use Rattle.std.specs.Prelude.{slice_set}
@@ -13,69 +13,69 @@ use Rattle.heap_model.specs.Needs.{count_at}
 use Rattle.write_barrier.specs.Mains.{Mutator, heap_of, with_word}
 use Rattle.object_cells.specs.Made.{PutsWords}
 use Rattle.object_cells.proofs.WordsBeside.{put_beside}
-use Rattle.ephemeron_table.specs.Takings.{ChangesPairs, ClosesAt, TakesAt}
+use Rattle.ephemeron_table.specs.Removals.{ChangesPairs, ShiftsBack, RemovesAt}
 use Rattle.weak_pairs.specs.Removals.{IsRemoved, StaysBelow}
 use Rattle.weak_pairs.specs.Tables.{IsBesidePairs, pairs_of, numbers, number_of, with_pair}
 use Rattle.weak_pairs.specs.Pairs.{IsFilledAt}
 use Rattle.weak_pairs.specs.declared.table.Table.{Table}
-use Rattle.ephemeron_table.proofs.ClosedPairs.{pair_changed}
+use Rattle.ephemeron_table.proofs.ChangedPairs.{pair_changed}
 use Rattle.weak_pairs.proofs.PairLists.{pairs_read}
 use Rattle.weak_pairs.proofs.PairsPut.{pairs_now, pairs_beside}
 
 -- What is left of the pairs, and that where one was free what stands below the place stood below it.
-record IsTakenBelow (before after : List Pair) (place : ℕ) : Type 0 where
-  taken : IsRemoved before after place
+record IsRemovedBelow (before after : List Pair) (place : ℕ) : Type 0 where
+  removed : IsRemoved before after place
   below : (free : ℕ) → slice_get before free ≡ Some free_pair → (one : Pair) → IsFilledAt before place one
-      → StaysBelow taken
+      → StaysBelow removed
 
-module _ {old closed put new : Mutator} (map at hole count : ℕ) (table : Table)
+module _ {old shifted put new : Mutator} (map at hole count : ℕ) (table : Table)
     (within : table.at + (store_head + 2 * table.capacity) ≤ length (heap_words old.seat))
     (counted : map + count_offset < length (heap_words old.seat))
     (below : map + count_offset < marks_start old.seat.space)
     (beside : IsBesidePairs table (map + count_offset))
-    (closes : ClosesAt old closed table at hole)
-    (puts : PutsWords closed put (with_pair (heap_words closed.seat) table.at hole free_pair))
+    (shifts : ShiftsBack old shifted table at hole)
+    (puts : PutsWords shifted put (with_pair (heap_words shifted.seat) table.at hole free_pair))
     (reads : slice_get (heap_words put.seat) (map + count_offset) ≡ Some count)
     (is : new ≡ with_word put (map + count_offset) (count - 1))
     (heap : heap_words new.seat ≡ slice_set (heap_words put.seat) (map + count_offset) (count - 1)) where
   -- words of pairs alone changed before the count
   changes : ChangesPairs old put table
-  changes = pair_changed table hole free_pair closes.changes closes.within puts
+  changes = pair_changed table hole free_pair shifts.changes shifts.within puts
 
-  within_closed : table.at + (store_head + 2 * table.capacity) ≤ length (heap_words closed.seat)
-  within_closed = omega (arith, within, closes.changes.long)
+  within_closed : table.at + (store_head + 2 * table.capacity) ≤ length (heap_words shifted.seat)
+  within_closed = omega (arith, within, shifts.changes.long)
 
   within_put : table.at + (store_head + 2 * table.capacity) ≤ length (heap_words put.seat)
   within_put = omega (arith, within, changes.long)
 
   -- the pairs are those with the hole free
   pairs_are_now : pairs_of (heap_words new.seat) table
-      ≡ slice_set (pairs_of (heap_words closed.seat) table) hole free_pair
+      ≡ slice_set (pairs_of (heap_words shifted.seat) table) hole free_pair
   pairs_are_now =
       ap (λ all. pairs_of all table) heap
       ∙ pairs_beside (heap_words put.seat) table (map + count_offset) (count - 1) within_put beside
       ∙ ap (λ all. pairs_of all table) puts.heap
-      ∙ pairs_now (heap_words closed.seat) table hole free_pair within_closed closes.within
+      ∙ pairs_now (heap_words shifted.seat) table hole free_pair within_closed shifts.within
 
   -- and so are their numbers
   numbers_are : numbers (heap_of old) (pairs_of (heap_words new.seat) table)
-      ≡ slice_set (numbers (heap_of old) (pairs_of (heap_words closed.seat) table)) hole None
+      ≡ slice_set (numbers (heap_of old) (pairs_of (heap_words shifted.seat) table)) hole None
   numbers_are =
       ap (numbers (heap_of old)) pairs_are_now
-      ∙ map-set (number_of (heap_of old)) (pairs_of (heap_words closed.seat) table) hole free_pair
+      ∙ map-set (number_of (heap_of old)) (pairs_of (heap_words shifted.seat) table) hole free_pair
 
   -- the count that was read is that of the map
   count_is : count ≡ count_at (heap_of old) map
   count_is =
       ap (λ found. unwrap_or found 0) (sym reads ∙ changes.beside (map + count_offset) beside)
 
-  left : IsTakenBelow (pairs_of (heap_words old.seat) table) (pairs_of (heap_words new.seat) table) at
+  left : IsRemovedBelow (pairs_of (heap_words old.seat) table) (pairs_of (heap_words new.seat) table) at
   left =
-      subst (λ pairs. IsTakenBelow (pairs_of (heap_words old.seat) table) pairs at) (sym pairs_are_now)
-      (record { taken = closes.taken; below = closes.below })
+      subst (λ pairs. IsRemovedBelow (pairs_of (heap_words old.seat) table) pairs at) (sym pairs_are_now)
+      (record { removed = shifts.removed; below = shifts.below })
 
-  pub takes_at : TakesAt old new map table at
-  takes_at = record {
+  pub removes_at : RemovesAt old new map table at
+  removes_at = record {
     rest = put_beside (map + count_offset) (count - 1) changes.rest is
         (subst (λ (space : Space). map + count_offset < marks_start space) (sym changes.rest.space) below);
     paths = ap (λ (m : Mutator). m.paths) is ∙ changes.paths;
@@ -89,9 +89,9 @@ module _ {old closed put new : Mutator} (map at hole count : ℕ) (table : Table
         ∙ ap (λ n. Some (n - 1)) count_is;
     hole = hole;
     free = ap (λ pairs. slice_get pairs hole) pairs_are_now
-        ∙ slice_get-set_same (pairs_of (heap_words closed.seat) table) hole free_pair
-        (omega (arith, closes.within, (pairs_read (heap_words closed.seat) table within_closed).long));
-    taken = left.taken;
+        ∙ slice_get-set_same (pairs_of (heap_words shifted.seat) table) hole free_pair
+        (omega (arith, shifts.within, (pairs_read (heap_words shifted.seat) table within_closed).long));
+    removed = left.removed;
     below = left.below;
-    found = λ all. subst FindsAll (sym numbers_are) (closes.found all);
+    found = λ all. subst FindsAll (sym numbers_are) (shifts.found all);
   }

@@ -1,4 +1,4 @@
--- How a pair is taken out of a table, word by word.
+-- How a pair is removed from a table, word by word.
 use Rattle.std.specs.Prelude.{◌≡◌, ◌≢◌, ℕ, ◌+◌, ◌-◌, ◌<◌, length, Some, None, slice_get, slice_set}
 use Rattle.linear_probing.specs.Tables.{FindsAll}
 use Rattle.heap_table.specs.Seats.{heap_words, StaysBeside}
@@ -19,20 +19,20 @@ pub record ChangesPairs (old new : Mutator) (table : Table) : Type 0 where
   pub beside : (at : ℕ) → IsBesidePairs table at
       → slice_get (heap_words new.seat) at ≡ slice_get (heap_words old.seat) at
 
--- Once the hole is free, the pair at the place is taken out, and probing finds all where it did before.
-pub record ClosesAt (old new : Mutator) (table : Table) (place hole : ℕ) : Type 0 where
+-- Once the hole is free, the pair at the place is removed, and probing finds all where it did before.
+pub record ShiftsBack (old new : Mutator) (table : Table) (place hole : ℕ) : Type 0 where
   pub changes : ChangesPairs old new table
   pub within : hole < table.capacity
-  pub taken : IsRemoved (pairs_of (heap_words old.seat) table)
+  pub removed : IsRemoved (pairs_of (heap_words old.seat) table)
       (slice_set (pairs_of (heap_words new.seat) table) hole free_pair) place
   pub below : (free : ℕ) → slice_get (pairs_of (heap_words old.seat) table) free ≡ Some free_pair
-      → (one : Pair) → IsFilledAt (pairs_of (heap_words old.seat) table) place one → StaysBelow taken
+      → (one : Pair) → IsFilledAt (pairs_of (heap_words old.seat) table) place one → StaysBelow removed
   pub found : FindsAll (numbers (heap_of old) (pairs_of (heap_words old.seat) table))
       → FindsAll (slice_set (numbers (heap_of old) (pairs_of (heap_words new.seat) table)) hole None)
 
--- The pair at the place of the map's table was taken out, and the count is one less. All other words are as they were,
+-- The pair at the place of the map's table was removed, and the count is one less. All other words are as they were,
 -- those of the marks and the board too.
-pub record TakesAt (old new : Mutator) (map : ℕ) (table : Table) (place : ℕ) : Type 0 where
+pub record RemovesAt (old new : Mutator) (map : ℕ) (table : Table) (place : ℕ) : Type 0 where
   pub rest : StaysBeside old.seat new.seat
   pub paths : new.paths ≡ old.paths
   pub young : new.young ≡ old.young
@@ -42,8 +42,8 @@ pub record TakesAt (old new : Mutator) (map : ℕ) (table : Table) (place : ℕ)
   pub counted : slice_get (heap_words new.seat) (map + count_offset) ≡ Some (count_at (heap_of old) map - 1)
   pub hole : ℕ
   pub free : slice_get (pairs_of (heap_words new.seat) table) hole ≡ Some free_pair
-  pub taken : IsRemoved (pairs_of (heap_words old.seat) table) (pairs_of (heap_words new.seat) table) place
+  pub removed : IsRemoved (pairs_of (heap_words old.seat) table) (pairs_of (heap_words new.seat) table) place
   pub below : (free : ℕ) → slice_get (pairs_of (heap_words old.seat) table) free ≡ Some free_pair
-      → (one : Pair) → IsFilledAt (pairs_of (heap_words old.seat) table) place one → StaysBelow taken
+      → (one : Pair) → IsFilledAt (pairs_of (heap_words old.seat) table) place one → StaysBelow removed
   pub found : FindsAll (numbers (heap_of old) (pairs_of (heap_words old.seat) table))
       → FindsAll (numbers (heap_of old) (pairs_of (heap_words new.seat) table))

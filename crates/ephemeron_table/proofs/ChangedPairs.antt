@@ -6,7 +6,7 @@ use Rattle.heap_model.specs.Kinds.{Pair}
 use Rattle.write_barrier.specs.Mains.{Mutator}
 use Rattle.object_cells.specs.Made.{PutsWords}
 use Rattle.weak_pairs.specs.Tables.{with_pair}
-use Rattle.ephemeron_table.specs.Takings.{ChangesPairs}
+use Rattle.ephemeron_table.specs.Removals.{ChangesPairs}
 use Rattle.weak_pairs.specs.declared.table.Table.{Table}
 use Rattle.weak_pairs.proofs.PairsPut.{beside_put, length-with_pair}
 

@@ -1,4 +1,4 @@
--- A pair that was taken out of a weak map's table refills the map.
+-- A pair that was removed from a weak map's table refills the map.
 use Rattle.std.proofs.Common.{◌≡◌, ℕ, ◌+◌, ◌-◌, ◌<◌, inl, List, [], ◌∷◌, Contains, Some, slice_get, refl, sym, ◌∙◌}
 use Rattle.std.proofs.Common.{ap, subst, arith, add-zero}
 use Rattle.tagged_word.specs.declared.layout.Kind.TheVariants as kind
@@ -22,7 +22,7 @@ use Rattle.weak_pairs.specs.Pairs.{HasPairs, IsFilledAt}
 use Rattle.object_cells.specs.OwnSlots.{ComesFrom}
 use Rattle.ephemeron_table.specs.PairWrites.{WritesWeak, RefillsPairs, ShowsPair}
 use Rattle.ephemeron_table.specs.PairLaws.{RefillsWeak}
-use Rattle.ephemeron_table.specs.Takings.{TakesAt}
+use Rattle.ephemeron_table.specs.Removals.{RemovesAt}
 use Rattle.weak_pairs.specs.Tables.{pairs_of}
 use Rattle.weak_pairs.specs.declared.table.Table.{Table}
 use Rattle.weak_pairs.proofs.CountedPairs.{count_filled}
@@ -34,7 +34,7 @@ use Rattle.ephemeron_table.proofs.StayingTables.{WritesMap, StaysTable}
 
 module _ {old new : Mutator} {map place : ℕ} {table : Table} (known : KnownMap old map table)
     (some : 0 < table.capacity)
-    (takes : TakesAt old new map table place) (taken_one : Pair)
+    (removes : RemovesAt old new map table place) (taken_one : Pair)
     (filled : IsFilledAt (pairs_of (heap_words old.seat) table) place taken_one) where
   -- the pairs before and after
   abbrev pub before : List Pair
@@ -61,13 +61,14 @@ module _ {old new : Mutator} {map place : ℕ} {table : Table} (known : KnownMap
         (one_in table_cell one among) (other_has known some);
     room = room_for_none old known.tied known.whole;
     puts = record {
-      beside = takes.rest;
-      paths = takes.paths;
-      young = takes.young ∙ used_and_none old.young;
+      beside = removes.rest;
+      paths = removes.paths;
+      young = removes.young ∙ used_and_none old.young;
       heap = refl;
     };
-    long = takes.long;
-    stay = λ a not_cell not_others not_new. takes.beside a (beside_table known some a (not_others table_cell (first_in table_cell [])))
+    long = removes.long;
+    stay = λ a not_cell not_others not_new. removes.beside a
+        (beside_table known some a (not_others table_cell (first_in table_cell [])))
         (λ same. let of_cell = of_map known 2 (omega arith) in
         not_cell (record { from = omega (arith, same, of_cell.from); below = omega (arith, same, of_cell.below) }));
   }
@@ -76,7 +77,7 @@ module _ {old new : Mutator} {map place : ℕ} {table : Table} (known : KnownMap
   head_stays : (k : ℕ) → k < 2 → slice_get (heap_words new.seat) (table_cell.at + k)
       ≡ slice_get (heap_words old.seat) (table_cell.at + k)
   head_stays k below =
-      takes.beside (table_cell.at + k) (inl (omega (arith, below, (found known some).stands)))
+      removes.beside (table_cell.at + k) (inl (omega (arith, below, (found known some).stands)))
       (head_apart known some 2 k (omega arith) below)
 
   -- a word of the map's cell but its count stays
@@ -85,7 +86,7 @@ module _ {old new : Mutator} {map place : ℕ} {table : Table} (known : KnownMap
   map_stays k below =
       subst (λ n. slice_get (heap_words new.seat) (n + k) ≡ slice_get (heap_words old.seat) (n + k))
       (sym known.there.stands)
-      (takes.beside (map + k) (map_beside known some k (omega (arith, below))) (λ same. omega (arith, same, below)))
+      (removes.beside (map + k) (map_beside known some k (omega (arith, below))) (λ same. omega (arith, same, below)))
 
   -- cells were written so
   pub writes : WritesWeak (heap_of old) (heap_of new) map_cell (table_cell ∷ []) []
@@ -140,9 +141,9 @@ module _ {old new : Mutator} {map place : ℕ} {table : Table} (known : KnownMap
   count_after =
       let size = of_map known 2 (omega arith) in
       let less : count_at (heap_of old) map - 1 ≡ count_filled after =
-      omega (arith, count_is known, takes.taken.counted taken_one filled) in
+      omega (arith, count_is known, removes.removed.counted taken_one filled) in
       word_at_offset count_offset map_has (omega (arith, size.below, known.there.stands))
-      ∙ ap (λ n. slice_get (heap_words new.seat) (n + count_offset)) known.there.stands ∙ takes.counted
+      ∙ ap (λ n. slice_get (heap_words new.seat) (n + count_offset)) known.there.stands ∙ removes.counted
       ∙ ap (λ n. Some n) less
 
   -- the table alone was written
@@ -159,10 +160,10 @@ module _ {old new : Mutator} {map place : ℕ} {table : Table} (known : KnownMap
     are = are_after;
     counted = count_after;
     refills = record {
-      origin = takes.taken.origin;
-      apart = λ at other word another one two. takes.taken.apart at other one.0 two.0 one.1 two.1;
-      one = takes.hole;
-      each_slot = λ at word there. ComesFrom.moved (there.0, (takes.taken.from at there.0 there.1).0, there.2);
+      origin = removes.removed.origin;
+      apart = λ at other word another one two. removes.removed.apart at other one.0 two.0 one.1 two.1;
+      one = removes.hole;
+      each_slot = λ at word there. ComesFrom.moved (there.0, (removes.removed.from at there.0 there.1).0, there.2);
       store = (sound known).store;
       has_store = are_after.slot;
       store_comes = inl (slot_there known);
@@ -173,10 +174,10 @@ module _ {old new : Mutator} {map place : ℕ} {table : Table} (known : KnownMap
           (one_in table_cell one among) (other_number known some, (found known some).refers.refers);
       boxes = λ one among box. absurd (table_is_no_box (is_table one among) box);
     };
-    each_pair = λ at pair is. ShowsPair.kept (takes.taken.from at pair is).0
+    each_pair = λ at pair is. ShowsPair.kept (removes.removed.from at pair is).0
         (λ one among box same. table_is_no_box (is_table one among) box);
-    probed = staying.probed known written after (takes.found (finds_all known));
+    probed = staying.probed known written after (removes.found (finds_all known));
   }
 
   abbrev pub refills_weak : RefillsWeak (heap_of old) (heap_of new) map_cell (table_cell ∷ []) []
-  refills_weak = record { whole = known.whole; writes = writes; paths = takes.paths; pairs = refills }
+  refills_weak = record { whole = known.whole; writes = writes; paths = removes.paths; pairs = refills }

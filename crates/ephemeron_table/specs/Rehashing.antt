@@ -17,13 +17,13 @@ use Rattle.object_cells.specs.Contents.{next_at}
 use Rattle.object_cells.specs.Made.{PutsWords, with_content, content_need, content_word, beside_content}
 use Rattle.weak_pairs.specs.Pairs.{IsFilledAt}
 use Rattle.weak_pairs.specs.Tables.{IsWithin, numbers, pairs_of}
-use Rattle.ephemeron_table.specs.Puttings.{Settles, begun_table}
-use Rattle.ephemeron_table.specs.Takings.{ChangesPairs}
+use Rattle.ephemeron_table.specs.Puttings.{InsertsRehashed, begun_table}
+use Rattle.ephemeron_table.specs.Removals.{ChangesPairs}
 use Rattle.weak_pairs.specs.declared.table.Table.{Table}
 use Rattle.weak_pairs.specs.Rehashing.{AreRehashed}
 
 -- The pairs at so many first places of a table came to another one, which probing finds there.
-pub record MovesPairs (old new : Mutator) (from to : Table) (count : ℕ) : Type 0 where
+pub record RehashesPairs (old new : Mutator) (from to : Table) (count : ℕ) : Type 0 where
   pub changes : ChangesPairs old new to
   pub moved : AreRehashed (pairs_of (heap_words old.seat) from) (pairs_of (heap_words new.seat) to) count
   pub found : FindsAll (numbers (heap_of old) (pairs_of (heap_words new.seat) to))
@@ -73,13 +73,13 @@ pub record PutsInNewTable (old new : Mutator) (map : ℕ) (table : Table) (key c
   pub begins : PutsWords (reserved old (new_table_need table value)) begun
       (begun_table (heap_words old.seat) (new_table old table))
   pub moved : Mutator
-  pub moves : MovesPairs begun moved table (new_table old table) table.capacity
+  pub moves : RehashesPairs begun moved table (new_table old table) table.capacity
   pub boxed : Mutator
   pub boxes : PutsWords moved boxed (with_content (heap_words moved.seat) (beside_content value) (box_behind old table))
-  pub settled : Mutator
-  pub settles : Settles boxed settled (new_table old table) key
+  pub inserted : Mutator
+  pub inserts : InsertsRehashed boxed inserted (new_table old table) key
       (content_word (beside_content value) (box_behind old table))
-  pub words : PutsWords settled new
-      (slice_set (slice_set (heap_words settled.seat) (map + store_slot) (reference_word (next_at old)))
+  pub words : PutsWords inserted new
+      (slice_set (slice_set (heap_words inserted.seat) (map + store_slot) (reference_word (next_at old)))
       (map + count_offset)
       count)

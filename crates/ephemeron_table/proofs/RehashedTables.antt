@@ -16,22 +16,22 @@ use Rattle.write_barrier.specs.Mains.{Mutator, heap_of}
 use Rattle.weak_pairs.specs.Rehashing.{AreRehashed}
 use Rattle.weak_pairs.specs.Pairs.{HoldNothing}
 use Rattle.weak_pairs.specs.Tables.{IsBesideTable, KeysMovable, number_at, IsKeyBeside, made_pair, pairs_of}
-use Rattle.ephemeron_table.specs.Movings.{MovesPairs}
+use Rattle.ephemeron_table.specs.Rehashing.{RehashesPairs}
 use Rattle.weak_pairs.specs.Probes.{HasFree}
-use Rattle.ephemeron_table.specs.Puttings.{Settles}
+use Rattle.ephemeron_table.specs.Puttings.{InsertsRehashed}
 use Rattle.weak_pairs.specs.declared.table.Table.{Table}
 use Rattle.weak_pairs.proofs.PairNumbers.{ReadsPair, reads_pair, keyed_filled, number_place}
-use Rattle.ephemeron_table.proofs.ClosedPairs.{nothing_changed, pair_changed}
+use Rattle.ephemeron_table.proofs.ChangedPairs.{nothing_changed, pair_changed}
 use Rattle.weak_pairs.proofs.Rehashing.{rehashed_begins, rehashed_passes, rehashed_puts}
 use Rattle.weak_pairs.proofs.PairLists.{pairs_stay}
 use Rattle.weak_pairs.proofs.KeyedPairs.{HaveKeys, free_without}
 use Rattle.weak_pairs.proofs.InsertedPairs.{has_free, inserted_below, inserted_free}
-use Rattle.ephemeron_table.proofs.SettledPairs.{settled_pairs, settled_found}
+use Rattle.ephemeron_table.proofs.RehashedPairs.{rehashed_pairs, rehashed_found}
 
 -- it begins with a table that holds nothing
-pub moving_begins : (main : Mutator) (from to : Table) → HoldNothing (pairs_of (heap_words main.seat) to)
-    → MovesPairs main main from to 0
-moving_begins main from to nothing = record {
+pub rehashing_begins : (main : Mutator) (from to : Table) → HoldNothing (pairs_of (heap_words main.seat) to)
+    → RehashesPairs main main from to 0
+rehashing_begins main from to nothing = record {
   changes = nothing_changed main to;
   moved = rehashed_begins (pairs_of (heap_words main.seat) from) (pairs_of (heap_words main.seat) to) nothing;
   found = λ at number holds.
@@ -44,7 +44,7 @@ module _ {old now : Mutator} {from to : Table} {at : ℕ}
     (within_from : from.at + (store_head + 2 * from.capacity) ≤ length (heap_words old.seat))
     (within : to.at + (store_head + 2 * to.capacity) ≤ length (heap_words old.seat))
     (more : from.capacity < to.capacity) (apart : IsBesideTable from to) (keys : KeysMovable (heap_of old) from to)
-    (moves : MovesPairs old now from to at) (below : at < from.capacity) where
+    (moves : RehashesPairs old now from to at) (below : at < from.capacity) where
   -- the pairs of the one table, and so far of the other
   abbrev before : List Pair
   before = pairs_of (heap_words old.seat) from
@@ -59,8 +59,8 @@ module _ {old now : Mutator} {from to : Table} {at : ℕ}
   within_from_now = omega (arith, within_from, moves.changes.long)
 
   -- some pair is free
-  pub moving_free : HasFree (heap_of now) to
-  moving_free = has_free (heap_of now) to within_now (omega (arith, moves.moved.few, more, below))
+  pub rehashing_free : HasFree (heap_of now) to
+  rehashing_free = has_free (heap_of now) to within_now (omega (arith, moves.moved.few, more, below))
 
   -- each that came has its key
   have_keys : HaveKeys far
@@ -84,10 +84,11 @@ module _ {old now : Mutator} {from to : Table} {at : ℕ}
   there = ap (λ all. slice_get all at) (sym before_stays) ∙ next_read.there
 
   -- one without a key is passed
-  pub moving_passes : reference_in next_read.pair.key ≡ None → MovesPairs old now from to (at + 1)
-  moving_passes none = record {
+  pub rehashing_passes : reference_in next_read.pair.key ≡ None → RehashesPairs old now from to (at + 1)
+  rehashing_passes none = record {
     changes = moves.changes;
-    moved = rehashed_passes moves.moved next_read.pair there (free_without before at next_read.pair had_keys there none);
+    moved = rehashed_passes moves.moved next_read.pair there
+        (free_without before at next_read.pair had_keys there none);
     found = moves.found;
   }
 
@@ -99,8 +100,8 @@ module _ {old now : Mutator} {from to : Table} {at : ℕ}
         subst (IsKeyBeside (heap_of old) to) (same_Some known.0 key (sym known.1 ∙ refers)) known.2
 
     -- its key is before the marks
-    pub moving_key : key < marks_start now.seat.space
-    moving_key = subst (λ (space : Space). key < marks_start space) (sym moves.changes.rest.space) key_beside.within
+    pub rehashing_key : key < marks_start now.seat.space
+    rehashing_key = subst (λ (space : Space). key < marks_start space) (sym moves.changes.rest.space) key_beside.within
 
     number_same : number_at (heap_of now) key ≡ number_at (heap_of old) key
     number_same =
@@ -108,20 +109,21 @@ module _ {old now : Mutator} {from to : Table} {at : ℕ}
         (option_and_then header_in found)) 0) (moves.changes.beside key key_beside.beside)
 
     -- one with a key comes to the other table
-    pub moving_settles : {new : Mutator} (value : ℕ) → value ≡ next_read.pair.value → Settles now new to key value
-        → MovesPairs old new from to (at + 1)
-    moving_settles {new} value value_is settles =
+    pub rehashing_inserts : {new : Mutator} (value : ℕ) → value ≡ next_read.pair.value
+        → InsertsRehashed now new to key value
+        → RehashesPairs old new from to (at + 1)
+    rehashing_inserts {new} value value_is inserts =
         let key_is : next_read.pair.key ≡ reference_word key = (reference_from next_read.pair.key key refers).1 in
         let pair : made_pair (reference_word key) value ≡ next_read.pair =
         ap (λ v. made_pair (reference_word key) v) value_is ∙ ap (λ k. made_pair k next_read.pair.value) (sym key_is) in
-        let pairs : pairs_of (heap_words new.seat) to ≡ slice_set far settles.place next_read.pair =
-        settled_pairs within_now have_keys settles ∙ ap (slice_set far settles.place) pair in
+        let pairs : pairs_of (heap_words new.seat) to ≡ slice_set far inserts.place next_read.pair =
+        rehashed_pairs within_now have_keys inserts ∙ ap (slice_set far inserts.place) pair in
         record {
-          changes = pair_changed to settles.place (made_pair (reference_word key) value) moves.changes
-              (inserted_below within_now have_keys settles.first) settles.words;
+          changes = pair_changed to inserts.place (made_pair (reference_word key) value) moves.changes
+              (inserted_below within_now have_keys inserts.first) inserts.words;
           moved = subst (λ all. AreRehashed before all (at + 1)) (sym pairs)
-              (rehashed_puts moves.moved next_read.pair there settles.place
-              (inserted_free within_now have_keys settles.first) (keyed_filled next_read.pair key refers));
-          found = settled_found (heap_of old) within_now have_keys settles number_same moves.found
+              (rehashed_puts moves.moved next_read.pair there inserts.place
+              (inserted_free within_now have_keys inserts.first) (keyed_filled next_read.pair key refers));
+          found = rehashed_found (heap_of old) within_now have_keys inserts number_same moves.found
               (ap reference_in (sym key_is) ∙ refers);
         }

@@ -1,0 +1,129 @@
+-- With the words of a trim a list has the elements that stay, where a store stands that holds them, and free cells.
+use Rattle.std.proofs.Common.{◌≡◌, ℕ, ◌+◌, ◌<◌, ◌≤◌, ◌⊎◌, List, length, Contains, Some, slice_get, sym, ◌∙◌, ap}
+use Rattle.std.proofs.Common.{arith}
+use Rattle.tagged_word.specs.declared.layout.Kind.TheVariants as kind
+use Rattle.tagged_word.specs.Cells.{store_slot, store_head}
+use Rattle.object_graph.specs.declared.value.Value.{Value}
+use Rattle.object_graph.specs.Graphs.{Graph, ListObject}
+use Rattle.page_space.specs.Sizes.{AreWithin}
+use Rattle.cell_layout.specs.declared.cell.Cell.{Cell}
+use Rattle.cell_layout.specs.Cells.{IsRow}
+use Rattle.heap_table.specs.Seats.{heap_words}
+use Rattle.heap_model.specs.Heaps.{Heap}
+use Rattle.heap_model.specs.Kinds.{HasNoNumber, count_offset}
+use Rattle.heap_model.specs.Slots.{reference_word}
+use Rattle.write_barrier.specs.Mains.{Mutator, heap_of, MainShows}
+use Rattle.object_cells.specs.ElementChanges.{AreNewElements}
+use Rattle.object_cells.specs.Made.{PutsWords}
+use Rattle.array_trim.specs.Trims.{HasTrimmed}
+use Rattle.array_trim.proofs.CutWords.{IsCut, cut_words, long_cut, cut_header, cut_slot, cut_count, cut_slots, cut_stays}
+use Rattle.array_trim.proofs.ListStores.{ListStored}
+use Rattle.array_trim.proofs.StorePieces.{HadCell}
+use Rattle.array_trim.proofs.TrimmedCells.{IsFreeCell, Trimming}
+use Rattle.array_trim.proofs.TrimmedGraphs.{Trimmed, has_trimmed}
+use Rattle.array_trim.proofs.TrimsPut.{put_reads, put_sized, put_had, put_stays, put_used, put_survivors, store_row}
+
+-- In the words of a store that went stand free cells, and a store of so many slots at an address.
+pub record IsCutInto (new : Heap) (store end start kept : ℕ) (came : Cell) (pieces : List Cell) : Type 0 where
+  pub place : came.at ≡ start
+  pub long : came.length ≡ kept
+  pub of_kind : came.layout.kind ≡ kind.Store
+  pub no_number : HasNoNumber came
+  pub row : IsRow new.space new.words store end pieces
+  pub among : Contains pieces came
+  pub each : (one : Cell) → Contains pieces one → (came ≡ one) ⊎ IsFreeCell one
+
+-- The elements that stay: those of the slots kept, from a number on; and behind them the slots held none.
+pub record AreKept (before after : List Value) (from kept : ℕ) : Type 0 where
+  pub elements : (k : ℕ) (value : Value) → slice_get after k ≡ Some value → slice_get before (from + k) ≡ Some value
+  pub enough : length after ≤ kept
+  pub rest : (k : ℕ) → length after ≤ k → k < kept → length before ≤ from + k
+
+module _ {old new : Mutator} {at store : ℕ} {list : ListObject} (stored : ListStored old at list store) (header : ℕ)
+    {start from kept free many : ℕ} (cut : IsCut store stored.cell.length start from kept free many)
+    (after : List Value) (puts : PutsWords old new (cut_words stored header (length after) cut)) where
+  -- the words that were put
+  abbrev words : List ℕ
+  words = cut_words stored header (length after) cut
+
+  -- they are as many
+  abbrev long : length words ≡ length (heap_words old.seat)
+  long = long_cut stored header (length after) cut
+
+  -- those of neither cell are as before
+  abbrev stays : (a : ℕ) → (at ≤ a → a < at + 3 → ⊥)
+      → (store ≤ a → a < store + (store_head + stored.cell.length) → ⊥)
+      → slice_get words a ≡ slice_get (heap_words old.seat) a
+  stays = cut_stays stored header (length after) cut
+
+  -- a word is what was put
+  pub cut_reads : (a : ℕ) → slice_get (heap_words new.seat) a ≡ slice_get words a
+  cut_reads a = put_reads stored words puts long stays a
+
+  -- the store stood where its words are
+  pub cut_had : HadCell (heap_of old) (heap_of new) stored.cell
+  cut_had = put_had stored words puts long stays
+
+  -- a word of the list's cell, by the address at which it stands
+  list_word : (k : ℕ) → slice_get (heap_words new.seat) (stored.shown.cell.at + k) ≡ slice_get words (at + k)
+  list_word k = ap (λ n. slice_get (heap_words new.seat) (n + k)) stored.shown.stands ∙ cut_reads (at + k)
+
+  module _ {graph : Graph} {came : Cell} {pieces : List Cell} (shows : MainShows old graph)
+      (within : AreWithin old.seat.space.sizes old.seat.space.variables) (are : AreNewElements graph after)
+      (into : IsCutInto (heap_of new) store (store + (store_head + stored.cell.length)) start kept came pieces)
+      (stay : AreKept list.elements after from kept) where
+    -- so the list was trimmed
+    trim : Trimming (heap_of old) (heap_of new) stored.shown.cell stored.cell came pieces list.elements after from
+    trim = record {
+      whole = stored.whole;
+      has = stored.shown.has;
+      shown = stored.shown.shows;
+      refers = stored.refers;
+      of_kind = stored.of_kind;
+      same_space = puts.beside.space;
+      same_survivors = put_survivors stored words puts long stays;
+      same_used = put_used stored words puts long stays;
+      paths = puts.paths;
+      sized = put_sized stored words puts long stays;
+      stay = put_stays stored words puts long stays;
+      header = ap (λ n. slice_get (heap_words new.seat) n) stored.shown.stands ∙ cut_reads at
+          ∙ cut_header stored header (length after) cut
+          ∙ ap (λ n. slice_get (heap_words old.seat) n) (sym stored.shown.stands);
+      slot = list_word store_slot ∙ cut_slot stored header (length after) cut
+          ∙ ap (λ n. Some (reference_word n)) (sym into.place);
+      counted = list_word count_offset ∙ cut_count stored header (length after) cut;
+      row = store_row stored words puts long stays pieces into.row;
+      among = into.among;
+      each = into.each;
+      still_store = into.of_kind;
+      no_number = into.no_number;
+      place = omega (arith, into.place, cut.start_is, stored.stands);
+      room = omega (arith, into.long, cut.room);
+      slots = λ k below. ap (λ n. slice_get (heap_words new.seat) (n + (store_head + k))) into.place
+          ∙ cut_reads (start + (store_head + k))
+          ∙ cut_slots stored header (length after) cut k (omega (arith, below, into.long))
+          ∙ ap (λ n. slice_get (heap_words old.seat) (n + (store_head + (from + k)))) (sym stored.stands);
+      elements = stay.elements;
+      few = are.are.few;
+      enough = omega (arith, stay.enough, into.long);
+      rest = λ k past below. stay.rest k past (omega (arith, below, into.long));
+    }
+
+    -- and the heap shows the list with these elements, whose store has as many slots as are kept
+    abbrev trimmed : Trimmed old new graph at list after
+    trimmed = record {
+      shows = shows;
+      within = within;
+      shown = stored.shown;
+      are = are;
+      words = words;
+      puts = puts;
+      store = stored.cell;
+      came = came;
+      pieces = pieces;
+      from = from;
+      trim = trim;
+    }
+
+    pub cut_has_trimmed : HasTrimmed old new graph at list after came.length
+    cut_has_trimmed = has_trimmed trimmed
