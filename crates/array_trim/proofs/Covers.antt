@@ -9,14 +9,14 @@ use Rattle.tagged_word.specs.Headers.{header_bits}
 use Rattle.tagged_word.specs.Cells.{length_offset}
 use Rattle.tagged_word.proofs.Members.{one_in}
 use Rattle.object_graph.proofs.Lists.{slice_get-set_same, slice_get-set_other}
-use Rattle.cell_layout.specs.declared.cell.Cell.{Cell}
+use Rattle.heap_model.specs.Types.{Cell}
 use Rattle.cell_layout.specs.Cells.{IsCell, IsRow}
 use Rattle.cell_layout.proofs.OneCell.{cells_have_words}
 use Rattle.heap_model.specs.Heaps.{Heap}
 use Rattle.heap_model.proofs.BoundHeaps.{none_in}
 use Rattle.heap_model.proofs.CellsApart.{has_is_cell}
 use Rattle.heap_model.proofs.Rewrites.{row_of_one}
-use Rattle.write_barrier.specs.Mains.{gap_header}
+use Rattle.write_barrier.specs.MutatorState.{gap_header}
 use Rattle.object_cells.specs.Formats.{filler_header, with_filler}
 use Rattle.array_trim.proofs.StorePieces.{HadCell, filler_cell, gap_cell, filler_read, gap_read, stands_inside}
 use Rattle.array_trim.proofs.TrimmedCells.{IsFreeCell}

@@ -3,16 +3,15 @@ use Rattle.std.proofs.Common.{◌≡◌, ℕ, ◌+◌, ◌<◌, ◌≤◌, ◌�
 use Rattle.std.proofs.Common.{arith}
 use Rattle.tagged_word.specs.declared.layout.Kind.TheVariants as kind
 use Rattle.tagged_word.specs.Cells.{store_slot, store_head}
-use Rattle.object_graph.specs.declared.value.Value.{Value}
+use Rattle.heap_model.specs.Types.{Value, Cell}
 use Rattle.object_graph.specs.Graphs.{Graph, ListObject}
 use Rattle.page_space.specs.Sizes.{AreWithin}
-use Rattle.cell_layout.specs.declared.cell.Cell.{Cell}
 use Rattle.cell_layout.specs.Cells.{IsRow}
 use Rattle.heap_table.specs.Seats.{heap_words}
 use Rattle.heap_model.specs.Heaps.{Heap}
 use Rattle.heap_model.specs.Kinds.{HasNoNumber, count_offset}
 use Rattle.heap_model.specs.Slots.{reference_word}
-use Rattle.write_barrier.specs.Mains.{Mutator, heap_of, MainShows}
+use Rattle.write_barrier.specs.MutatorState.{Mutator, heap_of, MainShows}
 use Rattle.object_cells.specs.ElementChanges.{AreNewElements}
 use Rattle.object_cells.specs.Made.{PutsWords}
 use Rattle.array_trim.specs.Trims.{HasTrimmed}

@@ -9,7 +9,7 @@ use Rattle.object_graph.proofs.Lists.{slice_get-set_same, slice_get-set_other}
 use Rattle.heap_table.specs.Seats.{heap_words}
 use Rattle.heap_model.specs.Kinds.{count_offset}
 use Rattle.heap_model.specs.Slots.{reference_word}
-use Rattle.write_barrier.specs.Mains.{Mutator}
+use Rattle.write_barrier.specs.MutatorState.{Mutator}
 use Rattle.object_cells.specs.Formats.{with_filler}
 use Rattle.array_trim.proofs.Covers.{length-covered, covered_stays}
 use Rattle.array_trim.proofs.ListStores.{ListStored, words_apart, list_in_words, store_in_words}

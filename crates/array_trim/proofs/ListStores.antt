@@ -7,21 +7,21 @@ use Rattle.tagged_word.specs.Cells.{store_slot, store_head}
 use Rattle.object_graph.specs.Graphs.{Graph, ListObject}
 use Rattle.page_space.specs.Sizes.{AreWithin}
 use Rattle.page_space.specs.Extents.{layouts_start}
-use Rattle.cell_layout.specs.declared.cell.Cell.{Cell}
+use Rattle.heap_model.specs.Types.{Cell}
 use Rattle.heap_table.specs.Seats.{heap_words}
 use Rattle.heap_model.specs.Heaps.{Heap, words_of_cell}
 use Rattle.heap_model.specs.Slots.{RefersTo}
 use Rattle.heap_model.specs.Needs.{capacity_at}
 use Rattle.heap_model.specs.Wholeness.{Whole}
 use Rattle.heap_model.proofs.CellsApart.{IsOfCell, cells_apart}
-use Rattle.write_barrier.specs.Mains.{Mutator, heap_of, MainShows}
+use Rattle.write_barrier.specs.MutatorState.{Mutator, heap_of, MainShows}
 use Rattle.object_cells.specs.ListObjects.{IsListAt}
 use Rattle.object_cells.proofs.CellsRead.{word_stands, cell_before_marks}
 use Rattle.object_cells.proofs.KeptCapacities.{capacity_of_store}
 use Rattle.object_cells.proofs.ListSlots.{list_sound}
 use Rattle.object_cells.proofs.OwnCells.{list_size, cell_below_layouts}
 use Rattle.object_cells.proofs.OwnPlaces.{has_own_words}
-use Rattle.object_cells.proofs.SlotPlaces.{one_beside}
+use Rattle.object_cells.proofs.SlotPlaces.{one_store_slots}
 use Rattle.object_cells.proofs.StoresRead.{IsFoundStore, found_store}
 use Rattle.object_cells.proofs.WordsTold.{cell_fits}
 use Rattle.object_cells.proofs.ListCells.{ListShown, list_shown}
@@ -75,7 +75,7 @@ module _ {main : Mutator} {graph : Graph} {at : ℕ} {list : ListObject} (store 
       let sound = list_sound shows.shows.whole shown.has shown.shows.of_kind in
       let same : sound.store ≡ shown.shows.store =
       same_Some sound.store shown.shows.store (sym sound.slot ∙ shown.shows.slot) in
-      let slots = one_beside sound.store shown.shows.store sound.beside shown.shows.slots same sound.stands
+      let slots = one_store_slots sound.store shown.shows.store sound.beside shown.shows.slots same sound.stands
       shown.shows.has in
       omega (
         arith,

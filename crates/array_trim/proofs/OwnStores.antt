@@ -3,7 +3,7 @@ use Rattle.std.proofs.Common.{ℕ, ◌+◌, ◌≤◌, ◌<◌, unwrap_or, sym, 
 use Rattle.tagged_word.specs.Cells.{store_slot, length_offset}
 use Rattle.page_space.specs.Extents.{marks_start}
 use Rattle.heap_model.specs.Needs.{word_at}
-use Rattle.write_barrier.specs.Mains.{Mutator, heap_of}
+use Rattle.write_barrier.specs.MutatorState.{Mutator, heap_of}
 use Rattle.object_cells.specs.declared.stores.Store.{Store}
 use Rattle.object_cells.specs.Made.{IsStoreAt}
 use Rattle.object_cells.proofs.CellsRead.{word_stands}

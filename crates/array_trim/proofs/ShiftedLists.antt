@@ -6,15 +6,14 @@ use Rattle.std.proofs.lemmas.List.Elements.{Contains-append_right, Contains-appe
 use Rattle.tagged_word.specs.Headers.{header_bits}
 use Rattle.tagged_word.specs.Cells.{store_head}
 use Rattle.tagged_word.proofs.Members.{first_in, one_in}
-use Rattle.object_graph.specs.declared.value.Value.{Value}
+use Rattle.heap_model.specs.Types.{Value, Cell}
 use Rattle.object_graph.specs.Graphs.{Graph, ListObject}
 use Rattle.page_space.specs.Sizes.{AreWithin}
-use Rattle.cell_layout.specs.declared.cell.Cell.{Cell}
 use Rattle.cell_layout.specs.Cells.{IsCell}
 use Rattle.cell_layout.proofs.Rows.{rows_join}
 use Rattle.heap_table.specs.Seats.{heap_words}
 use Rattle.heap_model.proofs.Rewrites.{row_of_one}
-use Rattle.write_barrier.specs.Mains.{Mutator, heap_of, MainShows}
+use Rattle.write_barrier.specs.MutatorState.{Mutator, heap_of, MainShows}
 use Rattle.object_cells.specs.Formats.{store_header}
 use Rattle.object_cells.specs.ListObjects.{IsListAt}
 use Rattle.object_cells.specs.Made.{PutsWords}

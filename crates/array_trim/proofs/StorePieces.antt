@@ -12,13 +12,13 @@ use Rattle.tagged_word.specs.Cells.{words_least, words_of}
 use Rattle.tagged_word.proofs.Cells.{size_bounds}
 use Rattle.page_space.specs.Extents.{Space, CellsEndAt}
 use Rattle.shape_tree.specs.ShapeLayouts.{layout_word}
-use Rattle.cell_layout.specs.declared.cell.Cell.{Cell}
+use Rattle.heap_model.specs.Types.{Cell}
 use Rattle.cell_layout.specs.Cells.{IsCell}
 use Rattle.cell_layout.proofs.CellsThere.{slice_get-layouts_in}
 use Rattle.heap_model.specs.Heaps.{Heap, HasCell}
 use Rattle.heap_model.specs.Wholeness.{HasSizes}
 use Rattle.heap_model.proofs.CellsApart.{has_is_cell}
-use Rattle.write_barrier.specs.Mains.{gap_header}
+use Rattle.write_barrier.specs.MutatorState.{gap_header}
 use Rattle.object_cells.proofs.NewStores.{store_cell}
 use Rattle.object_cells.specs.Formats.{store_header}
 use Rattle.object_cells.specs.Formats.{filler_header}

@@ -10,7 +10,7 @@ use Rattle.page_space.specs.Sizes.{AreWithin}
 use Rattle.object_graph.specs.Graphs.{Graph, ListObject}
 use Rattle.object_graph.specs.Meaning.{below}
 use Rattle.heap_model.specs.Needs.{capacity_at, count_at}
-use Rattle.write_barrier.specs.Mains.{Mutator, heap_of, MainShows}
+use Rattle.write_barrier.specs.MutatorState.{Mutator, heap_of, MainShows}
 use Rattle.object_cells.specs.ListObjects.{IsListAt}
 use Rattle.object_cells.proofs.ListCells.{list_shown, count_shown}
 use Rattle.object_cells.proofs.NamedPlaces.{named_below}

@@ -2,10 +2,9 @@
 -- each other object's as many as before.
 use Rattle.std.proofs.Common.{ℕ, List, [], ◌∷◌, inl, sym, subst}
 use Rattle.tagged_word.proofs.Members.{first_in, rest_in}
-use Rattle.object_graph.specs.declared.value.Value.{Value}
+use Rattle.heap_model.specs.Types.{Value, Cell}
 use Rattle.page_space.specs.Extents.{Space}
 use Rattle.page_space.specs.Sizes.{AreWithin}
-use Rattle.cell_layout.specs.declared.cell.Cell.{Cell}
 use Rattle.heap_model.specs.Heaps.{Heap}
 use Rattle.object_cells.specs.Capacities.{ChangesObject}
 use Rattle.object_cells.proofs.KeptCapacities.{capacity_of_store}

@@ -9,11 +9,10 @@ use Rattle.std.proofs.lemmas.List.Elements.{All-nil, All-cons, All-contains, Con
 use Rattle.tagged_word.specs.declared.layout.Kind.TheVariants as kind
 use Rattle.tagged_word.specs.Cells.{store_slot, store_head, has_length}
 use Rattle.tagged_word.proofs.Members.{first_in, rest_in}
-use Rattle.object_graph.specs.declared.value.Value.{Value}
+use Rattle.heap_model.specs.Types.{Value, Cell}
 use Rattle.object_graph.specs.Meaning.{list_most}
 use Rattle.page_space.specs.Extents.{eden_start, roots_start, layouts_start}
 use Rattle.page_space.proofs.Starts.{layouts_start_is}
-use Rattle.cell_layout.specs.declared.cell.Cell.{Cell}
 use Rattle.cell_layout.specs.Cells.{IsRow}
 use Rattle.cell_layout.specs.CellLaws.{ReadsAlike}
 use Rattle.heap_model.specs.Heaps.{Heap, HasCell, words_of_cell}

@@ -4,11 +4,10 @@ use Rattle.std.proofs.Common.{inl, inr, sym, ◌∙◌, ap, subst, arith, length
 use Rattle.std.proofs.lemmas.Option.{same_Some}
 use Rattle.tagged_word.specs.declared.layout.Kind.TheVariants as kind
 use Rattle.tagged_word.specs.Cells.{store_head}
-use Rattle.object_graph.specs.declared.value.Value.{Value}
-use Rattle.cell_layout.specs.declared.cell.Cell.{Cell}
+use Rattle.heap_model.specs.Types.{Value, Cell}
 use Rattle.heap_model.specs.Heaps.{Heap, words_of_cell}
 use Rattle.heap_model.specs.Slots.{hole_word}
-use Rattle.heap_model.specs.Kinds.{HasWord, IsSoundOf, IsSound, count_offset}
+use Rattle.heap_model.specs.Kinds.{HasWord, IsSoundOf, IsSoundCell, count_offset}
 use Rattle.heap_model.specs.Showing.{ShowsValue, ShowsList}
 use Rattle.heap_model.specs.Changes.{IsOwnChange}
 use Rattle.heap_model.proofs.CellWords.{words_by_kind}
@@ -20,7 +19,7 @@ use Rattle.object_cells.proofs.OwnCells.{list_size}
 use Rattle.object_cells.proofs.OwnNames.{renamed_own}
 use Rattle.object_cells.proofs.OwnSteps.{own_places_stay, own_box_stays}
 use Rattle.object_cells.proofs.ShownLists.{shown_list_is_sound, list_store_sound}
-use Rattle.object_cells.proofs.SlotPlaces.{one_beside}
+use Rattle.object_cells.proofs.SlotPlaces.{one_store_slots}
 use Rattle.object_cells.proofs.SlotsNow.{word_at_offset}
 use Rattle.array_trim.proofs.TrimmedCells.{IsFreeCell, Trimming, list_now, store_now}
 use Rattle.array_trim.proofs.TrimmedSlots.{trim_step, went_no_box, came_cases, refers_now, slots_now, elements_now}
@@ -28,7 +27,7 @@ use Rattle.array_trim.proofs.TrimmedSlots.{slot_was}
 use Rattle.array_trim.proofs.TrimmedNames.{trimmed_names}
 
 -- a free cell is sound
-free_sound : (heap : Heap) {cell : Cell} (words : List ℕ) → IsFreeCell cell → IsSound heap cell words
+free_sound : (heap : Heap) {cell : Cell} (words : List ℕ) → IsFreeCell cell → IsSoundCell heap cell words
 free_sound heap {cell} words free = elim free.of_kind [
   | inl is ↦ subst (λ k. IsSoundOf k heap cell words) (sym is) free.no_number
   | inr is ↦ subst (λ k. IsSoundOf k heap cell words) (sym is) free.no_number
@@ -70,7 +69,7 @@ module _ {old new : Heap} {cell store came : Cell} {pieces : List Cell} {before 
       let same : trim.shown.store ≡ sound.store =
       same_Some trim.shown.store sound.store (sym trim.shown.slot ∙ sound.slot) in
       let slots : trim.shown.slots ≡ sound.beside =
-      one_beside trim.shown.store sound.store trim.shown.slots sound.beside same trim.shown.has sound.stands in
+      one_store_slots trim.shown.store sound.store trim.shown.slots sound.beside same trim.shown.has sound.stands in
       let count : length before ≡ sound.count =
       same_Some (length before) sound.count (sym trim.shown.counted ∙ sound.counted) in
       sound.hold.rest (from + k) word (omega (arith, trim.rest k past below, count))
@@ -87,18 +86,18 @@ module _ {old new : Heap} {cell store came : Cell} {pieces : List Cell} {before 
       )
 
   -- so each cell that came is sound
-  came_sound : (one : Cell) → Contains (cell ∷ (pieces ++ [])) one → IsSound new one (words_of_cell new one)
+  came_sound : (one : Cell) → Contains (cell ∷ (pieces ++ [])) one → IsSoundCell new one (words_of_cell new one)
   unfolding list_shows
   came_sound =
-      let sound : IsSound new cell (words_of_cell new cell) =
+      let sound : IsSoundCell new cell (words_of_cell new cell) =
       subst (λ k. IsSoundOf k new cell (words_of_cell new cell)) (sym trim.shown.of_kind)
       (shown_list_is_sound list_shows trim.few slots_enough rest_word) in
       all_sound pieces [] sound (λ one there. elim (came_cases trim one there) [
         | inl same ↦
-            let store_sound : IsSound new came (words_of_cell new came) =
+            let store_sound : IsSoundCell new came (words_of_cell new came) =
             subst (λ k. IsSoundOf k new came (words_of_cell new came)) (sym trim.still_store)
             (list_store_sound list_shows rest_word (refers_now trim) trim.no_number) in
-            subst (λ (c : Cell). IsSound new c (words_of_cell new c)) same store_sound
+            subst (λ (c : Cell). IsSoundCell new c (words_of_cell new c)) same store_sound
         | inr free ↦ free_sound new (words_of_cell new one) free
       ])
 

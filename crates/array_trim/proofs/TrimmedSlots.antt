@@ -4,14 +4,12 @@ use Rattle.std.proofs.Common.{◌≡◌, ℕ, ◌+◌, ◌<◌, ◌⊎◌, List,
 use Rattle.std.proofs.Common.{◌∷◌, ◌++◌, drop, Contains, slice_get, IsTrue, false}
 use Rattle.std.proofs.Common.{inl, inr, refl, sym, ◌∙◌, ap, subst, arith}
 use Rattle.std.proofs.lemmas.List.Elements.{Contains-append_cases}
-use Rattle.tagged_word.specs.declared.layout.Kind.{Kind}
+use Rattle.heap_model.specs.Types.{Kind, Value, Cell}
 use Rattle.tagged_word.specs.declared.layout.Kind.TheVariants as kind
 use Rattle.tagged_word.specs.Cells.{store_slot, store_head}
 use Rattle.tagged_word.proofs.Members.{one_in}
-use Rattle.object_graph.specs.declared.value.Value.{Value}
-use Rattle.cell_layout.specs.declared.cell.Cell.{Cell}
 use Rattle.heap_model.specs.Heaps.{Heap, words_of_cell}
-use Rattle.heap_model.specs.Slots.{is_object_kind, reference_word, IsBeside}
+use Rattle.heap_model.specs.Slots.{is_object_kind, reference_word, HoldsStore}
 use Rattle.heap_model.specs.Kinds.{HasWord}
 use Rattle.heap_model.specs.Wholeness.{NamesFrom}
 use Rattle.heap_model.specs.Slots.{RefersTo}
@@ -81,7 +79,7 @@ module _ {old new : Heap} {cell store came : Cell} {pieces : List Cell} {before 
     store = reference_word came.at;
     slot = word_at_offset store_slot (list_now trim) (omega (arith, list_size (list_now trim) trim.shown.of_kind))
         ∙ trim.slot;
-    stands = IsBeside.store (reference_word came.at) came (words_of_cell new came) refers_now trim.still_store;
+    stands = HoldsStore.store (reference_word came.at) came (words_of_cell new came) refers_now trim.still_store;
   }
 
   -- the slots that the list had

@@ -6,14 +6,14 @@ use Rattle.object_graph.specs.Graphs.{ListObject}
 use Rattle.page_space.specs.Extents.{Space, layouts_start, marks_start}
 use Rattle.shape_tree.specs.Shapes.{AreShapes}
 use Rattle.shape_tree.specs.ShapeLayouts.{layout_word}
-use Rattle.cell_layout.specs.declared.cell.Cell.{Cell}
+use Rattle.heap_model.specs.Types.{Cell}
 use Rattle.cell_layout.specs.Cells.{IsRow}
 use Rattle.cell_layout.proofs.OneCell.{cells_have_words}
 use Rattle.heap_table.specs.Seats.{heap_words}
 use Rattle.heap_model.specs.Wholeness.{HasSizes}
 use Rattle.heap_model.proofs.CellsApart.{has_is_cell}
 use Rattle.nursery.specs.Young.{Young}
-use Rattle.write_barrier.specs.Mains.{Mutator, heap_of}
+use Rattle.write_barrier.specs.MutatorState.{Mutator, heap_of}
 use Rattle.object_cells.specs.CellWrites.{IsInCell}
 use Rattle.object_cells.specs.Made.{PutsWords}
 use Rattle.array_trim.proofs.StorePieces.{HadCell}

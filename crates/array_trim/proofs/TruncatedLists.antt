@@ -7,12 +7,10 @@ use Rattle.tagged_word.specs.Headers.{header_bits}
 use Rattle.tagged_word.specs.Cells.{store_slot, store_head, length_offset}
 use Rattle.tagged_word.specs.Layouts.{layout_bits}
 use Rattle.tagged_word.proofs.Members.{first_in, in_cases}
-use Rattle.object_graph.specs.declared.path.Path.{Path}
-use Rattle.object_graph.specs.declared.value.Value.{Value}
+use Rattle.heap_model.specs.Types.{Path, Value, Cell}
 use Rattle.object_graph.specs.Graphs.{Graph, ListObject}
 use Rattle.page_space.specs.Sizes.{AreWithin}
 use Rattle.shape_tree.specs.ShapeLayouts.{layout_word}
-use Rattle.cell_layout.specs.declared.cell.Cell.{Cell}
 use Rattle.cell_layout.specs.Cells.{IsCell, IsRow}
 use Rattle.cell_layout.proofs.Rows.{rows_join}
 use Rattle.heap_table.specs.Seats.{heap_words}
@@ -21,7 +19,7 @@ use Rattle.heap_model.specs.Slots.{reference_word}
 use Rattle.heap_model.specs.Kinds.{HasNoNumber, IsSoundOf, count_offset}
 use Rattle.heap_model.proofs.CellWords.{slice_get-take}
 use Rattle.heap_model.proofs.Rewrites.{row_of_one}
-use Rattle.write_barrier.specs.Mains.{Mutator, heap_of, MainShows}
+use Rattle.write_barrier.specs.MutatorState.{Mutator, heap_of, MainShows}
 use Rattle.object_cells.specs.ListObjects.{IsListAt}
 use Rattle.object_cells.specs.Formats.{with_filler}
 use Rattle.object_cells.specs.Made.{PutsWords}

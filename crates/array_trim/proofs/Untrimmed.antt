@@ -3,14 +3,13 @@ use Rattle.std.proofs.Common.{◌≡◌, ℕ, List, Some, refl, sym, ◌∙◌, 
 use Rattle.std.specs.Prelude.{slice_get, slice_set}
 use Rattle.std.proofs.lemmas.List.{set-get_or}
 use Rattle.std.proofs.lemmas.Option.{get_or_from_slice_get}
-use Rattle.object_graph.specs.declared.value.Value.{Value}
-use Rattle.object_graph.specs.declared.object.Object.{Object}
+use Rattle.heap_model.specs.Types.{Value, Object}
 use Rattle.object_graph.specs.declared.object.Object.TheVariants.{List as ListOf}
 use Rattle.object_graph.specs.Graphs.{Graph, ListObject}
 use Rattle.object_graph.specs.Meaning.{relist}
-use Rattle.heap_table.specs.Staying.{stays_beside_itself}
+use Rattle.heap_table.specs.Staying.{rest_stays_itself}
 use Rattle.heap_model.specs.Needs.{capacity_at}
-use Rattle.write_barrier.specs.Mains.{Mutator, heap_of, MainShows}
+use Rattle.write_barrier.specs.MutatorState.{Mutator, heap_of, MainShows}
 use Rattle.object_cells.specs.ListObjects.{IsListAt}
 use Rattle.object_cells.proofs.NothingUsed.{uses_none, nothing_changes}
 use Rattle.array_trim.specs.Trims.{HasTrimmed}
@@ -33,7 +32,7 @@ pub nothing_trimmed : {main : Mutator} {graph : Graph} {at : ℕ} (list : ListOb
     (capacity : ℕ) → MainShows main graph → IsListAt main graph at list → elements ≡ list.elements
     → capacity ≡ capacity_at (heap_of main) at → HasTrimmed main main graph at list elements capacity
 nothing_trimmed {main} {at = at} list elements capacity shows is all same = record {
-  uses = uses_none (stays_beside_itself main.seat) refl;
+  uses = uses_none (rest_stays_itself main.seat) refl;
   changes = nothing_changes (heap_of main) at capacity (sym same);
   shows = relisted_alike list elements shows is all;
 }

@@ -1,19 +1,19 @@
 //! The call `shift`.
 ghost use Rattle.std.specs.Prelude.{◌≤◌};
 ghost use Rattle.object_graph.specs.Graphs.{Graph, ListObject};
-ghost use Rattle.write_barrier.specs.Mains.{MainShows};
+ghost use Rattle.write_barrier.specs.MutatorState.{MainShows};
 ghost use Rattle.object_cells.specs.ListObjects.{IsListAt, IsListReady, IsShownList};
 ghost use Rattle.array_trim.specs.TrimWords.{PutsShifted};
 ghost use Rattle.array_trim.specs.Trims.{ShiftsElements};
 
 use crate::laws::laws_of_trims;
 use heap_model::cells::COUNT;
-use object_cells::{Range, STORE, count_of, place_of, put_filler, store_of};
+use object_cells::{Range, STORE, checked_index, count_of, put_filler, store_of};
 use tagged_word::Word;
 use tagged_word::cell::{LENGTH, STORE_SLOT};
 use write_barrier::Main;
 
-// The store of the list begins so many words later. The words before it are free.
+/// The store of the list begins so many words later. The words before it are free.
 fn shift_store(main: &mut Main, list: u32, count: u32, gone: u32)
     requires ready { IsListReady main.old list count }
     requires some { 1 ≤ gone }
@@ -46,7 +46,7 @@ pub fn shift(main: &mut Main, list: u32, n: i64) -> Result<(), Range>
     main.addresses_fit();
     laws_of_trims();
     let count = count_of(main, list);
-    let Some(gone) = place_of(count + 1, n) else {
+    let Some(gone) = checked_index(count + 1, n) else {
         return Err(Range);
     };
     if gone != 0 {

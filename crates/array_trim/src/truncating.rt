@@ -1,18 +1,18 @@
 //! The call `truncate`.
 ghost use Rattle.std.specs.Prelude.{◌<◌};
 ghost use Rattle.object_graph.specs.Graphs.{Graph, ListObject};
-ghost use Rattle.write_barrier.specs.Mains.{MainShows};
+ghost use Rattle.write_barrier.specs.MutatorState.{MainShows};
 ghost use Rattle.object_cells.specs.ListObjects.{IsListAt, IsListReady, IsShownList};
 ghost use Rattle.array_trim.specs.TrimWords.{PutsTruncated};
 ghost use Rattle.array_trim.specs.Trims.{TruncatesElements};
 
 use crate::laws::laws_of_trims;
 use heap_model::cells::COUNT;
-use object_cells::{Range, count_of, place_of, put_filler, store_of};
+use object_cells::{Range, checked_index, count_of, put_filler, store_of};
 use tagged_word::cell::{LENGTH, STORE_HEAD};
 use write_barrier::Main;
 
-// The store of the list has so many slots. The words behind them are free.
+/// The store of the list has so many slots. The words behind them are free.
 fn truncate_store(main: &mut Main, list: u32, count: u32, kept: u32)
     requires ready { IsListReady main.old list count }
     requires fewer { kept < count }
@@ -42,7 +42,7 @@ pub fn truncate(main: &mut Main, list: u32, n: i64) -> Result<(), Range>
     main.addresses_fit();
     laws_of_trims();
     let count = count_of(main, list);
-    let Some(kept) = place_of(count + 1, n) else {
+    let Some(kept) = checked_index(count + 1, n) else {
         return Err(Range);
     };
     if kept != count {

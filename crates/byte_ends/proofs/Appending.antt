@@ -3,7 +3,7 @@ use Rattle.std.proofs.Common.{◌≡◌, ℕ, ◌+◌, ◌<◌, ◌≤◌, List,
 use Rattle.std.proofs.Common.{◌∙◌, append_assoc, arith, length-append}
 use Rattle.std.proofs.Math.Seq.{take-add, take-append-add}
 use Rattle.std.proofs.lemmas.List.{append-nil, take-append-le}
-use Rattle.byte_ends.specs.Sink.{Takes, Keeps, Appends, AppendsSome}
+use Rattle.byte_ends.specs.Sink.{Takes, TakesNothing, Appends, AppendsSome}
 
 -- the same bytes under another name
 pub Appends-along : {old new : List ℕ → Type 0} {a b : List ℕ} → a ≡ b → Appends old new a → Appends old new b
@@ -17,7 +17,7 @@ Appends-none taken = record {
 
 -- these bytes, and then nothing more
 pub Appends-keeps : {old mid new : List ℕ → Type 0} {bytes : List ℕ}
-    → Appends old mid bytes → Keeps mid new → Appends old new bytes
+    → Appends old mid bytes → TakesNothing mid new → Appends old new bytes
 Appends-keeps {bytes = bytes} p k = record { appended = λ before h. k.kept (before ++ bytes) (p.appended before h) }
 
 -- one piece behind another
@@ -40,7 +40,7 @@ Appends-takes {mid = mid} {new = new} piece rest i {n = n} p e t =
 
 -- a piece of which nothing was taken: its front of no bytes
 pub AppendsSome-none : {old new : List ℕ → Type 0} (bytes : List ℕ)
-    → 0 < length bytes → Keeps old new → AppendsSome old new bytes
+    → 0 < length bytes → TakesNothing old new → AppendsSome old new bytes
 AppendsSome-none bytes some k = record { count = 0; short = some; front = Appends-keeps (Appends-none _) k }
 
 -- a front of a piece is a front of whatever begins with the piece

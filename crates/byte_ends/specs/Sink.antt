@@ -11,7 +11,7 @@ pub record Takes (old new : List ℕ → Type 0) (piece : List ℕ) (n : ℕ) : 
   pub taken : (before : List ℕ) → old before → new (before ++ take n piece)
 
 -- nothing was taken: whatever it may have taken before, it may have taken now
-pub record Keeps (old new : List ℕ → Type 0) : Type 0 where
+pub record TakesNothing (old new : List ℕ → Type 0) : Type 0 where
   pub kept : (before : List ℕ) → old before → new before
 
 -- these bytes stand behind what was taken before

@@ -1,7 +1,7 @@
 //! What a source and a sink promise. The ends themselves stand in `memory`, `sure` and `standard`.
 ghost use Rattle.std.specs.Prelude.{◌≡◌, ◌≤◌, ℕ, List, Option, IfOk, OnOk, OnErr};
 ghost use Rattle.byte_ends.specs.Faults.{Rose, one_more};
-ghost use Rattle.byte_ends.specs.Sink.{Keeps, Takes};
+ghost use Rattle.byte_ends.specs.Sink.{TakesNothing, Takes};
 ghost use Rattle.byte_ends.specs.Source.{Gives};
 
 /// The call could not be carried out.
@@ -35,7 +35,7 @@ pub trait Sink {
     /// is not empty.
     fn write(&mut self, piece: &[u8]) -> Result<usize, Failed>
         ensures took { IfOk result (Takes (HasTaken self.old) (HasTaken self.new) piece.now) }
-        ensures nothing { OnErr result (Keeps (HasTaken self.old) (HasTaken self.new)) }
+        ensures nothing { OnErr result (TakesNothing (HasTaken self.old) (HasTaken self.new)) }
         ensures failed { OnErr result (Rose (faults self.old) (faults self.new)) }
         ensures steady { OnOk result (faults self.new ≡ faults self.old) }
         ensures counted { faults self.old ≤ faults self.new };

@@ -2,7 +2,7 @@
 ghost use Rattle.std.specs.Prelude.{◌≡◌, ◌≤◌, ℕ, [], length, Some, IfOk, OnOk, OnErr};
 ghost use Rattle.byte_ends.specs.Faults.{Rose};
 ghost use Rattle.byte_ends.specs.Memory.{HasBytes, ReadsMemory, WritesMemory};
-ghost use Rattle.byte_ends.specs.Sink.{Keeps, Takes};
+ghost use Rattle.byte_ends.specs.Sink.{TakesNothing, Takes};
 ghost use Rattle.byte_ends.specs.Source.{Gives};
 
 use crate::copying::give_front;
@@ -61,7 +61,7 @@ impl MemSource {
         }
     }
 
-    /// The bytes that were not read yet.
+    /// The bytes that were not read.
     pub fn left(&self) -> &[u8]
         ensures { result.now ≡ self.now.left }
     {
@@ -171,7 +171,7 @@ impl Sink for MemSink {
 
     fn write(&mut self, piece: &[u8]) -> Result<usize, Failed>
         ensures took { IfOk result (Takes (HasBytes self.old) (HasBytes self.new) piece.now) }
-        ensures nothing { OnErr result (Keeps (HasBytes self.old) (HasBytes self.new)) }
+        ensures nothing { OnErr result (TakesNothing (HasBytes self.old) (HasBytes self.new)) }
         ensures failed { OnErr result (Rose self.old.faults self.new.faults) }
         ensures steady { OnOk result (self.new.faults ≡ self.old.faults) }
         ensures counted { self.old.faults ≤ self.new.faults }

@@ -2,7 +2,7 @@
 ghost use Rattle.std.specs.Prelude.{◌≡◌, ◌≤◌, None, length, take, IfOk, OnErr, OnOk};
 ghost use Rattle.std.specs.Io.KnownBytes.{Appends, ReadConsumes};
 ghost use Rattle.byte_ends.specs.Faults.{one_more};
-ghost use Rattle.byte_ends.specs.Sink.{AnyBytes, Keeps, Takes};
+ghost use Rattle.byte_ends.specs.Sink.{AnyBytes, TakesNothing, Takes};
 ghost use Rattle.byte_ends.specs.Source.{Gives};
 ghost use Rattle.byte_ends.specs.Standard.{read_faults, reader_of, write_faults, writer_of};
 
@@ -77,7 +77,7 @@ impl<W: Write> Sink for StdSink<W> {
 
     fn write(&mut self, piece: &[u8]) -> Result<usize, Failed>
         ensures took { IfOk result (Takes AnyBytes AnyBytes piece.now) }
-        ensures nothing { OnErr result (Keeps AnyBytes AnyBytes) }
+        ensures nothing { OnErr result (TakesNothing AnyBytes AnyBytes) }
         ensures failed { OnErr result (write_faults self.new ≡ one_more (write_faults self.old)) }
         ensures steady { OnOk result (write_faults self.new ≡ write_faults self.old) }
         ensures counted { write_faults self.old ≤ write_faults self.new }

@@ -68,7 +68,7 @@ impl Model for Tally {
 }
 
 impl Tally {
-    /// Nothing was written yet.
+    /// Nothing was written.
     pub fn new() -> Tally
         ensures { result ≡ record { bytes = 0; total = 0 } }
     {

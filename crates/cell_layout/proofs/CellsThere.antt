@@ -17,7 +17,7 @@ use Rattle.tagged_word.proofs.Cells.{some_same}
 use Rattle.page_space.specs.Extents.{Space, CellsEndAt, layouts_start}
 use Rattle.page_space.proofs.CellEnds.{end_once}
 use Rattle.cell_layout.specs.declared.cell.Cell.{Cell}
-use Rattle.cell_layout.specs.Cells.{reading_of, IsCell, IsNoCell, HasNoCell, HasRoom, IsLayoutOf, layouts_in}
+use Rattle.cell_layout.specs.Cells.{reading_of, IsCell, IsNoCell, HasNoCell, HasWordsUpTo, IsLayoutOf, layouts_in}
 
 -- an element of the first ones is that of all
 slice_get-take : (n : ℕ) (xs : List ℕ) (k : ℕ) → k < n → slice_get (take n xs) k ≡ slice_get xs k
@@ -118,7 +118,7 @@ size_there space words cell header layout long size is_cell parts =
 
 -- no cell with these parts stands where there is no room for it
 pub no_room : (space : Space) (words : List ℕ) (at room : ℕ) (header : Header) (layout : LayoutWord) (long size : ℕ) →
-    HasParts space words at header layout long size → HasRoom space words at room → room < size →
+    HasParts space words at header layout long size → HasWordsUpTo space words at room → room < size →
     HasNoCell space words at
 no_room space words at room header layout long size parts has_room more cell same is_cell =
     let here = subst (λ (one : ℕ). HasParts space words one header layout long size) (sym same) parts in
@@ -152,7 +152,7 @@ no_size space words at header layout long is_header first layout_of second none 
 
 -- the parts make a cell where there is room for it
 pub makes_cell : (space : Space) (words : List ℕ) (at room : ℕ) (header : Header) (layout : LayoutWord) (long size : ℕ)
-    → HasParts space words at header layout long size → HasRoom space words at room → size ≤ room →
+    → HasParts space words at header layout long size → HasWordsUpTo space words at room → size ≤ room →
     IsCell space words (record { at = at; header = header; layout = layout; length = long; size = size })
 makes_cell space words at room header layout long size parts has_room fits = record {
   end = has_room.end;

@@ -10,7 +10,7 @@ use Rattle.tagged_word.specs.Cells.{has_length, words_of, words_least}
 use Rattle.tagged_word.proofs.Cells.{size_is, two_words_of}
 use Rattle.page_space.specs.declared.region.Region.TheVariants.{Layout}
 use Rattle.page_space.specs.Extents.{Space, IsIn, CellsEndAt, is_cell_region, layouts_start}
-use Rattle.page_space.proofs.Addresses.{IsWithin, is_in}
+use Rattle.page_space.proofs.Addresses.{IsInRegion, is_in}
 use Rattle.page_space.proofs.LawsHold.{addresses_are_in_one}
 use Rattle.cell_layout.specs.declared.cell.Cell.{Cell}
 use Rattle.cell_layout.specs.Cells.{IsCell, IsRow, layouts_in}
@@ -54,7 +54,7 @@ puts_read_alike space words a word cell header long apart = record {
 -- an address where cells may stand is that of no layout word
 apart_from_layouts : (space : Space) (a end : ℕ) → CellsEndAt space a end → IsNoLayoutWord space a
 apart_from_layouts space a end ends shape below same =
-    let inside : IsWithin space (Layout shape) a =
+    let inside : IsInRegion space (Layout shape) a =
     record { is_region = below; from = omega arith; below = omega arith } in
     let here : IsIn space a ends.extent.region =
     record { extent = ends.extent; stands = ends.stands; of_region = refl; holds = ends.holds } in

@@ -19,7 +19,7 @@ pub record IsLayoutOf (space : Space) (words : List ℕ) (shape : ℕ) (layout :
   pub of_shape : slice_get (layouts_in space words) shape ≡ Some (layout_bits layout)
 
 -- a cell may stand at the address, and so many words are there before its end and that of the words
-pub record HasRoom (space : Space) (words : List ℕ) (at room : ℕ) : Type 0 where
+pub record HasWordsUpTo (space : Space) (words : List ℕ) (at room : ℕ) : Type 0 where
   pub end : ℕ
   pub stands : CellsEndAt space at end
   pub ends : at + room ≡ min end (length words)

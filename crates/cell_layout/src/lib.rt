@@ -6,11 +6,11 @@
 #![tactic(auto)]
 
 mod cell;
+mod cells;
 mod laws;
-mod reading;
 mod slots;
 
 pub use cell::{Cell, NotACell};
+pub use cells::{cell_at, next_cell};
 pub use laws::{laws_of_cells, laws_of_rows};
-pub use reading::{cell_at, next_cell};
 pub use slots::{next_scavenge_slot, next_tagged};

@@ -36,7 +36,7 @@ pub fn next_scavenge_slot(cell: &Cell, from: u32) -> Option<u32>
     }
 }
 
-// Among the slots of a plain cell.
+/// Among the slots of a plain cell.
 fn next_of_plain(cell: &Cell, from: u32) -> Option<u32>
     requires sized { IsSized cell.now }
     ensures { IsFirstFrom (tagged_offsets cell.now.layout cell.now.length) from result }
@@ -49,7 +49,7 @@ fn next_of_plain(cell: &Cell, from: u32) -> Option<u32>
     None
 }
 
-// Where the only slot is that for a store or table.
+/// Where the only slot is that for a store or table.
 fn next_of_one(from: u32) -> Option<u32>
     ensures { IsFirstFrom (store_slot ∷ []) from result }
 {
@@ -60,7 +60,7 @@ fn next_of_one(from: u32) -> Option<u32>
     }
 }
 
-// Among so many slots of a store or table.
+/// Among so many slots of a store or table.
 fn next_of_run(slots: u64, from: u32) -> Option<u32>
     ensures { IsFirstFrom (range_with_len store_head slots) from result }
 {

@@ -2,7 +2,7 @@
 use Rattle.std.proofs.Common.{◌≡◌, ℕ, ◌+◌, ◌≤◌, ◌<◌, ◌⊎◌, inl, inr, List, [], ◌∷◌, Contains}
 use Rattle.std.proofs.Common.{refl, sym, ◌∙◌, ap, subst, arith}
 use Rattle.tagged_word.proofs.Members.{first_in, rest_in, in_cases}
-use Rattle.page_space.specs.declared.region.Region.{Region}
+use Rattle.heap_model.specs.Types.{Region}
 use Rattle.page_space.specs.Extents.{Space, Stretch, Extent, IsIn, CellsEndAt, cell_stretches, extents_from, words_in}
 use Rattle.page_space.specs.Extents.{roots_start, words_count}
 use Rattle.page_space.specs.RegionLaws.{IsSpace}

@@ -2,7 +2,7 @@
 use Rattle.std.proofs.Common.{◌≡◌, ℕ, ◌+◌, ◌≤◌, ◌<◌, List, Contains, refl, sym, subst, arith}
 use Rattle.std.proofs.lemmas.List.Elements.{All-contains}
 use Rattle.tagged_word.proofs.Members.{map_from}
-use Rattle.page_space.specs.Extents.{Extent, Holds}
+use Rattle.page_space.specs.Extents.{Extent, ContainsAddress}
 use Rattle.page_space.proofs.Covering.{disjoint}
 use Rattle.cell_layout.proofs.Rows.{cell_within, row_ascends}
 use Rattle.heap_model.specs.Heaps.{Heap, Row, IsUsedRow, cell_extents, words_of_cell}
@@ -34,7 +34,7 @@ not_behind heap row at rows among used past below of_some =
     let own = has.row in
     let of_cell : IsOfCell of_some.cell at = record { from = of_some.from; below = of_some.below } in
     let ascends = row_ascends heap.space heap.words row.extent.start row.end row.cells used.stands in
-    let here : Holds row.extent at = record { from = omega (arith, ascends, past); below = below } in
+    let here : ContainsAddress row.extent at = record { from = omega (arith, ascends, past); below = below } in
     let same : own.extent ≡ row.extent =
     disjoint heap.space own.extent row.extent at (cell_extent_stands heap.space own.extent has.in_region)
     (cell_extent_stands heap.space row.extent among) (row_holds rows has.in_region has.used has.in_row of_cell) here in

@@ -1,11 +1,10 @@
 -- The end of the used row of a region, and the walk to it in a segment.
 use Rattle.std.proofs.Common.{◌≡◌, ℕ, ◌+◌, ◌≤◌, ◌⊎◌, inl, inr, List, [], ◌∷◌, Contains, Some}
 use Rattle.std.proofs.Common.{slice_get, refl, sym, ◌∙◌, ap, subst, arith}
-use Rattle.page_space.specs.declared.region.Region.{Region}
+use Rattle.heap_model.specs.Types.{Region, Cell}
 use Rattle.page_space.specs.declared.region.Region.TheVariants.{Page, Eden, Segment}
 use Rattle.page_space.specs.Extents.{Space, Extent, IsIn}
 use Rattle.page_space.specs.RegionLaws.{IsSpace}
-use Rattle.cell_layout.specs.declared.cell.Cell.{Cell}
 use Rattle.cell_layout.specs.Cells.{IsCell, IsRow, HasNoCell}
 use Rattle.cell_layout.proofs.OneCell.{one_cell}
 use Rattle.cell_layout.proofs.Rows.{row_begins, row_of_none, first_ends}

@@ -1,7 +1,7 @@
 -- Images of a heap: the same cells, roots and layout words, and 0 where no cell stands.
 use Rattle.std.specs.Prelude.{◌≡◌, ℕ, ◌+◌, ◌<◌, ◌≤◌, List, length, Some, slice_get}
 use Rattle.page_space.specs.Extents.{roots_start, layouts_start, marks_start}
-use Rattle.cell_layout.specs.declared.cell.Cell.{Cell}
+use Rattle.heap_model.specs.Types.{Cell}
 use Rattle.heap_model.specs.Heaps.{Heap, HasCell}
 
 -- the address is that of a word of a cell of the heap

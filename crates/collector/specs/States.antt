@@ -3,7 +3,7 @@ use Rattle.std.specs.Prelude.{◌≡◌, ℕ, ◌≤◌, ◌⊎◌, length}
 use Rattle.object_graph.specs.Graphs.{Graph}
 use Rattle.page_space.specs.Extents.{marks_start}
 use Rattle.heap_model.specs.declared.image.HeapImage.{HeapImage}
-use Rattle.write_barrier.specs.Mains.{Mutator, MainShows}
+use Rattle.write_barrier.specs.MutatorState.{Mutator, MainShows}
 
 -- the image that was made last, and for how many words memory is reserved beside it
 pub record Spare : Type 0 where

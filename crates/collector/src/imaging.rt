@@ -7,7 +7,7 @@ ghost use Rattle.page_space.specs.Extents.{marks_start};
 ghost use Rattle.heap_table.specs.declared.phase.Phase.TheVariants.{Quiet};
 ghost use Rattle.heap_model.specs.Images.{image_heap};
 ghost use Rattle.heap_model.specs.Wholeness.{Whole};
-ghost use Rattle.write_barrier.specs.Mains.{heap_of};
+ghost use Rattle.write_barrier.specs.MutatorState.{heap_of};
 ghost use Rattle.collector.specs.Images.{AreWordsOf, IsImageOf};
 
 use crate::filling::fill_words;
@@ -17,7 +17,7 @@ use std::mem;
 use word_store::Reads;
 use write_barrier::Main;
 
-// So many words, in memory that is reserved for them.
+/// So many words, in memory that is reserved for them.
 fn reserved_words(mut memory: Vec<u64>, count: u32) -> Vec<u64>
     requires room { count ≤ vec_capacity memory }
     ensures { length result.items ≡ count }
@@ -28,7 +28,7 @@ fn reserved_words(mut memory: Vec<u64>, count: u32) -> Vec<u64>
     memory
 }
 
-// The words that an image of so many is put into: those of the last image, or the reserved ones.
+/// The words that an image of so many is put into: those of the last image, or the reserved ones.
 fn words_for(last: HeapWords, memory: Vec<u64>, count: u32) -> Vec<u64>
     requires ready { (length last ≡ count) ⊎ (count ≤ vec_capacity memory) }
     ensures { length result.items ≡ count }
@@ -57,7 +57,7 @@ impl Heap {
     ghost use Rattle.collector.specs.States.{HeapShows};
     ghost use Rattle.collector.specs.Lending.{EndsKept};
 
-    // Makes the spare image one of the heap.
+    /// Makes the spare image one of the heap.
     fn make_image(&mut self)
         requires { (graph : Graph) × HeapShows self.old graph }
         ensures image { IsImageOf (heap_of self.old.main) (image_heap self.new.spare.image) }

@@ -2,7 +2,7 @@
 ghost use Rattle.std.specs.Prelude.{◌≡◌};
 ghost use Rattle.heap_table.specs.declared.phase.Phase.TheVariants.{Quiet};
 ghost use Rattle.heap_model.specs.Wholeness.{Whole};
-ghost use Rattle.write_barrier.specs.Mains.{heap_of};
+ghost use Rattle.write_barrier.specs.MutatorState.{heap_of};
 ghost use Rattle.collector.specs.Filling.{StandsBetween, IsSegmentBetween, EndsRowAt};
 
 use cell_layout::cell_at;

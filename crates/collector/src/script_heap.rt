@@ -3,7 +3,7 @@ ghost use Rattle.std.specs.Prelude.{◌≡◌, IfOk, length};
 ghost use Rattle.std.specs.Borrow.{sem};
 ghost use Rattle.object_graph.specs.Graphs.{start};
 ghost use Rattle.heap_table.specs.Seats.{fresh};
-ghost use Rattle.write_barrier.specs.Mains.{IsOpened};
+ghost use Rattle.write_barrier.specs.MutatorState.{IsOpened};
 
 use heap_model::{HeapImage, HeapWords};
 use heap_table::MainSeat;

@@ -11,7 +11,7 @@ use Rattle.command_line.specs.declared.number.Limits.{Limits}
 use Rattle.command_line.specs.declared.invocation.Invocation.{Invocation}
 use Rattle.command_line.specs.declared.invocation.Invocation.TheVariants.{Run}
 use Rattle.command_line.specs.Given.{Text, Given, given_of}
-use Rattle.command_line.specs.Numbers.{number_of, within, number_or_default}
+use Rattle.command_line.specs.Numbers.{decimal_value, within, number_or_default}
 use Rattle.command_line.specs.Sizes.{pages_limits, young_limits, helpers_limits, sizes_from, text_in, sizes_of}
 use Rattle.command_line.specs.Sizes.{if_no_word, sizes_alone}
 use Rattle.command_line.specs.Invocations.{Command, run, check, soak, gen, command_text, invocation_by}
@@ -38,7 +38,7 @@ number_within : (limits : Limits) (text : Option Text) (number : ℕ) → limits
 number_within limits None number least most e =
     subst (λ (n : ℕ). (limits.least ≤ n) × (n ≤ limits.most)) (same_Some limits.default number e) (least, most)
 number_within limits (Some text) number least most e =
-    option_and_then_some (within limits.least limits.most) (number_of text) number e
+    option_and_then_some (within limits.least limits.most) (decimal_value text) number e
     (λ found is f. within_limits limits.least limits.most found number f)
 
 -- three numbers that are sizes

@@ -7,7 +7,7 @@ use Rattle.command_line.specs.Given.{is_option_name, is_set}
 use Rattle.command_line.specs.Sizes.{sizes_alone}
 use Rattle.command_line.proofs.Hopeless.{and_setting, hopeless_after, hyphen_is_hopeless}
 
--- only settings of options are given so far
+-- only settings of options are given
 abbrev pub only : List Setting → Given
 only settings = record { settings = settings; positional = [] }
 

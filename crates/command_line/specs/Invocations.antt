@@ -77,9 +77,9 @@ abbrev pub built_invocation_of : List Command → List Text → Option Invocatio
 built_invocation_of unbuilt words = if begins_with_any unbuilt words then None else invocation_of words
 
 -- the commands that are not built
-abbrev pub unbuilt_today : List Command
-unbuilt_today = check ∷ soak ∷ gen ∷ []
+abbrev pub unbuilt_commands : List Command
+unbuilt_commands = check ∷ soak ∷ gen ∷ []
 
 -- the first word is a command that is built
 abbrev pub BeginsBuilt : List Text → Type 0
-BeginsBuilt words = IsTrue (begins_with_any commands words && not (begins_with_any unbuilt_today words))
+BeginsBuilt words = IsTrue (begins_with_any commands words && not (begins_with_any unbuilt_commands words))

@@ -7,8 +7,8 @@ use Rattle.std.specs.Str.Parse.{digits_value}
 use Rattle.command_line.specs.declared.number.Limits.{Limits}
 
 -- The number of a text of one decimal digit or more. Zeros may lead; a sign, or any other byte, makes it no number.
-abbrev pub number_of : List ℕ → Option ℕ
-number_of text = if list_all is_ascii_digit text && nat_lt 0 (length text) then Some (digits_value 10 text) else None
+abbrev pub decimal_value : List ℕ → Option ℕ
+decimal_value text = if list_all is_ascii_digit text && nat_lt 0 (length text) then Some (digits_value 10 text) else None
 
 -- the number, where it is from the least to the most
 abbrev pub within : ℕ → ℕ → ℕ → Option ℕ
@@ -16,7 +16,7 @@ within least most number = if nat_le least number && nat_le number most then Som
 
 -- the number of a text, from the least to the most
 abbrev pub number_in : ℕ → ℕ → List ℕ → Option ℕ
-number_in least most text = option_and_then (within least most) (number_of text)
+number_in least most text = option_and_then (within least most) (decimal_value text)
 
 -- the number of an option: of its text, or the default where it has none
 abbrev pub number_or_default : Limits → Option (List ℕ) → Option ℕ

@@ -4,10 +4,10 @@ use Rattle.page_space.specs.declared.sizes.Sizes.{Sizes}
 use Rattle.page_space.specs.Sizes.{AreWithin, variables_most}
 use Rattle.command_line.specs.declared.invocation.Invocation.TheVariants.{Run}
 use Rattle.command_line.specs.Given.{Text}
-use Rattle.command_line.specs.Invocations.{built_invocation_of, unbuilt_today}
+use Rattle.command_line.specs.Invocations.{built_invocation_of, unbuilt_commands}
 
 -- where words ask for the run of a script, the sizes are within their limits
 abbrev pub AskedSizesAreWithin : Type 0
 AskedSizesAreWithin =
-    (words : List Text) (sizes : Sizes) (variables : ℕ) → built_invocation_of unbuilt_today words ≡ Some (Run sizes)
+    (words : List Text) (sizes : Sizes) (variables : ℕ) → built_invocation_of unbuilt_commands words ≡ Some (Run sizes)
     → variables ≤ variables_most → AreWithin sizes variables

@@ -3,7 +3,7 @@
 //! Model: the words are a list of texts, each the list of its bytes. `given_of` of
 //! `specs/Given.antt` says which options and positional words they give, and `invocation_of` of
 //! `specs/Invocations.antt` what they ask for.
-//! Invariant: none. `unbuilt_today` lists the commands that are not built.
+//! Invariant: none. `unbuilt_commands` lists the commands that are not built.
 #![tactic(auto)]
 
 mod invocation;

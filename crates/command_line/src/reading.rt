@@ -1,6 +1,7 @@
 //! Reading words as an invocation.
 ghost use Rattle.std.specs.Prelude.{◌≡◌, [], ◌∷◌, Err, Some, None, IfOk, map, string_bytes};
-ghost use Rattle.command_line.specs.Invocations.{BeginsBuilt, begins_with_any, built_invocation_of, run, unbuilt_today};
+ghost use Rattle.command_line.specs.Invocations.{BeginsBuilt, begins_with_any, built_invocation_of, run};
+ghost use Rattle.command_line.specs.Invocations.{unbuilt_commands};
 
 use crate::invocation::{Invocation, WordsStop};
 use crate::options::sizes_of;
@@ -11,9 +12,9 @@ use std::alloc::Global;
 /// comes only where the first word is a built command; other words may then be bad all the same.
 pub fn read_words(alloc: Global, words: &[String]) -> Result<Invocation, WordsStop>
     ensures invocation { IfOk result (λ invocation.
-        built_invocation_of unbuilt_today (map string_bytes words.now) ≡ Some invocation) }
+        built_invocation_of unbuilt_commands (map string_bytes words.now) ≡ Some invocation) }
     ensures refused { result ≡ Err WordsStop.BadWords →
-        built_invocation_of unbuilt_today (map string_bytes words.now) ≡ None }
+        built_invocation_of unbuilt_commands (map string_bytes words.now) ≡ None }
     ensures begins_built { result ≡ Err WordsStop.NoMemory →
         BeginsBuilt (map string_bytes words.now) }
 {

@@ -1,6 +1,6 @@
 //! Command lines with what they ask for. Each function does nothing: its clauses are the rows.
 ghost use Rattle.std.specs.Prelude.{◌≡◌, [], None, Some, codes};
-ghost use Rattle.command_line.specs.Invocations.{built_invocation_of, invocation_of, unbuilt_today};
+ghost use Rattle.command_line.specs.Invocations.{built_invocation_of, invocation_of, unbuilt_commands};
 ghost use Rattle.command_line.specs.Lines.{words_of};
 
 use crate::invocation::Invocation;
@@ -35,7 +35,7 @@ pub fn unbuilt_rows()
     ensures generated { invocation_of (words_of (codes "gen 0 1")) ≡ Some (Invocation.Gen 0 1) }
     ensures largest { invocation_of (words_of (codes "gen 18446744073709551615 30000"))
         ≡ Some (Invocation.Gen 18446744073709551615 30000) }
-    ensures not_built { built_invocation_of unbuilt_today (words_of (codes "gen 0 1")) ≡ None }
+    ensures not_built { built_invocation_of unbuilt_commands (words_of (codes "gen 0 1")) ≡ None }
 {}
 
 /// Lines that are refused for their words.

@@ -2,15 +2,15 @@
 //! from the world that the row before it left, and tells what holds then: what the mutator owes, and
 //! which of the cells that it made black it is not done with.
 
-// A list at 0 with two elements, in its store at 3: a cell and a small integer. That cell at 7, a
-// plain one of no slots. At 9 a plain cell with a slot, which refers to 7, and a property store at 12
-// for a second field, in the box at 16. A gap at 18; in its dead words a store stood at 20.
+/// A list at 0 with two elements, in its store at 3: a cell and a small integer. That cell at 7, a
+/// plain one of no slots. At 9 a plain cell with a slot, which refers to 7, and a property store at 12
+/// for a second field, in the box at 16. A gap at 18; in its dead words a store stood at 20.
 pub(crate) const CELLS: &str = "0 3 7 9 12 16";
 
 pub(crate) const WORDS: &str = "6 13 2 14 2 29 4 34 3 70 49 29 14 2 65 7 22 13 30 2030 14 2 29 65";
 
-// A property store is made for the cell at 7, and a field put there. The words of the new store are
-// those of a dead one, which refers to cells that the mutator is not sure of.
+/// A property store is made for the cell at 7, and a field put there. The words of the new store are
+/// those of a dead one, which refers to cells that the mutator is not sure of.
 const STORE_MADE: &str = "\
 slot 8 81 -> stops at 0
 then new 20 -> mine [20]; sure []; owed []; open [20]
@@ -26,8 +26,8 @@ then head 7 78 -> stops at 0
 then lay 19 1; head 7 78 -> mine [20]; owed []; open []; \
     page [6, 13, 2, 14, 2, 29, 4, 78, 81, 70, 49, 29, 14, 2, 65, 7, 22, 13, 30, 2030, 14, 4, 1, 7, 7, 7]";
 
-// A slot of the cell at 9 holds a small integer, and then a wide one. Behind that it is raw: also the
-// bits of a reference are just a number there.
+/// A slot of the cell at 9 holds a small integer, and then a wide one. Behind that it is raw: also the
+/// bits of a reference are just a number there.
 const SMALL_TO_WIDE: &str = "\
 slot 11 4 -> owed []; open []
 then own 11 5000000000 -> stops at 0
@@ -39,9 +39,9 @@ then head 9 74 -> stops at 0
 then own 9 74 -> mine [9]; sure [12]; owed []; open []
 then own 11 65 -> open []";
 
-// The first of two fields of the cell at 9 is deleted, while a helper reads the cell. The second is
-// wide: its integer becomes raw in the slot, where its bits are those of a reference to 3 until the
-// header tells.
+/// The first of two fields of the cell at 9 is deleted, while a helper reads the cell. The second is
+/// wide: its integer becomes raw in the slot, where its bits are those of a reference to 3 until the
+/// header tells.
 const FIELD_DELETED: &str = "\
 lend; shade 9; header 0 9; layout 0 -> sure [9]; owed []; grey [9]; open []
 then own 14 7 -> stops at 0
@@ -58,8 +58,8 @@ then own 9 74 -> owed []; open []; \
 then settle 0 -> visit []; last 70 2; slot 1 49; log [Loaded { at: 9 }, Coloured { at: 9, found: 2 }]
 then return 0 -> owed []; grey [7, 16]; out false; open []";
 
-// The first element of the list goes, while a helper reads the store. Its capacity was 2: the word is
-// the header of the new start, and until then no cell is read there.
+/// The first element of the list goes, while a helper reads the store. Its capacity was 2: the word is
+/// the header of the new start, and until then no cell is read there.
 const LEFT_TRIM: &str = "\
 lend; shade 3; header 0 3; layout 0; length 0 -> sure [3]; owed []; open []
 then new 4 -> stops at 0
@@ -79,7 +79,7 @@ then own 3 26 -> mine [3, 4]; owed []; open []; \
 then settle 0 -> visit []; last 14 2; slot 2 1; log [Loaded { at: 3 }, Coloured { at: 3, found: 2 }]
 then return 0 -> owed []; out false; open []";
 
-// All elements of the list go. The words behind the store are a gap.
+/// All elements of the list go. The words behind the store are a gap.
 const RIGHT_TRIM: &str = "\
 own 4 0 -> stops at 0
 then own 5 30 -> stops at 0
@@ -90,8 +90,8 @@ then own 2 0 -> open []
 then own 6 2; own 5 30 -> mine [3]; sure [7]; owed []; open []; \
     page [6, 13, 0, 14, 0, 30, 2, 34, 3, 70, 49, 29, 14, 2, 65, 7, 22, 13, 30, 2030, 14, 2, 29, 65, 0, 0]";
 
-// A third element, the cell at 9, is put last: the list gets a store of 4 slots, filled with the old
-// ones.
+/// A third element, the cell at 9, is put last: the list gets a store of 4 slots, filled with the old
+/// ones.
 const STORE_GROWN: &str = "\
 new 20 -> mine [20]; owed []; open [20]
 then own 20 14; own 21 4 -> open [20]
@@ -106,8 +106,8 @@ then shade 20 -> sure [7, 9, 20]; owed []; grey [7, 9]; open []
 then own 2 3 -> mine [20]; owed []; open []; \
     page [6, 81, 3, 14, 2, 29, 4, 34, 3, 70, 49, 29, 14, 2, 65, 7, 22, 13, 30, 2030, 14, 4, 29, 4, 37, 7]";
 
-// From the world that other runs begin with: a raw slot is tagged when its target is sure, and not
-// before. A tagged slot is raw in a cell that the mutator made black, and in no other.
+/// From the world that other runs begin with: a raw slot is tagged when its target is sure, and not
+/// before. A tagged slot is raw in a cell that the mutator made black, and in no other.
 pub(crate) const SHAPES: &str = "\
 lend; shade 14; header 0 14; layout 0; slot 16 13; shade 3; head 14 70; load 0 1; settle 0 -> \
     last 74 1; slot 1 3
@@ -118,7 +118,7 @@ lend; shade 17; header 0 17; layout 0; blacken 17; own 19 5000000000; own 17 74;
     visit []; log [Loaded { at: 17 }, Coloured { at: 17, found: 2 }]
 lend; shade 17; header 0 17; layout 0; own 19 5000000000 -> stops at 4";
 
-// A store is trimmed from the left. A new cell lies in no other.
+/// A store is trimmed from the left. A new cell lies in no other.
 pub(crate) const TRIM: &str = "\
 shade 5; blacken 8; shade 12; new 9; own 9 14; own 10 1; slot 6 37; shade 9; own 7 1; own 8 26 -> \
     words [6, 13, 0, 14, 0, 6, 37, 1, 26, 14, 1, 3, 34, 3, 74, 3, 5000000000, 70, 3, 13]; \

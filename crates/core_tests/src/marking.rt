@@ -13,17 +13,17 @@ use std::process::Abort;
 use std::test::Fail;
 use tagged_word::Word;
 
-// A list at 0 with its store of no slots at 3; a list at 5 with its store of two slots at 8 and a
-// plain cell of none at 12; a plain cell with a raw slot at 14, one with a tagged slot at 17; a gap.
+/// A list at 0 with its store of no slots at 3; a list at 5 with its store of two slots at 8 and a
+/// plain cell of none at 12; a plain cell with a raw slot at 14, one with a tagged slot at 17; a gap.
 const WORDS: &str = "6 13 0 14 0 6 33 2 14 2 49 3 34 3 74 3 5000000000 70 3 13 30 2028";
 
 const CELLS: &str = "0 3 5 8 12 14 17";
 
-// The fixed layouts, shape 8 for plain cells of no slots, 17 for a tagged slot and 18 for a raw one.
+/// The fixed layouts, shape 8 for plain cells of no slots, 17 for a tagged slot and 18 for a raw one.
 const LAYOUTS: &str = "0 2 3 4 5 6 7 8 1 0 0 0 0 0 0 0 0 273 4369";
 
-// A settling that lost visits nothing. One that won has its targets to visit, and a seat that is
-// taken back leaves them owed. A snap is settled only when it is read out.
+/// A settling that lost visits nothing. One that won has its targets to visit, and a seat that is
+/// taken back leaves them owed. A snap is settled only when it is read out.
 const SETTLING: &str = "\
 lend; shade 0; header 0 0; layout 0; load 0 1; blacken 0; settle 0; shade 3; return 0 -> \
     colours [2, 0, 0, 1, 0, 0, 0, 0, 0, 0, 0, 0, 0, 0, 0, 0, 0, 0, 0, 0]; \
@@ -34,7 +34,7 @@ lend; shade 0; header 0 0; layout 0; load 0 1; settle 0; blacken 0; shade 3; ret
 lend; shade 0; header 0 0; layout 0; load 0 1; settle 0 -> visit [3]; out true; last 6 1; slot 1 13
 lend; shade 0; header 0 0; layout 0; settle 0 -> stops at 4";
 
-// Cells go over the board, and one that waits nowhere is not given.
+/// Cells go over the board, and one that waits nowhere is not given.
 const BOARD: &str = "\
 lend; shade 0; give_main 0 0; take 0 0; header 0 0; layout 0; load 0 1; settle 0; \
     visit 0 3; give 0 1 3; take 0 1; header 0 3; layout 0; length 0; settle 0; return 0 -> \
@@ -44,7 +44,7 @@ shade 0; shade 3; give_main 5 0 -> grey [3]; board [0, 0, 0, 0, 0, 1, 0, 0]
 shade 0; shade 3; give_main 5 0; take_main 5 -> grey [3, 0]; board [0, 0, 0, 0, 0, 0, 0, 0]
 give_main 5 0 -> stops at 0";
 
-// An event of the mutator.
+/// An event of the mutator.
 fn main_event(step: Step<'_>) -> Option<Event> {
     let (at, word) = (step.first, step.word);
     match step.name {
@@ -67,7 +67,7 @@ fn main_event(step: Step<'_>) -> Option<Event> {
     }
 }
 
-// An event of a helper.
+/// An event of a helper.
 fn helper_event(step: Step<'_>) -> Option<Event> {
     let (helper, second, at) = (step.first, step.second, step.third);
     match step.name {
@@ -96,7 +96,7 @@ fn helper_event(step: Step<'_>) -> Option<Event> {
     }
 }
 
-// The events that a text says.
+/// The events that a text says.
 fn events_of(alloc: Global, text: &str) -> Result<Vec<Event>, Fail> {
     let mut events = Vec::new(alloc);
     for part in text.split("; ") {
@@ -107,7 +107,7 @@ fn events_of(alloc: Global, text: &str) -> Result<Vec<Event>, Fail> {
     Ok(events)
 }
 
-// The world that a cycle begins with, of a page with these words and with these cells, each born.
+/// The world that a cycle begins with, of a page with these words and with these cells, each born.
 fn world(alloc: Global, words: &str, cells: &str) -> Result<World, Fail> {
     Ok(World {
         old: 2048,
@@ -128,7 +128,7 @@ fn world(alloc: Global, words: &str, cells: &str) -> Result<World, Fail> {
     })
 }
 
-// What is seen of the first helper.
+/// What is seen of the first helper.
 fn show_helper(text: &mut String, view: &HelperView) -> Result<(), Fail> {
     let (visit, log) = (view.visit.as_slice(), view.log.as_slice());
     write!(text, "; out {}; visit {visit:?}; log {log:?}", view.out)?;
@@ -141,7 +141,7 @@ fn show_helper(text: &mut String, view: &HelperView) -> Result<(), Fail> {
     Ok(())
 }
 
-// The word has no target, or one that the mutator is sure of.
+/// The word has no target, or one that the mutator is sure of.
 fn has_sure_target(world: &World, word: u64) -> bool {
     match Word(word).address() {
         Some(to) => to >= world.old || world.main.sure.as_slice().contains(&to),
@@ -149,7 +149,7 @@ fn has_sure_target(world: &World, word: u64) -> bool {
     }
 }
 
-// A cell is read at the address, and the mutator is sure of the targets of its tagged slots.
+/// A cell is read at the address, and the mutator is sure of the targets of its tagged slots.
 fn is_done(world: &World, at: u32) -> bool {
     let words = world.words.as_slice();
     let Some(cell) = read_cell(words, world.layouts.as_slice(), at, world.old) else {
@@ -164,7 +164,7 @@ fn is_done(world: &World, at: u32) -> bool {
     true
 }
 
-// The first words of the page, and the cells that the mutator made black and is not done with.
+/// The first words of the page, and the cells that the mutator made black and is not done with.
 fn show_open(text: &mut String, alloc: Global, world: &World) -> Result<(), Fail> {
     let page = world.words.as_slice().get(..26).unwrap_or(&[]);
     let mut open = Vec::new(alloc);
@@ -176,7 +176,7 @@ fn show_open(text: &mut String, alloc: Global, world: &World) -> Result<(), Fail
     Ok(write!(text, "; page {page:?}; open {open:?}")?)
 }
 
-// What is seen of a world: of its colours, words and board the first.
+/// What is seen of a world: of its colours, words and board the first.
 fn show(text: &mut String, alloc: Global, world: &World) -> Result<(), Fail> {
     let main = &world.main;
     let colours = world.colours.as_slice().get(..20).unwrap_or(&[]);
@@ -200,12 +200,12 @@ fn show(text: &mut String, alloc: Global, world: &World) -> Result<(), Fail> {
     Ok(())
 }
 
-// The world after events. No clause says which, so that proofs of tests need not read it.
+/// The world after events. No clause says which, so that proofs of tests need not read it.
 fn carried(alloc: Global, start: &World, events: &[Event]) -> Result<World, StepStop> {
     replay(alloc, start, events)
 }
 
-// What is seen of the world after events, which goes on from there; it stays where they stop.
+/// What is seen of the world after events, which goes on from there; it stays where they stop.
 fn go_on(text: &mut String, alloc: Global, now: &mut World, events: &[Event]) -> Result<(), Fail> {
     match carried(alloc, now, events) {
         Ok(next) => {
@@ -217,13 +217,13 @@ fn go_on(text: &mut String, alloc: Global, now: &mut World, events: &[Event]) ->
     }
 }
 
-// The world that a row begins in is the first again.
+/// The world that a row begins in is the first again.
 fn reset(alloc: Global, start: &World, now: &mut World) -> Result<(), Fail> {
     *now = start.copied(alloc)?;
     Ok(())
 }
 
-// What is seen of the end of a row's events.
+/// What is seen of the end of a row's events.
 fn show_end(alloc: Global, now: &mut World, events: &str) -> Result<String, Fail> {
     let events = events_of(alloc, events)?;
     let mut end = String::new(alloc);
@@ -231,7 +231,7 @@ fn show_end(alloc: Global, now: &mut World, events: &str) -> Result<String, Fail
     Ok(end)
 }
 
-// The row ends as it says.
+/// The row ends as it says.
 fn hold(
     rt: &impl Abort,
     alloc: Global,
@@ -249,7 +249,7 @@ fn hold(
     Ok(())
 }
 
-// Each row of the tables ends as it says.
+/// Each row of the tables ends as it says.
 fn hold_all(
     rt: &impl Abort,
     alloc: Global,
@@ -265,7 +265,7 @@ fn hold_all(
     Ok(())
 }
 
-// Each row of the tables ends as it says, from a world of these words and cells.
+/// Each row of the tables ends as it says, from a world of these words and cells.
 fn walk(
     rt: &impl Abort,
     alloc: Global,

@@ -1,6 +1,6 @@
 //! Tables with open addressing of a few places. The expected ones are worked out place by place.
 
-use linear_probing::{place_of, remove};
+use linear_probing::{find_place, remove};
 use std::alloc::Global;
 use std::test::Fail;
 
@@ -13,7 +13,7 @@ fn places(alloc: Global, text: &str) -> Result<Vec<Option<u32>>, Fail> {
     Ok(table)
 }
 
-// 3, 11, 5, 19, 7, 15 and 23, put in this order: the homes of three are at place 3, of three at 7.
+/// 3, 11, 5, 19, 7, 15 and 23, put in this order: the homes of three are at place 3, of three at 7.
 const USUAL: &str = "15 23 - 3 11 5 19 7";
 
 #[test]
@@ -35,7 +35,7 @@ fn probing_goes_up_from_the_home_and_round(rt: HostRuntime) -> Result<(), Fail> 
         ("", 9, None),
     ];
     for (table, number, at) in rows {
-        let found = place_of(places(rt.alloc(), table)?.as_slice(), number);
+        let found = find_place(places(rt.alloc(), table)?.as_slice(), number);
         assert_eq!(rt; found, at, "{number} in {table}");
     }
     Ok(())

@@ -11,8 +11,8 @@ use std::fmt::Write;
 use std::process::Abort;
 use std::test::Fail;
 
-// What a scavenge begins with: its words and layouts, its only cell, the slots that may refer to it,
-// and rooms, each with its worker, its first word and the word behind its last.
+/// What a scavenge begins with: its words and layouts, its only cell, the slots that may refer to it,
+/// and rooms, each with its worker, its first word and the word behind its last.
 #[derive(Clone, Copy)]
 pub(crate) struct Start<'t> {
     pub(crate) words: &'t str,
@@ -22,7 +22,7 @@ pub(crate) struct Start<'t> {
     pub(crate) rooms: &'t str,
 }
 
-// A list with object number 5 and nothing in it, two slots that refer to it, and two rooms.
+/// A list with object number 5 and nothing in it, two slots that refer to it, and two rooms.
 const WORKED: Start<'static> = Start {
     words: "21474836486 3 0 0 1 1 0 0 0 0 0 0 0 0 0 0 0 0 0 0 0 0 0 0",
     layouts: "0 2",
@@ -31,7 +31,7 @@ const WORKED: Start<'static> = Start {
     rooms: "room 0 8 14; room 1 16 20",
 };
 
-// A plain cell whose first in-object slot is raw has the bits of a reference there.
+/// A plain cell whose first in-object slot is raw has the bits of a reference there.
 const RAW: Start<'static> = Start {
     words: "9 0 6 3 9 9 0 0 0 0 0 0",
     layouts: "0 4641",
@@ -40,19 +40,19 @@ const RAW: Start<'static> = Start {
     rooms: "room 0 7 11",
 };
 
-// Both workers read the slots and the cell, and copy it.
+/// Both workers read the slots and the cell, and copy it.
 const COPIES: &str =
     "lend; lend; load 0 4; load 1 5; header 0; header 1; body 0; body 0; body 1; body 1; \
     copy 0 8 21474836486; copy 0 9 3; copy 0 10 0; copy 1 16 21474836486; copy 1 17 3; copy 1 18 0; ";
 
-// The copy of the first counts, and both slots refer to it: 20 events in all.
+/// The copy of the first counts, and both slots refer to it: 20 events in all.
 const BOTH: &str =
     "lend; lend; load 0 4; load 1 5; header 0; header 1; body 0; body 0; body 1; body 1; \
     copy 0 8 21474836486; copy 0 9 3; copy 0 10 0; copy 1 16 21474836486; copy 1 17 3; copy 1 18 0; \
     forward 0 8; forward 1 16; redirect 0; redirect 1; ";
 
-// The loser of two takes the copy of the winner. A copy goes over the board. What comes behind a
-// copy, which worker 0 has to do, is possible or stops.
+/// The loser of two takes the copy of the winner. A copy goes over the board. What comes behind a
+/// copy, which worker 0 has to do, is possible or stops.
 const BEHIND: &str = "\
 look -> \
     words [33, 3, 0, 0, 33, 33, 0, 0, 21474836486, 3, 0, 0, 0, 0, 0, 0, 21474836486, 3, 0, 0, 0, 0, 0, 0]; \
@@ -81,8 +81,8 @@ return 0; return 0 -> stops at 21
 return 2 -> stops at 20
 return 0; lend; load 0 9 -> stops at 22";
 
-// Of no event that changes it, the start is left. A forwarding word is not forwarded. The eighth
-// worker at a time stops the run. A worker at a slot reads no other.
+/// Of no event that changes it, the start is left. A forwarding word is not forwarded. The eighth
+/// worker at a time stops the run. A worker at a slot reads no other.
 const EARLY: &str = "\
 look -> words [21474836486, 3, 0, 0, 1, 1, 0, 0, 0, 0, 0, 0, 0, 0, 0, 0, 0, 0, 0, 0, 0, 0, 0, 0]; homes 0; workers 0
 lend; load 0 4; header 0; body 0; body 0; copy 0 8 21474836486; copy 0 9 3; copy 0 10 0; forward 0 8; \
@@ -104,13 +104,13 @@ lend; lend; load 0 4; header 0; body 0; body 0; body 0 -> stops at 6
 lend; lend; load 0 4; header 0; redirect 0 -> stops at 4
 lend; load 1 4 -> stops at 1";
 
-// A raw slot keeps its bits, and the slots beside it are renamed.
+/// A raw slot keeps its bits, and the slots beside it are renamed.
 const KEPT: &str = "\
 lend; load 0 0; header 0; body 0; body 0; body 0; copy 0 7 6; copy 0 8 3; copy 0 9 9; copy 0 10 9; \
     forward 0 7; redirect 0; load 0 8; load 0 10; header 0; redirect 0 -> \
     words [29, 0, 29, 3, 9, 9, 0, 6, 3, 9, 29, 0]";
 
-// The event that a step says.
+/// The event that a step says.
 fn event(step: Step<'_>) -> Option<Event> {
     let (worker, second, word) = (step.first, step.second, step.word);
     match step.name {
@@ -143,7 +143,7 @@ fn event(step: Step<'_>) -> Option<Event> {
     }
 }
 
-// The events that a text says.
+/// The events that a text says.
 fn events_of(alloc: Global, text: &str) -> Result<Vec<Event>, Fail> {
     let mut events = Vec::new(alloc);
     for part in text.split("; ") {
@@ -153,7 +153,7 @@ fn events_of(alloc: Global, text: &str) -> Result<Vec<Event>, Fail> {
     Ok(events)
 }
 
-// The rooms of a text.
+/// The rooms of a text.
 fn rooms_of(alloc: Global, text: &str) -> Result<Items<Room>, Fail> {
     let mut rooms = Items::new(alloc);
     for part in text.split("; ") {
@@ -167,7 +167,7 @@ fn rooms_of(alloc: Global, text: &str) -> Result<Items<Room>, Fail> {
     Ok(rooms)
 }
 
-// The fresh world of a start.
+/// The fresh world of a start.
 fn world(alloc: Global, start: Start<'_>) -> Result<World, Fail> {
     Ok(World {
         before: Items::from_vec(padded(alloc, start.words, 0)?),
@@ -182,7 +182,7 @@ fn world(alloc: Global, start: Start<'_>) -> Result<World, Fail> {
     })
 }
 
-// What is seen of a world.
+/// What is seen of a world.
 fn show(text: &mut String, world: &World) -> Result<(), Fail> {
     if let Some(home) = world.homes.get(0) {
         write!(text, "home {} {}; ", home.from, home.to)?;
@@ -210,18 +210,18 @@ fn show(text: &mut String, world: &World) -> Result<(), Fail> {
     Ok(())
 }
 
-// The world after events. No clause says which, so that proofs of tests need not read it.
+/// The world after events. No clause says which, so that proofs of tests need not read it.
 fn carried(alloc: Global, start: &World, events: &[Event]) -> Result<World, StepStop> {
     replay(alloc, start, events)
 }
 
-// What is seen of a world. It is copied for it, with the views of its workers, by no events.
+/// What is seen of a world. It is copied for it, with the views of its workers, by no events.
 fn show_copy(text: &mut String, alloc: Global, world: &World) -> Result<(), Fail> {
     let copy = carried(alloc, world, &[])?;
     show(text, &copy)
 }
 
-// What is seen of the end of events.
+/// What is seen of the end of events.
 fn show_end(text: &mut String, alloc: Global, start: &World, events: &[Event]) -> Result<(), Fail> {
     match carried(alloc, start, events) {
         Ok(world) => show_copy(text, alloc, &world),
@@ -230,7 +230,7 @@ fn show_end(text: &mut String, alloc: Global, start: &World, events: &[Event]) -
     }
 }
 
-// The row ends as it says, behind these events.
+/// The row ends as it says, behind these events.
 fn hold(
     rt: &impl Abort,
     alloc: Global,
@@ -247,7 +247,7 @@ fn hold(
     Ok(())
 }
 
-// Each row ends as it says, behind these events.
+/// Each row ends as it says, behind these events.
 fn hold_all(
     rt: &impl Abort,
     alloc: Global,
@@ -261,7 +261,7 @@ fn hold_all(
     Ok(())
 }
 
-// Each row ends as it says, behind these events, from a world of this start.
+/// Each row ends as it says, behind these events, from a world of this start.
 fn walk(
     rt: &impl Abort,
     alloc: Global,

@@ -7,8 +7,8 @@ use std::process::Abort;
 use std::test::Fail;
 use tagged_word::Kind;
 
-// Steps on one list and one board, in a row. Behind each stands what it answers and the list then;
-// a step at the board answers what it found, and the word then.
+/// Steps on one list and one board, in a row. Behind each stands what it answers and the list then;
+/// a step at the board answers what it found, and the word then.
 const ROWS: &str = "\
 push 3 -> false [3]
 push 5 -> false [3, 5]
@@ -27,7 +27,7 @@ take 1 -> Took { place: 1, found: 0 } Some(0) [4, 6, 8, 5]
 give 63 6 -> Gave { place: 63, found: 0 } Some(25) [4, 8, 5]
 take 63 -> Took { place: 63, found: 25 } Some(0) [4, 8, 5, 6]";
 
-// A step on a list, and whether an address that joins stood there.
+/// A step on a list, and whether an address that joins stood there.
 fn list_step(list: &mut Items<u32>, step: Step<'_>) -> Result<bool, Fail> {
     let at = step.first as usize;
     match step.name {
@@ -48,7 +48,7 @@ fn list_step(list: &mut Items<u32>, step: Step<'_>) -> Result<bool, Fail> {
     Ok(false)
 }
 
-// A step at the board, as text.
+/// A step at the board, as text.
 fn board_step(
     alloc: Global,
     board: &mut Items<u64>,
@@ -71,7 +71,7 @@ fn board_step(
     )?)
 }
 
-// A step, as text.
+/// A step, as text.
 fn answer(
     alloc: Global,
     board: &mut Items<u64>,
@@ -86,7 +86,7 @@ fn answer(
     Ok(format!(in alloc; "{stood} {:?}", list.as_slice())?)
 }
 
-// The row's step answers as it says.
+/// The row's step answers as it says.
 fn hold(
     rt: &impl Abort,
     alloc: Global,
@@ -121,10 +121,10 @@ fn a_copy_has_memory_of_its_own(rt: HostRuntime) -> Result<(), Fail> {
     Ok(())
 }
 
-// The layout words of shapes 0 to 3: none, a plain cell of 2 slots, a store, a gap.
+/// The layout words of shapes 0 to 3: none, a plain cell of 2 slots, a store, a gap.
 const LAYOUTS: [u64; 4] = [0, 545, 4, 8];
 
-// A plain cell at 0, a store of 1 slot at 4, a gap of 2 words at 7, and a word of no header.
+/// A plain cell at 0, a store of 1 slot at 4, a gap of 2 words at 7, and a word of no header.
 const WORDS: [u64; 10] = [38654705670, 0, 0, 0, 10, 1, 0, 14, 2, 3];
 
 #[test]

@@ -15,7 +15,7 @@ pub(crate) struct Step<'t> {
     pub(crate) word: u64,
 }
 
-// A number; 0 where there is none.
+/// A number; 0 where there is none.
 fn number(word: Option<&str>) -> Result<u64, Fail> {
     match word {
         Some(word) => Ok(word.parse::<u64>()?),
@@ -23,7 +23,7 @@ fn number(word: Option<&str>) -> Result<u64, Fail> {
     }
 }
 
-// A number as an address; one that is too great is the greatest.
+/// A number as an address; one that is too great is the greatest.
 fn small(number: u64) -> u32 {
     u32::try_from(number).unwrap_or(u32::MAX)
 }

@@ -8,14 +8,12 @@ use Rattle.std.proofs.lemmas.Option.{same_Some}
 use Rattle.tagged_word.specs.declared.layout.Kind.TheVariants as kind
 use Rattle.tagged_word.specs.Cells.{store_slot}
 use Rattle.tagged_word.proofs.Members.{first_in, rest_in, one_in, in_cases}
-use Rattle.object_graph.specs.declared.value.Value.{Value}
+use Rattle.heap_model.specs.Types.{Value, Cell, Held}
 use Rattle.object_graph.specs.declared.value.Rep.TheVariants as rep
 use Rattle.object_graph.specs.Values.{rep_of}
 use Rattle.object_graph.specs.Graphs.{Graph, WeakObject}
 use Rattle.object_graph.specs.Invariants.{IsValue}
 use Rattle.linear_probing.specs.Tables.{FindsAll}
-use Rattle.cell_layout.specs.declared.cell.Cell.{Cell}
-use Rattle.handle_roots.specs.declared.held.Held.{Held}
 use Rattle.heap_table.specs.Seats.{heap_words}
 use Rattle.heap_model.specs.Heaps.{words_of_cell}
 use Rattle.heap_model.specs.Slots.{reference_word, raw_word}
@@ -25,9 +23,9 @@ use Rattle.heap_model.specs.Wholeness.{NamesFrom}
 use Rattle.heap_model.proofs.BoundHeaps.{none_in}
 use Rattle.heap_model.proofs.WordsStay.{PlacesStay, refers_to_place_stays}
 use Rattle.heap_model.proofs.CellsApart.{IsOfCell}
-use Rattle.write_barrier.specs.Mains.{Mutator, heap_of, with_word}
-use Rattle.object_cells.specs.declared.content.Content.TheVariants as content
-use Rattle.object_cells.specs.Made.{beside_content}
+use Rattle.write_barrier.specs.MutatorState.{Mutator, heap_of, with_word}
+use Rattle.object_cells.specs.declared.content.SlotContent.TheVariants as content
+use Rattle.object_cells.specs.Made.{store_content}
 use Rattle.object_cells.proofs.FilledSlots.{set_there}
 use Rattle.object_cells.proofs.HeldContents.{HoldsValue}
 use Rattle.object_cells.proofs.MadeBoxes.{boxed_integer}
@@ -56,8 +54,8 @@ module _ {old new : Mutator} {graph : Graph} {map key : ℕ} {weak : WeakObject}
     {what : Value} {box : ℕ} (v : ℤ) (value : Held) (has : HasEntryPair old graph map key weak number place table)
     (box_of : IsBoxOf (heap_of old) has.told.pair.value box)
     (puts_it : new ≡ with_word old (box + 1) (raw_word v))
-    (holds : HoldsValue (heap_of old) false rep.Small (rep_of what) what (beside_content value))
-    (value_fits : IsValue (length graph.objects) what) (boxed : beside_content value ≡ content.Boxed v) where
+    (holds : HoldsValue (heap_of old) false rep.Small (rep_of what) what (store_content value))
+    (value_fits : IsValue (length graph.objects) what) (boxed : store_content value ≡ content.Boxed v) where
   -- how the integer was put
   abbrev put_it : PutsInteger kind.Weak kind.Table old new (cell (known has)) (other (known has) (some has))
       has.told.pair.value box v

@@ -1,19 +1,19 @@
 -- How far the taking of a pair has come, as the pairs are read.
 use Rattle.std.proofs.Common.{ℕ, ◌<◌, length, slice_get, refl, ◌∙◌, ap}
 use Rattle.heap_table.specs.Seats.{heap_words}
-use Rattle.heap_table.specs.Staying.{stays_beside_itself, stays_beside_again}
+use Rattle.heap_table.specs.Staying.{rest_stays_itself, rest_stays_again}
 use Rattle.heap_model.specs.Kinds.{Pair}
-use Rattle.write_barrier.specs.Mains.{Mutator}
+use Rattle.write_barrier.specs.MutatorState.{Mutator}
 use Rattle.object_cells.specs.Made.{PutsWords}
 use Rattle.weak_pairs.specs.Tables.{with_pair}
 use Rattle.ephemeron_table.specs.Removals.{ChangesPairs}
 use Rattle.weak_pairs.specs.declared.table.Table.{Table}
 use Rattle.weak_pairs.proofs.PairsPut.{beside_put, length-with_pair}
 
--- nothing has changed so far
+-- nothing has changed
 pub nothing_changed : (main : Mutator) (table : Table) → ChangesPairs main main table
 nothing_changed main table = record {
-  rest = stays_beside_itself main.seat;
+  rest = rest_stays_itself main.seat;
   paths = refl;
   young = refl;
   long = refl;
@@ -25,7 +25,7 @@ pub pair_changed : {old mid new : Mutator} (table : Table) (place : ℕ) (pair :
     → place < table.capacity → PutsWords mid new (with_pair (heap_words mid.seat) table.at place pair)
     → ChangesPairs old new table
 pair_changed {old} {mid} {new} table place pair changes below puts = record {
-  rest = stays_beside_again old.seat mid.seat new.seat changes.rest puts.beside;
+  rest = rest_stays_again old.seat mid.seat new.seat changes.rest puts.beside;
   paths = puts.paths ∙ changes.paths;
   young = puts.young ∙ changes.young;
   long = ap length puts.heap ∙ length-with_pair (heap_words mid.seat) table.at place pair ∙ changes.long;

@@ -5,20 +5,18 @@ use Rattle.std.specs.Prelude.{slice_set}
 use Rattle.std.proofs.lemmas.List.{set-get_or}
 use Rattle.std.proofs.lemmas.Option.{none-some, get_or_from_slice_get}
 use Rattle.nursery.specs.Young.{Young}
-use Rattle.object_graph.specs.declared.value.Value.{Value}
-use Rattle.object_graph.specs.declared.object.Entry.{Entry}
-use Rattle.object_graph.specs.declared.object.Object.{Object}
+use Rattle.heap_model.specs.Types.{Value, Entry, Object}
 use Rattle.object_graph.specs.declared.object.Object.TheVariants.{Weak}
 use Rattle.object_graph.specs.Objects.{entry_value, without_entry}
 use Rattle.object_graph.specs.Graphs.{Graph, WeakObject}
 use Rattle.object_graph.specs.Meaning.{reweave}
 use Rattle.heap_table.specs.Seats.{heap_words}
-use Rattle.heap_table.specs.Staying.{stays_beside_itself}
+use Rattle.heap_table.specs.Staying.{rest_stays_itself}
 use Rattle.heap_model.specs.Heaps.{words_of_cell}
 use Rattle.heap_model.specs.Slots.{RefersToPlace}
 use Rattle.heap_model.specs.Kinds.{HasWord, Pair, count_offset}
 use Rattle.heap_model.specs.Needs.{capacity_at, count_at}
-use Rattle.write_barrier.specs.Mains.{Mutator, heap_of, MainShows}
+use Rattle.write_barrier.specs.MutatorState.{Mutator, heap_of, MainShows}
 use Rattle.object_cells.specs.Capacities.{ChangesObject}
 use Rattle.object_cells.proofs.NothingUsed.{uses_none, nothing_changes}
 use Rattle.ephemeron_table.proofs.KeptTables.{tables_stay}
@@ -85,7 +83,7 @@ deletes_none main graph map weak number shows is none =
     ap (reweave graph weak) (without_none weak.entries number none) ∙ reweave_same graph weak is.object in
     record {
       none = λ no_entry. refl;
-      uses = uses_none (stays_beside_itself main.seat) refl;
+      uses = uses_none (rest_stays_itself main.seat) refl;
       changes = nothing_changes (heap_of main) map (capacity_at (heap_of main) map) refl;
       shows = subst (MainShows main) (sym same) shows;
     }

@@ -5,7 +5,7 @@ use Rattle.object_graph.specs.Objects.{entry_value}
 use Rattle.object_graph.specs.Graphs.{Graph, WeakObject}
 use Rattle.heap_model.specs.Kinds.{Pair}
 use Rattle.heap_model.specs.Slots.{reference_word}
-use Rattle.write_barrier.specs.Mains.{Mutator, heap_of, MainShows}
+use Rattle.write_barrier.specs.MutatorState.{Mutator, heap_of, MainShows}
 use Rattle.ephemeron_table.specs.WeakObjects.{IsKeyAt, IsShownKey, IsWeakAt}
 use Rattle.ephemeron_table.specs.EntryChanges.{DeletesEntry}
 use Rattle.weak_pairs.specs.Pairs.{HasPairsAt, IsPairOf}

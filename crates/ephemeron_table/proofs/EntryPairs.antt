@@ -2,9 +2,8 @@
 use Rattle.std.proofs.Common.{◌≡◌, ℕ, ◌+◌, ◌*◌, ◌<◌, Some, not, ◌&&◌, slice_get, unwrap_or, sym, ◌∙◌, ap}
 use Rattle.std.proofs.Common.{arith}
 use Rattle.page_space.specs.Sizes.{AreWithin}
-use Rattle.object_graph.specs.declared.value.Value.{Value}
+use Rattle.heap_model.specs.Types.{Value, Held}
 use Rattle.object_graph.specs.Graphs.{Graph, WeakObject}
-use Rattle.handle_roots.specs.declared.held.Held.{Held}
 use Rattle.heap_table.specs.Seats.{heap_words}
 use Rattle.heap_model.specs.Slots.{reference_word, IsSlotWord, RefersToPlace}
 use Rattle.heap_model.specs.Kinds.{Pair}
@@ -13,9 +12,9 @@ use Rattle.heap_model.specs.Needs.{word_at, box_need, is_box_word}
 use Rattle.heap_model.specs.Rooms.{is_wide, wput_need, wput_need_by}
 use Rattle.heap_model.proofs.ShownBoxes.{value_boxed}
 use Rattle.heap_model.proofs.SlotWords.{value_is_slot}
-use Rattle.write_barrier.specs.Mains.{Mutator, heap_of, MainShows}
+use Rattle.write_barrier.specs.MutatorState.{Mutator, heap_of, MainShows}
 use Rattle.object_cells.specs.Contents.{next_at, box_in, filling_of, filling_need}
-use Rattle.object_cells.specs.Made.{beside_content, is_wide_held}
+use Rattle.object_cells.specs.Made.{store_content, is_wide_held}
 use Rattle.object_cells.proofs.HeldNeeds.{wide_is}
 use Rattle.ephemeron_table.specs.WeakObjects.{IsKeyAt, IsWeakAt}
 use Rattle.weak_pairs.specs.Pairs.{IsFilledAt}
@@ -114,7 +113,7 @@ module _ {old : Mutator} {graph : Graph} {map key : ℕ} {weak : WeakObject} {nu
   -- so many words another value takes there
   pub entry_need : (value : Held) (what : Value) → ShowsHeld (heap_of old) value (Some what)
       → filling_need (filling_of (box_in (heap_of old) (word_at (heap_of old) (table.at + value_offset place)))
-      (next_at old) (beside_content value)) ≡ wput_need (map_room old map weak) weak what number
+      (next_at old) (store_content value)) ≡ wput_need (map_room old map weak) weak what number
   entry_need value what shows =
       let heap = heap_of old in
       let boxed = value_boxed has.told.pair.value has.told.value has.sizes has.shows.shows.whole.sized has.told.shows in

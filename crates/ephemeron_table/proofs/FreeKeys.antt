@@ -12,10 +12,10 @@ use Rattle.heap_model.specs.Slots.{reference_word, hole_word, RefersToPlace}
 use Rattle.heap_model.specs.Kinds.{Pair, free_pair}
 use Rattle.heap_model.specs.Needs.{count_at}
 use Rattle.heap_model.proofs.WordClasses.{hole_refers_not}
-use Rattle.write_barrier.specs.Mains.{Mutator, heap_of}
+use Rattle.write_barrier.specs.MutatorState.{Mutator, heap_of}
 use Rattle.weak_pairs.specs.Pairs.{IsFilledAt}
-use Rattle.weak_pairs.specs.Probes.{ComesTo, IsPassed}
-use Rattle.weak_pairs.specs.Tables.{key_in, numbers, number_of, pairs_of}
+use Rattle.weak_pairs.specs.Probes.{ProbesTo, IsPassed}
+use Rattle.weak_pairs.specs.Tables.{key_in, numbers, key_number, pairs_of}
 use Rattle.weak_pairs.specs.declared.table.Table.{Table}
 use Rattle.weak_pairs.proofs.PairNumbers.{ReadsPair, reads_pair, length-numbers, number_place}
 use Rattle.weak_pairs.proofs.CountedPairs.{count_filled, count_put}
@@ -29,7 +29,7 @@ use Rattle.ephemeron_table.proofs.NewKeys.{LacksKey, known, no_pair_refers}
 pub record ComesToFree (old : Mutator) (graph : Graph) (map key : ℕ) (weak : WeakObject) (number place : ℕ)
     (table : Table) : Type 0 where
   pub lacks : LacksKey old graph map key weak number table
-  pub comes : ComesTo (heap_of old) table number (reference_word key) place
+  pub comes : ProbesTo (heap_of old) table number (reference_word key) place
   pub free : key_in (heap_of old) table.at place ≡ hole_word
 
 module _ {old : Mutator} {graph : Graph} {map key : ℕ} {weak : WeakObject} {number place : ℕ} {table : Table}
@@ -56,7 +56,7 @@ module _ {old : Mutator} {graph : Graph} {map key : ℕ} {weak : WeakObject} {nu
   -- so its number is none
   free_number : IsFree (numbers (heap_of old) before) place
   free_number =
-      slice_get-map (number_of (heap_of old)) before place ∙ ap (option_map (number_of (heap_of old))) free_there
+      slice_get-map (key_number (heap_of old)) before place ∙ ap (option_map (key_number (heap_of old))) free_there
 
   -- a pair that holds nothing is not passed
   passed_not_free : (at : ℕ) → IsPassed (heap_of old) table (reference_word key) at
@@ -70,7 +70,7 @@ module _ {old : Mutator} {graph : Graph} {map key : ℕ} {weak : WeakObject} {nu
       passed.filled (here.key ∙ ap (λ (one : Pair). one.key) same)
 
   -- a pair with no number holds nothing
-  no_number_free : (at : ℕ) (one : Pair) → slice_get before at ≡ Some one → number_of (heap_of old) one ≡ None
+  no_number_free : (at : ℕ) (one : Pair) → slice_get before at ≡ Some one → key_number (heap_of old) one ≡ None
       → one ≡ free_pair
   no_number_free at one there none =
       elim ((sound (known ends.lacks)).each at one
@@ -120,10 +120,10 @@ module _ {old : Mutator} {graph : Graph} {map key : ℕ} {weak : WeakObject} {nu
       → FindsAll (numbers (heap_of old) (slice_set before place put))
   finds_put put is =
       let heap = heap_of old in
-      let number_is : number_of heap put ≡ Some number =
+      let number_is : key_number heap put ≡ Some number =
       number_found (known ends.lacks) put number (record { at = key; refers = is; place = ends.lacks.is_key.place }) in
       let same : numbers heap (slice_set before place put) ≡ slice_set (numbers heap before) place (Some number) =
-      map-set (number_of heap) before place put ∙ ap (λ one. slice_set (numbers heap before) place one) number_is in
+      map-set (key_number heap) before place put ∙ ap (λ one. slice_set (numbers heap before) place one) number_is in
       subst FindsAll (sym same)
       (put_is_found (numbers heap before) number place (finds_all (known ends.lacks)) ends_at free_number)
 

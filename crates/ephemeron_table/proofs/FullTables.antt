@@ -5,12 +5,12 @@ use Rattle.std.proofs.lemmas.List.Sums.{count_by-le-length, sum_by-cons}
 use Rattle.std.proofs.lemmas.Option.{same_Some, slice_get_within}
 use Rattle.linear_probing.proofs.Findings.{comes_everywhere}
 use Rattle.page_space.specs.Sizes.{AreWithin}
-use Rattle.handle_roots.specs.declared.held.Held.{Held}
+use Rattle.heap_model.specs.Types.{Held}
 use Rattle.heap_table.specs.Seats.{heap_words}
 use Rattle.heap_model.specs.Slots.{hole_word}
 use Rattle.heap_model.specs.Kinds.{Pair, free_pair, is_free_pair}
 use Rattle.heap_model.specs.Needs.{count_at}
-use Rattle.write_barrier.specs.Mains.{Mutator, heap_of}
+use Rattle.write_barrier.specs.MutatorState.{Mutator, heap_of}
 use Rattle.ephemeron_table.specs.WeakObjects.{IsShownPutting}
 use Rattle.ephemeron_table.specs.Probes.{IsTableAt}
 use Rattle.weak_pairs.specs.Probes.{PassesBefore}

@@ -5,15 +5,15 @@ use Rattle.page_space.specs.Extents.{Space, segments_start, marks_start}
 use Rattle.nursery.specs.Young.{HasRoom}
 use Rattle.heap_table.specs.Seats.{heap_words}
 use Rattle.heap_model.specs.Needs.{grown_table}
-use Rattle.write_barrier.specs.Mains.{Mutator, heap_of, reserved}
-use Rattle.object_cells.specs.declared.content.Content.{Content}
+use Rattle.write_barrier.specs.MutatorState.{Mutator, heap_of, reserved}
+use Rattle.object_cells.specs.declared.content.SlotContent.{SlotContent}
 use Rattle.object_cells.specs.Contents.{next_at}
 use Rattle.object_cells.specs.Made.{PutsWords, with_content}
 use Rattle.object_cells.proofs.MadeBoxes.{length-with_content, with_content_stays}
 use Rattle.object_cells.proofs.UnusedWords.{next_before_segments, next_before_marks}
 use Rattle.ephemeron_table.specs.Rehashing.{CanGrow, RehashesPairs}
 use Rattle.weak_pairs.specs.Pairs.{HoldNothing, IsFilledAt}
-use Rattle.weak_pairs.specs.Tables.{IsBesideTable, KeysMovable, pairs_of}
+use Rattle.weak_pairs.specs.Tables.{TablesDisjoint, KeysMovable, pairs_of}
 use Rattle.weak_pairs.specs.Probes.{HasFree}
 use Rattle.ephemeron_table.specs.Puttings.{begun_table}
 use Rattle.weak_pairs.specs.declared.table.Table.{Table}
@@ -47,7 +47,7 @@ module _ {old : Mutator} {map key count : ℕ} {table : Table} (can : CanGrow ol
   grown_more = omega (arith, can.few, can.over, capacity_is)
 
   -- the pairs of the map's table are beside it
-  pub grown_apart : IsBesideTable table made
+  pub grown_apart : TablesDisjoint table made
   grown_apart a from below = elim (can.pairs a from below) [
     | inl used ↦ inl (omega (arith, used, at_is))
     | inr behind ↦ inr (omega (arith, behind, grown_before_segments))
@@ -104,7 +104,7 @@ module _ {old : Mutator} {map key count : ℕ} {table : Table} (can : CanGrow ol
         subst (λ all. HoldNothing (pairs_of all made)) (sym begun_words)
         (begun_nothing (heap_words old.seat) made grown_within)
 
-    module _ {moved boxed : Mutator} (holds : Content) (moves : RehashesPairs begun moved table made table.capacity)
+    module _ {moved boxed : Mutator} (holds : SlotContent) (moves : RehashesPairs begun moved table made table.capacity)
         (boxes : PutsWords moved boxed
         (with_content (heap_words moved.seat) holds (at + (store_head + 2 * capacity)))) where
       boxed_long : length (heap_words boxed.seat) ≡ length (heap_words old.seat)

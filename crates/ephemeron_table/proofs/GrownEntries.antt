@@ -5,23 +5,21 @@ use Rattle.std.proofs.lemmas.Bool.Decides.{nat_tests}
 use Rattle.std.proofs.lemmas.Option.{none-some, same_Some, slice_get_within}
 use Rattle.tagged_word.specs.Cells.{store_head}
 use Rattle.page_space.specs.Sizes.{AreWithin}
-use Rattle.object_graph.specs.declared.value.Value.{Value}
+use Rattle.heap_model.specs.Types.{Value, Entry, Held}
 use Rattle.object_graph.specs.declared.value.Rep.TheVariants as rep
 use Rattle.object_graph.specs.Values.{rep_of}
-use Rattle.object_graph.specs.declared.object.Entry.{Entry}
 use Rattle.object_graph.specs.Objects.{entry_value, with_entry}
 use Rattle.object_graph.specs.Graphs.{Graph, WeakObject}
 use Rattle.object_graph.specs.Invariants.{IsValue}
-use Rattle.handle_roots.specs.declared.held.Held.{Held}
 use Rattle.heap_table.specs.Seats.{heap_words}
 use Rattle.heap_model.specs.Slots.{RefersToPlace, IsPlace}
 use Rattle.heap_model.specs.Kinds.{Pair}
 use Rattle.heap_model.specs.Showing.{ShowsEntry}
 use Rattle.heap_model.specs.Needs.{box_need, capacity_at, count_at, grown_table, table_need}
 use Rattle.heap_model.specs.Rooms.{is_wide, wput_need, wput_need_by}
-use Rattle.write_barrier.specs.Mains.{Mutator, heap_of, MainShows}
+use Rattle.write_barrier.specs.MutatorState.{Mutator, heap_of, MainShows}
 use Rattle.object_cells.specs.HeldValues.{IsValueHeld}
-use Rattle.object_cells.specs.Made.{beside_content}
+use Rattle.object_cells.specs.Made.{store_content}
 use Rattle.object_cells.proofs.HeldContents.{HoldsValue}
 use Rattle.object_cells.proofs.HeldNeeds.{content_need_is, wide_is}
 use Rattle.object_cells.proofs.ContentValues.{content_shows}
@@ -48,7 +46,7 @@ module _ {old new : Mutator} {map key count earlier number : ℕ} {table : Table
     (known : KnownMap old map table) (can : CanGrow old map table key earlier)
     (puts : PutsInNewTable old new map table key count value) (objects : ℕ)
     (key_place : IsPlace (heap_of old) number key)
-    (holds : HoldsValue (heap_of old) false rep.Small (rep_of what) what (beside_content value))
+    (holds : HoldsValue (heap_of old) false rep.Small (rep_of what) what (store_content value))
     (fits : IsValue objects what) (counted : count ≡ count_filled (before known can puts) + 1)
     (none : (at : ℕ) (one : Pair) → IsFilledAt (before known can puts) at one
     → RefersToPlace (heap_of old) one.key number → ⊥)

@@ -9,12 +9,10 @@ use Rattle.tagged_word.specs.Cells.{store_head, store_slot}
 use Rattle.tagged_word.specs.Readings.{reference_in}
 use Rattle.tagged_word.proofs.Members.{first_in, rest_in, in_cases}
 use Rattle.tagged_word.proofs.Readings.{reference_to}
-use Rattle.object_graph.specs.declared.value.Value.{Value}
+use Rattle.heap_model.specs.Types.{Value, Cell, Held}
 use Rattle.object_graph.specs.declared.value.Rep.TheVariants as rep
 use Rattle.object_graph.specs.Values.{rep_of}
 use Rattle.object_graph.specs.Invariants.{IsValue}
-use Rattle.cell_layout.specs.declared.cell.Cell.{Cell}
-use Rattle.handle_roots.specs.declared.held.Held.{Held}
 use Rattle.heap_table.specs.Seats.{heap_words}
 use Rattle.heap_model.specs.Heaps.{HasCell, words_of_cell}
 use Rattle.heap_model.specs.Slots.{reference_word, RefersToBox, RefersToPlace, IsPlace}
@@ -22,10 +20,10 @@ use Rattle.heap_model.specs.Kinds.{HasWord, Pair, HasTable, IsFilledPair, pairs_
 use Rattle.heap_model.specs.Kinds.{IsBoxCell, IsPowerOfTwo}
 use Rattle.heap_model.proofs.BoundHeaps.{none_in}
 use Rattle.heap_model.proofs.WordsStay.{PlacesStay}
-use Rattle.write_barrier.specs.Mains.{Mutator, heap_of}
-use Rattle.object_cells.specs.declared.content.Content.TheVariants as content
+use Rattle.write_barrier.specs.MutatorState.{Mutator, heap_of}
+use Rattle.object_cells.specs.declared.content.SlotContent.TheVariants as content
 use Rattle.object_cells.specs.Contents.{next_at}
-use Rattle.object_cells.specs.Made.{beside_content, content_word}
+use Rattle.object_cells.specs.Made.{store_content, content_word}
 use Rattle.object_cells.proofs.HeldContents.{HoldsValue}
 use Rattle.object_cells.proofs.MadeBoxes.{made_box, boxed_integer, refers_to_made, made_boxed, only_first}
 use Rattle.object_cells.proofs.MadeBoxes.{boxes_sound}
@@ -59,7 +57,7 @@ module _ {old new : Mutator} {map key count earlier number : ℕ} {table : Table
     (known : KnownMap old map table) (can : CanGrow old map table key earlier)
     (puts : PutsInNewTable old new map table key count value) (objects : ℕ)
     (key_place : IsPlace (heap_of old) number key)
-    (holds : HoldsValue (heap_of old) false rep.Small (rep_of what) what (beside_content value))
+    (holds : HoldsValue (heap_of old) false rep.Small (rep_of what) what (store_content value))
     (fits : IsValue objects what) (counted : count ≡ count_filled (before known can puts) + 1) where
   abbrev pub map_cell : Cell
   map_cell = cell known
@@ -81,7 +79,7 @@ module _ {old new : Mutator} {map key count earlier number : ℕ} {table : Table
       → (one.layout.kind ≡ kind.Table) ⊎ (one.layout.kind ≡ kind.Boxed)
   made_kinds one among = elim (in_cases table_made boxes_made one among) [
     | inl same ↦ inl (ap (λ (c : Cell). c.layout.kind) (sym same))
-    | inr is_box ↦ inr (made_boxed (beside_content value) (behind known can puts) one is_box)
+    | inr is_box ↦ inr (made_boxed (store_content value) (behind known can puts) one is_box)
   ]
 
   -- so words of the map's own cell were written, and cells were made
@@ -104,12 +102,12 @@ module _ {old new : Mutator} {map key count earlier number : ℕ} {table : Table
   places = staying.places known written
 
   -- the box that was made holds the integer
-  pub refers_box : (v : ℤ) → beside_content value ≡ content.Boxed v
+  pub refers_box : (v : ℤ) → store_content value ≡ content.Boxed v
       → RefersToBox (heap_of new) (reference_word (behind known can puts)) v
   refers_box v is_box =
-      refers_to_made (beside_content value) (behind known can puts) v is_box (boxed_integer objects v holds fits is_box)
+      refers_to_made (store_content value) (behind known can puts) v is_box (boxed_integer objects v holds fits is_box)
       (box_stands known can puts)
-      (box_has (box_cell (behind known can puts)) (made_box (beside_content value) (behind known can puts) v is_box))
+      (box_has (box_cell (behind known can puts)) (made_box (store_content value) (behind known can puts) v is_box))
 
   -- what refers to an object did so before
   pub refers_back : (word another : ℕ) → RefersToPlace (heap_of new) word another
@@ -186,12 +184,12 @@ module _ {old new : Mutator} {map key count earlier number : ℕ} {table : Table
         (place known can puts) at) put_is
         (PairComes.put number same pair_filled
         (subst (λ n. ComesFrom (heap_of new) (HasValue (before known can puts)) all_made (origin known can puts at) n at
-        (content_word (beside_content value) (behind known can puts))) same
+        (content_word (store_content value) (behind known can puts))) same
         (content_comes (HasValue (before known can puts)) all_made (origin known can puts at) at (behind known can puts)
         holds places (λ own wide. false≢true own)
         (λ v is_box. is_made_box (behind known can puts)
         (rest_in table_made boxes_made (box_cell (behind known can puts))
-        (made_box (beside_content value) (behind known can puts) v is_box))))))
+        (made_box (store_content value) (behind known can puts) v is_box))))))
     | NowFilled.elsewhere apart now ↦
         PairComes.kept
         (subst (λ n. IsFilledAt (before known can puts) n one) (sym (origin_other known can puts at apart))
@@ -203,7 +201,7 @@ module _ {old new : Mutator} {map key count earlier number : ℕ} {table : Table
       → HasNoNumber one × (reference_word (next_at old) ≡ reference_word one.at)
   tables_told one among is =
       subst (λ (c : Cell). HasNoNumber c × (reference_word (next_at old) ≡ reference_word c.at))
-      (only_first (beside_content value) (behind known can puts) kind.Table (table_is_no_box refl) one among
+      (only_first (store_content value) (behind known can puts) kind.Table (table_is_no_box refl) one among
       is)
       (refl, refl)
 

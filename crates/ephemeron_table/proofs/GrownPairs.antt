@@ -6,22 +6,21 @@ use Rattle.std.specs.Prelude.{slice_set, option_map}
 use Rattle.std.specs.Option.{option_and_then}
 use Rattle.std.proofs.lemmas.Bool.{cases_eq, eq-eqb, ne_eqb}
 use Rattle.std.proofs.lemmas.Option.{slice_get_within}
-use Rattle.tagged_word.specs.declared.header.Header.{Header}
+use Rattle.heap_model.specs.Types.{Header, Held}
 use Rattle.tagged_word.specs.Readings.{reference_in, header_in}
 use Rattle.object_graph.proofs.Lists.{slice_get-set_same}
 use Rattle.linear_probing.specs.Tables.{FindsAll}
-use Rattle.handle_roots.specs.declared.held.Held.{Held}
 use Rattle.heap_table.specs.Seats.{heap_words}
 use Rattle.heap_model.specs.Heaps.{Heap}
 use Rattle.heap_model.specs.Slots.{reference_word}
 use Rattle.heap_model.specs.Kinds.{Pair, free_pair}
-use Rattle.write_barrier.specs.Mains.{Mutator, heap_of}
+use Rattle.write_barrier.specs.MutatorState.{Mutator, heap_of}
 use Rattle.object_cells.specs.Contents.{next_at}
-use Rattle.object_cells.specs.Made.{beside_content, content_need}
+use Rattle.object_cells.specs.Made.{store_content, content_need}
 use Rattle.weak_pairs.specs.Rehashing.{AreRehashed}
 use Rattle.ephemeron_table.specs.Rehashing.{CanGrow, IsUsed, PutsInNewTable}
 use Rattle.weak_pairs.specs.Pairs.{IsFilledAt}
-use Rattle.weak_pairs.specs.Tables.{number_at, numbers, number_of, pairs_of}
+use Rattle.weak_pairs.specs.Tables.{number_at, numbers, key_number, pairs_of}
 use Rattle.weak_pairs.specs.declared.table.Table.{Table}
 use Rattle.weak_pairs.proofs.CountedPairs.{count_filled, count_put}
 use Rattle.ephemeron_table.proofs.GrowingTables.{boxed_pairs, grown_pairs_stay}
@@ -45,12 +44,12 @@ none_behind (first ∷ pairs) (suc n) all = none_behind pairs n (omega (arith, a
 
 -- pairs whose keys have the same numbers in two heaps
 numbers_same : (heap other : Heap) (pairs : List Pair)
-    → ((place : ℕ) (pair : Pair) → slice_get pairs place ≡ Some pair → number_of heap pair ≡ number_of other pair)
+    → ((place : ℕ) (pair : Pair) → slice_get pairs place ≡ Some pair → key_number heap pair ≡ key_number other pair)
     → numbers heap pairs ≡ numbers other pairs
 numbers_same heap other [] same = refl
 numbers_same heap other (first ∷ pairs) same =
     ap (λ one. one ∷ numbers heap pairs) (same 0 first refl)
-    ∙ ap (λ rest. number_of other first ∷ rest)
+    ∙ ap (λ rest. key_number other first ∷ rest)
     (numbers_same heap other pairs (λ place pair there. same (suc place) pair there))
 
 -- where a word stays, so does the number that is read
@@ -86,8 +85,8 @@ module _ {old new : Mutator} {map key count earlier : ℕ} {table : Table} {valu
   boxed_same : pairs_of (heap_words puts.boxed.seat) (made_table known can puts) ≡ far
   boxed_same =
       boxed_pairs can known.whole.sized.words (next_at old) (capacity known can puts)
-      (content_need (beside_content value))
-      puts.room refl refl refl puts.begins (beside_content value) puts.moves puts.boxes
+      (content_need (store_content value))
+      puts.room refl refl refl puts.begins (store_content value) puts.moves puts.boxes
 
   inserted_are : pairs_of (heap_words puts.inserted.seat) (made_table known can puts) ≡ slice_set far place one
   inserted_are =
@@ -116,7 +115,7 @@ module _ {old new : Mutator} {map key count earlier : ℕ} {table : Table} {valu
   moved =
       subst (λ all. AreRehashed all far table.capacity)
       (grown_pairs_stay can known.whole.sized.words (next_at old) (capacity known can puts)
-      (content_need (beside_content value)) puts.room refl refl refl puts.begins) puts.moves.moved
+      (content_need (store_content value)) puts.room refl refl refl puts.begins) puts.moves.moved
 
   -- what is filled is the new pair, or was moved
   pub data NowFilled (at : ℕ) (found : Pair) : Type 0 where
@@ -199,7 +198,7 @@ module _ {old new : Mutator} {map key count earlier : ℕ} {table : Table} {valu
   far_numbers : numbers (heap_of puts.begun) far ≡ numbers (heap_of old) far
   far_numbers = numbers_same (heap_of puts.begun) (heap_of old) far (λ at found there. elim (free_or_filled found) [
     | inl free ↦
-        ap (number_of (heap_of puts.begun)) free ∙ sym (ap (number_of (heap_of old)) free)
+        ap (key_number (heap_of puts.begun)) free ∙ sym (ap (key_number (heap_of old)) free)
     | inr filled ↦
         let known_key = can.keys (moved.origin at) found
         (moved.from at found (record { stands = there; filled = filled })).0 in

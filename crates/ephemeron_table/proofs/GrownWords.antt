@@ -7,19 +7,18 @@ use Rattle.tagged_word.specs.Cells.{store_head, store_slot}
 use Rattle.page_space.specs.Extents.{Space, eden_start, segments_start, marks_start}
 use Rattle.page_space.proofs.Starts.{roots_start_is, layouts_start_is, marks_start_is}
 use Rattle.object_graph.proofs.Lists.{slice_get-set_other}
-use Rattle.cell_layout.specs.declared.cell.Cell.{Cell}
+use Rattle.heap_model.specs.Types.{Cell, Held}
 use Rattle.cell_layout.specs.Cells.{IsRow, IsCell}
-use Rattle.handle_roots.specs.declared.held.Held.{Held}
-use Rattle.heap_table.specs.Seats.{heap_words, StaysBeside}
-use Rattle.heap_table.specs.Staying.{stays_beside_again}
+use Rattle.heap_table.specs.Seats.{heap_words, RestStays}
+use Rattle.heap_table.specs.Staying.{rest_stays_again}
 use Rattle.heap_model.specs.Slots.{reference_word}
 use Rattle.heap_model.specs.Kinds.{Pair, count_offset}
 use Rattle.heap_model.specs.Needs.{grown_table}
 use Rattle.heap_model.proofs.BoundHeaps.{none_in}
 use Rattle.heap_model.proofs.CellsApart.{IsOfCell, first_of_cell}
-use Rattle.write_barrier.specs.Mains.{Mutator, heap_of}
+use Rattle.write_barrier.specs.MutatorState.{Mutator, heap_of}
 use Rattle.object_cells.specs.Contents.{next_at}
-use Rattle.object_cells.specs.Made.{beside_content, content_need, content_word, with_content}
+use Rattle.object_cells.specs.Made.{store_content, content_need, content_word, with_content}
 use Rattle.object_cells.proofs.MadeBoxes.{made_boxes, BoxStands, with_content_stays, length-with_content}
 use Rattle.object_cells.proofs.MadeBoxes.{row_with_box}
 use Rattle.object_cells.proofs.UnusedWords.{cell_is_used, next_before_segments}
@@ -27,7 +26,7 @@ use Rattle.object_cells.proofs.OwnPuts.{PutsOwn, own_sized, own_writes, box_put}
 use Rattle.ephemeron_table.specs.Rehashing.{CanGrow, PutsInNewTable, new_table, new_table_need, box_behind}
 use Rattle.ephemeron_table.specs.PairWrites.{WritesWeak}
 use Rattle.ephemeron_table.specs.Puttings.{begun_table}
-use Rattle.weak_pairs.specs.Tables.{IsBesidePairs, made_pair, pairs_of}
+use Rattle.weak_pairs.specs.Tables.{IsOutsidePairs, made_pair, pairs_of}
 use Rattle.weak_pairs.specs.declared.table.Table.{Table}
 use Rattle.ephemeron_table.proofs.BegunTables.{begun_beside, begun_capacity, begun_header}
 use Rattle.ephemeron_table.proofs.GrowingTables.{begun_words, begun_words_long, boxed_keys, boxed_within}
@@ -57,7 +56,7 @@ module _ {old new : Mutator} {map key count earlier : ℕ} {table : Table} {valu
   need = new_table_need table value
 
   abbrev pub pair : Pair
-  pair = made_pair (reference_word key) (content_word (beside_content value) behind)
+  pair = made_pair (reference_word key) (content_word (store_content value) behind)
 
   pub counted : length (heap_words old.seat) ≡ marks_start old.seat.space
   counted = known.whole.sized.words
@@ -78,13 +77,13 @@ module _ {old new : Mutator} {map key count earlier : ℕ} {table : Table} {valu
   -- the table's words with its box
   pub keys_boxed : HaveKeys (pairs_of (heap_words puts.boxed.seat) made_table)
   keys_boxed =
-      boxed_keys can counted (next_at old) capacity (content_need (beside_content value)) puts.room refl refl refl
-      puts.begins (beside_content value) puts.moves puts.boxes
+      boxed_keys can counted (next_at old) capacity (content_need (store_content value)) puts.room refl refl refl
+      puts.begins (store_content value) puts.moves puts.boxes
 
   pub fits_boxed : next_at old + (store_head + 2 * capacity) ≤ length (heap_words puts.boxed.seat)
   fits_boxed =
-      boxed_within can counted (next_at old) capacity (content_need (beside_content value)) puts.room refl refl refl
-      puts.begins (beside_content value) puts.moves puts.boxes
+      boxed_within can counted (next_at old) capacity (content_need (store_content value)) puts.room refl refl refl
+      puts.begins (store_content value) puts.moves puts.boxes
 
   -- the new pair's place is one of the table
   pub place_below : puts.inserts.place < capacity
@@ -92,14 +91,14 @@ module _ {old new : Mutator} {map key count earlier : ℕ} {table : Table} {valu
 
   begun_long : length (heap_words puts.begun.seat) ≡ length (heap_words old.seat)
   begun_long =
-      begun_words_long can counted (next_at old) capacity (content_need (beside_content value)) puts.room refl refl refl
+      begun_words_long can counted (next_at old) capacity (content_need (store_content value)) puts.room refl refl refl
       puts.begins
 
   pub inserted_long : length (heap_words puts.inserted.seat) ≡ length (heap_words old.seat)
   inserted_long =
       ap length puts.inserts.words.heap
       ∙ length-with_pair (heap_words puts.boxed.seat) (next_at old) puts.inserts.place pair
-      ∙ ap length puts.boxes.heap ∙ length-with_content (heap_words puts.moved.seat) (beside_content value) behind
+      ∙ ap length puts.boxes.heap ∙ length-with_content (heap_words puts.moved.seat) (store_content value) behind
       ∙ puts.moves.changes.long ∙ begun_long
 
   -- the words with the reference to it
@@ -127,24 +126,24 @@ module _ {old new : Mutator} {map key count earlier : ℕ} {table : Table} {valu
       ∙ slice_get-set_other (heap_words puts.inserted.seat) (map + store_slot) a (reference_word (next_at old)) not_slot
 
   -- one beside the pairs is that with the box
-  beside_inserted : (a : ℕ) → IsBesidePairs made_table a
+  beside_inserted : (a : ℕ) → IsOutsidePairs made_table a
       → slice_get (heap_words puts.inserted.seat) a ≡ slice_get (heap_words puts.boxed.seat) a
   beside_inserted a beside =
       ap (λ all. slice_get all a) puts.inserts.words.heap
       ∙ beside_put (heap_words puts.boxed.seat) made_table puts.inserts.place a pair place_below beside
 
   -- one that is not the box's either is that of the table that holds nothing
-  boxed_begun : (a : ℕ) → IsBesidePairs made_table a
-      → (behind ≤ a → a < behind + content_need (beside_content value) → ⊥)
+  boxed_begun : (a : ℕ) → IsOutsidePairs made_table a
+      → (behind ≤ a → a < behind + content_need (store_content value) → ⊥)
       → slice_get (heap_words puts.boxed.seat) a ≡ slice_get (heap_words puts.begun.seat) a
   boxed_begun a beside not_box =
       ap (λ all. slice_get all a) puts.boxes.heap
-      ∙ with_content_stays (heap_words puts.moved.seat) (beside_content value) behind a not_box
+      ∙ with_content_stays (heap_words puts.moved.seat) (store_content value) behind a not_box
       ∙ puts.moves.changes.beside a beside
 
   begun_is : heap_words puts.begun.seat ≡ begun_table (heap_words old.seat) made_table
   begun_is =
-      begun_words can counted (next_at old) capacity (content_need (beside_content value)) puts.room refl refl refl
+      begun_words can counted (next_at old) capacity (content_need (store_content value)) puts.room refl refl refl
       puts.begins
 
   table_within_old : next_at old + (store_head + 2 * capacity) ≤ length (heap_words old.seat)
@@ -158,7 +157,7 @@ module _ {old new : Mutator} {map key count earlier : ℕ} {table : Table} {valu
       ∙ begun_beside (heap_words old.seat) made_table table_within_old a
       (λ from below. not_run from (omega (arith, below)))
 
-  run_beside : (a : ℕ) → (next_at old ≤ a → a < next_at old + need → ⊥) → IsBesidePairs made_table a
+  run_beside : (a : ℕ) → (next_at old ≤ a → a < next_at old + need → ⊥) → IsOutsidePairs made_table a
   run_beside a not_run = beside_run made_table a (λ from below. not_run from (omega (arith, below)))
 
   pub boxed_stays : (a : ℕ) → (next_at old ≤ a → a < next_at old + need → ⊥)
@@ -175,12 +174,12 @@ module _ {old new : Mutator} {map key count earlier : ℕ} {table : Table} {valu
       beside_map a not_count not_slot ∙ beside_inserted a (run_beside a not_run) ∙ boxed_stays a not_run
 
   -- no word from the marks on was put
-  grown_beside : StaysBeside old.seat new.seat
+  grown_beside : RestStays old.seat new.seat
   grown_beside =
-      stays_beside_again old.seat puts.inserted.seat new.seat
-      (stays_beside_again old.seat puts.boxed.seat puts.inserted.seat
-      (stays_beside_again old.seat puts.moved.seat puts.boxed.seat
-      (stays_beside_again old.seat puts.begun.seat puts.moved.seat puts.begins.beside puts.moves.changes.rest)
+      rest_stays_again old.seat puts.inserted.seat new.seat
+      (rest_stays_again old.seat puts.boxed.seat puts.inserted.seat
+      (rest_stays_again old.seat puts.moved.seat puts.boxed.seat
+      (rest_stays_again old.seat puts.begun.seat puts.moved.seat puts.begins.beside puts.moves.changes.rest)
       puts.boxes.beside) puts.inserts.words.beside) puts.words.beside
 
   -- so words of the map's own cell were put
@@ -226,17 +225,17 @@ module _ {old new : Mutator} {map key count earlier : ℕ} {table : Table} {valu
       ∙ ap (λ all. slice_get all (next_at old + k)) begun_is
 
   -- a word of the box
-  box_word : (b : ℕ) → behind ≤ b → b < behind + content_need (beside_content value)
+  box_word : (b : ℕ) → behind ≤ b → b < behind + content_need (store_content value)
       → slice_get (heap_words new.seat) b
-      ≡ slice_get (with_content (heap_words puts.moved.seat) (beside_content value) behind) b
+      ≡ slice_get (with_content (heap_words puts.moved.seat) (store_content value) behind) b
   box_word b from below =
       run_word b (omega (arith, from)) (omega (arith, below))
       ∙ beside_inserted b (inr (omega (arith, from))) ∙ ap (λ all. slice_get all b) puts.boxes.heap
 
   -- the box stands there
-  pub box_stands : BoxStands (heap_of new) (beside_content value) behind
+  pub box_stands : BoxStands (heap_of new) (store_content value) behind
   box_stands =
-      box_put (heap_words puts.moved.seat) (beside_content value) behind puts_weak
+      box_put (heap_words puts.moved.seat) (store_content value) behind puts_weak
       (puts.moves.changes.long ∙ begun_long) (omega arith) (omega arith) box_word
 
   -- the cells that are made
@@ -244,7 +243,7 @@ module _ {old new : Mutator} {map key count earlier : ℕ} {table : Table} {valu
   other = table_cell (next_at old) capacity
 
   abbrev pub boxes : List Cell
-  boxes = made_boxes (beside_content value) behind
+  boxes = made_boxes (store_content value) behind
 
   abbrev pub made : List Cell
   made = other ∷ boxes
@@ -268,7 +267,7 @@ module _ {old new : Mutator} {map key count earlier : ℕ} {table : Table} {valu
   -- both are the row of the words that were reserved
   new_row : IsRow new.seat.space (heap_words new.seat) (next_at old) (next_at old + need) made
   new_row =
-      row_with_box (heap_of new) other (beside_content value) (next_at old + need) table_cell_is (own_sized puts_weak)
+      row_with_box (heap_of new) other (store_content value) (next_at old + need) table_cell_is (own_sized puts_weak)
       box_stands (omega arith)
 
   -- so cells were written

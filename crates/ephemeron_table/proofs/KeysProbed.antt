@@ -3,7 +3,7 @@ use Rattle.std.proofs.Common.{◌≡◌, ◌≢◌, ℕ, ◌<◌, inl, inr, List
 use Rattle.std.proofs.Common.{unwrap_or, refl, sym, ◌∙◌, ap, subst, arith}
 use Rattle.std.proofs.lemmas.Bool.{cases_order}
 use Rattle.std.proofs.lemmas.Option.{slice_get-get_or}
-use Rattle.object_graph.specs.declared.value.Value.{Value}
+use Rattle.heap_model.specs.Types.{Value}
 use Rattle.object_graph.specs.Objects.{entry_value}
 use Rattle.object_graph.specs.Graphs.{Graph, WeakObject}
 use Rattle.linear_probing.specs.Tables.{place_after}
@@ -12,11 +12,11 @@ use Rattle.heap_model.specs.Heaps.{Heap}
 use Rattle.heap_model.specs.Slots.{reference_word, hole_word}
 use Rattle.heap_model.specs.Kinds.{Pair, free_pair, IsFoundPair}
 use Rattle.heap_model.proofs.WordClasses.{hole_refers_not}
-use Rattle.write_barrier.specs.Mains.{Mutator, heap_of, MainShows}
+use Rattle.write_barrier.specs.MutatorState.{Mutator, heap_of, MainShows}
 use Rattle.ephemeron_table.specs.WeakObjects.{IsKeyAt, IsWeakAt}
 use Rattle.ephemeron_table.specs.Probes.{IsTableAt, EndsBy}
 use Rattle.weak_pairs.specs.Tables.{ArePairsIn, key_in, number_at}
-use Rattle.weak_pairs.specs.Probes.{PassesBefore, ComesTo}
+use Rattle.weak_pairs.specs.Probes.{PassesBefore, ProbesTo}
 use Rattle.ephemeron_table.specs.declared.probing.End.TheVariants as probe_end
 use Rattle.weak_pairs.specs.declared.table.Table.{Table}
 use Rattle.ephemeron_table.proofs.KeysFound.{HasKey, WeakShown, entry_has_key, number_is, shown_pairs, shown_sound}
@@ -39,7 +39,7 @@ not_passed {heap} {key = key} {number} table steps stand has few passes =
 pub not_before : {heap : Heap} {pairs : List Pair} {key number place : ℕ} (table : Table)
     → ((at : ℕ) (pair : Pair) → slice_get pairs at ≡ Some pair → pair ≢ free_pair → IsFoundPair heap pairs at pair)
     → ArePairsIn heap.words table pairs → (has : HasKey heap pairs key number)
-    → (comes : ComesTo heap table number (reference_word key) place) → key_in heap table.at place ≡ hole_word → ⊥
+    → (comes : ProbesTo heap table number (reference_word key) place) → key_in heap table.at place ≡ hole_word → ⊥
 not_before {heap} {pairs} {key} {number} {place} table sound stand has comes free =
     elim (cases_order has.probed.steps comes.steps) [
       | inl same ↦
@@ -85,7 +85,7 @@ none_nowhere {weak = weak} {number} table shows shown is_key is passes =
 -- likewise where it ends at a pair that holds nothing
 pub none_where_free : {main : Mutator} {graph : Graph} {map key : ℕ} {weak : WeakObject} {number : ℕ} (table : Table)
     (place : ℕ) → MainShows main graph → WeakShown main graph map weak → IsKeyAt main graph key number
-    → IsTableAt (heap_of main) map table → ComesTo (heap_of main) table number (reference_word key) place
+    → IsTableAt (heap_of main) map table → ProbesTo (heap_of main) table number (reference_word key) place
     → key_in (heap_of main) table.at place ≡ hole_word → entry_value weak.entries number ≡ None
 none_where_free {weak = weak} {number} table place shows shown is_key is comes free =
     none_by (entry_value weak.entries number) (λ value has_value.
@@ -103,9 +103,9 @@ none_at_free {main} {key = key} {number = number} {table}
     {place} read key_read shows shown is_key is reads key_reads ends =
     let heap = heap_of main in
     let same : read ≡ number = reads ∙ number_is is_key.place in
-    let comes : ComesTo heap table number (reference_word key) place =
-    subst (λ k. ComesTo heap table number k place) key_reads
-    (subst (λ n. ComesTo heap table n key_read place) same ends.0) in
+    let comes : ProbesTo heap table number (reference_word key) place =
+    subst (λ k. ProbesTo heap table number k place) key_reads
+    (subst (λ n. ProbesTo heap table n key_read place) same ends.0) in
     none_where_free table place shows shown is_key is comes ends.1
 
 -- and where it passed all pairs
@@ -128,7 +128,7 @@ LacksEntry main map key =
     → IsKeyAt main graph key number → entry_value weak.entries number ≡ None
 
 -- the place to which it comes is one of the table
-pub comes_within : {heap : Heap} {table : Table} {number key place : ℕ} → ComesTo heap table number key place
+pub comes_within : {heap : Heap} {table : Table} {number key place : ℕ} → ProbesTo heap table number key place
     → place < table.capacity
 comes_within {table = table} {number} comes =
     let few : comes.steps < table.capacity = comes.few in

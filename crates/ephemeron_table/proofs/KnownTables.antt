@@ -4,12 +4,11 @@ use Rattle.std.proofs.Common.{unwrap_or, sym, ◌∙◌, ap, subst, arith, lengt
 use Rattle.std.specs.Prelude.{option_map}
 use Rattle.std.proofs.lemmas.Bool.{false≢true}
 use Rattle.std.proofs.lemmas.Option.{same_Some, none-some, slice_get-map}
-use Rattle.tagged_word.specs.declared.layout.Kind.{Kind}
+use Rattle.heap_model.specs.Types.{Kind, Cell}
 use Rattle.tagged_word.specs.declared.layout.Kind.TheVariants as kind
 use Rattle.tagged_word.specs.Cells.{store_head, store_slot}
 use Rattle.tagged_word.proofs.Readings.{reference_to, reference_from}
 use Rattle.page_space.specs.Sizes.{AreWithin}
-use Rattle.cell_layout.specs.declared.cell.Cell.{Cell}
 use Rattle.linear_probing.specs.Tables.{FindsAll}
 use Rattle.linear_probing.specs.Tables as probing
 use Rattle.linear_probing.proofs.Findings.{still_probed}
@@ -25,7 +24,7 @@ use Rattle.heap_model.proofs.CellsApart.{IsOfCell, first_of_cell, cells_apart}
 use Rattle.heap_model.proofs.CellWords.{words_by_kind, words_are_size}
 use Rattle.heap_model.proofs.OneOwner.{names_store}
 use Rattle.heap_model.proofs.WordClasses.{same_reference}
-use Rattle.write_barrier.specs.Mains.{Mutator, heap_of, IsTied, MainShows}
+use Rattle.write_barrier.specs.MutatorState.{Mutator, heap_of, IsTied, MainShows}
 use Rattle.object_cells.specs.CellWrites.{IsInCell}
 use Rattle.object_cells.proofs.CellsRead.{word_stands, cell_at_before_marks}
 use Rattle.object_cells.proofs.OwnPlaces.{has_own_words}
@@ -33,7 +32,8 @@ use Rattle.object_cells.proofs.WordsTold.{cell_fits}
 use Rattle.ephemeron_table.specs.WeakObjects.{IsWeakAt}
 use Rattle.weak_pairs.specs.Pairs.{HasPairs}
 use Rattle.ephemeron_table.specs.Probes.{IsWeakCellAt, IsTableAt}
-use Rattle.weak_pairs.specs.Tables.{number_at, KeysBeside, IsKeyBeside, IsBesidePairs, numbers, number_of, pairs_of}
+use Rattle.weak_pairs.specs.Tables.{number_at, KeysOutsidePairs, IsKeyOutside, IsOutsidePairs, numbers, key_number}
+use Rattle.weak_pairs.specs.Tables.{pairs_of}
 use Rattle.weak_pairs.specs.declared.table.Table.{Table}
 use Rattle.weak_pairs.proofs.KeyedPairs.{free_or_filled}
 use Rattle.weak_pairs.proofs.PairNumbers.{keyed_filled, length-numbers, number_place}
@@ -134,7 +134,7 @@ module _ {old : Mutator} {map : ℕ} {table : Table} (known : KnownMap old map t
 
   -- the number of a pair that holds something
   pub number_found : (pair : Pair) (number : ℕ) → RefersToPlace (heap_of old) pair.key number
-      → number_of (heap_of old) pair ≡ Some number
+      → key_number (heap_of old) pair ≡ Some number
   number_found pair number refers =
       let fits : refers.at < 4294967296 =
       subst (λ n. n < 4294967296) refers.place.stands (cell_fits known.whole.sized known.sizes refers.place.has) in
@@ -156,8 +156,8 @@ module _ {old : Mutator} {map : ℕ} {table : Table} (known : KnownMap old map t
       ]) probed
 
   -- a pair with a number holds something
-  pub numbered_filled : (pair : Pair) (number : ℕ) → number_of (heap_of old) pair ≡ Some number → pair ≢ free_pair
-  numbered_filled pair number is free = none-some number (ap (number_of (heap_of old)) (sym free) ∙ is)
+  pub numbered_filled : (pair : Pair) (number : ℕ) → key_number (heap_of old) pair ≡ Some number → pair ≢ free_pair
+  numbered_filled pair number is free = none-some number (ap (key_number (heap_of old)) (sym free) ∙ is)
 
   -- so probing finds all
   pub finds_all : FindsAll (numbers (heap_of old) (pairs_of (heap_words old.seat) table))
@@ -175,8 +175,8 @@ module _ {old : Mutator} {map : ℕ} {table : Table} (known : KnownMap old map t
       → probing.IsProbed None (numbers (heap_of old) pairs) number at → IsProbed pairs number at
   probed_pair pairs number at probed =
       still_probed (numbers (heap_of old) pairs) pairs number at (sym (length-numbers (heap_of old) pairs))
-      (λ place free. slice_get-map (number_of (heap_of old)) pairs place
-      ∙ ap (option_map (number_of (heap_of old))) free)
+      (λ place free. slice_get-map (key_number (heap_of old)) pairs place
+      ∙ ap (option_map (key_number (heap_of old))) free)
       probed
 
   module _ (some : 0 < table.capacity) where
@@ -204,7 +204,7 @@ module _ {old : Mutator} {map : ℕ} {table : Table} (known : KnownMap old map t
         )
 
     -- what is not in the table is beside its pairs
-    pub beside_table : (a : ℕ) → (IsInCell a other → ⊥) → IsBesidePairs table a
+    pub beside_table : (a : ℕ) → (IsInCell a other → ⊥) → IsOutsidePairs table a
     beside_table a not_in =
         beside_run table a (λ from below. not_in (record {
           from = omega (arith, from, found.stands);
@@ -213,7 +213,7 @@ module _ {old : Mutator} {map : ℕ} {table : Table} (known : KnownMap old map t
 
     -- and so is what is in no table
     pub cell_beside : {one : Cell} {words : List ℕ} (a : ℕ) → HasCell (heap_of old) one words
-        → (one.layout.kind ≡ kind.Table → ⊥) → IsOfCell one a → IsBesidePairs table a
+        → (one.layout.kind ≡ kind.Table → ⊥) → IsOfCell one a → IsOutsidePairs table a
     cell_beside {one} a has no_table of_one = beside_table a (λ inside.
         let same : one ≡ other = cells_apart a known.whole.rows has other_has of_one
         (record { from = inside.from; below = inside.below }) in
@@ -241,17 +241,17 @@ module _ {old : Mutator} {map : ℕ} {table : Table} (known : KnownMap old map t
         map_apart (other.at + k) (subst (IsOfCell cell) (sym same) (of_map j within)) (of_head k below)
 
     -- so the words of the map's cell are beside the pairs
-    pub map_beside : (k : ℕ) → k < 3 → IsBesidePairs table (map + k)
+    pub map_beside : (k : ℕ) → k < 3 → IsOutsidePairs table (map + k)
     map_beside k below = cell_beside (map + k) cell_has map_no_table (of_map k below)
 
     -- and so are keys
-    pub keys_beside : KeysBeside (heap_of old) table
+    pub keys_beside : KeysOutsidePairs (heap_of old) table
     keys_beside place at pair there refers =
         let key = (each_found place pair there (keyed_filled pair at refers)).filled.key in
         let same : key.at ≡ at =
         same_reference key.at at (sym key.refers ∙ (reference_from pair.key at refers).1) in
         let stands = key.place.stands ∙ same in
-        subst (IsKeyBeside (heap_of old) table) stands (record {
+        subst (IsKeyOutside (heap_of old) table) stands (record {
           within = cell_at_before_marks known.whole.sized key.place.has;
           beside = cell_beside key.place.cell.at key.place.has
               (λ is. false≢true (sym (ap is_object_kind is) ∙ key.place.object)) (first_of_cell key.place.has);

@@ -3,7 +3,7 @@ pub mod KeysFound
 pub mod KeysProbed
 pub mod ChangedPairs
 pub mod KeptTables
-pub mod WovenPairs
+pub mod ReplacedPairs
 pub mod PairNames
 pub mod RemovalEnds
 pub mod KnownTables

@@ -2,11 +2,11 @@
 use Rattle.std.proofs.Common.{◌≡◌, ℕ, ◌+◌, ◌<◌, length, Some, slice_get, ◌∙◌, ap, arith, length-set}
 use Rattle.tagged_word.specs.Cells.{store_slot}
 use Rattle.object_graph.proofs.Lists.{slice_get-set_same, slice_get-set_other}
-use Rattle.handle_roots.specs.declared.held.Held.{Held}
+use Rattle.heap_model.specs.Types.{Held}
 use Rattle.heap_table.specs.Seats.{heap_words}
 use Rattle.heap_model.specs.Slots.{reference_word}
 use Rattle.heap_model.specs.Kinds.{count_offset}
-use Rattle.write_barrier.specs.Mains.{Mutator}
+use Rattle.write_barrier.specs.MutatorState.{Mutator}
 use Rattle.object_cells.specs.Contents.{next_at}
 use Rattle.ephemeron_table.specs.Rehashing.{CanGrow, PutsInNewTable}
 use Rattle.weak_pairs.specs.declared.table.Table.{Table}

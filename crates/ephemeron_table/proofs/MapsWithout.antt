@@ -4,7 +4,7 @@ use Rattle.std.proofs.Common.{ap, subst, arith, add-zero}
 use Rattle.tagged_word.specs.declared.layout.Kind.TheVariants as kind
 use Rattle.tagged_word.specs.Cells.{store_slot}
 use Rattle.tagged_word.proofs.Members.{first_in, one_in}
-use Rattle.cell_layout.specs.declared.cell.Cell.{Cell}
+use Rattle.heap_model.specs.Types.{Cell}
 use Rattle.heap_table.specs.Seats.{heap_words}
 use Rattle.heap_model.specs.Heaps.{HasCell, words_of_cell}
 use Rattle.heap_model.specs.Slots.{reference_word, RefersToPlace}
@@ -12,11 +12,11 @@ use Rattle.heap_model.specs.Kinds.{HasWord, Pair, count_offset, HasNoNumber}
 use Rattle.heap_model.specs.Wholeness.{NamesFrom}
 use Rattle.heap_model.specs.Needs.{count_at}
 use Rattle.heap_model.proofs.BoundHeaps.{none_in}
-use Rattle.write_barrier.specs.Mains.{Mutator, heap_of}
+use Rattle.write_barrier.specs.MutatorState.{Mutator, heap_of}
 use Rattle.object_cells.specs.Contents.{next_at}
 use Rattle.object_cells.proofs.SlotsNow.{word_at_offset}
 use Rattle.object_cells.proofs.NothingUsed.{room_for_none, used_and_none}
-use Rattle.object_cells.proofs.OwnPuts.{PutsOwn, own_writes, one_beside}
+use Rattle.object_cells.proofs.OwnPuts.{PutsOwn, own_writes, one_owned}
 use Rattle.object_cells.proofs.MadeBoxes.{row_of_none}
 use Rattle.weak_pairs.specs.Pairs.{HasPairs, IsFilledAt}
 use Rattle.object_cells.specs.OwnSlots.{ComesFrom}
@@ -95,7 +95,7 @@ module _ {old new : Mutator} {map place : ℕ} {table : Table} (known : KnownMap
       own_writes [] puts
       (subst (λ n. slice_get (heap_words new.seat) n ≡ slice_get (heap_words old.seat) n) first
       (map_stays 0 (omega arith)))
-      (one_beside (other_has known some) (found known some).of_kind head_stays)
+      (one_owned (other_has known some) (found known some).of_kind head_stays)
       (row_of_none (heap_of new) (next_at old))
 
   -- the table belongs to the map

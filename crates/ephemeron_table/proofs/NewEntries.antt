@@ -7,7 +7,7 @@ use Rattle.std.proofs.lemmas.Bool.Decides.{nat_tests}
 use Rattle.std.proofs.lemmas.Option.{same_Some}
 use Rattle.tagged_word.specs.Cells.{store_head}
 use Rattle.nursery.specs.Young.{Young, HasRoom}
-use Rattle.object_graph.specs.declared.value.Value.{Value}
+use Rattle.heap_model.specs.Types.{Value, Held}
 use Rattle.object_graph.specs.declared.value.Rep.TheVariants as rep
 use Rattle.object_graph.specs.Values.{rep_of}
 use Rattle.object_graph.specs.Objects.{with_entry}
@@ -15,7 +15,6 @@ use Rattle.object_graph.specs.Graphs.{Graph, WeakObject}
 use Rattle.object_graph.specs.Meaning.{weak_most}
 use Rattle.object_graph.specs.Invariants.{IsValue}
 use Rattle.page_space.specs.Sizes.{AreWithin}
-use Rattle.handle_roots.specs.declared.held.Held.{Held}
 use Rattle.heap_table.specs.Seats.{heap_words}
 use Rattle.heap_model.specs.Heaps.{words_of_cell}
 use Rattle.heap_model.specs.Slots.{reference_word}
@@ -24,10 +23,10 @@ use Rattle.heap_model.specs.Needs.{capacity_at, count_at, grown_table, box_need}
 use Rattle.object_graph.specs.Objects.{entry_value}
 use Rattle.heap_model.specs.Rooms.{Room, is_wide, room_put, wput_need, wput_need_by}
 use Rattle.write_barrier.specs.declared.room.NoRoom.{NoRoom}
-use Rattle.write_barrier.specs.Mains.{Mutator, heap_of, MainShows}
+use Rattle.write_barrier.specs.MutatorState.{Mutator, heap_of, MainShows}
 use Rattle.object_cells.specs.Capacities.{ChangesObject}
 use Rattle.object_cells.specs.HeldValues.{IsValueHeld}
-use Rattle.object_cells.specs.Made.{beside_content, content_need, RefusesRoom}
+use Rattle.object_cells.specs.Made.{store_content, content_need, RefusesRoom}
 use Rattle.object_cells.specs.Uses.{UsesMore}
 use Rattle.object_cells.proofs.HeldContents.{HoldsValue}
 use Rattle.object_cells.proofs.HeldNeeds.{new_value_held, content_need_is, wide_is}
@@ -113,7 +112,7 @@ module _ {old : Mutator} {graph : Graph} {map key : ℕ} {weak : WeakObject} {nu
   not_full = omega (arith, fitting.few, fitting.counted)
 
   -- so many words are needed
-  pub need_is : content_need (beside_content value) ≡ wput_need (map_room old map weak) weak what number
+  pub need_is : content_need (store_content value) ≡ wput_need (map_room old map weak) weak what number
   need_is =
       content_need_is value ∙ ap box_need (wide_is value what fitting.held.shows)
       ∙ sym (need_in_table (map_room old map weak) what stays)
@@ -128,7 +127,7 @@ module _ {old : Mutator} {graph : Graph} {map key : ℕ} {weak : WeakObject} {nu
 
   -- where there is no room, putting it is refused
   pub refuses_in_table : {new : Mutator} (room : NoRoom)
-      → RefusesRoom old new (content_need (beside_content value)) room
+      → RefusesRoom old new (content_need (store_content value)) room
       → PutsEntry old new graph map key weak number what (Err (stop.Full room))
   refuses_in_table room refuses = (
     not_full_for fitting.lacks not_full,
@@ -146,7 +145,7 @@ module _ {old : Mutator} {graph : Graph} {map key : ℕ} {weak : WeakObject} {nu
       abbrev put : Pair
       put = pair map_known (below ends) puts
 
-      holds : HoldsValue (heap_of old) false rep.Small (rep_of what) what (beside_content value)
+      holds : HoldsValue (heap_of old) false rep.Small (rep_of what) what (store_content value)
       holds = new_value_held false value what fitting.held.shows
 
       all : FindsAll (numbers (heap_of old) (slice_set (pairs_of (heap_words old.seat) table) place put))
@@ -288,6 +287,6 @@ free_key_pair free puts =
 pub free_key_refused : {old new : Mutator} {graph : Graph} {map key : ℕ} {weak : WeakObject} {number count place : ℕ}
     {table : Table} {value : Held} {what : Value} (room : NoRoom)
     → EndsFree old graph map key weak number count place table value what
-    → RefusesRoom old new (content_need (beside_content value)) room
+    → RefusesRoom old new (content_need (store_content value)) room
     → PutsEntry old new graph map key weak number what (Err (stop.Full room))
 free_key_refused room free refuses = refuses_in_table free.fitting room refuses

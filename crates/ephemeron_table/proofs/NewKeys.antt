@@ -8,8 +8,8 @@ use Rattle.heap_table.specs.Seats.{heap_words}
 use Rattle.heap_model.specs.Slots.{reference_word, RefersToPlace}
 use Rattle.heap_model.specs.Kinds.{Pair}
 use Rattle.heap_model.specs.Needs.{count_at}
-use Rattle.write_barrier.specs.Mains.{Mutator, heap_of, MainShows}
-use Rattle.ephemeron_table.specs.EntryChanges.{IsFullFor}
+use Rattle.write_barrier.specs.MutatorState.{Mutator, heap_of, MainShows}
+use Rattle.ephemeron_table.specs.EntryChanges.{IsMapFull}
 use Rattle.ephemeron_table.specs.WeakObjects.{IsKeyAt, IsWeakAt}
 use Rattle.weak_pairs.specs.Pairs.{IsFilledAt}
 use Rattle.ephemeron_table.specs.Probes.{IsTableAt, EndsBy, EndsNew}
@@ -100,9 +100,9 @@ module _ {old : Mutator} {graph : Graph} {map key : ℕ} {weak : WeakObject} {nu
   entries_counted = lacks.shows.counts weak.number map weak.entries lacks.is.object lacks.is.reached lacks.is.place
 
   -- the key is new, and where the map has as many entries as it may have, it can have none more
-  pub is_full_for : weak_most ≤ count_at (heap_of old) map → IsFullFor weak number
+  pub is_full_for : weak_most ≤ count_at (heap_of old) map → IsMapFull weak number
   is_full_for many = record { fresh = lacks.fresh; full = omega (arith, many, entries_counted) }
 
   -- where it has fewer, it can
-  pub not_full_for : count_at (heap_of old) map < weak_most → IsFullFor weak number → ⊥
+  pub not_full_for : count_at (heap_of old) map < weak_most → IsMapFull weak number → ⊥
   not_full_for few all = omega (arith, few, all.full, entries_counted)

@@ -4,30 +4,29 @@ use Rattle.std.proofs.Common.{◌≡◌, ℕ, ◌+◌, [], length, cond, Some, E
 use Rattle.std.proofs.lemmas.Option.{same_Some}
 use Rattle.tagged_word.proofs.Members.{first_in}
 use Rattle.nursery.specs.Young.{Young, HasRoom}
-use Rattle.object_graph.specs.declared.value.Value.{Value}
+use Rattle.heap_model.specs.Types.{Value, Held}
 use Rattle.object_graph.specs.declared.value.Rep.TheVariants as rep
 use Rattle.object_graph.specs.Values.{rep_of}
 use Rattle.object_graph.specs.Objects.{with_entry}
 use Rattle.object_graph.specs.Graphs.{Graph, WeakObject}
 use Rattle.object_graph.specs.Invariants.{IsValue}
 use Rattle.handle_roots.specs.Roots.{FitsHeld}
-use Rattle.handle_roots.specs.declared.held.Held.{Held}
 use Rattle.heap_model.specs.Heaps.{words_of_cell}
 use Rattle.heap_model.specs.Kinds.{HasWord, count_offset}
 use Rattle.heap_model.specs.Needs.{capacity_at, count_at, grown_table}
 use Rattle.heap_model.specs.Rooms.{room_put}
 use Rattle.object_graph.specs.Objects.{entry_value}
-use Rattle.write_barrier.specs.Mains.{Mutator, heap_of}
+use Rattle.write_barrier.specs.MutatorState.{Mutator, heap_of}
 use Rattle.write_barrier.specs.declared.room.NoRoom.{NoRoom}
 use Rattle.object_cells.specs.HeldValues.{IsValueHeld}
 use Rattle.object_cells.specs.Capacities.{ChangesObject}
-use Rattle.object_cells.specs.Made.{RefusesRoom, beside_content}
+use Rattle.object_cells.specs.Made.{RefusesRoom, store_content}
 use Rattle.object_cells.specs.Uses.{UsesMore}
 use Rattle.object_cells.proofs.HeldContents.{HoldsValue}
 use Rattle.object_cells.proofs.HeldNeeds.{held_is_value, new_value_held}
 use Rattle.object_cells.proofs.UnusedWords.{marks_fit, next_before_marks}
 use Rattle.ephemeron_table.proofs.KeptTables.{tables_grow}
-use Rattle.ephemeron_table.specs.EntryChanges.{map_room, HasPutEntry, IsFullFor, PutsEntry}
+use Rattle.ephemeron_table.specs.EntryChanges.{map_room, HasPutEntry, IsMapFull, PutsEntry}
 use Rattle.ephemeron_table.specs.declared.stop.TableStop.TheVariants as stop
 use Rattle.ephemeron_table.specs.Rehashing.{CanGrow, PutsInNewTable, new_table_need}
 use Rattle.ephemeron_table.specs.PairLaws.{RefillsWeak, WrittenEntriesShow, IsNewValue}
@@ -51,7 +50,7 @@ module _ {old : Mutator} {graph : Graph} {map key : ℕ} {weak : WeakObject} {nu
       growing.shows.counts weak.number map weak.entries growing.is.object growing.is.reached growing.is.place
 
   -- the map is not full for the key
-  pub growing_few : IsFullFor weak number → ⊥
+  pub growing_few : IsMapFull weak number → ⊥
   growing_few lacks = omega (arith, lacks.full, growing.few, entries_counted)
 
   -- where there is no room, putting it is refused
@@ -80,7 +79,7 @@ module _ {old : Mutator} {graph : Graph} {map key : ℕ} {weak : WeakObject} {nu
     is_value : IsValue objects what
     is_value = held_is_value value what growing.shows fits held.shows
 
-    holds : HoldsValue (heap_of old) false rep.Small (rep_of what) what (beside_content value)
+    holds : HoldsValue (heap_of old) false rep.Small (rep_of what) what (store_content value)
     holds = new_value_held false value what held.shows
 
     counted : count_at (heap_of old) map + 1 ≡ count_filled (before k can puts) + 1

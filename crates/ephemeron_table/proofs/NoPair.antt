@@ -11,7 +11,7 @@ use Rattle.object_graph.specs.Reach.{is_marked, reach}
 use Rattle.heap_model.specs.Slots.{reference_word, RefersToPlace}
 use Rattle.heap_model.specs.Kinds.{Pair, free_pair}
 use Rattle.heap_model.specs.Showing.{IsKnownKey}
-use Rattle.write_barrier.specs.Mains.{Mutator, heap_of}
+use Rattle.write_barrier.specs.MutatorState.{Mutator, heap_of}
 use Rattle.ephemeron_table.specs.Probes.{IsTableAt}
 use Rattle.weak_pairs.specs.Tables.{key_in}
 use Rattle.ephemeron_table.specs.WeakObjects.{IsKeyAt}

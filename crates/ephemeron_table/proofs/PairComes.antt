@@ -1,6 +1,6 @@
 -- A pair that holds something was kept, or put: where its value comes from, and what it shows.
 use Rattle.std.proofs.Common.{◌≡◌, ℕ, List, refl}
-use Rattle.cell_layout.specs.declared.cell.Cell.{Cell}
+use Rattle.heap_model.specs.Types.{Cell}
 use Rattle.heap_model.specs.Heaps.{Heap}
 use Rattle.heap_model.specs.Kinds.{Pair, IsFilledPair}
 use Rattle.object_cells.specs.OwnSlots.{IsNoBoxOf, ComesFrom}

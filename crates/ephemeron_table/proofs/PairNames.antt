@@ -3,7 +3,7 @@
 use Rattle.std.proofs.Common.{◌≡◌, ℕ, ◌+◌, List, ◌∷◌, Some, slice_get, sym, ◌∙◌, ap, subst, arith}
 use Rattle.tagged_word.specs.declared.layout.Kind.TheVariants as kind
 use Rattle.tagged_word.specs.Cells.{store_slot}
-use Rattle.cell_layout.specs.declared.cell.Cell.{Cell}
+use Rattle.heap_model.specs.Types.{Cell}
 use Rattle.heap_model.specs.Heaps.{Heap, words_of_cell}
 use Rattle.heap_model.specs.Slots.{hole_word, reference_word, RefersTo}
 use Rattle.heap_model.specs.Kinds.{Pair, free_pair}
@@ -22,7 +22,7 @@ use Rattle.weak_pairs.specs.Pairs.{IsFilledAt}
 use Rattle.weak_pairs.proofs.PairWords.{IsValueAt, one_place, one_value, value_slot_at, WeakSlot, weak_slot}
 use Rattle.ephemeron_table.specs.PairWrites.{HasValue}
 use Rattle.ephemeron_table.specs.PairLaws.{RefillsWeak, WrittenPairsAreOwn}
-use Rattle.ephemeron_table.proofs.WovenPairs.{weak_step, filled_now, pairs_sound}
+use Rattle.ephemeron_table.proofs.ReplacedPairs.{weak_step, filled_now, pairs_sound}
 
 module _ {old new : Heap} {cell : Cell} {others made : List Cell} (refills : RefillsWeak old new cell others made) where
   -- the value of the pair at a place stands at the address, which is not that of the slot for the table

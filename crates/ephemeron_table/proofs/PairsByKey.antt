@@ -1,11 +1,11 @@
 -- Which pairs of a weak map that is shown have the word of a key.
 use Rattle.std.proofs.Common.{◌≡◌, ℕ, List, None, Some, sym, ◌∙◌, ap, slice_get}
-use Rattle.object_graph.specs.declared.value.Value.{Value}
+use Rattle.heap_model.specs.Types.{Value}
 use Rattle.object_graph.specs.Objects.{entry_value}
 use Rattle.object_graph.specs.Graphs.{Graph, WeakObject}
 use Rattle.heap_model.specs.Slots.{reference_word, RefersToPlace}
 use Rattle.heap_model.specs.Kinds.{Pair}
-use Rattle.write_barrier.specs.Mains.{Mutator, heap_of, MainShows}
+use Rattle.write_barrier.specs.MutatorState.{Mutator, heap_of, MainShows}
 use Rattle.ephemeron_table.specs.WeakObjects.{IsKeyAt}
 use Rattle.weak_pairs.specs.Pairs.{HasPairsAt, IsPairOf, LacksPair}
 use Rattle.weak_pairs.specs.declared.table.Table.{Table}

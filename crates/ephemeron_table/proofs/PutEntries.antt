@@ -3,20 +3,19 @@ use Rattle.std.proofs.Common.{◌≡◌, ◌≢◌, ℕ, ◌<◌, inl, inr, List
 use Rattle.std.specs.Prelude.{slice_set}
 use Rattle.std.proofs.lemmas.Bool.{cases_eq}
 use Rattle.std.proofs.lemmas.Option.{same_Some, none-some}
-use Rattle.object_graph.specs.declared.value.Value.{Value}
+use Rattle.heap_model.specs.Types.{Value, Held}
 use Rattle.object_graph.specs.declared.value.Rep.TheVariants as rep
 use Rattle.object_graph.specs.Values.{rep_of}
 use Rattle.object_graph.specs.Invariants.{IsValue}
 use Rattle.object_graph.proofs.Lists.{slice_get-set_same}
 use Rattle.linear_probing.specs.Tables.{FindsAll}
-use Rattle.handle_roots.specs.declared.held.Held.{Held}
 use Rattle.heap_table.specs.Seats.{heap_words}
 use Rattle.heap_model.specs.Slots.{RefersToPlace, IsPlace}
 use Rattle.heap_model.specs.Kinds.{Pair}
 use Rattle.heap_model.specs.Showing.{ShowsEntry}
-use Rattle.write_barrier.specs.Mains.{Mutator, heap_of}
+use Rattle.write_barrier.specs.MutatorState.{Mutator, heap_of}
 use Rattle.object_cells.specs.Contents.{next_at}
-use Rattle.object_cells.specs.Made.{beside_content}
+use Rattle.object_cells.specs.Made.{store_content}
 use Rattle.object_cells.proofs.HeldContents.{HoldsValue}
 use Rattle.object_cells.proofs.ContentValues.{content_shows}
 use Rattle.weak_pairs.specs.Pairs.{IsFilledAt}
@@ -35,7 +34,7 @@ module _ {old new : Mutator} {map place key count number : ℕ} {table : Table} 
     (known : KnownMap old map table) (below : place < table.capacity)
     (puts : PutsInTable old new map table place key count value) (objects : ℕ)
     (key_place : IsPlace (heap_of old) number key)
-    (holds : HoldsValue (heap_of old) false rep.Small (rep_of what) what (beside_content value))
+    (holds : HoldsValue (heap_of old) false rep.Small (rep_of what) what (store_content value))
     (fits : IsValue objects what)
     (all : FindsAll (numbers (heap_of old)
     (slice_set (pairs_of (heap_words old.seat) table) place (pair known below puts))))

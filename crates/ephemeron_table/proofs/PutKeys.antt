@@ -1,25 +1,24 @@
 -- What comes of a put where the key is there: its entry has the value, or there is no room.
 use Rattle.std.proofs.Common.{◌≡◌, ℕ, ◌+◌, Some, Err, length, sym, ◌∙◌, ap, subst, arith, false}
 use Rattle.std.proofs.lemmas.Option.{none-some}
-use Rattle.object_graph.specs.declared.value.Value.{Value}
+use Rattle.heap_model.specs.Types.{Value, Held}
 use Rattle.object_graph.specs.Graphs.{Graph, WeakObject}
 use Rattle.object_graph.specs.Invariants.{IsValue}
 use Rattle.handle_roots.specs.Roots.{FitsHeld}
-use Rattle.handle_roots.specs.declared.held.Held.{Held}
 use Rattle.heap_model.specs.Slots.{IsSlotWord}
 use Rattle.heap_model.specs.Needs.{word_at}
 use Rattle.heap_model.specs.Rooms.{wput_need}
-use Rattle.write_barrier.specs.Mains.{Mutator, heap_of}
+use Rattle.write_barrier.specs.MutatorState.{Mutator, heap_of}
 use Rattle.write_barrier.specs.declared.room.NoRoom.{NoRoom}
 use Rattle.object_cells.specs.Contents.{next_at, box_in, filling_at, filling_of, filling_need, HoldsSlotWord}
 use Rattle.object_cells.specs.Contents.{LacksRoom, FillsSlot}
 use Rattle.object_cells.specs.HeldValues.{IsValueHeld}
-use Rattle.object_cells.specs.Made.{beside_content}
+use Rattle.object_cells.specs.Made.{store_content}
 use Rattle.object_cells.proofs.NothingUsed.{room_for_none}
 use Rattle.object_cells.proofs.FilledSlots.{FilledBy, slot_filled, held_before, no_raw}
 use Rattle.object_cells.proofs.HeldNeeds.{held_is_value, new_value_held}
 use Rattle.object_cells.proofs.SlotBoxes.{box_of_word, lacks_need}
-use Rattle.ephemeron_table.specs.EntryChanges.{map_room, HasPutEntry, IsFullFor, PutsEntry}
+use Rattle.ephemeron_table.specs.EntryChanges.{map_room, HasPutEntry, IsMapFull, PutsEntry}
 use Rattle.ephemeron_table.specs.declared.stop.TableStop.TheVariants as stop
 use Rattle.ephemeron_table.specs.PairLaws.{WrittenEntriesShow}
 use Rattle.weak_pairs.specs.Tables.{value_in, value_offset}
@@ -35,22 +34,22 @@ use Rattle.ephemeron_table.proofs.SlotValues.{slot_replaces}
 module _ {old : Mutator} {graph : Graph} {map key : ℕ} {weak : WeakObject} {number place : ℕ} {table : Table}
     (has : HasEntryPair old graph map key weak number place table) where
   -- the map is not full for a key that is there
-  pub not_full_there : IsFullFor weak number → ⊥
+  pub not_full_there : IsMapFull weak number → ⊥
   not_full_there lacks = none-some has.told.value (sym lacks.fresh ∙ has.told.is_entry)
 
   -- the word of its value may be filled
   pub value_before : (value : Held)
-      → HoldsSlotWord (heap_of old) (value_in (heap_of old) table.at place) (beside_content value)
+      → HoldsSlotWord (heap_of old) (value_in (heap_of old) table.at place) (store_content value)
   value_before value =
-      held_before (heap_of old) (value_in (heap_of old) table.at place) (beside_content value)
+      held_before (heap_of old) (value_in (heap_of old) table.at place) (store_content value)
       (subst (IsSlotWord (heap_of old)) (sym (value_read has)) (value_slot has))
 
   -- where there is no room, putting it is refused
   pub value_refused : {new : Mutator} (value : Held) (what : Value) (full : NoRoom) → IsValueHeld old graph value what
-      → LacksRoom old (filling_at old (table.at + value_offset place) (beside_content value)) full → new ≡ old
+      → LacksRoom old (filling_at old (table.at + value_offset place) (store_content value)) full → new ≡ old
       → PutsEntry old new graph map key weak number what (Err (stop.Full full))
   value_refused value what full held lacks same =
-      let told = lacks_need old (filling_at old (table.at + value_offset place) (beside_content value)) full lacks in
+      let told = lacks_need old (filling_at old (table.at + value_offset place) (store_content value)) full lacks in
       (not_full_there, told.0 ∙ entry_need has value what held.shows, told.1, same)
 
 -- so the pair of the entry came to have the value, by how it was put
@@ -58,7 +57,7 @@ replaces_by : {old new : Mutator} {graph : Graph} {map key : ℕ} {weak : WeakOb
     (value : Held) (what : Value) (has : HasEntryPair old graph map key weak number place table)
     → IsValue (length graph.objects) what → IsValueHeld old graph value what
     → FilledBy old new (table.at + value_offset place) (word_at (heap_of old) (table.at + value_offset place))
-    (beside_content value)
+    (store_content value)
     → (need : ℕ) × ReplacesValue old new (known has) place key what need
     × (need ≡ wput_need (map_room old map weak) weak what number)
 replaces_by {old} value what has is_value held (FilledBy.slot room words needs) =
@@ -70,8 +69,8 @@ replaces_by {old} {place = place} {table} value what has is_value held (FilledBy
     let word : ℕ = word_at heap (table.at + value_offset place) in
     let box_of = box_of_word has.told.pair.value box has.shows.shows.whole.sized (value_slot has)
     (ap (box_in heap) (sym (value_read has)) ∙ found) in
-    let none : filling_need (filling_of (box_in heap word) (next_at old) (beside_content value)) ≡ 0 =
-    ap (λ o. filling_need (filling_of o (next_at old) (beside_content value))) found
+    let none : filling_need (filling_of (box_in heap word) (next_at old) (store_content value)) ≡ 0 =
+    ap (λ o. filling_need (filling_of o (next_at old) (store_content value))) found
     ∙ ap (λ put. filling_need (filling_of (Some box) (next_at old) put)) boxed in
     (0, box_replaces v value has box_of same holds is_value boxed, sym none ∙ entry_need has value what held.shows)
 
@@ -79,7 +78,7 @@ replaces_by {old} {place = place} {table} value what has is_value held (FilledBy
 replaces_value : {old new : Mutator} {graph : Graph} {map key : ℕ} {weak : WeakObject} {number place : ℕ}
     {table : Table} (value : Held) (what : Value) (has : HasEntryPair old graph map key weak number place table)
     → IsValue (length graph.objects) what → IsValueHeld old graph value what
-    → FillsSlot old new (table.at + value_offset place) (beside_content value)
+    → FillsSlot old new (table.at + value_offset place) (store_content value)
     → (need : ℕ) × ReplacesValue old new (known has) place key what need
     × (need ≡ wput_need (map_room old map weak) weak what number)
 replaces_value {old} {new} {place = place} {table} value what has is_value held fills =
@@ -92,7 +91,7 @@ replaces_value {old} {new} {place = place} {table} value what has is_value held 
 pub has_put_value : {old new : Mutator} {graph : Graph} {map key : ℕ} {weak : WeakObject} {number place : ℕ}
     {table : Table} (value : Held) (what : Value) (has : HasEntryPair old graph map key weak number place table)
     → FitsHeld value → IsValueHeld old graph value what → WrittenEntriesShow
-    → FillsSlot old new (table.at + value_offset place) (beside_content value)
+    → FillsSlot old new (table.at + value_offset place) (store_content value)
     → HasPutEntry old new graph map key weak number what
 has_put_value value what has fits held entries_show fills =
     let is_value = held_is_value value what has.shows fits held.shows in
@@ -103,7 +102,7 @@ has_put_value value what has fits held entries_show fills =
 pub puts_value_pair : {old new : Mutator} {graph : Graph} {map key : ℕ} {weak : WeakObject} {number place : ℕ}
     {table : Table} (value : Held) (what : Value) (has : HasEntryPair old graph map key weak number place table)
     → FitsHeld value → IsValueHeld old graph value what
-    → FillsSlot old new (table.at + value_offset place) (beside_content value)
+    → FillsSlot old new (table.at + value_offset place) (store_content value)
     → PutsShown old new graph map key weak number value what
 puts_value_pair {old} {new} {table = table} value what has fits held fills =
     let is_value = held_is_value value what has.shows fits held.shows in

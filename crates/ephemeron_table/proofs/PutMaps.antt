@@ -7,24 +7,22 @@ use Rattle.tagged_word.specs.declared.layout.Kind.TheVariants as kind
 use Rattle.tagged_word.specs.Cells.{store_slot}
 use Rattle.tagged_word.proofs.Members.{first_in, one_in}
 use Rattle.page_space.proofs.Starts.{marks_start_is}
-use Rattle.object_graph.specs.declared.value.Value.{Value}
+use Rattle.heap_model.specs.Types.{Value, Cell, Held}
 use Rattle.object_graph.specs.declared.value.Rep.TheVariants as rep
 use Rattle.object_graph.specs.Values.{rep_of}
 use Rattle.object_graph.specs.Invariants.{IsValue}
 use Rattle.object_graph.proofs.Lists.{slice_get-set_same}
 use Rattle.linear_probing.specs.Tables.{FindsAll}
-use Rattle.cell_layout.specs.declared.cell.Cell.{Cell}
-use Rattle.handle_roots.specs.declared.held.Held.{Held}
 use Rattle.heap_table.specs.Seats.{heap_words}
 use Rattle.heap_model.specs.Heaps.{words_of_cell}
 use Rattle.heap_model.specs.Slots.{reference_word, RefersToBox, RefersToPlace, IsPlace}
 use Rattle.heap_model.specs.Kinds.{HasWord, Pair, IsFilledPair, count_offset, HasNoNumber, IsBoxCell}
 use Rattle.heap_model.specs.Wholeness.{NamesFrom}
 use Rattle.heap_model.proofs.WordsStay.{PlacesStay}
-use Rattle.write_barrier.specs.Mains.{Mutator, heap_of}
-use Rattle.object_cells.specs.declared.content.Content.TheVariants as content
+use Rattle.write_barrier.specs.MutatorState.{Mutator, heap_of}
+use Rattle.object_cells.specs.declared.content.SlotContent.TheVariants as content
 use Rattle.object_cells.specs.Contents.{next_at}
-use Rattle.object_cells.specs.Made.{beside_content, with_content, content_word}
+use Rattle.object_cells.specs.Made.{store_content, with_content, content_word}
 use Rattle.object_cells.proofs.HeldContents.{HoldsValue}
 use Rattle.object_cells.proofs.MadeBoxes.{made_box, boxed_integer, refers_to_made, made_boxed, only_first}
 use Rattle.object_cells.proofs.MadeBoxes.{length-with_content, boxes_sound}
@@ -54,7 +52,7 @@ module _ {old new : Mutator} {map place key count number : ℕ} {table : Table} 
     (known : KnownMap old map table) (below : place < table.capacity)
     (puts : PutsInTable old new map table place key count value) (objects : ℕ)
     (key_place : IsPlace (heap_of old) number key)
-    (holds : HoldsValue (heap_of old) false rep.Small (rep_of what) what (beside_content value))
+    (holds : HoldsValue (heap_of old) false rep.Small (rep_of what) what (store_content value))
     (fits : IsValue objects what)
     (all : FindsAll (numbers (heap_of old)
     (slice_set (pairs_of (heap_words old.seat) table) place (pair known below puts))))
@@ -96,7 +94,7 @@ module _ {old new : Mutator} {map place key count number : ℕ} {table : Table} 
   written = record {
     writes = writes known below puts;
     belong = belong;
-    kinds = λ one among. inr (made_boxed (beside_content value) (next_at old) one among);
+    kinds = λ one among. inr (made_boxed (store_content value) (next_at old) one among);
   }
 
   -- and the table stays where it is
@@ -113,24 +111,24 @@ module _ {old new : Mutator} {map place key count number : ℕ} {table : Table} 
   refers_back = staying.refers_back known written
 
   -- the box that was made holds the integer
-  pub refers_box : (v : ℤ) → beside_content value ≡ content.Boxed v
+  pub refers_box : (v : ℤ) → store_content value ≡ content.Boxed v
       → RefersToBox (heap_of new) (reference_word (next_at old)) v
   refers_box v is_box =
-      refers_to_made (beside_content value) (next_at old) v is_box (boxed_integer objects v holds fits is_box)
+      refers_to_made (store_content value) (next_at old) v is_box (boxed_integer objects v holds fits is_box)
       (box_stands known below puts)
-      (staying.made_has known written (box_cell (next_at old)) (made_box (beside_content value) (next_at old) v is_box))
+      (staying.made_has known written (box_cell (next_at old)) (made_box (store_content value) (next_at old) v is_box))
 
   -- as many as the count says hold something
   pub count_after : HasWord (words_of_cell (heap_of new) map_cell) count_offset (count_filled after)
   count_after =
       let size = of_map known 2 (omega arith) in
-      let within : map + count_offset < length (with_pair (with_content (heap_words old.seat) (beside_content value)
+      let within : map + count_offset < length (with_pair (with_content (heap_words old.seat) (store_content value)
       (next_at old)) table.at place (pair known below puts)) =
       omega (
         arith,
-        length-with_pair (with_content (heap_words old.seat) (beside_content value) (next_at old)) table.at place
+        length-with_pair (with_content (heap_words old.seat) (store_content value) (next_at old)) table.at place
             (pair known below puts),
-        length-with_content (heap_words old.seat) (beside_content value) (next_at old),
+        length-with_content (heap_words old.seat) (store_content value) (next_at old),
         known.whole.sized.words,
         marks_start_is old.seat.space,
         cell_below_layouts known.whole (cell_has known) size,
@@ -139,7 +137,7 @@ module _ {old new : Mutator} {map place key count number : ℕ} {table : Table} 
       (omega (arith, size.below, known.there.stands))
       ∙ ap (λ n. slice_get (heap_words new.seat) (n + count_offset)) known.there.stands
       ∙ ap (λ every. slice_get every (map + count_offset)) puts.words.heap
-      ∙ slice_get-set_same (with_pair (with_content (heap_words old.seat) (beside_content value) (next_at old)) table.at
+      ∙ slice_get-set_same (with_pair (with_content (heap_words old.seat) (store_content value) (next_at old)) table.at
       place (pair known below puts)) (map + count_offset) count within
       ∙ ap (λ n. Some n) (counted ∙ ap count_filled (sym (pairs_are_now known below puts)))
 
@@ -173,9 +171,9 @@ module _ {old new : Mutator} {map place key count number : ℕ} {table : Table} 
             subst (PairComes (heap_of new) before (table_cell ∷ []) boxes_made at place at) put_is
             (PairComes.put number same pair_filled
             (subst (λ n. ComesFrom (heap_of new) (HasValue before) boxes_made at n at
-            (content_word (beside_content value) (next_at old))) same
+            (content_word (store_content value) (next_at old))) same
             (content_comes (HasValue before) boxes_made at at (next_at old) holds places (λ own wide. false≢true own)
-            (λ v is_box. is_made_box (next_at old) (made_box (beside_content value) (next_at old) v is_box)))))
+            (λ v is_box. is_made_box (next_at old) (made_box (store_content value) (next_at old) v is_box)))))
         | inr apart ↦
             PairComes.kept (filled_elsewhere before place at (pair known below puts) one apart now)
             (λ other among box same. table_is_no_box (is_table other among) box)
@@ -185,7 +183,7 @@ module _ {old new : Mutator} {map place key count number : ℕ} {table : Table} 
   pub tables_told : (one : Cell) → Contains ((table_cell ∷ []) ++ boxes_made) one → one.layout.kind ≡ kind.Table
       → HasNoNumber one × ((sound known).store ≡ reference_word one.at)
   tables_told one among is = subst (λ (c : Cell). HasNoNumber c × ((sound known).store ≡ reference_word c.at))
-      (only_first (beside_content value) (next_at old) kind.Table (table_is_no_box refl) one among is)
+      (only_first (store_content value) (next_at old) kind.Table (table_is_no_box refl) one among is)
       (other_number known (some known below puts), (found known (some known below puts)).refers.refers)
 
   pub boxes_told : (one : Cell) → Contains ((table_cell ∷ []) ++ boxes_made) one → one.layout.kind ≡ kind.Boxed
@@ -212,7 +210,7 @@ module _ {old new : Mutator} {map place key count number : ℕ} {table : Table} 
       has_store = staying.slot_now known (some known below puts) stays;
       store_comes = inl (slot_there known);
       belong = belong;
-      kinds = λ one among. inr (made_boxed (beside_content value) (next_at old) one among);
+      kinds = λ one among. inr (made_boxed (store_content value) (next_at old) one among);
       stores = tables_told;
       boxes = boxes_told;
     };

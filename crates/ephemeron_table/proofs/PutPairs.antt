@@ -6,20 +6,19 @@ use Rattle.tagged_word.specs.declared.layout.Kind.TheVariants as kind
 use Rattle.tagged_word.specs.Cells.{store_head}
 use Rattle.tagged_word.proofs.Members.{first_in, one_in}
 use Rattle.object_graph.proofs.Lists.{slice_get-set_other}
-use Rattle.cell_layout.specs.declared.cell.Cell.{Cell}
-use Rattle.handle_roots.specs.declared.held.Held.{Held}
+use Rattle.heap_model.specs.Types.{Cell, Held}
 use Rattle.heap_table.specs.Seats.{heap_words}
 use Rattle.heap_model.specs.Heaps.{HasCell, words_of_cell}
 use Rattle.heap_model.specs.Slots.{reference_word}
 use Rattle.heap_model.specs.Kinds.{Pair, count_offset}
-use Rattle.write_barrier.specs.Mains.{Mutator, heap_of}
+use Rattle.write_barrier.specs.MutatorState.{Mutator, heap_of}
 use Rattle.object_cells.specs.Contents.{next_at}
-use Rattle.object_cells.specs.Made.{with_content, content_need, content_word, beside_content}
+use Rattle.object_cells.specs.Made.{with_content, content_need, content_word, store_content}
 use Rattle.object_cells.proofs.MadeBoxes.{made_boxes, BoxStands, made_row, length-with_content, with_content_stays}
-use Rattle.object_cells.proofs.OwnPuts.{PutsOwn, not_reserved, own_sized, own_writes, one_beside, box_put}
+use Rattle.object_cells.proofs.OwnPuts.{PutsOwn, not_reserved, own_sized, own_writes, one_owned, box_put}
 use Rattle.ephemeron_table.specs.PairWrites.{WritesWeak}
 use Rattle.ephemeron_table.specs.Puttings.{PutsInTable}
-use Rattle.weak_pairs.specs.Tables.{IsBesidePairs, pairs_of, with_pair, made_pair}
+use Rattle.weak_pairs.specs.Tables.{IsOutsidePairs, pairs_of, with_pair, made_pair}
 use Rattle.weak_pairs.specs.declared.table.Table.{Table}
 use Rattle.ephemeron_table.proofs.KnownTables.{KnownMap, cell, cell_has, within_words, of_map, found, other}
 use Rattle.ephemeron_table.proofs.KnownTables.{other_has, other_long, map_beside, of_head, head_apart, beside_table}
@@ -38,13 +37,13 @@ module _ {old new : Mutator} {map place key count : ℕ} {table : Table} {value 
   table_cell = other known some
 
   abbrev need : ℕ
-  need = content_need (beside_content value)
+  need = content_need (store_content value)
 
   abbrev pub pair : Pair
-  pair = made_pair (reference_word key) (content_word (beside_content value) (next_at old))
+  pair = made_pair (reference_word key) (content_word (store_content value) (next_at old))
 
   abbrev boxed : List ℕ
-  boxed = with_content (heap_words old.seat) (beside_content value) (next_at old)
+  boxed = with_content (heap_words old.seat) (store_content value) (next_at old)
 
   abbrev put : List ℕ
   put = with_pair boxed table.at place pair
@@ -53,18 +52,18 @@ module _ {old new : Mutator} {map place key count : ℕ} {table : Table} {value 
   final = slice_set put (map + count_offset) count
 
   -- a word beside the pairs that is neither the count nor one of a box is as before
-  word_stays : (a : ℕ) → IsBesidePairs table a → a ≢ map + count_offset
+  word_stays : (a : ℕ) → IsOutsidePairs table a → a ≢ map + count_offset
       → (next_at old ≤ a → a < next_at old + need → ⊥)
       → slice_get final a ≡ slice_get (heap_words old.seat) a
   word_stays a beside not_count not_new =
       slice_get-set_other put (map + count_offset) a count not_count ∙ beside_put boxed table place a pair below beside
-      ∙ with_content_stays (heap_words old.seat) (beside_content value) (next_at old) a not_new
+      ∙ with_content_stays (heap_words old.seat) (store_content value) (next_at old) a not_new
 
   -- there are as many words
   pub long : length final ≡ length (heap_words old.seat)
   long =
       length-set put (map + count_offset) count ∙ length-with_pair boxed table.at place pair
-      ∙ length-with_content (heap_words old.seat) (beside_content value) (next_at old)
+      ∙ length-with_content (heap_words old.seat) (store_content value) (next_at old)
 
   -- so words of the map's own cells were put
   pub puts_weak : PutsOwn kind.Weak old new map_cell (table_cell ∷ []) need final
@@ -107,15 +106,15 @@ module _ {old new : Mutator} {map place key count : ℕ} {table : Table} {value 
   pairs_are_now =
       let within = within_words known in
       let within_boxed : table.at + (store_head + 2 * table.capacity) ≤ length boxed =
-      omega (arith, within, length-with_content (heap_words old.seat) (beside_content value) (next_at old)) in
+      omega (arith, within, length-with_content (heap_words old.seat) (store_content value) (next_at old)) in
       let one = found known some in
       ap (λ all. pairs_of all table) puts.words.heap
       ∙ pairs_beside put table (map + count_offset) count
       (omega (arith, within_boxed, length-with_pair boxed table.at place pair)) (map_beside known some 2 (omega arith))
       ∙ pairs_now boxed table place pair within_boxed below
       ∙ ap (λ pairs. slice_set pairs place pair) (pairs_stay (heap_words old.seat) boxed table within
-      (length-with_content (heap_words old.seat) (beside_content value) (next_at old)) (λ a from less.
-      with_content_stays (heap_words old.seat) (beside_content value) (next_at old) a
+      (length-with_content (heap_words old.seat) (store_content value) (next_at old)) (λ a from less.
+      with_content_stays (heap_words old.seat) (store_content value) (next_at old) a
       (not_reserved a puts_weak (other_has known some) (record {
         from = omega (arith, from, one.stands);
         below = omega (arith, less, one.stands, one.size, other_long known some);
@@ -134,14 +133,14 @@ module _ {old new : Mutator} {map place key count : ℕ} {table : Table} {value 
       not_reserved b puts_weak (other_has known some) (record { from = inside.from; below = inside.below }) from less))
 
   -- the box stands there
-  pub box_stands : BoxStands (heap_of new) (beside_content value) (next_at old)
+  pub box_stands : BoxStands (heap_of new) (store_content value) (next_at old)
   box_stands =
-      box_put (heap_words old.seat) (beside_content value) (next_at old) puts_weak refl (omega arith) (omega arith)
+      box_put (heap_words old.seat) (store_content value) (next_at old) puts_weak refl (omega arith) (omega arith)
       box_word
 
   -- the cells that are made
   abbrev pub made : List Cell
-  made = made_boxes (beside_content value) (next_at old)
+  made = made_boxes (store_content value) (next_at old)
 
   -- so cells were written
   pub writes : WritesWeak (heap_of old) (heap_of new) map_cell (table_cell ∷ []) made
@@ -150,5 +149,5 @@ module _ {old new : Mutator} {map place key count : ℕ} {table : Table} {value 
       own_writes made puts_weak
       (subst (λ n. slice_get (heap_words new.seat) n ≡ slice_get (heap_words old.seat) n) first
       (map_stays 0 (omega arith)))
-      (one_beside (other_has known some) (found known some).of_kind head_stays)
-      (made_row (heap_of new) (beside_content value) (next_at old) (own_sized puts_weak) box_stands)
+      (one_owned (other_has known some) (found known some).of_kind head_stays)
+      (made_row (heap_of new) (store_content value) (next_at old) (own_sized puts_weak) box_stands)

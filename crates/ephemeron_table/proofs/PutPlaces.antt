@@ -1,12 +1,12 @@
 -- How the pair of an entry that is put comes to the map's table, or to one that is made in its place.
 use Rattle.std.proofs.Common.{◌≡◌, ℕ, ◌+◌, ◌*◌, ◌≤◌, sym, ap, subst, unwrap_or, arith}
 use Rattle.object_graph.specs.Graphs.{Graph, WeakObject}
-use Rattle.handle_roots.specs.declared.held.Held.{Held}
+use Rattle.heap_model.specs.Types.{Held}
 use Rattle.heap_model.specs.Slots.{reference_word}
 use Rattle.heap_model.specs.Needs.{count_at}
-use Rattle.write_barrier.specs.Mains.{Mutator, heap_of}
+use Rattle.write_barrier.specs.MutatorState.{Mutator, heap_of}
 use Rattle.object_cells.specs.Contents.{FillsSlot}
-use Rattle.object_cells.specs.Made.{beside_content}
+use Rattle.object_cells.specs.Made.{store_content}
 use Rattle.ephemeron_table.specs.Rehashing.{PutsInNewTable}
 use Rattle.ephemeron_table.specs.Probes.{EndsBy}
 use Rattle.weak_pairs.specs.Tables.{key_in, value_offset}
@@ -24,7 +24,7 @@ module _ {old new : Mutator} {graph : Graph} {map key : ℕ} {weak : WeakObject}
     {value : Held} where
   -- where the key is there, its pair's value is filled
   pub puts_to_pair : {place : ℕ} → HasEntryPair old graph map key weak number place table
-      → FillsSlot old new (table.at + value_offset place) (beside_content value) → PutsAt old new map key value
+      → FillsSlot old new (table.at + value_offset place) (store_content value) → PutsAt old new map key value
   puts_to_pair {place} has fills =
       let read : key_in (heap_of old) table.at place ≡ reference_word key =
       ap (λ found. unwrap_or found 0) (key_stands has) in

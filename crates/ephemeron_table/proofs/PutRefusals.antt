@@ -5,21 +5,20 @@ use Rattle.std.proofs.Common.{ap, subst, arith}
 use Rattle.std.proofs.Common.{not, ◌&&◌, slice_get}
 use Rattle.std.specs.Result.{IsErrAnd}
 use Rattle.std.proofs.lemmas.Bool.{cases_lt}
-use Rattle.object_graph.specs.declared.value.Value.{Value}
+use Rattle.heap_model.specs.Types.{Value, Held}
 use Rattle.object_graph.specs.Objects.{entry_value}
 use Rattle.object_graph.specs.Graphs.{Graph, WeakObject}
 use Rattle.object_graph.specs.Meaning.{weak_most}
-use Rattle.handle_roots.specs.declared.held.Held.{Held}
 use Rattle.heap_model.specs.Slots.{reference_word, RefersToPlace}
 use Rattle.heap_model.specs.Kinds.{Pair}
 use Rattle.heap_model.specs.Needs.{box_need, capacity_at, count_at, is_box_word, table_need}
 use Rattle.heap_model.specs.Rooms.{is_wide, wput_need, wput_need_by}
 use Rattle.heap_model.proofs.ShownBoxes.{value_boxed}
 use Rattle.write_barrier.specs.declared.room.NoRoom.{NoRoom}
-use Rattle.write_barrier.specs.Mains.{Mutator, heap_of, MainShows}
+use Rattle.write_barrier.specs.MutatorState.{Mutator, heap_of, MainShows}
 use Rattle.object_cells.specs.HeldValues.{IsValueHeld}
 use Rattle.object_cells.proofs.HeldNeeds.{wide_is}
-use Rattle.ephemeron_table.specs.EntryChanges.{map_room, IsFullFor, PutsEntry}
+use Rattle.ephemeron_table.specs.EntryChanges.{map_room, IsMapFull, PutsEntry}
 use Rattle.ephemeron_table.specs.WeakObjects.{IsKeyAt, IsWeakAt}
 use Rattle.weak_pairs.specs.Pairs.{HasPairsAt, LacksPair}
 use Rattle.ephemeron_table.specs.PairChanges.{NeedsPair, PutsBoth, PutsPair}
@@ -35,7 +34,7 @@ module _ {old : Mutator} {graph : Graph} {map key : ℕ} {weak : WeakObject} {nu
     (is_key : IsKeyAt old graph key number) where
   -- a map that is not full for the key has fewer entries than it may have, by the entry's value, if there is one
   few_by : {before : List Pair} (found : Option Value) → entry_value weak.entries number ≡ found
-      → HasPairsAt (heap_of old) map before → (IsFullFor weak number → ⊥) → LacksPair before (reference_word key)
+      → HasPairsAt (heap_of old) map before → (IsMapFull weak number → ⊥) → LacksPair before (reference_word key)
       → count_at (heap_of old) map < weak_most
   few_by (Some value) is_entry has few lacks =
       let shown = weak_shown shows is in
@@ -49,7 +48,7 @@ module _ {old : Mutator} {graph : Graph} {map key : ℕ} {weak : WeakObject} {nu
   ]
 
   -- so it has where no pair has the key
-  pub few_lacking : {before : List Pair} → HasPairsAt (heap_of old) map before → (IsFullFor weak number → ⊥)
+  pub few_lacking : {before : List Pair} → HasPairsAt (heap_of old) map before → (IsMapFull weak number → ⊥)
       → LacksPair before (reference_word key) → count_at (heap_of old) map < weak_most
   few_lacking has few lacks = few_by (entry_value weak.entries number) refl has few lacks
 

@@ -3,20 +3,17 @@ use Rattle.std.proofs.Common.{◌≡◌, ◌≢◌, ℕ, ◌+◌, List, ◌++◌
 use Rattle.tagged_word.proofs.Members.{first_in}
 use Rattle.page_space.specs.Sizes.{AreWithin}
 use Rattle.page_space.specs.Extents.{Space}
-use Rattle.object_graph.specs.declared.value.Value.{Value}
+use Rattle.heap_model.specs.Types.{Value, Entry, Cell, Held}
 use Rattle.object_graph.specs.declared.value.Value.TheVariants.{Undefined, Int, Ref}
-use Rattle.object_graph.specs.declared.object.Entry.{Entry}
 use Rattle.object_graph.specs.Objects.{entry_value}
 use Rattle.object_graph.specs.Graphs.{Graph, WeakObject}
-use Rattle.cell_layout.specs.declared.cell.Cell.{Cell}
-use Rattle.handle_roots.specs.declared.held.Held.{Held}
 use Rattle.handle_roots.specs.declared.held.Held.TheVariants as held
 use Rattle.heap_model.specs.Heaps.{Heap, words_of_cell}
 use Rattle.heap_model.specs.Slots.{reference_word, IsPlace, RefersToPlace}
 use Rattle.heap_model.specs.Kinds.{Pair, count_offset}
 use Rattle.heap_model.specs.Showing.{ShowsHeld}
 use Rattle.heap_model.specs.Needs.{count_at}
-use Rattle.write_barrier.specs.Mains.{Mutator, heap_of, MainShows}
+use Rattle.write_barrier.specs.MutatorState.{Mutator, heap_of, MainShows}
 use Rattle.write_barrier.specs.Values.{held_of_class}
 use Rattle.write_barrier.specs.ValueLaws.{ShownValuesAreHeld}
 use Rattle.object_cells.specs.Capacities.{ChangesObject}
@@ -26,7 +23,7 @@ use Rattle.object_cells.proofs.OwnerWrites.{weak_owns, written_own_keeps_cells}
 use Rattle.ephemeron_table.specs.WeakObjects.{IsKeyAt, IsWeakAt}
 use Rattle.weak_pairs.specs.Pairs.{HasPairsAt, IsFilledAt, AreWith, IsPairOf, LacksPair}
 use Rattle.ephemeron_table.specs.PairChanges.{HasPutPair, WordStandsFor}
-use Rattle.ephemeron_table.specs.EntryChanges.{IsFullFor}
+use Rattle.ephemeron_table.specs.EntryChanges.{IsMapFull}
 use Rattle.ephemeron_table.specs.PairLaws.{RefillsWeak, PutsOne}
 use Rattle.ephemeron_table.specs.PairWrites.{ShowsPair}
 use Rattle.ephemeron_table.specs.Probes.{IsTableAt}
@@ -77,7 +74,7 @@ pub record PutsShown (old new : Mutator) (graph : Graph) (map key : ℕ) (weak :
   pub sizes : AreWithin old.seat.space.sizes old.seat.space.variables
   pub table : Table
   pub is_table : IsTableAt (heap_of old) map table
-  pub few : IsFullFor weak number → ⊥
+  pub few : IsMapFull weak number → ⊥
   pub puts : PutsAt old new map key value
   pub cell : Cell
   pub others : List Cell

@@ -7,7 +7,7 @@ use Rattle.linear_probing.specs.Tables.{FindsAll}
 use Rattle.heap_table.specs.Seats.{heap_words}
 use Rattle.heap_model.specs.Heaps.{Heap}
 use Rattle.heap_model.specs.Slots.{reference_word}
-use Rattle.write_barrier.specs.Mains.{Mutator, heap_of}
+use Rattle.write_barrier.specs.MutatorState.{Mutator, heap_of}
 use Rattle.weak_pairs.specs.Tables.{number_at, numbers, pairs_of, made_pair}
 use Rattle.ephemeron_table.specs.Puttings.{InsertsRehashed}
 use Rattle.weak_pairs.specs.declared.table.Table.{Table}

@@ -4,7 +4,7 @@ use Rattle.std.proofs.Common.{◌∙◌, ap, subst, arith}
 use Rattle.std.specs.Prelude.{slice_set, option_map}
 use Rattle.std.specs.Option.{option_and_then}
 use Rattle.std.proofs.lemmas.Option.{none-some, same_Some}
-use Rattle.tagged_word.specs.declared.header.Header.{Header}
+use Rattle.heap_model.specs.Types.{Header}
 use Rattle.tagged_word.specs.Cells.{store_head}
 use Rattle.tagged_word.specs.Readings.{reference_in, header_in}
 use Rattle.tagged_word.proofs.Readings.{reference_from}
@@ -12,10 +12,10 @@ use Rattle.page_space.specs.Extents.{Space, marks_start}
 use Rattle.heap_table.specs.Seats.{heap_words}
 use Rattle.heap_model.specs.Kinds.{Pair}
 use Rattle.heap_model.specs.Slots.{reference_word}
-use Rattle.write_barrier.specs.Mains.{Mutator, heap_of}
+use Rattle.write_barrier.specs.MutatorState.{Mutator, heap_of}
 use Rattle.weak_pairs.specs.Rehashing.{AreRehashed}
 use Rattle.weak_pairs.specs.Pairs.{HoldNothing}
-use Rattle.weak_pairs.specs.Tables.{IsBesideTable, KeysMovable, number_at, IsKeyBeside, made_pair, pairs_of}
+use Rattle.weak_pairs.specs.Tables.{TablesDisjoint, KeysMovable, number_at, IsKeyOutside, made_pair, pairs_of}
 use Rattle.ephemeron_table.specs.Rehashing.{RehashesPairs}
 use Rattle.weak_pairs.specs.Probes.{HasFree}
 use Rattle.ephemeron_table.specs.Puttings.{InsertsRehashed}
@@ -43,9 +43,9 @@ rehashing_begins main from to nothing = record {
 module _ {old now : Mutator} {from to : Table} {at : ℕ}
     (within_from : from.at + (store_head + 2 * from.capacity) ≤ length (heap_words old.seat))
     (within : to.at + (store_head + 2 * to.capacity) ≤ length (heap_words old.seat))
-    (more : from.capacity < to.capacity) (apart : IsBesideTable from to) (keys : KeysMovable (heap_of old) from to)
+    (more : from.capacity < to.capacity) (apart : TablesDisjoint from to) (keys : KeysMovable (heap_of old) from to)
     (moves : RehashesPairs old now from to at) (below : at < from.capacity) where
-  -- the pairs of the one table, and so far of the other
+  -- the pairs of the one table, and those of the other that are done
   abbrev before : List Pair
   before = pairs_of (heap_words old.seat) from
 
@@ -93,11 +93,11 @@ module _ {old now : Mutator} {from to : Table} {at : ℕ}
   }
 
   module _ (key : ℕ) (refers : reference_in next_read.pair.key ≡ Some key) where
-    key_beside : IsKeyBeside (heap_of old) to key
+    key_beside : IsKeyOutside (heap_of old) to key
     key_beside =
         let known = keys at next_read.pair
         (record { stands = there; filled = keyed_filled next_read.pair key refers }) in
-        subst (IsKeyBeside (heap_of old) to) (same_Some known.0 key (sym known.1 ∙ refers)) known.2
+        subst (IsKeyOutside (heap_of old) to) (same_Some known.0 key (sym known.1 ∙ refers)) known.2
 
     -- its key is before the marks
     pub rehashing_key : key < marks_start now.seat.space

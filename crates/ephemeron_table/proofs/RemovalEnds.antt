@@ -10,12 +10,12 @@ use Rattle.page_space.specs.Extents.{Space, marks_start}
 use Rattle.heap_table.specs.Seats.{heap_words}
 use Rattle.heap_model.specs.Kinds.{Pair, free_pair, count_offset}
 use Rattle.heap_model.specs.Needs.{count_at}
-use Rattle.write_barrier.specs.Mains.{Mutator, heap_of, with_word}
+use Rattle.write_barrier.specs.MutatorState.{Mutator, heap_of, with_word}
 use Rattle.object_cells.specs.Made.{PutsWords}
-use Rattle.object_cells.proofs.WordsBeside.{put_beside}
+use Rattle.object_cells.proofs.RestOfWords.{put_rest}
 use Rattle.ephemeron_table.specs.Removals.{ChangesPairs, ShiftsBack, RemovesAt}
 use Rattle.weak_pairs.specs.Removals.{IsRemoved, StaysBelow}
-use Rattle.weak_pairs.specs.Tables.{IsBesidePairs, pairs_of, numbers, number_of, with_pair}
+use Rattle.weak_pairs.specs.Tables.{IsOutsidePairs, pairs_of, numbers, key_number, with_pair}
 use Rattle.weak_pairs.specs.Pairs.{IsFilledAt}
 use Rattle.weak_pairs.specs.declared.table.Table.{Table}
 use Rattle.ephemeron_table.proofs.ChangedPairs.{pair_changed}
@@ -32,7 +32,7 @@ module _ {old shifted put new : Mutator} (map at hole count : ℕ) (table : Tabl
     (within : table.at + (store_head + 2 * table.capacity) ≤ length (heap_words old.seat))
     (counted : map + count_offset < length (heap_words old.seat))
     (below : map + count_offset < marks_start old.seat.space)
-    (beside : IsBesidePairs table (map + count_offset))
+    (beside : IsOutsidePairs table (map + count_offset))
     (shifts : ShiftsBack old shifted table at hole)
     (puts : PutsWords shifted put (with_pair (heap_words shifted.seat) table.at hole free_pair))
     (reads : slice_get (heap_words put.seat) (map + count_offset) ≡ Some count)
@@ -62,7 +62,7 @@ module _ {old shifted put new : Mutator} (map at hole count : ℕ) (table : Tabl
       ≡ slice_set (numbers (heap_of old) (pairs_of (heap_words shifted.seat) table)) hole None
   numbers_are =
       ap (numbers (heap_of old)) pairs_are_now
-      ∙ map-set (number_of (heap_of old)) (pairs_of (heap_words shifted.seat) table) hole free_pair
+      ∙ map-set (key_number (heap_of old)) (pairs_of (heap_words shifted.seat) table) hole free_pair
 
   -- the count that was read is that of the map
   count_is : count ≡ count_at (heap_of old) map
@@ -76,7 +76,7 @@ module _ {old shifted put new : Mutator} (map at hole count : ℕ) (table : Tabl
 
   pub removes_at : RemovesAt old new map table at
   removes_at = record {
-    rest = put_beside (map + count_offset) (count - 1) changes.rest is
+    rest = put_rest (map + count_offset) (count - 1) changes.rest is
         (subst (λ (space : Space). map + count_offset < marks_start space) (sym changes.rest.space) below);
     paths = ap (λ (m : Mutator). m.paths) is ∙ changes.paths;
     young = ap (λ (m : Mutator). m.young) is ∙ changes.young;

@@ -10,8 +10,8 @@ use Rattle.heap_model.specs.Heaps.{Heap, words_of_cell}
 use Rattle.heap_model.specs.Kinds.{Pair}
 use Rattle.tagged_word.specs.Cells.{store_head, store_slot}
 use Rattle.heap_model.specs.Needs.{capacity_at, count_at, word_at}
-use Rattle.write_barrier.specs.Mains.{Mutator, heap_of, IsTied}
-use Rattle.object_cells.specs.CellsAt.{IsWhole}
+use Rattle.write_barrier.specs.MutatorState.{Mutator, heap_of, IsTied}
+use Rattle.object_cells.specs.CellsAt.{IsQuietWhole}
 use Rattle.object_cells.specs.Capacities.{ChangesObject}
 use Rattle.object_cells.proofs.NothingUsed.{uses_none}
 use Rattle.object_cells.proofs.CellsRead.{word_stands}
@@ -21,7 +21,7 @@ use Rattle.ephemeron_table.specs.Pairs.{RemovesPair}
 use Rattle.ephemeron_table.specs.PairLaws.{WrittenPairsAreOwn}
 use Rattle.ephemeron_table.specs.Probes.{IsTableAt}
 use Rattle.ephemeron_table.specs.Removals.{RemovesAt}
-use Rattle.weak_pairs.specs.Tables.{pairs_of, IsBesidePairs}
+use Rattle.weak_pairs.specs.Tables.{pairs_of, IsOutsidePairs}
 use Rattle.weak_pairs.specs.declared.table.Table.{Table}
 use Rattle.weak_pairs.proofs.CountedPairs.{count_freed}
 use Rattle.ephemeron_table.proofs.KnownTables.{KnownMap, cell, count_is, within_words}
@@ -29,7 +29,7 @@ use Rattle.weak_pairs.proofs.PairLists.{pairs_are}
 use Rattle.ephemeron_table.proofs.MapsWithout.{refills_weak, slot_stays, map_has, are_after}
 
 -- the map whose pair is to be removed is known
-pub known_map : {old : Mutator} {map : ℕ} {pairs : List Pair} (table : Table) → IsWhole old → IsTied old
+pub known_map : {old : Mutator} {map : ℕ} {pairs : List Pair} (table : Table) → IsQuietWhole old → IsTied old
     → AreWithin old.seat.space.sizes old.seat.space.variables → HasPairsAt (heap_of old) map pairs
     → IsTableAt (heap_of old) map table → KnownMap old map table
 known_map table whole tied sizes has is = record {
@@ -87,7 +87,7 @@ refers_there {old} {pairs = pairs} known has some =
 beside_pairs : {old : Mutator} {map : ℕ} {table : Table} {pairs : List Pair} → (known : KnownMap old map table)
     → HasPairsAt (heap_of old) map pairs → 0 < table.capacity → (word : ℕ)
     → (word < table.at + store_head) ⊎ (table.at + (store_head + 2 * capacity_at (heap_of old) map) ≤ word)
-    → IsBesidePairs table word
+    → IsOutsidePairs table word
 beside_pairs {table = table} known has some word (inl before) = inl before
 beside_pairs {table = table} known has some word (inr behind) = inr (omega (arith, behind, known.is.capacity))
 

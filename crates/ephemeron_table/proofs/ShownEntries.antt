@@ -5,11 +5,9 @@ use Rattle.std.specs.Prelude.{◌==◌, IsTrue, IsSome}
 use Rattle.std.specs.List.{IsDistinct}
 use Rattle.std.proofs.lemmas.Bool.{false≢true, cases_eq, cases_Bool}
 use Rattle.std.proofs.lemmas.Option.{same_Some}
-use Rattle.object_graph.specs.declared.value.Value.{Value}
-use Rattle.object_graph.specs.declared.object.Entry.{Entry}
+use Rattle.heap_model.specs.Types.{Value, Entry, Cell}
 use Rattle.object_graph.specs.Graphs.{Graph}
 use Rattle.object_graph.specs.Reach.{is_marked, reach}
-use Rattle.cell_layout.specs.declared.cell.Cell.{Cell}
 use Rattle.heap_model.specs.Heaps.{Heap, words_of_cell}
 use Rattle.heap_model.specs.Slots.{RefersToPlace, IsPlace}
 use Rattle.heap_model.specs.Kinds.{Pair}
@@ -28,7 +26,7 @@ use Rattle.ephemeron_table.specs.PairLaws.{RefillsWeak, PutsOne}
 use Rattle.weak_pairs.specs.Entries.{entries_with}
 use Rattle.weak_pairs.proofs.EntryLists.{IsEntryOf, EntryComes, entry_comes, entry_stays, put_there}
 use Rattle.weak_pairs.proofs.PairWords.{one_pairs}
-use Rattle.ephemeron_table.proofs.WovenPairs.{weak_step}
+use Rattle.ephemeron_table.proofs.ReplacedPairs.{weak_step}
 
 -- a pair whose key refers to an object holds something
 key_filled : {heap : Heap} {pairs : List Pair} {number : ℕ} (at : ℕ) (pair : Pair) → slice_get pairs at ≡ Some pair

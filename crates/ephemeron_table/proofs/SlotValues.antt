@@ -5,7 +5,7 @@ use Rattle.std.specs.Prelude.{slice_set, option_map}
 use Rattle.std.proofs.lemmas.List.{map-set}
 use Rattle.std.proofs.lemmas.Option.{slice_get-map}
 use Rattle.tagged_word.specs.Readings.{reference_in}
-use Rattle.object_graph.specs.declared.value.Value.{Value}
+use Rattle.heap_model.specs.Types.{Value, Cell, Held}
 use Rattle.object_graph.specs.declared.value.Rep.TheVariants as rep
 use Rattle.object_graph.specs.Values.{rep_of}
 use Rattle.object_graph.specs.Graphs.{Graph, WeakObject}
@@ -13,23 +13,21 @@ use Rattle.object_graph.specs.Invariants.{IsValue}
 use Rattle.object_graph.proofs.Lists.{slice_get-set_other}
 use Rattle.nursery.specs.Young.{HasRoom}
 use Rattle.linear_probing.specs.Tables.{FindsAll}
-use Rattle.cell_layout.specs.declared.cell.Cell.{Cell}
-use Rattle.handle_roots.specs.declared.held.Held.{Held}
 use Rattle.heap_table.specs.Seats.{heap_words}
 use Rattle.heap_model.specs.Heaps.{Heap, HasCell}
 use Rattle.heap_model.specs.Slots.{reference_word}
 use Rattle.heap_model.specs.Kinds.{Pair, count_offset}
 use Rattle.heap_model.proofs.CellsApart.{IsOfCell}
-use Rattle.write_barrier.specs.Mains.{Mutator, heap_of, reserved}
+use Rattle.write_barrier.specs.MutatorState.{Mutator, heap_of, reserved}
 use Rattle.object_cells.specs.Contents.{next_at}
-use Rattle.object_cells.specs.Made.{PutsWords, with_content, content_need, content_word, beside_content}
+use Rattle.object_cells.specs.Made.{PutsWords, with_content, content_need, content_word, store_content}
 use Rattle.object_cells.proofs.CellsRead.{word_stands}
 use Rattle.object_cells.proofs.FilledSlots.{set_there}
 use Rattle.object_cells.proofs.HeldContents.{HoldsValue}
 use Rattle.object_cells.proofs.MadeBoxes.{with_content_stays}
 use Rattle.object_cells.proofs.UnusedWords.{cell_is_used, next_before_segments}
 use Rattle.object_cells.proofs.ContentValues.{content_shows}
-use Rattle.weak_pairs.specs.Tables.{number_at, key_offset, value_offset, numbers, number_of, pairs_of}
+use Rattle.weak_pairs.specs.Tables.{number_at, key_offset, value_offset, numbers, key_number, pairs_of}
 use Rattle.ephemeron_table.specs.Puttings.{PutsInTable}
 use Rattle.weak_pairs.specs.declared.table.Table.{Table}
 use Rattle.weak_pairs.proofs.CountedPairs.{count_filled, count_kept}
@@ -45,23 +43,23 @@ use Rattle.ephemeron_table.proofs.ReplacedValues.{ReplacesValue}
 numbers_stay : (heap : Heap) (pairs : List Pair) (place : ℕ) (was now : Pair) → slice_get pairs place ≡ Some was
     → was.key ≡ now.key → numbers heap (slice_set pairs place now) ≡ numbers heap pairs
 numbers_stay heap pairs place was now there key =
-    map-set (number_of heap) pairs place now
-    ∙ set_there (numbers heap pairs) place (number_of heap now)
-    (slice_get-map (number_of heap) pairs place ∙ ap (option_map (number_of heap)) there
+    map-set (key_number heap) pairs place now
+    ∙ set_there (numbers heap pairs) place (key_number heap now)
+    (slice_get-map (key_number heap) pairs place ∙ ap (option_map (key_number heap)) there
     ∙ ap (λ k. Some (option_map (number_at heap) (reference_in k))) key)
 
 module _ {old new : Mutator} {graph : Graph} {map key : ℕ} {weak : WeakObject} {number place : ℕ} {table : Table}
     {what : Value} (value : Held) (has : HasEntryPair old graph map key weak number place table)
-    (holds : HoldsValue (heap_of old) false rep.Small (rep_of what) what (beside_content value))
-    (fits : IsValue (length graph.objects) what) (room : HasRoom old.young (content_need (beside_content value)))
-    (words : PutsWords (reserved old (content_need (beside_content value))) new
-    (slice_set (with_content (heap_words old.seat) (beside_content value) (next_at old)) (table.at + value_offset place)
-    (content_word (beside_content value) (next_at old)))) where
+    (holds : HoldsValue (heap_of old) false rep.Small (rep_of what) what (store_content value))
+    (fits : IsValue (length graph.objects) what) (room : HasRoom old.young (content_need (store_content value)))
+    (words : PutsWords (reserved old (content_need (store_content value))) new
+    (slice_set (with_content (heap_words old.seat) (store_content value) (next_at old)) (table.at + value_offset place)
+    (content_word (store_content value) (next_at old)))) where
   abbrev boxed : List ℕ
-  boxed = with_content (heap_words old.seat) (beside_content value) (next_at old)
+  boxed = with_content (heap_words old.seat) (store_content value) (next_at old)
 
   abbrev word : ℕ
-  word = content_word (beside_content value) (next_at old)
+  word = content_word (store_content value) (next_at old)
 
   abbrev count : ℕ
   count = count_filled (sound (known has)).pairs
@@ -70,9 +68,9 @@ module _ {old new : Mutator} {graph : Graph} {map key : ℕ} {weak : WeakObject}
   boxed_stays : {one : Cell} {all : List ℕ} (a : ℕ) → HasCell (heap_of old) one all → IsOfCell one a
       → slice_get boxed a ≡ slice_get (heap_words old.seat) a
   boxed_stays a stands of_one =
-      with_content_stays (heap_words old.seat) (beside_content value) (next_at old) a (λ from below.
+      with_content_stays (heap_words old.seat) (store_content value) (next_at old) a (λ from below.
       cell_is_used (known has).whole.rows stands of_one from
-      (omega (arith, below, next_before_segments old (content_need (beside_content value)) (known has).tied room)))
+      (omega (arith, below, next_before_segments old (content_need (store_content value)) (known has).tied room)))
 
   -- the key stands there
   key_there : slice_get boxed (table.at + key_offset place) ≡ Some (reference_word key)
@@ -132,7 +130,7 @@ module _ {old new : Mutator} {graph : Graph} {map key : ℕ} {weak : WeakObject}
       (entry_filled has).filled (key_filled now key refl))
 
   -- and has another value
-  pub slot_replaces : ReplacesValue old new (known has) place key what (content_need (beside_content value))
+  pub slot_replaces : ReplacesValue old new (known has) place key what (content_need (store_content value))
   slot_replaces =
       let k = known has in
       let objects : ℕ = length graph.objects in

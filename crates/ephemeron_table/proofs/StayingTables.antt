@@ -7,7 +7,7 @@ use Rattle.std.proofs.lemmas.Option.{same_Some, slice_get-map}
 use Rattle.tagged_word.specs.declared.layout.Kind.TheVariants as kind
 use Rattle.tagged_word.specs.Cells.{store_head, store_slot}
 use Rattle.tagged_word.proofs.Members.{first_in, rest_in}
-use Rattle.cell_layout.specs.declared.cell.Cell.{Cell}
+use Rattle.heap_model.specs.Types.{Cell}
 use Rattle.linear_probing.specs.Tables.{FindsAll}
 use Rattle.linear_probing.specs.Tables as probing
 use Rattle.heap_table.specs.Seats.{heap_words}
@@ -17,7 +17,7 @@ use Rattle.heap_model.specs.Kinds.{HasWord, Pair, pairs_in, HasTable, IsProbed}
 use Rattle.heap_model.specs.Changes.{CellsChange}
 use Rattle.heap_model.specs.Wholeness.{NamesFrom}
 use Rattle.heap_model.proofs.WordsStay.{PlacesStay}
-use Rattle.write_barrier.specs.Mains.{Mutator, heap_of}
+use Rattle.write_barrier.specs.MutatorState.{Mutator, heap_of}
 use Rattle.object_cells.proofs.CellsRead.{word_stands}
 use Rattle.object_cells.proofs.OwnCapacities.{none_made}
 use Rattle.object_cells.proofs.ObjectWrites.{same_count}
@@ -26,7 +26,7 @@ use Rattle.object_cells.proofs.SlotsNow.{word_at_offset}
 use Rattle.object_cells.proofs.OwnSteps.{own_writing, written_places_stay}
 use Rattle.weak_pairs.specs.Pairs.{HasPairs, IsFilledAt}
 use Rattle.ephemeron_table.specs.PairWrites.{WritesWeak}
-use Rattle.weak_pairs.specs.Tables.{numbers, number_of, pairs_of}
+use Rattle.weak_pairs.specs.Tables.{numbers, key_number, pairs_of}
 use Rattle.weak_pairs.specs.declared.table.Table.{Table}
 use Rattle.ephemeron_table.proofs.KnownTables.{KnownMap, cell, cell_has, sound, within_words, slot_there, of_map}
 use Rattle.ephemeron_table.proofs.KnownTables.{number_found, probed_pair, found, other, other_long}
@@ -86,7 +86,7 @@ module _ {old new : Mutator} {map : ℕ} {table : Table} {others made : List Cel
   probed pairs all at number pair is refers =
       let number_is = number_found known pair number (refers_back pair.key number refers) in
       let holds : probing.HoldsNumber (numbers (heap_of old) pairs) at number =
-      slice_get-map (number_of (heap_of old)) pairs at ∙ ap (option_map (number_of (heap_of old))) is.stands
+      slice_get-map (key_number (heap_of old)) pairs at ∙ ap (option_map (key_number (heap_of old))) is.stands
       ∙ ap (λ item. Some item) number_is in
       probed_pair known pairs number at (all at number holds)
 

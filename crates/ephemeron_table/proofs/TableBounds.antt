@@ -3,7 +3,7 @@ use Rattle.std.proofs.Common.{◌≡◌, ℕ, ◌+◌, ◌*◌, ◌≤◌, lengt
 use Rattle.tagged_word.specs.Cells.{store_head}
 use Rattle.page_space.specs.Extents.{marks_start}
 use Rattle.heap_table.specs.Seats.{heap_words}
-use Rattle.write_barrier.specs.Mains.{Mutator}
+use Rattle.write_barrier.specs.MutatorState.{Mutator}
 use Rattle.weak_pairs.specs.declared.table.Table.{Table}
 
 -- what is no address is nothing

@@ -9,7 +9,7 @@ use Rattle.tagged_word.proofs.Readings.{reference_from, reference_to}
 use Rattle.page_space.specs.Sizes.{AreWithin}
 use Rattle.page_space.specs.Extents.{marks_start}
 use Rattle.page_space.proofs.Starts.{marks_start_is}
-use Rattle.cell_layout.specs.declared.cell.Cell.{Cell}
+use Rattle.heap_model.specs.Types.{Cell}
 use Rattle.cell_layout.proofs.OneCell.{cells_have_words}
 use Rattle.heap_model.specs.Heaps.{Heap}
 use Rattle.heap_model.specs.Slots.{reference_word, undefined_word, RefersTo}

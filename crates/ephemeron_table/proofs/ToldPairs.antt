@@ -5,13 +5,13 @@ use Rattle.page_space.specs.Sizes.{AreWithin}
 use Rattle.object_graph.specs.declared.value.Value.TheVariants.{Undefined as NoValue}
 use Rattle.object_graph.specs.Objects.{entry_value}
 use Rattle.object_graph.specs.Graphs.{Graph, WeakObject}
-use Rattle.handle_roots.specs.declared.held.Held.{Held}
+use Rattle.heap_model.specs.Types.{Held}
 use Rattle.handle_roots.specs.declared.held.Held.TheVariants.{Undefined}
 use Rattle.heap_model.specs.Kinds.{Pair}
 use Rattle.heap_model.specs.Showing.{ShowsHeld}
 use Rattle.heap_model.specs.Slots.{reference_word}
 use Rattle.std.specs.Prelude.{slice_get}
-use Rattle.write_barrier.specs.Mains.{Mutator, heap_of, MainShows}
+use Rattle.write_barrier.specs.MutatorState.{Mutator, heap_of, MainShows}
 use Rattle.ephemeron_table.specs.WeakObjects.{IsKeyAt, IsShownKey, IsWeakAt}
 use Rattle.ephemeron_table.specs.EntryChanges.{TellsEntry}
 use Rattle.weak_pairs.specs.Pairs.{HasPairsAt, IsPairOf}

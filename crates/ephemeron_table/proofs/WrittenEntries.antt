@@ -5,9 +5,8 @@ use Rattle.std.proofs.Common.{subst, arith}
 use Rattle.std.specs.Prelude.{Contains, IsTrue}
 use Rattle.std.proofs.lemmas.Option.{slice_get-get_or, slice_get_within, get_or_from_slice_get}
 use Rattle.tagged_word.proofs.Members.{first_in}
-use Rattle.object_graph.specs.declared.value.Value.{Value}
+use Rattle.heap_model.specs.Types.{Value, Entry, Cell}
 use Rattle.object_graph.specs.declared.value.Value.TheVariants.{Ref}
-use Rattle.object_graph.specs.declared.object.Entry.{Entry}
 use Rattle.object_graph.specs.declared.object.Object.TheVariants.{Weak}
 use Rattle.object_graph.specs.Graphs.{Graph, WeakObject}
 use Rattle.object_graph.specs.Reach.{is_marked, reach}
@@ -16,10 +15,9 @@ use Rattle.object_graph.proofs.Rounds.{marked_within, length-rounds}
 use Rattle.graph_laws.proofs.HeldParts.{with_entry_held, without_entry_held}
 use Rattle.graph_laws.proofs.MadeGraphs.{reweaves}
 use Rattle.graph_laws.proofs.Reaches.{reach_closed}
-use Rattle.cell_layout.specs.declared.cell.Cell.{Cell}
 use Rattle.heap_model.specs.Heaps.{Heap}
 use Rattle.heap_model.proofs.SlotWords.{All-slice_get}
-use Rattle.write_barrier.specs.Mains.{heap_of}
+use Rattle.write_barrier.specs.MutatorState.{heap_of}
 use Rattle.object_cells.specs.HeldValues.{IsReachedValue}
 use Rattle.object_cells.specs.Refills.{IsAtRest}
 use Rattle.object_cells.proofs.ReplacedObjects.{HasReachedLinks, ReplacesCells, replaced_shows}
@@ -30,7 +28,7 @@ use Rattle.ephemeron_table.specs.PairLaws.{IsNewValue, WrittenEntriesShow}
 use Rattle.weak_pairs.proofs.EntryLists.{EntryComes, entry_comes}
 use Rattle.ephemeron_table.proofs.PairNames.{pairs_own}
 use Rattle.ephemeron_table.proofs.ShownEntries.{Reweaving, weak_shows}
-use Rattle.ephemeron_table.proofs.WovenPairs.{weak_step}
+use Rattle.ephemeron_table.proofs.ReplacedPairs.{weak_step}
 
 -- what is contained stands at some place
 place_of : {X : Type 0} (xs : List X) (x : X) → Contains xs x → (k : ℕ) × (slice_get xs k ≡ Some x)

@@ -1,24 +1,23 @@
 -- What the calls on the entries of a weak map do.
 use Rattle.std.specs.Prelude.{◌≡◌, ℕ, ◌≤◌, length, Some, None, unwrap_or, Result, Ok, Err}
-use Rattle.object_graph.specs.declared.value.Value.{Value}
+use Rattle.heap_model.specs.Types.{Value, Held}
 use Rattle.object_graph.specs.declared.value.Value.TheVariants.{Undefined}
 use Rattle.object_graph.specs.declared.object.Object.TheVariants.{Weak}
 use Rattle.object_graph.specs.Objects.{entry_value, with_entry, without_entry}
 use Rattle.object_graph.specs.Graphs.{Graph, WeakObject}
 use Rattle.object_graph.specs.Meaning.{weak_most, reweave}
 use Rattle.nursery.specs.Young.{HasRoom}
-use Rattle.handle_roots.specs.declared.held.Held.{Held}
 use Rattle.heap_model.specs.Showing.{ShowsHeld}
 use Rattle.heap_model.specs.Needs.{capacity_at}
 use Rattle.heap_model.specs.Rooms.{Room, room_at, room_put, wput_need}
-use Rattle.write_barrier.specs.Mains.{Mutator, heap_of, MainShows}
+use Rattle.write_barrier.specs.MutatorState.{Mutator, heap_of, MainShows}
 use Rattle.object_cells.specs.Uses.{UsesMore}
 use Rattle.object_cells.specs.Capacities.{ChangesObject}
 use Rattle.ephemeron_table.specs.declared.stop.TableStop.{TableStop}
 use Rattle.ephemeron_table.specs.declared.stop.TableStop.TheVariants as stop
 
 -- no entry has the key, and the map has as many entries as it may have
-pub record IsFullFor (weak : WeakObject) (number : ℕ) : Type 0 where
+pub record IsMapFull (weak : WeakObject) (number : ℕ) : Type 0 where
   pub fresh : entry_value weak.entries number ≡ None
   pub full : weak_most ≤ length weak.entries
 
@@ -33,7 +32,7 @@ map_room main map weak = room_at (heap_of main) map (Weak weak.entries)
 pub record HasPutEntry (old new : Mutator) (graph : Graph) (map key : ℕ) (weak : WeakObject) (number : ℕ)
     (value : Value)
     : Type 0 where
-  pub few : IsFullFor weak number → ⊥
+  pub few : IsMapFull weak number → ⊥
   pub room : HasRoom old.young (wput_need (map_room old map weak) weak value number)
   pub uses : UsesMore old new (wput_need (map_room old map weak) weak value number)
   pub changes : ChangesObject (heap_of old) (heap_of new) map
@@ -46,9 +45,9 @@ abbrev pub PutsEntry : Mutator → Mutator → Graph → (map key : ℕ) → Wea
     → Result Unit TableStop → Type 0
 PutsEntry old new graph map key weak number value (Ok _) = HasPutEntry old new graph map key weak number value
 PutsEntry old new graph map key weak number value (Err (stop.TableFull entries)) =
-    IsFullFor weak number × (entries ≡ length weak.entries) × (new ≡ old)
+    IsMapFull weak number × (entries ≡ length weak.entries) × (new ≡ old)
 PutsEntry old new graph map key weak number value (Err (stop.Full room)) =
-    (IsFullFor weak number → ⊥)
+    (IsMapFull weak number → ⊥)
     × (room.need ≡ wput_need (map_room old map weak) weak value number)
     × (HasRoom old.young room.need → ⊥) × (new ≡ old)
 

@@ -1,18 +1,16 @@
 -- What the calls on the entries of a weak map do of the pairs of its table.
 use Rattle.std.specs.Prelude.{◌≡◌, ℕ, ◌+◌, ◌≤◌, ◌<◌, List, Result, Ok, Err, not, ◌&&◌}
-use Rattle.tagged_word.specs.declared.word.Class.{Class}
+use Rattle.heap_model.specs.Types.{Class, Value, Held}
 use Rattle.tagged_word.specs.Words.{IsClass, bits_of}
-use Rattle.object_graph.specs.declared.value.Value.{Value}
 use Rattle.object_graph.specs.Graphs.{Graph, WeakObject}
 use Rattle.object_graph.specs.Meaning.{weak_most}
 use Rattle.nursery.specs.Young.{HasRoom}
-use Rattle.handle_roots.specs.declared.held.Held.{Held}
 use Rattle.handle_roots.specs.declared.held.Held.TheVariants.{Undefined}
 use Rattle.heap_model.specs.Heaps.{Heap}
 use Rattle.heap_model.specs.Slots.{reference_word}
 use Rattle.heap_model.specs.Kinds.{Pair}
 use Rattle.heap_model.specs.Needs.{box_need, capacity_at, count_at, is_box_word, table_need}
-use Rattle.write_barrier.specs.Mains.{Mutator, heap_of}
+use Rattle.write_barrier.specs.MutatorState.{Mutator, heap_of}
 use Rattle.write_barrier.specs.Values.{held_of_class}
 use Rattle.object_cells.specs.Made.{is_wide_held}
 use Rattle.ephemeron_table.specs.EntryChanges.{PutsEntry}

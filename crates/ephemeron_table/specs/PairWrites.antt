@@ -2,7 +2,7 @@
 -- or a table and a box are made.
 use Rattle.std.specs.Prelude.{◌≡◌, ℕ, List, not, count_by}
 use Rattle.tagged_word.specs.declared.layout.Kind.TheVariants as kind
-use Rattle.cell_layout.specs.declared.cell.Cell.{Cell}
+use Rattle.heap_model.specs.Types.{Cell}
 use Rattle.heap_model.specs.Heaps.{Heap, words_of_cell}
 use Rattle.heap_model.specs.Slots.{RefersToPlace}
 use Rattle.heap_model.specs.Kinds.{HasWord, Pair, is_free_pair, IsFilledPair, IsProbed}

@@ -6,8 +6,8 @@ use Rattle.heap_model.specs.Slots.{reference_word}
 use Rattle.heap_model.specs.Kinds.{Pair, count_offset}
 use Rattle.heap_model.specs.Needs.{capacity_at, word_at}
 use Rattle.heap_table.specs.Seats.{heap_words}
-use Rattle.write_barrier.specs.Mains.{Mutator, heap_of}
-use Rattle.object_cells.specs.CellsAt.{IsWhole}
+use Rattle.write_barrier.specs.MutatorState.{Mutator, heap_of}
+use Rattle.object_cells.specs.CellsAt.{IsQuietWhole}
 use Rattle.object_cells.specs.Uses.{UsesMore}
 use Rattle.object_cells.specs.Capacities.{ChangesObject}
 use Rattle.weak_pairs.specs.Pairs.{AreWithout, HasPairsAt}
@@ -21,7 +21,7 @@ IsNoPairWord heap map word =
 -- The pair at a place of the weak map at an address was removed: the heap is whole again. Only the map's count
 -- changed, and words of its table's pairs; no word more is used, and each object stands where it stood.
 pub record RemovesPair (old new : Mutator) (map place : ℕ) (before : List Pair) : Type 0 where
-  pub whole : IsWhole new
+  pub whole : IsQuietWhole new
   pub paths : new.paths ≡ old.paths
   pub uses : UsesMore old new 0
   pub changes : ChangesObject (heap_of old) (heap_of new) map (capacity_at (heap_of old) map)

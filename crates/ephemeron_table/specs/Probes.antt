@@ -2,7 +2,7 @@
 use Rattle.std.specs.Prelude.{◌≡◌, ℕ, ◌+◌, ◌*◌, ◌<◌, ◌≤◌, List, Option, Some, None}
 use Rattle.tagged_word.specs.declared.layout.Kind.TheVariants as kind
 use Rattle.tagged_word.specs.Cells.{store_head, cell_words_most}
-use Rattle.cell_layout.specs.declared.cell.Cell.{Cell}
+use Rattle.heap_model.specs.Types.{Cell}
 use Rattle.heap_model.specs.Heaps.{Heap, HasCell}
 use Rattle.heap_model.specs.Slots.{hole_word, reference_word}
 use Rattle.heap_model.specs.Kinds.{Pair}
@@ -11,8 +11,8 @@ use Rattle.weak_pairs.specs.Pairs.{HasPairsAt}
 use Rattle.weak_pairs.specs.declared.table.Table.{Table}
 use Rattle.ephemeron_table.specs.declared.probing.End.{End}
 use Rattle.ephemeron_table.specs.declared.probing.End.TheVariants as probe_end
-use Rattle.weak_pairs.specs.Tables.{ArePairsIn, IsWithin, key_in}
-use Rattle.weak_pairs.specs.Probes.{ComesTo, PassesBefore}
+use Rattle.weak_pairs.specs.Tables.{ArePairsIn, TableIsWithin, key_in}
+use Rattle.weak_pairs.specs.Probes.{ProbesTo, PassesBefore}
 
 -- a weak map's cell stands at the address
 pub record IsWeakCellAt (heap : Heap) (at : ℕ) : Type 0 where
@@ -26,7 +26,7 @@ pub record IsWeakCellAt (heap : Heap) (at : ℕ) : Type 0 where
 pub record IsTableAt (heap : Heap) (map : ℕ) (table : Table) : Type 0 where
   pub capacity : capacity_at heap map ≡ table.capacity
   pub small : store_head + 2 * table.capacity ≤ cell_words_most
-  pub within : IsWithin heap table
+  pub within : TableIsWithin heap table
   pub pairs : (pairs : List Pair) → HasPairsAt heap map pairs → ArePairsIn heap.words table pairs
   pub refers : (pairs : List Pair) → (has : HasPairsAt heap map pairs) → 0 < table.capacity
       → has.are.store ≡ reference_word table.at
@@ -35,9 +35,9 @@ pub record IsTableAt (heap : Heap) (map : ℕ) (table : Table) : Type 0 where
 -- passes them all.
 abbrev pub EndsBy : Heap → Table → ℕ → ℕ → End → Type 0
 EndsBy heap table number key (probe_end.Key place) =
-    ComesTo heap table number key place × (key_in heap table.at place ≡ key)
+    ProbesTo heap table number key place × (key_in heap table.at place ≡ key)
 EndsBy heap table number key (probe_end.Free place) =
-    ComesTo heap table number key place × (key_in heap table.at place ≡ hole_word)
+    ProbesTo heap table number key place × (key_in heap table.at place ≡ hole_word)
 EndsBy heap table number key probe_end.Nowhere = PassesBefore heap table number key table.capacity
 
 -- Probing for a key that is new ends at this place, where the table is free, or it passes all pairs.

@@ -1,12 +1,12 @@
 -- Which words putting an entry writes, by where its pair comes.
 use Rattle.std.specs.Prelude.{◌≡◌, ◌≢◌, ℕ, ◌+◌, ◌*◌, ◌<◌, ◌≤◌}
-use Rattle.handle_roots.specs.declared.held.Held.{Held}
+use Rattle.heap_model.specs.Types.{Held}
 use Rattle.heap_model.specs.Heaps.{Heap}
 use Rattle.heap_model.specs.Slots.{reference_word}
 use Rattle.heap_model.specs.Needs.{count_at}
-use Rattle.write_barrier.specs.Mains.{Mutator, heap_of}
+use Rattle.write_barrier.specs.MutatorState.{Mutator, heap_of}
 use Rattle.object_cells.specs.Contents.{FillsSlot}
-use Rattle.object_cells.specs.Made.{beside_content}
+use Rattle.object_cells.specs.Made.{store_content}
 use Rattle.ephemeron_table.specs.Rehashing.{CanGrow, PutsInNewTable}
 use Rattle.ephemeron_table.specs.Probes.{EndsBy, IsTableAt}
 use Rattle.weak_pairs.specs.Tables.{key_in, number_at, value_offset}
@@ -15,8 +15,8 @@ use Rattle.ephemeron_table.specs.declared.probing.End.TheVariants as probe_end
 use Rattle.weak_pairs.specs.declared.table.Table.{Table}
 
 -- no pair of the table has the word of the key
-abbrev pub HasNoKey : Heap → Table → ℕ → Type 0
-HasNoKey heap table key = (place : ℕ) → place < table.capacity → key_in heap table.at place ≢ reference_word key
+abbrev pub LacksKeyWord : Heap → Table → ℕ → Type 0
+LacksKeyWord heap table key = (place : ℕ) → place < table.capacity → key_in heap table.at place ≢ reference_word key
 
 -- How the pair of the key whose cell stands at an address, and of a value, comes to the weak map whose cell stands at
 -- an address. Where a pair of the map's table has the key, the slot of its value is filled. Where none has it, the pair
@@ -25,11 +25,11 @@ HasNoKey heap table key = (place : ℕ) → place < table.capacity → key_in he
 pub data PutsAt (old new : Mutator) (map key : ℕ) (value : Held) : Type 0 where
   to_pair : (table : Table) (place : ℕ) → IsTableAt (heap_of old) map table → place < table.capacity
       → key_in (heap_of old) table.at place ≡ reference_word key
-      → FillsSlot old new (table.at + value_offset place) (beside_content value) → PutsAt old new map key value
+      → FillsSlot old new (table.at + value_offset place) (store_content value) → PutsAt old new map key value
   to_table : (table : Table) (place : ℕ) → IsTableAt (heap_of old) map table
       → EndsBy (heap_of old) table (number_at (heap_of old) key) (reference_word key) (probe_end.Free place)
       → 2 * (count_at (heap_of old) map + 1) ≤ table.capacity
       → PutsInTable old new map table place key (count_at (heap_of old) map + 1) value → PutsAt old new map key value
-  to_new_table : (table : Table) → IsTableAt (heap_of old) map table → HasNoKey (heap_of old) table key
+  to_new_table : (table : Table) → IsTableAt (heap_of old) map table → LacksKeyWord (heap_of old) table key
       → CanGrow old map table key (count_at (heap_of old) map)
       → PutsInNewTable old new map table key (count_at (heap_of old) map + 1) value → PutsAt old new map key value

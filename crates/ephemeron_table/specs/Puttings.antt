@@ -1,18 +1,17 @@
 -- Which words putting an entry writes.
 use Rattle.std.specs.Prelude.{ℕ, ◌+◌, ◌*◌, List, replicate, slice_set}
-use Rattle.tagged_word.specs.declared.header.Header.{Header}
+use Rattle.heap_model.specs.Types.{Header, Held}
 use Rattle.tagged_word.specs.Cells.{store_head, length_offset}
 use Rattle.tagged_word.specs.Headers.{header_bits}
 use Rattle.tagged_word.specs.Shapes.{table_shape}
 use Rattle.nursery.specs.Young.{HasRoom}
-use Rattle.handle_roots.specs.declared.held.Held.{Held}
 use Rattle.heap_table.specs.Seats.{heap_words}
 use Rattle.heap_model.specs.Slots.{reference_word, hole_word}
 use Rattle.heap_model.specs.Kinds.{count_offset}
-use Rattle.write_barrier.specs.Mains.{Mutator, heap_of, reserved}
+use Rattle.write_barrier.specs.MutatorState.{Mutator, heap_of, reserved}
 use Rattle.write_barrier.specs.Values.{with_range}
 use Rattle.object_cells.specs.Contents.{next_at}
-use Rattle.object_cells.specs.Made.{PutsWords, with_content, content_need, content_word, beside_content}
+use Rattle.object_cells.specs.Made.{PutsWords, with_content, content_need, content_word, store_content}
 use Rattle.weak_pairs.specs.Tables.{number_at, with_pair, made_pair}
 use Rattle.weak_pairs.specs.declared.table.Table.{Table}
 use Rattle.weak_pairs.specs.Probes.{IsFirstFree}
@@ -20,10 +19,10 @@ use Rattle.weak_pairs.specs.Probes.{IsFirstFree}
 -- The pair of a key and a value comes to a place of the map's table, and the map has so many entries; a box that the
 -- value needs is made.
 pub record PutsInTable (old new : Mutator) (map : ℕ) (table : Table) (place key count : ℕ) (value : Held) : Type 0 where
-  pub room : HasRoom old.young (content_need (beside_content value))
-  pub words : let boxed = with_content (heap_words old.seat) (beside_content value) (next_at old) in
-      let pair = made_pair (reference_word key) (content_word (beside_content value) (next_at old)) in
-      PutsWords (reserved old (content_need (beside_content value))) new
+  pub room : HasRoom old.young (content_need (store_content value))
+  pub words : let boxed = with_content (heap_words old.seat) (store_content value) (next_at old) in
+      let pair = made_pair (reference_word key) (content_word (store_content value) (next_at old)) in
+      PutsWords (reserved old (content_need (store_content value))) new
       (slice_set (with_pair boxed table.at place pair) (map + count_offset) count)
 
 -- the header of a table

@@ -5,18 +5,18 @@ use Rattle.tagged_word.specs.Readings.{reference_in}
 use Rattle.page_space.specs.Extents.{segments_start, marks_start}
 use Rattle.nursery.specs.Young.{HasRoom}
 use Rattle.object_graph.specs.Meaning.{weak_most}
-use Rattle.handle_roots.specs.declared.held.Held.{Held}
+use Rattle.heap_model.specs.Types.{Held}
 use Rattle.linear_probing.specs.Tables.{FindsAll}
 use Rattle.heap_table.specs.Seats.{heap_words}
 use Rattle.heap_table.specs.declared.phase.Phase.TheVariants.{Quiet}
 use Rattle.heap_model.specs.Slots.{reference_word}
 use Rattle.heap_model.specs.Kinds.{Pair, count_offset}
 use Rattle.heap_model.specs.Needs.{grown_table}
-use Rattle.write_barrier.specs.Mains.{Mutator, heap_of, IsTied, reserved}
+use Rattle.write_barrier.specs.MutatorState.{Mutator, heap_of, IsTied, reserved}
 use Rattle.object_cells.specs.Contents.{next_at}
-use Rattle.object_cells.specs.Made.{PutsWords, with_content, content_need, content_word, beside_content}
+use Rattle.object_cells.specs.Made.{PutsWords, with_content, content_need, content_word, store_content}
 use Rattle.weak_pairs.specs.Pairs.{IsFilledAt}
-use Rattle.weak_pairs.specs.Tables.{IsWithin, numbers, pairs_of}
+use Rattle.weak_pairs.specs.Tables.{TableIsWithin, numbers, pairs_of}
 use Rattle.ephemeron_table.specs.Puttings.{InsertsRehashed, begun_table}
 use Rattle.ephemeron_table.specs.Removals.{ChangesPairs}
 use Rattle.weak_pairs.specs.declared.table.Table.{Table}
@@ -44,7 +44,7 @@ KeysUsed main table =
 pub record CanGrow (main : Mutator) (map : ℕ) (table : Table) (key count : ℕ) : Type 0 where
   pub tied : IsTied main
   pub quiet : main.seat.phase ≡ Quiet
-  pub within : IsWithin (heap_of main) table
+  pub within : TableIsWithin (heap_of main) table
   pub few : count < weak_most
   pub over : table.capacity < 2 * (count + 1)
   pub map_within : map + count_offset < marks_start main.seat.space
@@ -59,7 +59,7 @@ new_table main table = record { at = next_at main; capacity = grown_table table.
 
 -- how many words it takes, with the box that a value needs
 abbrev pub new_table_need : Table → Held → ℕ
-new_table_need table value = store_head + 2 * grown_table table.capacity + content_need (beside_content value)
+new_table_need table value = store_head + 2 * grown_table table.capacity + content_need (store_content value)
 
 -- where that box stands
 abbrev pub box_behind : Mutator → Table → ℕ
@@ -75,10 +75,10 @@ pub record PutsInNewTable (old new : Mutator) (map : ℕ) (table : Table) (key c
   pub moved : Mutator
   pub moves : RehashesPairs begun moved table (new_table old table) table.capacity
   pub boxed : Mutator
-  pub boxes : PutsWords moved boxed (with_content (heap_words moved.seat) (beside_content value) (box_behind old table))
+  pub boxes : PutsWords moved boxed (with_content (heap_words moved.seat) (store_content value) (box_behind old table))
   pub inserted : Mutator
   pub inserts : InsertsRehashed boxed inserted (new_table old table) key
-      (content_word (beside_content value) (box_behind old table))
+      (content_word (store_content value) (box_behind old table))
   pub words : PutsWords inserted new
       (slice_set (slice_set (heap_words inserted.seat) (map + store_slot) (reference_word (next_at old)))
       (map + count_offset)

@@ -1,22 +1,22 @@
 -- How a pair is removed from a table, word by word.
 use Rattle.std.specs.Prelude.{◌≡◌, ◌≢◌, ℕ, ◌+◌, ◌-◌, ◌<◌, length, Some, None, slice_get, slice_set}
 use Rattle.linear_probing.specs.Tables.{FindsAll}
-use Rattle.heap_table.specs.Seats.{heap_words, StaysBeside}
+use Rattle.heap_table.specs.Seats.{heap_words, RestStays}
 use Rattle.heap_model.specs.Kinds.{Pair, free_pair, count_offset}
 use Rattle.heap_model.specs.Needs.{count_at}
-use Rattle.write_barrier.specs.Mains.{Mutator, heap_of}
+use Rattle.write_barrier.specs.MutatorState.{Mutator, heap_of}
 use Rattle.weak_pairs.specs.Pairs.{IsFilledAt}
 use Rattle.weak_pairs.specs.declared.table.Table.{Table}
-use Rattle.weak_pairs.specs.Tables.{IsBesidePairs, numbers, pairs_of}
+use Rattle.weak_pairs.specs.Tables.{IsOutsidePairs, numbers, pairs_of}
 use Rattle.weak_pairs.specs.Removals.{IsRemoved, StaysBelow}
 
 -- Of all that the mutator has, only words of the table's pairs are others; so the marks and the board are as they were.
 pub record ChangesPairs (old new : Mutator) (table : Table) : Type 0 where
-  pub rest : StaysBeside old.seat new.seat
+  pub rest : RestStays old.seat new.seat
   pub paths : new.paths ≡ old.paths
   pub young : new.young ≡ old.young
   pub long : length (heap_words new.seat) ≡ length (heap_words old.seat)
-  pub beside : (at : ℕ) → IsBesidePairs table at
+  pub beside : (at : ℕ) → IsOutsidePairs table at
       → slice_get (heap_words new.seat) at ≡ slice_get (heap_words old.seat) at
 
 -- Once the hole is free, the pair at the place is removed, and probing finds all where it did before.
@@ -33,11 +33,11 @@ pub record ShiftsBack (old new : Mutator) (table : Table) (place hole : ℕ) : T
 -- The pair at the place of the map's table was removed, and the count is one less. All other words are as they were,
 -- those of the marks and the board too.
 pub record RemovesAt (old new : Mutator) (map : ℕ) (table : Table) (place : ℕ) : Type 0 where
-  pub rest : StaysBeside old.seat new.seat
+  pub rest : RestStays old.seat new.seat
   pub paths : new.paths ≡ old.paths
   pub young : new.young ≡ old.young
   pub long : length (heap_words new.seat) ≡ length (heap_words old.seat)
-  pub beside : (at : ℕ) → IsBesidePairs table at → at ≢ map + count_offset
+  pub beside : (at : ℕ) → IsOutsidePairs table at → at ≢ map + count_offset
       → slice_get (heap_words new.seat) at ≡ slice_get (heap_words old.seat) at
   pub counted : slice_get (heap_words new.seat) (map + count_offset) ≡ Some (count_at (heap_of old) map - 1)
   pub hole : ℕ

@@ -1,12 +1,11 @@
 -- The weak maps of a graph and the keys of their entries, by the addresses of their cells.
 use Rattle.std.specs.Prelude.{◌≡◌, ℕ, Some, slice_get, IsTrue}
 use Rattle.object_graph.specs.declared.object.Object.TheVariants.{Weak}
-use Rattle.object_graph.specs.declared.value.Value.{Value}
+use Rattle.heap_model.specs.Types.{Value, Held}
 use Rattle.object_graph.specs.Graphs.{Graph, WeakObject}
 use Rattle.object_graph.specs.Reach.{is_marked, reach}
-use Rattle.handle_roots.specs.declared.held.Held.{Held}
 use Rattle.heap_model.specs.Slots.{IsPlace}
-use Rattle.write_barrier.specs.Mains.{Mutator, heap_of, MainShows}
+use Rattle.write_barrier.specs.MutatorState.{Mutator, heap_of, MainShows}
 use Rattle.object_cells.specs.HeldValues.{IsValueHeld}
 
 -- The weak map of the graph has its place at the address, and can be reached.

@@ -9,12 +9,12 @@ ghost use Rattle.heap_table.specs.declared.phase.Phase.TheVariants.{Quiet};
 ghost use Rattle.heap_model.specs.Kinds.{count_offset};
 ghost use Rattle.heap_model.specs.Needs.{count_at};
 ghost use Rattle.heap_model.specs.Slots.{hole_word, reference_word};
-ghost use Rattle.write_barrier.specs.Mains.{heap_of, IsTied, MainShows};
+ghost use Rattle.write_barrier.specs.MutatorState.{heap_of, IsTied, MainShows};
 ghost use Rattle.object_cells.specs.HeldValues.{IsValueHeld};
 ghost use Rattle.ephemeron_table.specs.WeakObjects.{IsKeyAt, IsShownPutting, IsWeakAt};
-ghost use Rattle.weak_pairs.specs.Probes.{ComesTo};
+ghost use Rattle.weak_pairs.specs.Probes.{ProbesTo};
 ghost use Rattle.ephemeron_table.specs.Probes.{IsTableAt};
-ghost use Rattle.weak_pairs.specs.Tables.{IsWithin, key_in};
+ghost use Rattle.weak_pairs.specs.Tables.{TableIsWithin, key_in};
 ghost use Rattle.ephemeron_table.specs.PairChanges.{PutsBoth};
 
 use crate::growing::put_in_new_table;
@@ -41,7 +41,7 @@ pub(crate) fn put_free(
 ) -> Result<(), TableStop>
     requires quiet { main.old.seat.phase ≡ Quiet }
     requires tied { IsTied main.old }
-    requires within { IsWithin (heap_of main.old) table }
+    requires within { TableIsWithin (heap_of main.old) table }
     requires place { place < table.capacity }
     requires few { count < weak_most }
     requires half { 2 * (count + 1) ≤ table.capacity }
@@ -50,7 +50,7 @@ pub(crate) fn put_free(
         → MainShows main.old graph → IsWeakAt main.old graph map weak
         → IsKeyAt main.old graph key number → IsValueHeld main.old graph value what
         → IsTableAt (heap_of main.old) map table → count_at (heap_of main.old) map ≡ count
-        → ComesTo (heap_of main.old) table number (reference_word key) place
+        → ProbesTo (heap_of main.old) table number (reference_word key) place
         → key_in (heap_of main.old) table.at place ≡ hole_word
         → PutsBoth main.old main.new graph map key weak number value what result }
 {

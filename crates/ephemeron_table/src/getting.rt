@@ -3,7 +3,7 @@ ghost use Rattle.std.specs.Prelude.{◌≡◌, ℕ, ◌+◌, ◌<◌, List};
 ghost use Rattle.page_space.specs.Extents.{marks_start};
 ghost use Rattle.object_graph.specs.Graphs.{Graph, WeakObject};
 ghost use Rattle.heap_model.specs.Kinds.{Pair};
-ghost use Rattle.write_barrier.specs.Mains.{MainShows, heap_of};
+ghost use Rattle.write_barrier.specs.MutatorState.{MainShows, heap_of};
 ghost use Rattle.ephemeron_table.specs.WeakObjects.{IsKeyAt, IsShownKey, IsWeakAt};
 ghost use Rattle.ephemeron_table.specs.EntryChanges.{TellsEntry};
 ghost use Rattle.weak_pairs.specs.Pairs.{HasPairsAt};

@@ -5,10 +5,10 @@ ghost use Rattle.page_space.specs.Extents.{marks_start};
 ghost use Rattle.heap_table.specs.Seats.{heap_words};
 ghost use Rattle.heap_table.specs.declared.phase.Phase.TheVariants.{Quiet};
 ghost use Rattle.heap_model.specs.Needs as needs;
-ghost use Rattle.write_barrier.specs.Mains.{heap_of};
+ghost use Rattle.write_barrier.specs.MutatorState.{heap_of};
 ghost use Rattle.object_cells.specs.Made.{PutsWords, RefusesRoom};
 ghost use Rattle.weak_pairs.specs.Pairs.{HoldNothing};
-ghost use Rattle.weak_pairs.specs.Tables.{IsBesideTable, KeysMovable, IsWithin, pairs_of};
+ghost use Rattle.weak_pairs.specs.Tables.{TablesDisjoint, KeysMovable, TableIsWithin, pairs_of};
 ghost use Rattle.ephemeron_table.specs.Rehashing.{RehashesPairs, CanGrow, PutsInNewTable, new_table_need};
 ghost use Rattle.weak_pairs.specs.Probes.{FreeBy, HasFree};
 ghost use Rattle.ephemeron_table.specs.Puttings.{InsertsRehashed, begun_table};
@@ -33,10 +33,10 @@ pub(crate) fn grown(capacity: u32) -> u32
     PAIRS_MOST.min(FIRST_CAPACITY.max(2 * capacity))
 }
 
-/// Makes the words at an address a table of pairs that hold nothing, which is no map's so far.
+/// Makes the words at an address a table of pairs that hold nothing, which is no map's.
 pub(crate) fn begin_table(main: &mut Main, table: Table)
     requires quiet { main.old.seat.phase ≡ Quiet }
-    requires within { IsWithin (heap_of main.old) table }
+    requires within { TableIsWithin (heap_of main.old) table }
     ensures { let words = heap_words main.old.seat in
         PutsWords main.old main.new (begun_table words table) }
 {
@@ -53,7 +53,7 @@ pub(crate) fn begin_table(main: &mut Main, table: Table)
 /// The first place on the way of a number where a pair is free.
 fn free_place(main: &Main, table: Table, number: u32) -> Option<u32>
     requires quiet { main.now.seat.phase ≡ Quiet }
-    requires within { IsWithin (heap_of main.now) table }
+    requires within { TableIsWithin (heap_of main.now) table }
     ensures { FreeBy (heap_of main.now) table number result }
 {
     for steps in 0..table.capacity {
@@ -68,7 +68,7 @@ fn free_place(main: &Main, table: Table, number: u32) -> Option<u32>
 /// Puts a pair at the first free place on the way of its key's number.
 pub(crate) fn insert_rehashed(main: &mut Main, table: Table, key: u32, value: Word)
     requires quiet { main.old.seat.phase ≡ Quiet }
-    requires within { IsWithin (heap_of main.old) table }
+    requires within { TableIsWithin (heap_of main.old) table }
     requires key { key < marks_start main.old.seat.space }
     requires free { HasFree (heap_of main.old) table }
     ensures { InsertsRehashed main.old main.new table key value.0 }
@@ -83,10 +83,10 @@ pub(crate) fn insert_rehashed(main: &mut Main, table: Table, key: u32, value: Wo
 /// Puts the pairs of a table into another one, which has more places.
 fn rehash(main: &mut Main, from: Table, to: Table)
     requires quiet { main.old.seat.phase ≡ Quiet }
-    requires from { IsWithin (heap_of main.old) from }
-    requires to { IsWithin (heap_of main.old) to }
+    requires from { TableIsWithin (heap_of main.old) from }
+    requires to { TableIsWithin (heap_of main.old) to }
     requires more { from.capacity < to.capacity }
-    requires apart { IsBesideTable from to }
+    requires apart { TablesDisjoint from to }
     requires keys { KeysMovable (heap_of main.old) from to }
     requires empty { HoldNothing (pairs_of (heap_words main.old.seat) to) }
     ensures { RehashesPairs main.old main.new from to from.capacity }

@@ -4,7 +4,7 @@ ghost use Rattle.object_graph.specs.declared.value.Value.{Value as GraphValue};
 ghost use Rattle.object_graph.specs.Graphs.{Graph, WeakObject};
 ghost use Rattle.heap_model.specs.Kinds.{Pair};
 ghost use Rattle.heap_model.specs.Slots.{reference_word};
-ghost use Rattle.write_barrier.specs.Mains.{MainShows, heap_of};
+ghost use Rattle.write_barrier.specs.MutatorState.{MainShows, heap_of};
 ghost use Rattle.object_cells.specs.HeldValues.{IsValueHeld};
 ghost use Rattle.ephemeron_table.specs.WeakObjects.{IsKeyAt, IsShownPutting, IsWeakAt};
 ghost use Rattle.weak_pairs.specs.Tables as tables;

@@ -4,19 +4,19 @@ ghost use Rattle.page_space.specs.Extents.{marks_start};
 ghost use Rattle.object_graph.specs.Meaning.{weak_most};
 ghost use Rattle.heap_table.specs.declared.phase.Phase.TheVariants.{Quiet};
 ghost use Rattle.heap_model.specs.Kinds.{count_offset};
-ghost use Rattle.write_barrier.specs.Mains.{heap_of, IsTied};
-ghost use Rattle.object_cells.specs.CellsAt.{IsWhole};
+ghost use Rattle.write_barrier.specs.MutatorState.{heap_of, IsTied};
+ghost use Rattle.object_cells.specs.CellsAt.{IsQuietWhole};
 ghost use Rattle.object_cells.specs.Contents as contents;
 ghost use Rattle.object_cells.specs.Contents.{FillsOrRefuses, HoldsSlotWord, IsBeforeMarks};
-ghost use Rattle.object_cells.specs.Made.{RefusesRoom, content_need, beside_content};
-ghost use Rattle.weak_pairs.specs.Tables.{IsWithin, value_in, value_offset};
+ghost use Rattle.object_cells.specs.Made.{RefusesRoom, content_need, store_content};
+ghost use Rattle.weak_pairs.specs.Tables.{TableIsWithin, value_in, value_offset};
 ghost use Rattle.ephemeron_table.specs.Puttings.{PutsInTable};
 
 use crate::removing::put_pair;
 use handle_roots::Held;
 use heap_model::cells::COUNT;
 use object_cells::{
-    Content, Filling, boxed_word, content_for, filling_of, make_box, need_of, room_for,
+    SlotContent, SlotWrite, boxed_word, content_for, filling_of, make_box, need_of, room_for,
 };
 use tagged_word::Word;
 use tagged_word::cell::STORE_HEAD;
@@ -24,21 +24,21 @@ use weak_pairs::Table;
 use write_barrier::{Main, NoRoom};
 
 /// Fills a slot of a table, as `fill` of `object_cells` does one of a store.
-fn fill_weak(main: &mut Main, table: u32, offset: u32, filling: Filling)
+fn fill_weak(main: &mut Main, table: u32, offset: u32, filling: SlotWrite)
     requires quiet { main.old.seat.phase ≡ Quiet }
     requires within { table + offset < marks_start main.old.seat.space }
     requires room { IsBeforeMarks main.old.seat.space filling }
     ensures { main.new ≡ contents.filled main.old (table + offset) filling }
 {
     match filling {
-        Filling::Tagged(word) => main.store_weak(table, offset, word),
-        Filling::Raw(word) => main.write_slot(table, offset, word),
-        Filling::NewBox { at, v } => {
+        SlotWrite::Tagged(word) => main.store_weak(table, offset, word),
+        SlotWrite::Raw(word) => main.write_slot(table, offset, word),
+        SlotWrite::NewBox { at, v } => {
             make_box(main, at, v);
             main.made(at);
             main.store_weak(table, offset, Word::reference(at));
         }
-        Filling::OldBox { at, v } => main.write_slot(at, 1, v.cast_unsigned()),
+        SlotWrite::OldBox { at, v } => main.write_slot(at, 1, v.cast_unsigned()),
     }
 }
 
@@ -48,13 +48,13 @@ fn fill_weak(main: &mut Main, table: u32, offset: u32, filling: Filling)
 /// # Errors
 /// There is no room for a box; nothing has changed.
 pub(crate) fn put_value(main: &mut Main, table: Table, at: u32, value: Held) -> Result<(), NoRoom>
-    requires whole { IsWhole main.old }
+    requires whole { IsQuietWhole main.old }
     requires tied { IsTied main.old }
-    requires within { IsWithin (heap_of main.old) table }
+    requires within { TableIsWithin (heap_of main.old) table }
     requires place { at < table.capacity }
     requires held { let word = value_in (heap_of main.old) table.at at in
-        HoldsSlotWord (heap_of main.old) word (beside_content value) }
-    ensures { let content = beside_content value in
+        HoldsSlotWord (heap_of main.old) word (store_content value) }
+    ensures { let content = store_content value in
         FillsOrRefuses main.old main.new (table.at + value_offset at) content result }
 {
     main.addresses_fit();
@@ -79,12 +79,12 @@ pub(crate) fn put_in_table(
 ) -> Result<(), NoRoom>
     requires quiet { main.old.seat.phase ≡ Quiet }
     requires tied { IsTied main.old }
-    requires within { IsWithin (heap_of main.old) table }
+    requires within { TableIsWithin (heap_of main.old) table }
     requires place { at < table.capacity }
     requires few { count < weak_most }
     requires map { map + count_offset < marks_start main.old.seat.space }
     ensures ok { OnOk result (PutsInTable main.old main.new map table at key (count + 1) value) }
-    ensures refused { let need = content_need (beside_content value) in
+    ensures refused { let need = content_need (store_content value) in
         IfErr result (RefusesRoom main.old main.new need) }
 {
     let content = content_for(value);

@@ -6,9 +6,9 @@ ghost use Rattle.linear_probing.specs.Tables.{steps_to};
 ghost use Rattle.page_space.specs.Extents.{marks_start};
 ghost use Rattle.heap_model.specs.Kinds.{Pair, count_offset};
 ghost use Rattle.heap_model.specs.Needs.{count_at};
-ghost use Rattle.write_barrier.specs.Mains.{heap_of};
+ghost use Rattle.write_barrier.specs.MutatorState.{heap_of};
 ghost use Rattle.object_cells.specs.Made.{PutsWords};
-ghost use Rattle.weak_pairs.specs.Tables.{IsWithin, key_in, value_in, KeysBeside, IsBesidePairs, made_pair};
+ghost use Rattle.weak_pairs.specs.Tables.{TableIsWithin, key_in, value_in, KeysOutsidePairs, IsOutsidePairs, made_pair};
 ghost use Rattle.weak_pairs.specs.Tables.{with_pair};
 ghost use Rattle.ephemeron_table.specs.Removals.{ShiftsBack, RemovesAt};
 
@@ -32,7 +32,7 @@ fn steps(capacity: u32, number: u32, at: u32) -> u32
 /// Puts both words of a pair.
 pub(crate) fn put_pair(main: &mut Main, table: Table, at: u32, key: Word, value: Word)
     requires quiet { main.old.seat.phase ≡ Quiet }
-    requires within { IsWithin (heap_of main.old) table }
+    requires within { TableIsWithin (heap_of main.old) table }
     requires place { at < table.capacity }
     ensures { let words = heap_words main.old.seat in
         PutsWords main.old main.new (with_pair words table.at at (made_pair key.0 value.0)) }
@@ -45,7 +45,7 @@ pub(crate) fn put_pair(main: &mut Main, table: Table, at: u32, key: Word, value:
 /// Copies a pair to another place.
 fn copy_pair(main: &mut Main, table: Table, from: u32, to: u32)
     requires quiet { main.old.seat.phase ≡ Quiet }
-    requires within { IsWithin (heap_of main.old) table }
+    requires within { TableIsWithin (heap_of main.old) table }
     requires from { from < table.capacity }
     requires to { to < table.capacity }
     ensures { let words = heap_words main.old.seat in
@@ -63,9 +63,9 @@ fn copy_pair(main: &mut Main, table: Table, from: u32, to: u32)
 /// to be free then is the place that is told.
 pub(crate) fn backward_shift(main: &mut Main, table: Table, at: u32) -> u32
     requires quiet { main.old.seat.phase ≡ Quiet }
-    requires within { IsWithin (heap_of main.old) table }
+    requires within { TableIsWithin (heap_of main.old) table }
     requires place { at < table.capacity }
-    requires keys { KeysBeside (heap_of main.old) table }
+    requires keys { KeysOutsidePairs (heap_of main.old) table }
     ensures { ShiftsBack main.old main.new table at result }
 {
     main.addresses_fit();
@@ -91,11 +91,11 @@ pub(crate) fn backward_shift(main: &mut Main, table: Table, at: u32) -> u32
 /// Takes the pair at a place out of the table of a weak map.
 pub(crate) fn remove_pair(main: &mut Main, map: u32, table: Table, at: u32)
     requires quiet { main.old.seat.phase ≡ Quiet }
-    requires within { IsWithin (heap_of main.old) table }
+    requires within { TableIsWithin (heap_of main.old) table }
     requires place { at < table.capacity }
-    requires keys { KeysBeside (heap_of main.old) table }
+    requires keys { KeysOutsidePairs (heap_of main.old) table }
     requires map { map + count_offset < marks_start main.old.seat.space }
-    requires beside { IsBesidePairs table (map + count_offset) }
+    requires beside { IsOutsidePairs table (map + count_offset) }
     requires some { 0 < count_at (heap_of main.old) map }
     ensures { RemovesAt main.old main.new map table at }
 {

@@ -3,14 +3,14 @@ ghost use Rattle.std.specs.Prelude.{◌≡◌, ℕ, ◌<◌};
 ghost use Rattle.object_graph.specs.declared.value.Value.{Value as GraphValue};
 ghost use Rattle.object_graph.specs.Graphs.{Graph, WeakObject};
 ghost use Rattle.heap_model.specs.Slots.{reference_word};
-ghost use Rattle.write_barrier.specs.Mains.{heap_of, IsTied, MainShows};
-ghost use Rattle.object_cells.specs.CellsAt.{IsWhole};
+ghost use Rattle.write_barrier.specs.MutatorState.{heap_of, IsTied, MainShows};
+ghost use Rattle.object_cells.specs.CellsAt.{IsQuietWhole};
 ghost use Rattle.object_cells.specs.Contents.{HoldsSlotWord};
 ghost use Rattle.object_cells.specs.HeldValues.{IsValueHeld};
-ghost use Rattle.object_cells.specs.Made.{beside_content};
+ghost use Rattle.object_cells.specs.Made.{store_content};
 ghost use Rattle.ephemeron_table.specs.WeakObjects.{IsKeyAt, IsWeakAt};
 ghost use Rattle.ephemeron_table.specs.Probes.{IsTableAt};
-ghost use Rattle.weak_pairs.specs.Tables.{IsWithin, key_in, value_in};
+ghost use Rattle.weak_pairs.specs.Tables.{TableIsWithin, key_in, value_in};
 ghost use Rattle.ephemeron_table.specs.PairChanges.{PutsBoth};
 
 use crate::laws::laws_of_entries;
@@ -30,12 +30,12 @@ pub(crate) fn put_there(
     place: u32,
     value: Held,
 ) -> Result<(), TableStop>
-    requires whole { IsWhole main.old }
+    requires whole { IsQuietWhole main.old }
     requires tied { IsTied main.old }
-    requires within { IsWithin (heap_of main.old) table }
+    requires within { TableIsWithin (heap_of main.old) table }
     requires place { place < table.capacity }
     requires held { let word = value_in (heap_of main.old) table.at place in
-        HoldsSlotWord (heap_of main.old) word (beside_content value) }
+        HoldsSlotWord (heap_of main.old) word (store_content value) }
     ensures { (map key : ℕ) (graph : Graph) (weak : WeakObject) (number : ℕ) (what : GraphValue)
         → MainShows main.old graph → IsWeakAt main.old graph map weak
         → IsKeyAt main.old graph key number → IsValueHeld main.old graph value what

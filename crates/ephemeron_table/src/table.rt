@@ -2,8 +2,8 @@
 ghost use Rattle.std.specs.Prelude.{◌≡◌, ◌+◌, ◌<◌, ◌≤◌};
 ghost use Rattle.page_space.specs.Extents.{marks_start};
 ghost use Rattle.heap_table.specs.declared.phase.Phase.TheVariants.{Quiet};
-ghost use Rattle.write_barrier.specs.Mains.{heap_of};
-ghost use Rattle.object_cells.specs.CellsAt.{IsWhole};
+ghost use Rattle.write_barrier.specs.MutatorState.{heap_of};
+ghost use Rattle.object_cells.specs.CellsAt.{IsQuietWhole};
 ghost use Rattle.weak_pairs.specs.Tables as tables;
 ghost use Rattle.ephemeron_table.specs.Probes.{IsTableAt, IsWeakCellAt};
 
@@ -14,7 +14,7 @@ use write_barrier::Main;
 
 /// The table of the weak map at an address.
 pub(crate) fn table_of(main: &Main, map: u32) -> Table
-    requires whole { IsWhole main.now }
+    requires whole { IsQuietWhole main.now }
     requires there { IsWeakCellAt (heap_of main.now) map }
     ensures { IsTableAt (heap_of main.now) map result }
 {

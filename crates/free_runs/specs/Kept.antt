@@ -21,7 +21,7 @@ abbrev pub rows_in : all_inside.Inside → List (List Run)
 rows_in all = all.rows.items
 
 -- there are no more pages than there may be, each row is of its page, and the cursor is within the pages
-pub record IsKept (all : all_inside.Inside) : Type 0 where
+pub record IsValid (all : all_inside.Inside) : Type 0 where
   pub few : length all.rows.items ≤ pages_most
   pub free : AreFree all.rows.items
   pub cursor : all.cursor ≤ length all.rows.items

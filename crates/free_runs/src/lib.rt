@@ -38,11 +38,11 @@ impl Model for FreeRuns {
 
     ghost Value = { List (List Run) };
 
-    ghost use Rattle.free_runs.specs.Kept.{rows_in, IsKept};
+    ghost use Rattle.free_runs.specs.Kept.{rows_in, IsValid};
 
     ghost view = { rows_in };
 
-    ghost invariant = { IsKept };
+    ghost invariant = { IsValid };
 }
 
 /// The first page from one on, and before another, that has a run of so many words.

@@ -1,4 +1,4 @@
--- The limits of today let no object have more fields than 64.
+-- The limits let no object have more fields than 64.
 use Rattle.std.proofs.Common.{arith}
 use Rattle.object_graph.specs.Limits.{ideal_limits}
 use Rattle.graph_laws.specs.GraphLaws.{HasFieldLimit}

@@ -16,7 +16,7 @@ use Rattle.object_graph.specs.Reach.{is_marked, reach}
 use Rattle.object_graph.specs.Invariants.{IsValue, IsEntry, IsObject, IsGraph}
 use Rattle.object_graph.proofs.Leads.{Leads}
 use Rattle.graph_laws.specs.ReachLaws.{LinksTo, HasBound, IsClosed}
-use Rattle.graph_laws.specs.ReachAfter.{made_for, IsMade, OnlyMadeIsNew}
+use Rattle.graph_laws.specs.ReachAfter.{made_for, IsMadeBy, OnlyMadeIsNew}
 use Rattle.graph_laws.proofs.Held.{held_at}
 use Rattle.graph_laws.proofs.Reaches.{reach_has_bound, reach_closed, reach_least}
 use Rattle.graph_laws.proofs.Inside.{IsInside, EntryInside, ObjectInside, StaysInside}
@@ -35,7 +35,7 @@ reached_known graph command number marked =
 
 -- what is known is reached or made
 known_cases : (graph : Graph) (command : Command) (number : ℕ) → known graph command number ≡ true
-    → (is_marked (reach graph) number ≡ true) ⊎ IsMade graph command number
+    → (is_marked (reach graph) number ≡ true) ⊎ IsMadeBy graph command number
 known_cases graph command number is =
     let made = is_some (made_for command) && (number == length graph.objects) in
     elim (or_cases (is_marked (reach graph) number) made is) [

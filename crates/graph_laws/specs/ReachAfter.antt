@@ -25,8 +25,8 @@ made_for (command.Weak x) = Some x
 made_for _ = None
 
 -- the command makes an object, and this is its number
-abbrev pub IsMade : Graph → Command → ℕ → Type 0
-IsMade graph command number = IsTrue (is_some (made_for command)) × (number ≡ length graph.objects)
+abbrev pub IsMadeBy : Graph → Command → ℕ → Type 0
+IsMadeBy graph command number = IsTrue (is_some (made_for command)) × (number ≡ length graph.objects)
 
 -- what can be reached after a command could be reached before it, or is the object that the command made
 abbrev pub OnlyMadeIsNew : Type 0
@@ -34,7 +34,7 @@ OnlyMadeIsNew =
     (limits : Limits) (names : List (List ℕ)) (graph : Graph) (command : Command) (after : Graph) (text : List ℕ)
     (number : ℕ)
     → IsGraph graph → does limits names graph command ≡ done after text → IsTrue (is_marked (reach after) number)
-    → IsTrue (is_marked (reach graph) number) ⊎ IsMade graph command number
+    → IsTrue (is_marked (reach graph) number) ⊎ IsMadeBy graph command number
 
 -- the command's variable is bound to the object that a command made, so the object can be reached
 abbrev pub MadeIsReached : Type 0

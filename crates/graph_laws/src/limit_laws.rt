@@ -1,4 +1,4 @@
-//! A law of the limits that graphs of today have.
+//! A law of the limits that graphs have.
 ghost use Rattle.object_graph.specs.Limits.{ideal_limits};
 ghost use Rattle.graph_laws.specs.GraphLaws.{HasFieldLimit};
 

@@ -1,8 +1,5 @@
 //! Tests of what a heap script means: of `heap_command` and of the slow program of `ideal_graph`,
-//! over their public calls. It has no items of its own.
-//!
-//! Below: `heap_command`, `object_graph`, `ideal_graph`, and `script_text`, by which scripts stand
-//! here as text. Above: nothing.
+//! over their public calls. It has no items of its own. Scripts stand here as text.
 #![tactic(auto)]
 
 #[cfg(test)]

@@ -11,7 +11,7 @@ use Rattle.page_space.proofs.Limits.{words_count_most}
 use Rattle.handle_roots.specs.declared.held.Held.{Held}
 use Rattle.handle_roots.specs.declared.held.Held.TheVariants.{Unbound, Undefined, Int, Ref}
 use Rattle.handle_roots.specs.Roots.{root_at, FitsHeld, first_of, first_word}
-use Rattle.handle_roots.specs.Telling.{told, told_integer, told_by}
+use Rattle.handle_roots.specs.RootDecoding.{decoded, decoded_integer, decoded_by}
 
 -- both root words stand before the layout words
 pub root_before_layouts : (space : Space) (variable : ℕ) → variable < space.variables →
@@ -28,15 +28,15 @@ pub record HasClass (word : ℕ) (told_held : Option Held) : Type 0 where
   pub class : Class
   pub is_class : IsClass class
   pub bits : word ≡ bits_of class
-  pub tells : told_by class ≡ told_held
+  pub tells : decoded_by class ≡ told_held
 
 -- the first word of an integer has one
-class_of_integer : (b : Bool) (v : ℤ) → small v ≡ b → HasClass (first_of b v) (told_integer b v)
+class_of_integer : (b : Bool) (v : ℤ) → small v ≡ b → HasClass (first_of b v) (decoded_integer b v)
 class_of_integer true v is = record { class = Small v; is_class = is; bits = refl; tells = refl }
 class_of_integer false v is = record { class = Odd wide_code; is_class = omega arith; bits = refl; tells = refl }
 
 -- so has the first word of each value
-pub class_of_first : (held : Held) → FitsHeld held → HasClass (first_word held) (told held)
+pub class_of_first : (held : Held) → FitsHeld held → HasClass (first_word held) (decoded held)
 class_of_first Unbound fits = record { class = Odd unbound_code; is_class = omega arith; bits = refl; tells = refl }
 class_of_first Undefined fits = record { class = Odd undefined_code; is_class = omega arith; bits = refl; tells = refl }
 class_of_first (Int v) fits = class_of_integer (small v) v refl

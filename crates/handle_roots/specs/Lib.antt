@@ -1,3 +1,3 @@
 pub mod Roots
-pub mod Telling
+pub mod RootDecoding
 pub mod RootLaws

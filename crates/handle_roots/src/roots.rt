@@ -6,7 +6,7 @@ ghost use Rattle.handle_roots.specs.declared.held.Held.TheVariants.{Unbound};
 ghost use Rattle.handle_roots.specs.Roots.{root_at, FitsHeld, first_of, second_of, first_word};
 ghost use Rattle.handle_roots.specs.Roots.{second_word, Holds, IsRoot, with_root};
 ghost use Rattle.tagged_word.specs.Words.{small};
-ghost use Rattle.handle_roots.specs.Telling.{told, told_by};
+ghost use Rattle.handle_roots.specs.RootDecoding.{decoded, decoded_by};
 
 use crate::held::Held;
 use page_space::Regions;
@@ -77,7 +77,7 @@ pub fn hold<W: Words>(words: &mut W, regions: &Regions, variable: u32, value: He
     words.put(second_at(regions, variable), second(value));
 }
 
-// The address of the second root word of a variable.
+/// The address of the second root word of a variable.
 #[inline(always)]
 fn second_at(regions: &Regions, variable: u32) -> u32
     requires { variable < regions.now.variables }
@@ -89,19 +89,19 @@ fn second_at(regions: &Regions, variable: u32) -> u32
     regions.root_at(variable) + 1
 }
 
-// What a first root word tells by itself; none where the integer is in the second.
+/// What a first root word tells by itself; none where the integer is in the second.
 #[inline(always)]
 fn held_by_first(word: u64) -> Option<Held>
     requires { (held : Held) × FitsHeld held × (word ≡ first_word held) }
-    ensures { (held : Held) → FitsHeld held → word ≡ first_word held → result ≡ told held }
+    ensures { (held : Held) → FitsHeld held → word ≡ first_word held → result ≡ decoded held }
 {
     held_by_class(Word(word).known_class())
 }
 
-// What the class of a first root word tells.
+/// What the class of a first root word tells.
 #[inline(always)]
 fn held_by_class(class: Class) -> Option<Held>
-    ensures { result ≡ told_by class }
+    ensures { result ≡ decoded_by class }
 {
     match class {
         Class::Small(v) => Some(Held::Int(v as i64)),
@@ -112,7 +112,7 @@ fn held_by_class(class: Class) -> Option<Held>
     }
 }
 
-// The first root word of a value.
+/// The first root word of a value.
 #[inline(always)]
 fn first(value: Held) -> u64
     ensures { result ≡ first_word value }
@@ -125,7 +125,7 @@ fn first(value: Held) -> u64
     }
 }
 
-// The first root word of an integer.
+/// The first root word of an integer.
 #[inline(always)]
 fn first_of_integer(v: i64) -> u64
     ensures { result ≡ first_of (small v) v }
@@ -136,7 +136,7 @@ fn first_of_integer(v: i64) -> u64
     }
 }
 
-// The second root word of a value.
+/// The second root word of a value.
 #[inline(always)]
 fn second(value: Held) -> u64
     ensures { result ≡ second_word value }
@@ -147,7 +147,7 @@ fn second(value: Held) -> u64
     }
 }
 
-// The second root word of an integer.
+/// The second root word of an integer.
 #[inline(always)]
 fn second_of_integer(v: i64) -> u64
     ensures { result ≡ second_of (small v) v }

@@ -4,7 +4,7 @@ use Rattle.std.proofs.Common.{inl, inr, arith}
 use Rattle.std.proofs.lemmas.Bool.{cases_lt}
 use Rattle.std.proofs.lemmas.List.Elements.{All-contains}
 use Rattle.tagged_word.proofs.Members.{in_map}
-use Rattle.page_space.specs.Extents.{Extent, Holds, CellsEndAt, roots_start}
+use Rattle.page_space.specs.Extents.{Extent, ContainsAddress, CellsEndAt, roots_start}
 use Rattle.page_space.specs.RegionLaws.{IsSpace}
 use Rattle.page_space.proofs.Covering.{disjoint}
 use Rattle.heap_model.specs.Heaps.{Heap, Row, IsUsedRow, cell_extents}
@@ -42,7 +42,7 @@ blank_more heap at end limits cells to blank =
         | inl early ↦ to.blank row among used early
         | inr from ↦
             let there = cell_extent_stands heap.space row.extent among in
-            let here : Holds stands.extent row.extent.start = record {
+            let here : ContainsAddress stands.extent row.extent.start = record {
               from = omega (arith, from, stands.starts);
               below = omega (arith, below, stands.ends);
             } in

@@ -3,22 +3,21 @@ use Rattle.std.proofs.Common.{◌≡◌, ℕ, ◌+◌, ◌-◌, ◌≤◌, ◌<�
 use Rattle.std.proofs.Common.{sym, ◌∙◌, ap, subst, arith}
 use Rattle.std.proofs.lemmas.Bool.{cases_lt}
 use Rattle.std.proofs.lemmas.List.Elements.{All-contains}
-use Rattle.page_space.specs.declared.region.Region.{Region}
-use Rattle.page_space.specs.Extents.{Space, Stretch, Extent, Holds, StartsAt, CellsEndAt, words_in, extents}
+use Rattle.heap_model.specs.Types.{Region, Cell}
+use Rattle.page_space.specs.Extents.{Space, Stretch, Extent, ContainsAddress, StartsAt, CellsEndAt, words_in, extents}
 use Rattle.page_space.specs.Extents.{cell_stretches, root_stretches, layout_stretches, mark_stretches, board_stretches}
 use Rattle.page_space.specs.Extents.{extents_from, roots_start}
 use Rattle.page_space.proofs.Stretches.{words_in-append, stands_cases}
 use Rattle.page_space.proofs.Covering.{between, disjoint}
 use Rattle.page_space.proofs.LawsHold.{regions_stand_once}
 use Rattle.page_space.proofs.CellEnds.{before_end, end_before_roots}
-use Rattle.cell_layout.specs.declared.cell.Cell.{Cell}
 use Rattle.cell_layout.proofs.Rows.{cell_within, row_ascends}
 use Rattle.heap_model.specs.Heaps.{Heap, Row, IsUsedRow, HasCell, cell_extents}
 use Rattle.heap_model.specs.Wholeness.{HasRows}
 use Rattle.heap_model.proofs.RowEnds.{one_used_row}
 use Rattle.heap_model.proofs.CellsApart.{IsOfCell, first_of_cell, cell_extent_stands, ends_within, used_few}
 use Rattle.heap_model.proofs.CellsApart.{cells_apart}
-use Rattle.heap_check.specs.Onward.{IsBoundary}
+use Rattle.heap_check.specs.NextCell.{IsBoundary}
 use Rattle.heap_check.proofs.CountedRows.{row_at}
 
 -- a region begins in one place
@@ -62,7 +61,7 @@ pub record RowThere (heap : Heap) (at end : ℕ) : Type 0 where
   pub row : Row
   pub among : Contains (cell_extents heap.space) row.extent
   pub used : IsUsedRow heap row
-  pub holds : Holds row.extent at
+  pub holds : ContainsAddress row.extent at
   pub ends : row.extent.start + row.extent.words ≡ end
 
 -- with whole rows there is one
@@ -77,13 +76,13 @@ row_there heap at end rows cells =
       row = found.0;
       among = subst (Contains (cell_extents heap.space)) same among;
       used = All-contains (IsUsedRow heap) rows.rows found.0 rows.are.each found.1;
-      holds = subst (λ (e : Extent). Holds e at) same cells.holds;
+      holds = subst (λ (e : Extent). ContainsAddress e at) same cells.holds;
       ends = ap (λ (e : Extent). e.start + e.words) found.2 ∙ cells.ends;
     }
 
 -- the region of a cell's row holds the addresses of the cell
 cell_in_region : {heap : Heap} {cell : Cell} {words : List ℕ} (at : ℕ) → HasRows heap → (has : HasCell heap cell words)
-    → cell.at ≤ at → at < cell.at + cell.size → Holds has.row.extent at
+    → cell.at ≤ at → at < cell.at + cell.size → ContainsAddress has.row.extent at
 cell_in_region {heap} {cell} at rows has from below =
     let row = has.row in
     let within = cell_within heap.space heap.words row.extent.start row.end row.cells cell has.used.stands has.in_row in
@@ -92,7 +91,8 @@ cell_in_region {heap} {cell} at rows has from below =
 
 -- a cell with an address in the region of a used row ends where the row does, or before
 pub cell_in_row : {heap : Heap} {cell : Cell} {words : List ℕ} (row : Row) (at : ℕ) → HasRows heap
-    → HasCell heap cell words → Contains (cell_extents heap.space) row.extent → IsUsedRow heap row → Holds row.extent at
+    → HasCell heap cell words → Contains (cell_extents heap.space) row.extent → IsUsedRow heap row
+    → ContainsAddress row.extent at
     → cell.at ≤ at → at < cell.at + cell.size → cell.at + cell.size ≤ row.end
 cell_in_row {heap} {cell} row at rows has among used holds from below =
     let own = has.row in
@@ -103,7 +103,7 @@ cell_in_row {heap} {cell} row at rows has among used holds from below =
     omega (arith, within.1, (one_used_row heap own row has.used used same).end)
 
 -- where the address before another is in its region too, or else the region begins there
-reached_from : (heap : Heap) (row : Row) (at : ℕ) → IsUsedRow heap row → Holds row.extent at
+reached_from : (heap : Heap) (row : Row) (at : ℕ) → IsUsedRow heap row → ContainsAddress row.extent at
     → (row.extent.start < at → at ≤ row.end) → at ≤ row.end
 reached_from heap row at used holds inside =
     elim (cases_lt row.extent.start at) [
@@ -136,7 +136,7 @@ boundary_behind heap cell words rows has =
         | inr within ↦ within
       ];
       reached = λ row among used holds. reached_from heap row at used holds (λ within.
-          let inside : Holds row.extent last = record { from = omega arith; below = omega (arith, holds.below) } in
+          let inside : ContainsAddress row.extent last = record { from = omega arith; below = omega (arith, holds.below) } in
           cell_in_row row last rows has among used inside (omega arith) (omega arith));
     }
 
@@ -147,7 +147,7 @@ boundary_end heap at end rows cells =
     let there = row_there heap at end rows cells in
     let extent = there.row.extent in
     let ahead = before_end heap.space at end cells in
-    let inside : Holds extent last =
+    let inside : ContainsAddress extent last =
     record { from = omega (arith, there.holds.from, ahead); below = omega (arith, there.ends, ahead) } in
     let ends = ends_within heap there.row (used_few rows) there.among there.used in
     record {
@@ -159,7 +159,7 @@ boundary_end heap at end rows cells =
         | inr within ↦ within
       ];
       reached = λ row among used holds. reached_from heap row end used holds (λ within.
-          let inside_too : Holds row.extent last = record { from = omega arith; below = omega (arith, holds.below) } in
+          let inside_too : ContainsAddress row.extent last = record { from = omega arith; below = omega (arith, holds.below) } in
           let same : row.extent ≡ extent =
           disjoint heap.space row.extent extent last (cell_extent_stands heap.space row.extent among)
           (cell_extent_stands heap.space extent there.among) inside_too inside in

@@ -2,12 +2,11 @@
 use Rattle.std.proofs.Common.{◌≡◌, ℕ, ◌+◌, ◌≤◌, ◌<◌, ◌⊎◌, inl, inr, List, Option, Some, None, refl}
 use Rattle.std.proofs.Common.{sym, subst, arith, MatchOption, slice_get}
 use Rattle.std.proofs.lemmas.Bool.{cases_lt}
-use Rattle.page_space.specs.declared.region.Region.{Region}
+use Rattle.heap_model.specs.Types.{Region, Cell}
 use Rattle.page_space.specs.declared.region.Region.TheVariants.{Page, Eden, Segment, Root, Layout, Mark, Board, Outside}
-use Rattle.page_space.specs.Extents.{Extent, Holds, CellsEndAt, roots_start}
+use Rattle.page_space.specs.Extents.{Extent, ContainsAddress, CellsEndAt, roots_start}
 use Rattle.page_space.proofs.CellEnds.{before_end}
 use Rattle.page_space.proofs.Covering.{disjoint}
-use Rattle.cell_layout.specs.declared.cell.Cell.{Cell}
 use Rattle.cell_layout.specs.Cells.{IsCell, HasNoCell}
 use Rattle.cell_layout.proofs.OneCell.{one_cell}
 use Rattle.heap_model.specs.Heaps.{Heap, EndsUsed, HasCell}
@@ -19,7 +18,7 @@ use Rattle.heap_model.proofs.RowCovers.{covered}
 use Rattle.heap_model.proofs.WordsAlike.{cell_below_roots}
 use Rattle.heap_check.specs.Finding.{HasNoCellFrom, HasNoCellOf}
 use Rattle.heap_check.specs.Spans.{StandsIn}
-use Rattle.heap_check.specs.Onward.{IsBoundary, IsUsedAt, IsNextCell}
+use Rattle.heap_check.specs.NextCell.{IsBoundary, IsUsedAt, IsNextCell}
 use Rattle.heap_check.proofs.Boundaries.{RowThere, row_there, cell_in_row, boundary_behind, boundary_end}
 
 -- before the end of the row a cell stands at the address
@@ -42,7 +41,7 @@ none_there : (heap : Heap) (at end : ℕ) (there : RowThere heap at end) → Has
     → HasNoCellOf heap at end at
 none_there heap at end there rows past cell words has from below =
     let row = there.row in
-    let holds : Holds row.extent cell.at =
+    let holds : ContainsAddress row.extent cell.at =
     record { from = omega (arith, there.holds.from, from); below = omega (arith, there.ends, below) } in
     let some = (first_of_cell has).below in
     let within = cell_in_row row cell.at rows has there.among there.used holds (omega arith) some in

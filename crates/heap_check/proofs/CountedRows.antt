@@ -6,7 +6,7 @@ use Rattle.std.proofs.lemmas.List.{map-append}
 use Rattle.std.proofs.lemmas.List.Sums.{sum_by-append, sum_by-cons}
 use Rattle.std.proofs.lemmas.List.Elements.{All-nil, All-push, All-contains, All-head, All-tail}
 use Rattle.tagged_word.proofs.Members.{map_from}
-use Rattle.page_space.specs.declared.region.Region.{Region}
+use Rattle.heap_model.specs.Types.{Region}
 use Rattle.page_space.specs.Extents.{Extent, CellsEndAt, extents_from, words_in, roots_start}
 use Rattle.page_space.specs.RegionLaws.{IsSpace}
 use Rattle.page_space.proofs.Stretches.{extents_from-append}

@@ -10,9 +10,9 @@ use Rattle.object_graph.specs.Meaning.{list_most}
 use Rattle.heap_model.specs.Heaps.{Heap}
 use Rattle.heap_model.specs.Kinds.{HasWord, HoldValues, IsListCell, count_offset}
 use Rattle.heap_check.specs.declared.spans.Span.{Span}
-use Rattle.heap_check.specs.Spans.{EachWord, span_words, IsBesideAs}
+use Rattle.heap_check.specs.Spans.{EachWord, span_words, SpansStore}
 use Rattle.heap_check.specs.Elements.{IsElement}
-use Rattle.heap_check.proofs.SlotsBeside.{beside_is_span}
+use Rattle.heap_check.proofs.StoreSlots.{beside_is_span}
 
 -- the slots hold elements, as many as they are, each in its place
 abbrev pub AreElements : Heap → ℕ → List ℕ → Type 0
@@ -45,7 +45,7 @@ hold_values_to heap count slots hold at word there = elim (cases_lt at count) [
 
 -- a list is one by its two words and the slots of its store
 pub list_from : (heap : Heap) (words : List ℕ) (store count : ℕ) (span : Span) → HasWord words store_slot store
-    → HasWord words count_offset count → count ≤ list_most → IsBesideAs heap kind.Store store span
+    → HasWord words count_offset count → count ≤ list_most → SpansStore heap kind.Store store span
     → HoldValues heap count (span_words heap span) → IsListCell heap words
 list_from heap words store count span slot counted few beside hold = record {
   store = store;
@@ -60,7 +60,7 @@ list_from heap words store count span slot counted few beside hold = record {
 
 -- and then these slots hold its elements
 pub list_to : (heap : Heap) (words : List ℕ) (store count : ℕ) (span : Span) → HasWord words store_slot store
-    → HasWord words count_offset count → IsBesideAs heap kind.Store store span → IsListCell heap words
+    → HasWord words count_offset count → SpansStore heap kind.Store store span → IsListCell heap words
     → HoldValues heap count (span_words heap span)
 list_to heap words store count span slot counted beside list =
     let same_count : list.count ≡ count = same_Some _ _ (sym list.counted ∙ counted) in

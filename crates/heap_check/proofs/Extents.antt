@@ -1,8 +1,8 @@
 -- The regions of cells by their first addresses.
 use Rattle.std.proofs.Common.{◌≡◌, ◌<◌, Contains, refl, ap, subst, arith, IsTrue}
-use Rattle.page_space.specs.declared.region.Region.{Region}
+use Rattle.heap_model.specs.Types.{Region}
 use Rattle.page_space.specs.declared.region.Region.TheVariants.{Page, Eden, Segment, Root, Layout, Mark, Board, Outside}
-use Rattle.page_space.specs.Extents.{Space, Extent, Holds, IsIn, IsRegion, StartsAt, extents, is_cell_region}
+use Rattle.page_space.specs.Extents.{Space, Extent, ContainsAddress, IsIn, IsRegion, StartsAt, extents, is_cell_region}
 use Rattle.page_space.specs.Extents.{roots_start}
 use Rattle.page_space.specs.RegionLaws.{IsSpace}
 use Rattle.page_space.proofs.LawsHold.{starts_are_inside, regions_stand_once}
@@ -15,7 +15,7 @@ use Rattle.heap_model.proofs.WordsAlike.{extent_below_roots}
 
 -- a region holds its first address
 pub holds_first : (space : Space) (extent : Extent) → IsSpace space → Contains (extents space) extent
-    → Holds extent extent.start
+    → ContainsAddress extent extent.start
 holds_first space extent within there =
     let starts : StartsAt space extent.region extent.start =
     record { extent = extent; stands = there; of_region = refl; starts = refl } in
@@ -23,7 +23,7 @@ holds_first space extent within there =
     starts_are_inside space extent.region extent.start within starts in
     let same : inside.extent ≡ extent =
     regions_stand_once space inside.extent extent inside.stands there inside.of_region in
-    subst (λ (one : Extent). Holds one extent.start) same inside.holds
+    subst (λ (one : Extent). ContainsAddress one extent.start) same inside.holds
 
 -- what begins before the roots is a region of cells, kind by kind
 before_roots : (space : Space) (region : Region) → IsRegion space region → start_of space region < roots_start space

@@ -2,15 +2,14 @@
 use Rattle.std.proofs.Common.{◌≡◌, ℕ, ◌≤◌, List, ◌++◌, length, drop, sym, ◌∙◌, ap, subst}
 use Rattle.tagged_word.specs.declared.layout.Kind.TheVariants as kind
 use Rattle.tagged_word.specs.Cells.{store_slot, plain_head}
-use Rattle.object_graph.specs.declared.path.Path.{Path}
+use Rattle.heap_model.specs.Types.{Path, Cell}
 use Rattle.shape_tree.specs.Shapes.{IsPathShape, shape_path}
-use Rattle.cell_layout.specs.declared.cell.Cell.{Cell}
 use Rattle.heap_model.specs.Heaps.{Heap}
 use Rattle.heap_model.specs.Kinds.{HasWord, HasSlots, HoldFields, IsPlainCell}
 use Rattle.heap_check.specs.declared.spans.Span.{Span}
-use Rattle.heap_check.specs.Spans.{EachWord, span_words, IsBesideAs}
+use Rattle.heap_check.specs.Spans.{EachWord, span_words, SpansStore}
 use Rattle.heap_check.specs.PathSlots.{FitsSlot}
-use Rattle.heap_check.proofs.SlotsBeside.{beside_is_span}
+use Rattle.heap_check.proofs.StoreSlots.{beside_is_span}
 
 -- where each slot holds what it may, the slots hold the fields
 pub hold_fields_from : (heap : Heap) (path : Path) (slots : List ℕ) → length path.fields ≤ length slots
@@ -30,7 +29,7 @@ hold_fields_to heap path slots hold at word there =
 -- a plain object is one by its shape, its own slots and those beside them
 pub plain_from : (heap : Heap) (cell : Cell) (words : List ℕ) (store : ℕ) (own beside : Span)
     → IsPathShape heap.paths cell.header.shape → HasWord words store_slot store
-    → span_words heap own ≡ drop plain_head words → IsBesideAs heap kind.Store store beside
+    → span_words heap own ≡ drop plain_head words → SpansStore heap kind.Store store beside
     → HoldFields heap (shape_path heap.paths cell.header.shape) (span_words heap own ++ span_words heap beside)
     → IsPlainCell heap cell words
 plain_from heap cell words store own beside shape slot own_are stands hold = record {
@@ -48,7 +47,7 @@ plain_from heap cell words store own beside shape slot own_are stands hold = rec
 
 -- the slots of an object are its own and those beside them
 pub slots_are : {heap : Heap} {words slots : List ℕ} (store : ℕ) (own beside : Span) → HasWord words store_slot store
-    → span_words heap own ≡ drop plain_head words → IsBesideAs heap kind.Store store beside → HasSlots heap words slots
+    → span_words heap own ≡ drop plain_head words → SpansStore heap kind.Store store beside → HasSlots heap words slots
     → slots ≡ span_words heap own ++ span_words heap beside
 slots_are {heap} {words} store own beside slot own_are stands has =
     let same = beside_is_span words store_slot store has.store beside slot has.slot stands has.stands in
@@ -58,7 +57,7 @@ slots_are {heap} {words} store own beside slot own_are stands has =
 -- and then these slots hold its fields
 pub plain_to : (heap : Heap) (cell : Cell) (words : List ℕ) (store : ℕ) (own beside : Span)
     → HasWord words store_slot store → span_words heap own ≡ drop plain_head words
-    → IsBesideAs heap kind.Store store beside → IsPlainCell heap cell words
+    → SpansStore heap kind.Store store beside → IsPlainCell heap cell words
     → HoldFields heap (shape_path heap.paths cell.header.shape) (span_words heap own ++ span_words heap beside)
 plain_to heap cell words store own beside slot own_are stands plain =
     subst (HoldFields heap (shape_path heap.paths cell.header.shape))

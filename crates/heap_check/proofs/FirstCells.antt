@@ -3,9 +3,9 @@ use Rattle.std.proofs.Common.{◌≡◌, ℕ, ◌≤◌, ◌<◌, List, Contains
 use Rattle.std.proofs.Common.{inr, arith}
 use Rattle.std.proofs.lemmas.Bool.{cases_lt}
 use Rattle.std.proofs.lemmas.List.Elements.{All-contains}
-use Rattle.page_space.specs.Extents.{Extent, Holds}
+use Rattle.page_space.specs.Extents.{Extent, ContainsAddress}
 use Rattle.page_space.proofs.Covering.{disjoint}
-use Rattle.cell_layout.specs.declared.cell.Cell.{Cell}
+use Rattle.heap_model.specs.Types.{Cell}
 use Rattle.cell_layout.specs.Cells.{IsRow}
 use Rattle.cell_layout.proofs.Rows.{cell_within}
 use Rattle.heap_model.specs.Heaps.{Heap, Row, IsUsedRow, HasCell, cell_extents, words_of_cell}
@@ -56,9 +56,9 @@ walks_to heap start end bound cell words rows stands bounds has from below =
     let within = cell_within heap.space heap.words row.extent.start row.end row.cells cell has.used.stands has.in_row in
     let ends = ends_within heap row (used_few rows) has.in_region has.used in
     let some = (first_of_cell has).below in
-    let here : Holds row.extent cell.at =
+    let here : ContainsAddress row.extent cell.at =
     record { from = within.0; below = omega (arith, within.1, ends, some) } in
-    let here_too : Holds stands.extent cell.at =
+    let here_too : ContainsAddress stands.extent cell.at =
     record { from = omega (arith, from, stands.starts); below = omega (arith, below, stands.ends) } in
     let same : row.extent ≡ stands.extent =
     disjoint heap.space row.extent stands.extent cell.at (cell_extent_stands heap.space row.extent has.in_region)

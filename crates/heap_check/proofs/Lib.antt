@@ -9,7 +9,7 @@ pub mod RootReadings
 pub mod SpanWords
 pub mod WordSorts
 pub mod SlotKinds
-pub mod SlotsBeside
+pub mod StoreSlots
 pub mod Boundaries
 pub mod RegionStarts
 pub mod CellsOnward

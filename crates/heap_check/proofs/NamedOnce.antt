@@ -3,13 +3,13 @@ use Rattle.std.proofs.Common.{◌≡◌, ℕ, ◌+◌, ◌<◌, inl, inr, Bool, 
 use Rattle.std.proofs.Common.{◌↔◌, IsTrue, refl, sym, ◌∙◌, ap, subst}
 use Rattle.std.proofs.lemmas.Bool.{false≢true}
 use Rattle.std.proofs.lemmas.Option.{none-some, same_Some}
-use Rattle.cell_layout.specs.declared.cell.Cell.{Cell}
+use Rattle.heap_model.specs.Types.{Cell}
 use Rattle.heap_model.specs.Heaps.{Heap, HasCell, words_of_cell}
 use Rattle.heap_model.specs.Slots.{reference_word}
 use Rattle.heap_model.specs.Wholeness.{HasRows, HasSlotAt, IsOwnedKind, NamesFrom, IsOwned}
 use Rattle.heap_check.specs.Finding.{HasNoCellFrom}
 use Rattle.heap_check.specs.Spans.{StandsIn}
-use Rattle.heap_check.specs.Onward.{IsNextCell}
+use Rattle.heap_check.specs.NextCell.{IsNextCell}
 use Rattle.heap_check.specs.Naming.{IsOtherOf, IsSomeSlot, IsNamedOnce, HasOneOwner}
 use Rattle.heap_check.proofs.CellsOnward.{passed_or_next}
 

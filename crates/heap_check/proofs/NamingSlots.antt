@@ -6,7 +6,7 @@ use Rattle.std.proofs.lemmas.Option.{none-some, same_Some}
 use Rattle.tagged_word.specs.Cells.{scavenge_offsets}
 use Rattle.page_space.specs.Extents.{words_count}
 use Rattle.page_space.proofs.Starts.{board_start_is, words_count_is}
-use Rattle.cell_layout.specs.declared.cell.Cell.{Cell}
+use Rattle.heap_model.specs.Types.{Cell}
 use Rattle.cell_layout.specs.Cells.{IsCell}
 use Rattle.cell_layout.specs.Slots.{IsLeastFrom}
 use Rattle.cell_layout.proofs.OneCell.{slots_lie_within}
@@ -15,7 +15,7 @@ use Rattle.heap_model.specs.Slots.{reference_word}
 use Rattle.heap_model.specs.Wholeness.{HasRows}
 use Rattle.heap_check.specs.Walks.{HasWords}
 use Rattle.heap_check.specs.Spans.{StandsIn}
-use Rattle.heap_check.specs.Onward.{IsNextCell}
+use Rattle.heap_check.specs.NextCell.{IsNextCell}
 use Rattle.heap_check.specs.Naming.{RefersFrom, IsSlotOfObject}
 use Rattle.heap_check.proofs.CellsOnward.{passed_or_next}
 

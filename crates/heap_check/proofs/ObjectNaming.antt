@@ -6,7 +6,7 @@ use Rattle.tagged_word.specs.Cells.{store_slot, scavenge_offsets}
 use Rattle.tagged_word.specs.Readings.{reference_in}
 use Rattle.tagged_word.proofs.Readings.{reference_from, reference_to}
 use Rattle.page_space.specs.Extents.{words_count}
-use Rattle.cell_layout.specs.declared.cell.Cell.{Cell}
+use Rattle.heap_model.specs.Types.{Cell}
 use Rattle.cell_layout.specs.Cells.{IsCell}
 use Rattle.cell_layout.proofs.OneCell.{one_cell, slots_lie_within}
 use Rattle.heap_model.specs.Heaps.{Heap, HasCell, words_of_cell}

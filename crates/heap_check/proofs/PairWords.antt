@@ -4,19 +4,19 @@ use Rattle.std.proofs.Common.{length, drop, Some, slice_get, refl, sym, ◌∙�
 use Rattle.std.proofs.lemmas.Option.{none-some, same_Some}
 use Rattle.tagged_word.specs.declared.layout.Kind.TheVariants as kind
 use Rattle.tagged_word.specs.Cells.{store_head}
-use Rattle.cell_layout.specs.declared.cell.Cell.{Cell}
+use Rattle.heap_model.specs.Types.{Cell}
 use Rattle.heap_model.specs.Heaps.{Heap, words_of_cell}
-use Rattle.heap_model.specs.Slots.{undefined_word, RefersTo, IsBeside}
+use Rattle.heap_model.specs.Slots.{undefined_word, RefersTo, HoldsStore}
 use Rattle.heap_model.specs.Kinds.{Pair, pairs_in, IsPowerOfTwo, HasTable}
 use Rattle.heap_model.proofs.CellWords.{words_by_kind}
 use Rattle.heap_model.proofs.SlotWords.{same_target}
 use Rattle.heap_model.proofs.WordClasses.{undefined_refers_not}
 use Rattle.heap_model.proofs.PairLists.{length-pairs_in}
 use Rattle.heap_check.specs.declared.spans.Span.{Span}
-use Rattle.heap_check.specs.Spans.{span_words, IsSpan, IsBesideAs, HasNoBeside}
+use Rattle.heap_check.specs.Spans.{span_words, IsSpan, SpansStore, HoldsNoStore}
 use Rattle.heap_check.specs.TablePairs.{table_pairs, HasNoTable}
 use Rattle.heap_check.proofs.SpanWords.{length-span}
-use Rattle.heap_check.proofs.SlotsBeside.{Beside, beside_is, target_stands}
+use Rattle.heap_check.proofs.StoreSlots.{HasStoreSlots, beside_is, target_stands}
 
 -- so it is of a table
 pub length-table_pairs : (heap : Heap) (table : Span) → IsSpan heap table
@@ -43,17 +43,17 @@ pair_of_words (one ∷ two ∷ words) (suc at) (suc (suc place)) key value is fi
     pair_of_words words at place key value (omega arith) first second
 
 -- What a word says of a weak table: there is none, or its pairs are those of a table of a power of two.
-pub data TableBeside (heap : Heap) (word : ℕ) (pairs : List Pair) : Type 0 where
-  no_table : word ≡ undefined_word → pairs ≡ [] → TableBeside heap word pairs
+pub data HasTablePairs (heap : Heap) (word : ℕ) (pairs : List Pair) : Type 0 where
+  no_table : word ≡ undefined_word → pairs ≡ [] → HasTablePairs heap word pairs
   to_table : (cell : Cell) → RefersTo heap word cell (words_of_cell heap cell) → cell.layout.kind ≡ kind.Table
       → IsPowerOfTwo cell.length → pairs ≡ pairs_in (drop store_head (words_of_cell heap cell))
-      → TableBeside heap word pairs
+      → HasTablePairs heap word pairs
 
 -- the table of a weak map is such
-pub table_is : {heap : Heap} {word : ℕ} {pairs : List Pair} → HasTable heap word pairs → TableBeside heap word pairs
-table_is HasTable.none = TableBeside.no_table refl refl
+pub table_is : {heap : Heap} {word : ℕ} {pairs : List Pair} → HasTable heap word pairs → HasTablePairs heap word pairs
+table_is HasTable.none = HasTablePairs.no_table refl refl
 table_is (HasTable.table to cell words refers is power) =
-    TableBeside.to_table cell (target_stands refers) is power
+    HasTablePairs.to_table cell (target_stands refers) is power
     (ap (λ all. pairs_in (drop store_head all)) (sym refers.has.words_are))
 
 -- a table of a span has half as many pairs as the span has words
@@ -71,15 +71,15 @@ table_capacity heap word cell table refers is there are =
     )
 
 -- the pairs of a span of slots are those of a table, if there is none or its capacity is a power of two
-pub table_from : (heap : Heap) (word : ℕ) (table : Span) → IsBesideAs heap kind.Table word table
+pub table_from : (heap : Heap) (word : ℕ) (table : Span) → SpansStore heap kind.Table word table
     → (word ≡ undefined_word) ⊎ IsPowerOfTwo ((table.end - table.from) / 2)
     → HasTable heap word (table_pairs heap table)
 table_from heap word table beside power = elim (beside_is beside.beside) [
-  | Beside.none undefined are ↦
+  | HasStoreSlots.none undefined are ↦
       let pairs : table_pairs heap table ≡ [] = ap pairs_in are in
       subst (λ w. HasTable heap w (table_pairs heap table)) (sym undefined)
       (subst (HasTable heap undefined_word) (sym pairs) HasTable.none)
-  | Beside.store cell refers is are ↦ elim power [
+  | HasStoreSlots.store cell refers is are ↦ elim power [
     | inl undefined ↦ absurd (undefined_refers_not cell.at (sym undefined ∙ refers.refers))
     | inr some ↦
         let same = table_capacity heap word cell table refers is beside.is are in
@@ -89,22 +89,22 @@ table_from heap word table beside power = elim (beside_is beside.beside) [
 ]
 
 -- where a word refers to no table of slots, it refers to none of pairs
-pub no_slots_no_table : (heap : Heap) (word : ℕ) → HasNoBeside heap kind.Table word → HasNoTable heap word
+pub no_slots_no_table : (heap : Heap) (word : ℕ) → HoldsNoStore heap kind.Table word → HasNoTable heap word
 no_slots_no_table heap word none pairs has = elim (table_is has) [
-  | TableBeside.no_table undefined are ↦
-      none [] (subst (λ w. IsBeside heap kind.Table w []) (sym undefined) IsBeside.none)
-  | TableBeside.to_table cell refers is power are ↦
-      none (drop store_head (words_of_cell heap cell)) (IsBeside.store word cell (words_of_cell heap cell) refers is)
+  | HasTablePairs.no_table undefined are ↦
+      none [] (subst (λ w. HoldsStore heap kind.Table w []) (sym undefined) HoldsStore.none)
+  | HasTablePairs.to_table cell refers is power are ↦
+      none (drop store_head (words_of_cell heap cell)) (HoldsStore.store word cell (words_of_cell heap cell) refers is)
 ]
 
 -- nor where its capacity is no power of two
-pub no_power_no_table : (heap : Heap) (word : ℕ) (table : Span) → IsBesideAs heap kind.Table word table
+pub no_power_no_table : (heap : Heap) (word : ℕ) (table : Span) → SpansStore heap kind.Table word table
     → (word ≡ undefined_word → ⊥) → (IsPowerOfTwo ((table.end - table.from) / 2) → ⊥) → HasNoTable heap word
 no_power_no_table heap word table beside some odd pairs has = elim (table_is has) [
-  | TableBeside.no_table undefined are ↦ some undefined
-  | TableBeside.to_table cell refers is power are ↦ elim (beside_is beside.beside) [
-    | Beside.none undefined none ↦ some undefined
-    | Beside.store one refers_one is_one are_one ↦
+  | HasTablePairs.no_table undefined are ↦ some undefined
+  | HasTablePairs.to_table cell refers is power are ↦ elim (beside_is beside.beside) [
+    | HasStoreSlots.none undefined none ↦ some undefined
+    | HasStoreSlots.store one refers_one is_one are_one ↦
         let same = ap (λ (c : Cell). c.length) (same_target refers refers_one) in
         let capacity = table_capacity heap word one table refers_one is_one beside.is are_one in
         odd (subst IsPowerOfTwo (same ∙ capacity) power)

@@ -1,6 +1,6 @@
 -- Where the region of cells begins that an address is in.
 use Rattle.std.proofs.Common.{◌≡◌, ℕ, ◌≤◌, sym, ◌∙◌, ap, arith}
-use Rattle.page_space.specs.declared.region.Region.{Region}
+use Rattle.heap_model.specs.Types.{Region}
 use Rattle.page_space.specs.Extents.{Space, Extent, IsIn, StartsAt, CellsEndAt}
 use Rattle.page_space.proofs.Covering.{disjoint}
 use Rattle.page_space.proofs.CellEnds.{before_end, end_before_roots}

@@ -6,11 +6,10 @@ use Rattle.std.specs.Prelude.{FitsSigned, pos, negsuc}
 use Rattle.std.specs.Int.{w64, cast_signed}
 use Rattle.std.proofs.lemmas.Int.{to_z-of_z, fits_signed_from_abs}
 use Rattle.std.proofs.Math.Facts.{sfits_to_z, of_z-to_z}
-use Rattle.tagged_word.specs.declared.word.Class.{Class}
+use Rattle.heap_model.specs.Types.{Class, Held}
 use Rattle.tagged_word.specs.declared.word.Class.TheVariants.{Small, Ref, Odd}
 use Rattle.tagged_word.specs.Words.{small, IsClass, bits_of}
 use Rattle.tagged_word.specs.Odds.{undefined_code, unbound_code, wide_code}
-use Rattle.handle_roots.specs.declared.held.Held.{Held}
 use Rattle.handle_roots.specs.declared.held.Held.TheVariants as held
 use Rattle.handle_roots.specs.Roots.{FitsHeld, first_word, second_word, first_of, second_of}
 use Rattle.heap_model.specs.Heaps.{Heap}

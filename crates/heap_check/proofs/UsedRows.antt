@@ -2,7 +2,7 @@
 use Rattle.std.proofs.Common.{◌≡◌, ℕ, ◌+◌, ◌-◌, ◌≤◌, ◌<◌, inl, inr, List, Contains, false}
 use Rattle.std.proofs.Common.{refl, sym, ◌∙◌, ap, subst, arith, IsTrue}
 use Rattle.std.proofs.lemmas.Bool.{false≢true}
-use Rattle.page_space.specs.declared.region.Region.{Region}
+use Rattle.heap_model.specs.Types.{Region, Cell}
 use Rattle.page_space.specs.declared.region.Region.TheVariants.{Page, Eden, Segment, Root, Layout, Mark, Board, Outside}
 use Rattle.page_space.specs.Extents.{Space, Extent, IsIn, is_cell_region, words_count}
 use Rattle.page_space.specs.RegionLaws.{IsSpace}
@@ -10,7 +10,6 @@ use Rattle.page_space.proofs.Placed.{placed}
 use Rattle.page_space.proofs.Standing.{length_of}
 use Rattle.page_space.proofs.Starts.{layouts_start_is, marks_start_is, board_start_is, words_count_is}
 use Rattle.page_space.proofs.Limits.{words_count_most}
-use Rattle.cell_layout.specs.declared.cell.Cell.{Cell}
 use Rattle.cell_layout.specs.Cells.{IsRow}
 use Rattle.cell_layout.proofs.OneCell.{cells_have_words}
 use Rattle.cell_layout.proofs.Rows.{cell_within, rows_part_around, row_ascends}

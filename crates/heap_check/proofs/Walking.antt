@@ -4,7 +4,7 @@ use Rattle.std.proofs.Common.{refl, sym, ◌∙◌, ap, subst, arith}
 use Rattle.std.proofs.lemmas.Bool.{cases_lt}
 use Rattle.tagged_word.proofs.Members.{first_in, rest_in, in_cases}
 use Rattle.page_space.proofs.Lists.{contains_none}
-use Rattle.cell_layout.specs.declared.cell.Cell.{Cell}
+use Rattle.heap_model.specs.Types.{Cell}
 use Rattle.cell_layout.specs.Cells.{IsCell, IsRow, HasNoCell, none}
 use Rattle.cell_layout.proofs.OneCell.{one_cell}
 use Rattle.cell_layout.proofs.Rows.{row_begins, row_from, row_of_none, first_ends, cell_within}

@@ -5,18 +5,17 @@ use Rattle.std.proofs.lemmas.Option.{same_Some}
 use Rattle.std.proofs.lemmas.Int.{to_z-of_z}
 use Rattle.std.specs.Prelude.{FitsSigned, pos, negsuc}
 use Rattle.std.specs.Int.{w64, cast_signed}
-use Rattle.tagged_word.specs.declared.layout.Kind.{Kind}
+use Rattle.heap_model.specs.Types.{Kind, Cell}
 use Rattle.tagged_word.specs.declared.layout.Kind.TheVariants as kind
 use Rattle.tagged_word.specs.Words.{small}
-use Rattle.cell_layout.specs.declared.cell.Cell.{Cell}
 use Rattle.heap_model.specs.Heaps.{Heap, words_of_cell}
 use Rattle.heap_model.specs.Slots.{small_word, undefined_word, hole_word, reference_word, raw_word, is_object_kind}
 use Rattle.heap_model.specs.Slots.{RefersTo, RefersToPlace, RefersToBox}
 use Rattle.heap_model.proofs.WordClasses.{small_refers_not, undefined_refers_not, hole_refers_not}
 use Rattle.heap_model.proofs.SlotWords.{same_target}
 use Rattle.heap_model.proofs.NewKeys.{one_number}
-use Rattle.heap_check.specs.declared.slots.Sort.{Sort}
-use Rattle.heap_check.specs.declared.slots.Sort.TheVariants as sort
+use Rattle.heap_check.specs.declared.slots.Referent.{Referent}
+use Rattle.heap_check.specs.declared.slots.Referent.TheVariants as sort
 use Rattle.heap_check.specs.Sorts.{IsSort, RefersToOther, is_box_kind}
 
 -- a small integer is not `undefined`
@@ -75,7 +74,8 @@ box_no_other box other =
     (sym other.no_box ∙ ap (λ (one : Cell). is_box_kind one.layout.kind) (sym same) ∙ ap is_box_kind box.box)
 
 -- a small integer is of its own sort
-pub small_sort : (heap : Heap) (v : ℤ) (of : Sort) → IsTrue (small v) → IsSort heap (small_word v) of → of ≡ sort.Small
+pub small_sort : (heap : Heap) (v : ℤ) (of : Referent) → IsTrue (small v) → IsSort heap (small_word v) of
+    → of ≡ sort.Small
 small_sort heap v sort.Small is has = refl
 small_sort heap v sort.Undefined is has = absurd (small_not_undefined v has)
 small_sort heap v sort.Hole is has = absurd (small_not_hole v has)
@@ -85,7 +85,7 @@ small_sort heap v (sort.Other cell) is has = absurd (small_refers_not v cell.at 
 small_sort heap v sort.Nothing is has = absurd (has.not_small (v, is, refl))
 
 -- so is `undefined`
-pub undefined_sort : (heap : Heap) (of : Sort) → IsSort heap undefined_word of → of ≡ sort.Undefined
+pub undefined_sort : (heap : Heap) (of : Referent) → IsSort heap undefined_word of → of ≡ sort.Undefined
 undefined_sort heap sort.Small has = absurd (small_not_undefined has.0 (sym has.2))
 undefined_sort heap sort.Undefined has = refl
 undefined_sort heap sort.Hole has = absurd (omega (arith, has))
@@ -95,7 +95,7 @@ undefined_sort heap (sort.Other cell) has = absurd (undefined_refers_not cell.at
 undefined_sort heap sort.Nothing has = absurd (has.not_undefined refl)
 
 -- and a hole
-pub hole_sort : (heap : Heap) (of : Sort) → IsSort heap hole_word of → of ≡ sort.Hole
+pub hole_sort : (heap : Heap) (of : Referent) → IsSort heap hole_word of → of ≡ sort.Hole
 hole_sort heap sort.Small has = absurd (small_not_hole has.0 (sym has.2))
 hole_sort heap sort.Undefined has = absurd (omega (arith, has))
 hole_sort heap sort.Hole has = refl
@@ -105,7 +105,7 @@ hole_sort heap (sort.Other cell) has = absurd (hole_refers_not cell.at has.refer
 hole_sort heap sort.Nothing has = absurd (has.not_hole refl)
 
 -- and a reference to an object
-pub object_sort : (heap : Heap) (word number : ℕ) (of : Sort) → RefersToPlace heap word number → IsSort heap word of
+pub object_sort : (heap : Heap) (word number : ℕ) (of : Referent) → RefersToPlace heap word number → IsSort heap word of
     → of ≡ sort.Object number
 object_sort heap word number sort.Small to has = absurd (small_refers_not has.0 to.at (sym has.2 ∙ to.refers))
 object_sort heap word number sort.Undefined to has = absurd (undefined_refers_not to.at (sym has ∙ to.refers))
@@ -118,7 +118,7 @@ object_sort heap word number sort.Nothing to has =
     absurd (has.refers_not to.place.cell to.place.words (place_target to))
 
 -- and to a box
-pub box_sort : (heap : Heap) (word : ℕ) (v : ℤ) (of : Sort) → RefersToBox heap word v → IsSort heap word of
+pub box_sort : (heap : Heap) (word : ℕ) (v : ℤ) (of : Referent) → RefersToBox heap word v → IsSort heap word of
     → of ≡ sort.Boxed v
 box_sort heap word v sort.Small to has = absurd (small_refers_not has.0 to.cell.at (sym has.2 ∙ to.target.refers))
 box_sort heap word v sort.Undefined to has = absurd (undefined_refers_not to.cell.at (sym has ∙ to.target.refers))
@@ -129,7 +129,8 @@ box_sort heap word v (sort.Other cell) to has = absurd (box_no_other to has)
 box_sort heap word v sort.Nothing to has = absurd (has.refers_not to.cell to.words to.target)
 
 -- and to any other cell
-pub other_sort : (heap : Heap) (word : ℕ) (cell : Cell) (of : Sort) → RefersToOther heap word cell → IsSort heap word of
+pub other_sort : (heap : Heap) (word : ℕ) (cell : Cell) (of : Referent) → RefersToOther heap word cell
+    → IsSort heap word of
     → of ≡ sort.Other cell
 other_sort heap word cell sort.Small to has = absurd (small_refers_not has.0 cell.at (sym has.2 ∙ to.refers.refers))
 other_sort heap word cell sort.Undefined to has = absurd (undefined_refers_not cell.at (sym has ∙ to.refers.refers))

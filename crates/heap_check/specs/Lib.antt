@@ -2,10 +2,10 @@ pub mod Walks
 pub mod RegionRows
 pub mod Finding
 pub mod Roots
-pub mod Frames
+pub mod LayoutParts
 pub mod Spans
 pub mod Sorts
-pub mod Onward
+pub mod NextCell
 pub mod Naming
 pub mod Elements
 pub mod PathSlots

@@ -1,7 +1,7 @@
 -- The slots that name a cell, and whether there is another than one that is known.
 use Rattle.std.specs.Prelude.{◌≡◌, ℕ, ◌+◌, Contains, Option, Some, None, slice_get, IsTrue}
 use Rattle.tagged_word.specs.Cells.{store_slot, scavenge_offsets}
-use Rattle.cell_layout.specs.declared.cell.Cell.{Cell}
+use Rattle.heap_model.specs.Types.{Cell}
 use Rattle.heap_model.specs.Heaps.{Heap, words_of_cell}
 use Rattle.heap_model.specs.Slots.{is_object_kind, reference_word}
 use Rattle.heap_model.specs.Kinds.{HasWord}

@@ -1,7 +1,6 @@
 -- What the slots of a plain object hold, slot by slot.
 use Rattle.std.specs.Prelude.{◌≡◌, ℕ, ◌≤◌, length, Some, slice_get, nat_lt}
-use Rattle.object_graph.specs.declared.path.Path.{Path}
-use Rattle.object_graph.specs.declared.path.PathField.{PathField}
+use Rattle.heap_model.specs.Types.{Path, PathField}
 use Rattle.heap_model.specs.Heaps.{Heap}
 use Rattle.heap_model.specs.Slots.{hole_word, IsFieldWord}
 

@@ -1,7 +1,7 @@
 -- The used rows of the regions of cells, by their first addresses.
 use Rattle.std.specs.Prelude.{◌≡◌, ℕ, ◌+◌, ◌≤◌, ◌<◌, true, false, ◌↔◌, Contains, List, Some}
 use Rattle.std.specs.Prelude.{slice_get}
-use Rattle.page_space.specs.declared.region.Region.{Region}
+use Rattle.heap_model.specs.Types.{Region}
 use Rattle.page_space.specs.declared.region.Region.TheVariants.{Eden, Segment}
 use Rattle.page_space.specs.Sizes.{AreWithin}
 use Rattle.page_space.specs.Extents.{Space, Extent}

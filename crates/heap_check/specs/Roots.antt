@@ -1,11 +1,10 @@
 -- What two root words stand for.
 use Rattle.std.specs.Prelude.{◌≡◌, ℕ, ◌<◌, ◌⊎◌, false}
 use Rattle.std.specs.Int.{cast_signed, w64}
-use Rattle.tagged_word.specs.declared.word.Class.{Class}
+use Rattle.heap_model.specs.Types.{Class, Held}
 use Rattle.tagged_word.specs.declared.word.Class.TheVariants.{Small, Ref, Odd}
 use Rattle.tagged_word.specs.Words.{small}
 use Rattle.tagged_word.specs.Odds.{undefined_code, unbound_code, wide_code}
-use Rattle.handle_roots.specs.declared.held.Held.{Held}
 use Rattle.handle_roots.specs.Roots.{FitsHeld, first_word, second_word}
 use Rattle.heap_model.specs.Heaps.{Heap}
 use Rattle.heap_model.specs.Slots.{IsPlace}

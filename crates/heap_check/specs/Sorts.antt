@@ -1,17 +1,15 @@
 -- What the word of a slot stands for in a heap: one of a few sorts of things.
 use Rattle.std.specs.Prelude.{◌≡◌, ◌≢◌, ℕ, Bool, true, false, not, List, Option, Some, None}
 use Rattle.std.specs.Prelude.{ℤ, IsTrue}
-use Rattle.tagged_word.specs.declared.layout.Kind.{Kind}
+use Rattle.heap_model.specs.Types.{Kind, Rep, Cell}
 use Rattle.tagged_word.specs.declared.layout.Kind.TheVariants as kind
 use Rattle.tagged_word.specs.Words.{small}
-use Rattle.object_graph.specs.declared.value.Rep.{Rep}
 use Rattle.object_graph.specs.declared.value.Rep.TheVariants as rep
-use Rattle.cell_layout.specs.declared.cell.Cell.{Cell}
 use Rattle.heap_model.specs.Heaps.{Heap, words_of_cell}
 use Rattle.heap_model.specs.Slots.{small_word, undefined_word, hole_word, is_object_kind, RefersTo, RefersToPlace}
 use Rattle.heap_model.specs.Slots.{RefersToBox}
-use Rattle.heap_check.specs.declared.slots.Sort.{Sort}
-use Rattle.heap_check.specs.declared.slots.Sort.TheVariants as sort
+use Rattle.heap_check.specs.declared.slots.Referent.{Referent}
+use Rattle.heap_check.specs.declared.slots.Referent.TheVariants as sort
 
 -- whether a cell of the kind is a box
 abbrev pub is_box_kind : Kind → Bool
@@ -36,7 +34,7 @@ pub record IsNothing (heap : Heap) (word : ℕ) : Type 0 where
   pub refers_not : (cell : Cell) (words : List ℕ) → RefersTo heap word cell words → ⊥
 
 -- what the word stands for is of this sort
-abbrev pub IsSort : Heap → ℕ → Sort → Type 0
+abbrev pub IsSort : Heap → ℕ → Referent → Type 0
 IsSort heap word sort.Small = IsSmallWord word
 IsSort heap word sort.Undefined = word ≡ undefined_word
 IsSort heap word sort.Hole = word ≡ hole_word
@@ -46,13 +44,13 @@ IsSort heap word (sort.Other cell) = RefersToOther heap word cell
 IsSort heap word sort.Nothing = IsNothing heap word
 
 -- whether a slot of a store or table may hold it
-abbrev pub is_slot_sort : Sort → Bool
+abbrev pub is_slot_sort : Referent → Bool
 is_slot_sort (sort.Other cell) = false
 is_slot_sort sort.Nothing = false
 is_slot_sort _ = true
 
 -- whether it is a value in a tagged slot: no integer in a box that is small
-abbrev pub is_value_sort : Sort → Bool
+abbrev pub is_value_sort : Referent → Bool
 is_value_sort sort.Small = true
 is_value_sort sort.Undefined = true
 is_value_sort (sort.Object number) = true
@@ -60,27 +58,27 @@ is_value_sort (sort.Boxed v) = not (small v)
 is_value_sort _ = false
 
 -- whether it is a small integer
-abbrev pub is_small_sort : Sort → Bool
+abbrev pub is_small_sort : Referent → Bool
 is_small_sort sort.Small = true
 is_small_sort _ = false
 
 -- whether it is a box
-abbrev pub is_box_sort : Sort → Bool
+abbrev pub is_box_sort : Referent → Bool
 is_box_sort (sort.Boxed v) = true
 is_box_sort _ = false
 
 -- whether a wide field may hold it: anything in the object itself, and a box in the property store
-abbrev pub is_wide_sort : Bool → Sort → Bool
+abbrev pub is_wide_sort : Bool → Referent → Bool
 is_wide_sort true of = true
 is_wide_sort false of = is_box_sort of
 
 -- whether a field of the representation may hold it
-abbrev pub is_field_sort : Bool → Rep → Sort → Bool
+abbrev pub is_field_sort : Bool → Rep → Referent → Bool
 is_field_sort own rep.Small of = is_small_sort of
 is_field_sort own rep.Wide of = is_wide_sort own of
 is_field_sort own rep.Tagged of = is_value_sort of
 
 -- the number of the object that it is
-abbrev pub number_of : Sort → Option ℕ
-number_of (sort.Object number) = Some number
-number_of _ = None
+abbrev pub object_number : Referent → Option ℕ
+object_number (sort.Object number) = Some number
+object_number _ = None

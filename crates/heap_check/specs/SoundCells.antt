@@ -1,9 +1,9 @@
 -- What the cells of a heap hold.
 use Rattle.std.specs.Prelude.{ℕ, List}
-use Rattle.cell_layout.specs.declared.cell.Cell.{Cell}
+use Rattle.heap_model.specs.Types.{Cell}
 use Rattle.heap_model.specs.Heaps.{Heap, HasCell}
-use Rattle.heap_model.specs.Kinds.{IsSound}
+use Rattle.heap_model.specs.Kinds.{IsSoundCell}
 
 -- the words of each cell are what its kind has
 abbrev pub HasSoundCells : Heap → Type 0
-HasSoundCells heap = (cell : Cell) (words : List ℕ) → HasCell heap cell words → IsSound heap cell words
+HasSoundCells heap = (cell : Cell) (words : List ℕ) → HasCell heap cell words → IsSoundCell heap cell words

@@ -1,10 +1,9 @@
 -- Words of a cell, and spans of words.
 use Rattle.std.specs.Prelude.{◌≡◌, ℕ, ◌≤◌, ◌⊎◌, List, length, Some, slice_get, slice_range}
-use Rattle.tagged_word.specs.declared.layout.Kind.{Kind}
+use Rattle.heap_model.specs.Types.{Kind, Cell}
 use Rattle.tagged_word.specs.declared.layout.Kind.TheVariants as kind
-use Rattle.cell_layout.specs.declared.cell.Cell.{Cell}
 use Rattle.heap_model.specs.Heaps.{Heap, HasCell, words_of_cell}
-use Rattle.heap_model.specs.Slots.{IsBeside}
+use Rattle.heap_model.specs.Slots.{HoldsStore}
 use Rattle.heap_model.specs.Kinds.{HasWord}
 use Rattle.heap_check.specs.declared.spans.Span.{Span}
 
@@ -30,13 +29,13 @@ abbrev pub WordAt : Heap → ℕ → (ℕ → Type 0) → Type 0
 WordAt heap at P = (word : ℕ) → slice_get heap.words at ≡ Some word → P word
 
 -- the words of the span are the slots of the store or table of the kind to which the word refers, or none
-pub record IsBesideAs (heap : Heap) (of : Kind) (word : ℕ) (span : Span) : Type 0 where
-  pub beside : IsBeside heap of word (span_words heap span)
+pub record SpansStore (heap : Heap) (of : Kind) (word : ℕ) (span : Span) : Type 0 where
+  pub beside : HoldsStore heap of word (span_words heap span)
   pub is : IsSpan heap span
 
 -- the word neither refers to a store or table of the kind nor says that there is none
-abbrev pub HasNoBeside : Heap → Kind → ℕ → Type 0
-HasNoBeside heap of word = (slots : List ℕ) → IsBeside heap of word slots → ⊥
+abbrev pub HoldsNoStore : Heap → Kind → ℕ → Type 0
+HoldsNoStore heap of word = (slots : List ℕ) → HoldsStore heap of word slots → ⊥
 
 -- a store or a weak table
 abbrev pub IsStoreKind : Kind → Type 0

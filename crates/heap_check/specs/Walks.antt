@@ -4,7 +4,7 @@ use Rattle.std.specs.Prelude.{Some, slice_get}
 use Rattle.tagged_word.specs.Shapes.{shapes_most}
 use Rattle.page_space.specs.Extents.{layouts_start, marks_start}
 use Rattle.shape_tree.specs.ShapeLayouts.{layout_word}
-use Rattle.cell_layout.specs.declared.cell.Cell.{Cell}
+use Rattle.heap_model.specs.Types.{Cell}
 use Rattle.cell_layout.specs.Cells.{IsCell, IsRow}
 use Rattle.heap_model.specs.Heaps.{Heap}
 use Rattle.heap_check.specs.declared.row.Bound.{Bound}

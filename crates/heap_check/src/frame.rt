@@ -1,7 +1,7 @@
 //! The frame of a heap: all that a whole heap has apart from what its cells hold.
 ghost use Rattle.std.specs.Prelude.{◌↔◌, IsTrue};
 ghost use Rattle.heap_model.specs.Images.{image_heap};
-ghost use Rattle.heap_check.specs.Frames.{HasFrame};
+ghost use Rattle.heap_check.specs.LayoutParts.{HasFrame};
 
 use crate::blank::is_blank;
 use crate::roots::has_roots;

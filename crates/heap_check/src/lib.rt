@@ -1,7 +1,7 @@
 //! Heap check: whether an image is a whole heap, found out by looking at each of its words.
 //!
 //! Model: none of its own. An image is a `Heap` of `heap_model`, and each judge here answers
-//! whether one of the predicates of its `specs/Wholeness.antt` holds of it.
+//! whether one of the predicates of `Wholeness` of `heap_model` holds of it.
 //! Invariant: none. A judge that needs what another one found requires the predicate of that one;
 //! `has_frame` requires nothing.
 //! No judge takes memory: where one needs a cell again, it walks to it again. The parts of judges
@@ -13,7 +13,7 @@ mod finding;
 mod frame;
 mod lists;
 mod naming;
-mod onward;
+mod next_cell;
 mod owners;
 mod plain;
 mod reads;
@@ -33,13 +33,13 @@ mod whole;
 pub use blank::is_blank;
 pub use finding::find_cell;
 pub use frame::has_frame;
-pub use onward::next_from;
+pub use next_cell::next_from;
 pub use owners::has_owners;
 pub use reads::word_at;
 pub use roots::{has_roots, is_object};
 pub use rows::has_rows;
 pub use sizes::has_sizes;
-pub use slots::{Sort, sort_of};
+pub use slots::{Referent, sort_of};
 pub use sound::has_sound_cells;
 pub use spans::{Span, behind_head, word_of};
 pub use stores::slots_beside;

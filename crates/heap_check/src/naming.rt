@@ -11,7 +11,7 @@ ghost use Rattle.heap_check.specs.Naming.{IsOtherOf, RefersFrom, IsSlotIn, IsSlo
 ghost use Rattle.heap_check.specs.Naming.{IsSlotOfObject, IsSomeSlot};
 
 use crate::finding::find_cell;
-use crate::onward::next_from;
+use crate::next_cell::next_from;
 use crate::reads::{cell_there, word_at};
 use crate::roots::is_object;
 use crate::spans::word_of;

@@ -7,7 +7,7 @@ ghost use Rattle.heap_check.specs.Spans.{StandsIn};
 ghost use Rattle.heap_check.specs.Naming.{IsNamedOnce, HasOneOwner};
 
 use crate::naming::naming_slot;
-use crate::onward::next_from;
+use crate::next_cell::next_from;
 use cell_layout::Cell;
 use heap_model::HeapImage;
 use tagged_word::Kind;

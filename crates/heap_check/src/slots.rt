@@ -11,7 +11,7 @@ ghost use Rattle.heap_model.specs.Wholeness.{HasRows};
 ghost use Rattle.heap_check.specs.Walks.{HasWords};
 ghost use Rattle.heap_check.specs.Spans.{StandsIn};
 ghost use Rattle.heap_check.specs.Sorts.{IsSort, is_box_kind, is_slot_sort, is_value_sort};
-ghost use Rattle.heap_check.specs.Sorts.{is_small_sort, is_box_sort, is_field_sort, number_of};
+ghost use Rattle.heap_check.specs.Sorts.{is_small_sort, is_box_sort, is_field_sort, object_number};
 
 use crate::finding::find_cell;
 use crate::roots::is_object;
@@ -23,7 +23,7 @@ use tagged_word::{Class, Kind, Word, is_small, odd};
 
 /// What the word of a slot stands for.
 #[derive(Clone, Copy)]
-pub enum Sort {
+pub enum Referent {
     /// A small integer.
     Small,
     /// The value `undefined`.
@@ -40,14 +40,14 @@ pub enum Sort {
     Nothing,
 }
 
-impl Sort {
+impl Referent {
     /// Whether a slot of a store or table may hold it.
     fn is_slot(self) -> bool
         ensures { result ≡ is_slot_sort self }
     {
         match self {
-            Sort::Other(_) => false,
-            Sort::Nothing => false,
+            Referent::Other(_) => false,
+            Referent::Nothing => false,
             _ => true,
         }
     }
@@ -57,10 +57,10 @@ impl Sort {
         ensures { result ≡ is_value_sort self }
     {
         match self {
-            Sort::Small => true,
-            Sort::Undefined => true,
-            Sort::Object(_) => true,
-            Sort::Boxed(v) => !is_small(v),
+            Referent::Small => true,
+            Referent::Undefined => true,
+            Referent::Object(_) => true,
+            Referent::Boxed(v) => !is_small(v),
             _ => false,
         }
     }
@@ -70,7 +70,7 @@ impl Sort {
         ensures { result ≡ is_small_sort self }
     {
         match self {
-            Sort::Small => true,
+            Referent::Small => true,
             _ => false,
         }
     }
@@ -80,7 +80,7 @@ impl Sort {
         ensures { result ≡ is_box_sort self }
     {
         match self {
-            Sort::Boxed(_) => true,
+            Referent::Boxed(_) => true,
             _ => false,
         }
     }
@@ -98,17 +98,17 @@ impl Sort {
 
     /// The number of the object that it is.
     pub fn number(self) -> Option<u32>
-        ensures { result ≡ number_of self }
+        ensures { result ≡ object_number self }
     {
         match self {
-            Sort::Object(number) => Some(number),
+            Referent::Object(number) => Some(number),
             _ => None,
         }
     }
 }
 
 /// What a word stands for.
-pub fn sort_of(image: &HeapImage, word: u64) -> Sort
+pub fn sort_of(image: &HeapImage, word: u64) -> Referent
     requires sized { HasWords (image_heap image.now) }
     requires rows { HasRows (image_heap image.now) }
     ensures { IsSort (image_heap image.now) word result }
@@ -117,59 +117,59 @@ pub fn sort_of(image: &HeapImage, word: u64) -> Sort
     let _words_count = image.regions.count();
     match Word(word).class() {
         Some(class) => sort_of_class(image, class),
-        None => Sort::Nothing,
+        None => Referent::Nothing,
     }
 }
 
 /// What a word of the class stands for.
-fn sort_of_class(image: &HeapImage, class: Class) -> Sort
+fn sort_of_class(image: &HeapImage, class: Class) -> Referent
     requires sized { HasWords (image_heap image.now) }
     requires rows { HasRows (image_heap image.now) }
     requires is { IsClass class }
     ensures { IsSort (image_heap image.now) (bits_of class) result }
 {
     match class {
-        Class::Small(_) => Sort::Small,
+        Class::Small(_) => Referent::Small,
         Class::Ref(at) => sort_at(image, at),
         Class::Odd(code) => sort_of_odd(code),
     }
 }
 
 /// What an odd value stands for in a slot.
-fn sort_of_odd(code: u32) -> Sort
+fn sort_of_odd(code: u32) -> Referent
     ensures { (heap : Heap) → IsSort heap (bits_of (Class.Odd code)) result }
 {
     match code {
-        odd::UNDEFINED => Sort::Undefined,
-        odd::HOLE => Sort::Hole,
-        _ => Sort::Nothing,
+        odd::UNDEFINED => Referent::Undefined,
+        odd::HOLE => Referent::Hole,
+        _ => Referent::Nothing,
     }
 }
 
 /// What a reference to an address stands for.
-fn sort_at(image: &HeapImage, at: u32) -> Sort
+fn sort_at(image: &HeapImage, at: u32) -> Referent
     requires sized { HasWords (image_heap image.now) }
     requires rows { HasRows (image_heap image.now) }
     ensures { IsSort (image_heap image.now) (reference_word at) result }
 {
     match find_cell(image, at) {
         Some(cell) => sort_of_cell(image, cell),
-        None => Sort::Nothing,
+        None => Referent::Nothing,
     }
 }
 
 /// What a reference to the cell stands for.
-fn sort_of_cell(image: &HeapImage, cell: Cell) -> Sort
+fn sort_of_cell(image: &HeapImage, cell: Cell) -> Referent
     requires { StandsIn (image_heap image.now) cell }
     ensures { IsSort (image_heap image.now) (reference_word cell.at) result }
 {
     if is_object(cell.layout.kind) {
-        return Sort::Object(cell.header.object);
+        return Referent::Object(cell.header.object);
     }
     if is_box(cell.layout.kind) {
-        return Sort::Boxed(integer_of(image, cell));
+        return Referent::Boxed(integer_of(image, cell));
     }
-    Sort::Other(cell)
+    Referent::Other(cell)
 }
 
 /// Whether a cell of the kind is a box.

@@ -2,14 +2,14 @@
 ghost use Rattle.std.specs.Prelude.{◌↔◌, IsTrue};
 ghost use Rattle.heap_model.specs.Images.{image_heap};
 ghost use Rattle.heap_model.specs.Heaps.{words_of_cell};
-ghost use Rattle.heap_model.specs.Kinds.{IsSound};
+ghost use Rattle.heap_model.specs.Kinds.{IsSoundCell};
 ghost use Rattle.heap_model.specs.Wholeness.{HasSizes, HasRows};
 ghost use Rattle.heap_check.specs.Walks.{HasWords};
 ghost use Rattle.heap_check.specs.Spans.{StandsIn};
 ghost use Rattle.heap_check.specs.SoundCells.{HasSoundCells};
 
 use crate::lists::is_list;
-use crate::onward::next_from;
+use crate::next_cell::next_from;
 use crate::plain::is_plain;
 use crate::stores::{has_no_number, is_boxed, is_store};
 use crate::weak::is_weak;
@@ -41,7 +41,7 @@ fn is_sound(image: &HeapImage, cell: Cell) -> bool
     requires rows { HasRows (image_heap image.now) }
     requires stands { StandsIn (image_heap image.now) cell }
     ensures { let heap = image_heap image.now in IsTrue result
-        ↔ IsSound heap cell (words_of_cell heap cell) }
+        ↔ IsSoundCell heap cell (words_of_cell heap cell) }
 {
     match cell.layout.kind {
         Kind::Plain => is_plain(image, cell),

@@ -7,10 +7,10 @@ ghost use Rattle.heap_model.specs.Kinds.{IsStoreCell, IsBoxCell, HasNoNumber};
 ghost use Rattle.heap_model.specs.Wholeness.{HasRows};
 ghost use Rattle.heap_check.specs.Walks.{HasWords};
 ghost use Rattle.heap_check.specs.Spans.{StandsIn, EachWord, WordAt, span_words, IsStoreKind};
-ghost use Rattle.heap_check.specs.Spans.{IsBesideAs, HasNoBeside};
+ghost use Rattle.heap_check.specs.Spans.{SpansStore, HoldsNoStore};
 
 use crate::reads::word_at;
-use crate::slots::{Sort, integer_of, is_slot_word, sort_of};
+use crate::slots::{Referent, integer_of, is_slot_word, sort_of};
 use crate::spans::{Span, behind_head};
 use cell_layout::Cell;
 use heap_model::HeapImage;
@@ -22,12 +22,12 @@ pub fn slots_beside(image: &HeapImage, word: u64, kind: Kind) -> Option<Span>
     requires sized { HasWords (image_heap image.now) }
     requires rows { HasRows (image_heap image.now) }
     requires of_stores { IsStoreKind kind }
-    ensures { let heap = image_heap image.now in MatchOption result (HasNoBeside heap kind word)
-        (λ span. IsBesideAs heap kind word span) }
+    ensures { let heap = image_heap image.now in MatchOption result (HoldsNoStore heap kind word)
+        (λ span. SpansStore heap kind word span) }
 {
     match sort_of(image, word) {
-        Sort::Undefined => Some(Span { from: 0, end: 0 }),
-        Sort::Other(cell) => {
+        Referent::Undefined => Some(Span { from: 0, end: 0 }),
+        Referent::Other(cell) => {
             if cell.layout.kind == kind {
                 Some(behind_head(image, cell))
             } else {

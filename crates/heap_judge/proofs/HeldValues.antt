@@ -1,7 +1,7 @@
 -- What variables hold, where they show what they are bound to.
 use Rattle.std.proofs.Common.{◌≡◌, ℕ, ℤ, Some, None, refl}
 use Rattle.object_graph.specs.declared.value.Value.TheVariants.{Int, Undefined, Ref}
-use Rattle.handle_roots.specs.declared.held.Held.{Held}
+use Rattle.heap_model.specs.Types.{Held}
 use Rattle.handle_roots.specs.declared.held.Held.TheVariants as held
 use Rattle.heap_model.specs.Heaps.{Heap}
 use Rattle.heap_model.specs.Slots.{IsPlace}

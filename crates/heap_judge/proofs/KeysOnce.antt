@@ -3,7 +3,7 @@ use Rattle.std.proofs.Common.{◌≡◌, ℕ, ◌+◌, inl, inr, List, Bool, tru
 use Rattle.std.proofs.Common.{refl, sym, ◌∙◌, ap, subst, arith}
 use Rattle.std.proofs.lemmas.Bool.{cases_lt, false≢true}
 use Rattle.std.proofs.lemmas.Option.{same_Some}
-use Rattle.object_graph.specs.declared.object.Entry.{Entry}
+use Rattle.heap_model.specs.Types.{Entry}
 use Rattle.object_graph.specs.Reach.{is_marked}
 use Rattle.heap_model.specs.Heaps.{Heap}
 use Rattle.heap_model.specs.Slots.{RefersToPlace}

@@ -1,14 +1,14 @@
 -- The places of an object between two addresses, as cells are passed.
 use Rattle.std.proofs.Common.{ℕ, ◌+◌, ◌≤◌, ◌<◌, inl, inr, sym, subst, arith}
 use Rattle.std.proofs.lemmas.Bool.{cases_lt}
-use Rattle.cell_layout.specs.declared.cell.Cell.{Cell}
+use Rattle.heap_model.specs.Types.{Cell}
 use Rattle.heap_model.specs.Heaps.{Heap, words_of_cell}
 use Rattle.heap_model.specs.Wholeness.{HasRows}
 use Rattle.heap_check.specs.Finding.{HasNoCellFrom}
 use Rattle.heap_check.specs.Spans.{StandsIn}
-use Rattle.heap_check.specs.Onward.{IsNextCell}
+use Rattle.heap_check.specs.NextCell.{IsNextCell}
 use Rattle.heap_check.proofs.CellsOnward.{passed_or_next}
-use Rattle.heap_judge.specs.Places.{IsOf, HasNoPlaceFrom, IsFirstPlace, IsMade}
+use Rattle.heap_judge.specs.Places.{IsOf, HasNoPlaceFrom, IsFirstPlace, HasMadeNumber}
 
 -- no cell of the object stands from one address to another
 abbrev pub HasNoPlaceOf : Heap → ℕ → ℕ → ℕ → Type 0
@@ -46,13 +46,13 @@ first_place heap number from at next is behind none of_number = record {
 
 -- each object's cell before an address carries the number of one of so many objects
 abbrev pub AreMadeTo : Heap → ℕ → ℕ → Type 0
-AreMadeTo heap count at = (cell : Cell) → StandsIn heap cell → cell.at < at → IsMade cell count
+AreMadeTo heap count at = (cell : Cell) → StandsIn heap cell → cell.at < at → HasMadeNumber cell count
 
 -- and so does the next
 pub made_to_more : (heap : Heap) (count at : ℕ) (next : Cell) → HasRows heap → IsNextCell heap at next
-    → AreMadeTo heap count at → IsMade next count → AreMadeTo heap count (next.at + next.size)
+    → AreMadeTo heap count at → HasMadeNumber next count → AreMadeTo heap count (next.at + next.size)
 made_to_more heap count at next rows is made here cell stands before =
     elim (passed_or_next heap at next cell rows is stands before) [
       | inl early ↦ made cell stands early
-      | inr same ↦ subst (λ (one : Cell). IsMade one count) same here
+      | inr same ↦ subst (λ (one : Cell). HasMadeNumber one count) same here
     ]

@@ -2,23 +2,19 @@
 use Rattle.std.proofs.Common.{◌≡◌, ℕ, List, ◌++◌, Bool, length, drop, Some, sym, ◌∙◌, ap, subst, IsTrue}
 use Rattle.tagged_word.specs.declared.layout.Kind.TheVariants as kind
 use Rattle.tagged_word.specs.Cells.{store_slot, plain_head}
-use Rattle.object_graph.specs.declared.value.Value.{Value}
-use Rattle.object_graph.specs.declared.object.Object.{Object}
+use Rattle.heap_model.specs.Types.{Value, Object, Field, Entry, Cell}
 use Rattle.object_graph.specs.declared.object.Object.TheVariants as graph_object
-use Rattle.object_graph.specs.declared.object.Field.{Field}
-use Rattle.object_graph.specs.declared.object.Entry.{Entry}
 use Rattle.object_graph.specs.Paths.{path_of}
 use Rattle.shape_tree.specs.Shapes.{IsPathShape, shape_path}
-use Rattle.cell_layout.specs.declared.cell.Cell.{Cell}
 use Rattle.heap_model.specs.Heaps.{Heap, HasCell, words_of_cell}
 use Rattle.heap_model.specs.Slots.{is_object_kind}
-use Rattle.heap_model.specs.Kinds.{HasWord, IsSound, IsSoundOf, count_offset}
+use Rattle.heap_model.specs.Kinds.{HasWord, IsSoundCell, IsSoundOf, count_offset}
 use Rattle.heap_model.specs.Showing.{ShowsPlain, ShowsList, ShowsWeak, ShowsObject, ShowsReached}
 use Rattle.heap_model.proofs.CellsApart.{one_at}
 use Rattle.heap_check.specs.declared.spans.Span.{Span}
-use Rattle.heap_check.specs.Spans.{EachWord, span_words, IsBesideAs}
+use Rattle.heap_check.specs.Spans.{EachWord, span_words, SpansStore}
 use Rattle.heap_check.specs.TablePairs.{table_pairs, IsTableAs}
-use Rattle.heap_check.proofs.SlotsBeside.{beside_is_span}
+use Rattle.heap_check.proofs.StoreSlots.{beside_is_span}
 use Rattle.heap_check.proofs.FieldSlots.{slots_are}
 use Rattle.heap_check.proofs.WeakEntries.{table_is_span}
 use Rattle.heap_judge.specs.Places.{IsOnlyPlace}
@@ -27,7 +23,8 @@ use Rattle.heap_judge.specs.KeyPairs.{ShowPairs}
 use Rattle.heap_judge.proofs.OnlyPlaces.{place_at}
 
 -- the shape of a sound plain cell is that of a path
-pub plain_shape : (heap : Heap) (cell : Cell) (words : List ℕ) → cell.layout.kind ≡ kind.Plain → IsSound heap cell words
+pub plain_shape : (heap : Heap) (cell : Cell) (words : List ℕ) → cell.layout.kind ≡ kind.Plain
+    → IsSoundCell heap cell words
     → IsPathShape heap.paths cell.header.shape
 plain_shape heap cell words is sound =
     let plain : IsSoundOf kind.Plain heap cell words = subst (λ k. IsSoundOf k heap cell words) is sound in
@@ -37,7 +34,7 @@ plain_shape heap cell words is sound =
 pub plain_shown_from : (heap : Heap) (cell : Cell) (words : List ℕ) (cap : ℕ) (fields : List Field) (store : ℕ)
     (own beside : Span) → cell.layout.kind ≡ kind.Plain
     → shape_path heap.paths cell.header.shape ≡ path_of cap fields → HasWord words store_slot store
-    → span_words heap own ≡ drop plain_head words → IsBesideAs heap kind.Store store beside
+    → span_words heap own ≡ drop plain_head words → SpansStore heap kind.Store store beside
     → EachWord (span_words heap own ++ span_words heap beside) (ShowsFieldAt heap cap fields)
     → ShowsPlain heap cell words cap fields
 plain_shown_from heap cell words cap fields store own beside is path slot own_are stands each = record {
@@ -57,7 +54,7 @@ plain_shown_from heap cell words cap fields store own beside is path slot own_ar
 -- and then each slot shows its field
 pub plain_shown_to : (heap : Heap) (cell : Cell) (words : List ℕ) (cap : ℕ) (fields : List Field) (store : ℕ)
     (own beside : Span) → HasWord words store_slot store → span_words heap own ≡ drop plain_head words
-    → IsBesideAs heap kind.Store store beside → ShowsPlain heap cell words cap fields
+    → SpansStore heap kind.Store store beside → ShowsPlain heap cell words cap fields
     → EachWord (span_words heap own ++ span_words heap beside) (ShowsFieldAt heap cap fields)
 plain_shown_to heap cell words cap fields store own beside slot own_are stands shows =
     let Shows : List ℕ → Type 0 = λ slots. EachWord slots (ShowsFieldAt heap cap fields) in
@@ -67,7 +64,7 @@ plain_shown_to heap cell words cap fields store own beside slot own_are stands s
 -- a cell shows a list by its length and the slots of its store
 pub list_shown_from : (heap : Heap) (cell : Cell) (words : List ℕ) (elements : List Value) (store count : ℕ)
     (span : Span) → cell.layout.kind ≡ kind.List → HasWord words count_offset count → count ≡ length elements
-    → HasWord words store_slot store → IsBesideAs heap kind.Store store span
+    → HasWord words store_slot store → SpansStore heap kind.Store store span
     → EachWord (span_words heap span) (ShowsElementAt heap elements) → ShowsList heap cell words elements
 list_shown_from heap cell words elements store count span is counted long slot stands each = record {
   of_kind = is;
@@ -81,7 +78,7 @@ list_shown_from heap cell words elements store count span is counted long slot s
 
 -- and then each slot shows its element
 pub list_shown_to : (heap : Heap) (cell : Cell) (words : List ℕ) (elements : List Value) (store : ℕ) (span : Span)
-    → HasWord words store_slot store → IsBesideAs heap kind.Store store span → ShowsList heap cell words elements
+    → HasWord words store_slot store → SpansStore heap kind.Store store span → ShowsList heap cell words elements
     → EachWord (span_words heap span) (ShowsElementAt heap elements)
 list_shown_to heap cell words elements store span slot stands shows =
     let Shows : List ℕ → Type 0 = λ slots. EachWord slots (ShowsElementAt heap elements) in

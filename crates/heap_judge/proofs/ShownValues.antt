@@ -7,7 +7,7 @@ use Rattle.object_graph.specs.declared.value.Rep.TheVariants as rep
 use Rattle.heap_model.specs.Heaps.{Heap}
 use Rattle.heap_model.specs.Slots.{undefined_word, RefersToPlace, RefersToBox}
 use Rattle.heap_model.specs.Showing.{ShowsValue, ShowsField, ShowsWide}
-use Rattle.object_graph.specs.declared.value.Value.{Value}
+use Rattle.heap_model.specs.Types.{Value}
 use Rattle.heap_judge.specs.ShownSlots.{IsSmallWordOf}
 
 -- a small integer is shown by its word

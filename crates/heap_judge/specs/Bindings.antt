@@ -1,7 +1,7 @@
 -- What the variables hold, and what they are bound to.
 use Rattle.std.specs.Prelude.{ℕ, ◌<◌}
 use Rattle.object_graph.specs.Graphs.{Graph}
-use Rattle.handle_roots.specs.declared.held.Held.{Held}
+use Rattle.heap_model.specs.Types.{Held}
 use Rattle.handle_roots.specs.Roots.{Holds}
 use Rattle.heap_model.specs.Heaps.{Heap}
 use Rattle.heap_model.specs.Showing.{ShowsBinding}

@@ -1,6 +1,6 @@
 -- The pairs of a weak table by their keys, and what they show.
 use Rattle.std.specs.Prelude.{◌≡◌, ◌≢◌, ℕ, ◌≤◌, Bool, List, Some, slice_get, IsTrue}
-use Rattle.object_graph.specs.declared.object.Entry.{Entry}
+use Rattle.heap_model.specs.Types.{Entry}
 use Rattle.object_graph.specs.Reach.{is_marked}
 use Rattle.heap_model.specs.Heaps.{Heap}
 use Rattle.heap_model.specs.Slots.{RefersToPlace}

@@ -1,8 +1,6 @@
 -- Fields as paths know them.
 use Rattle.std.specs.Prelude.{◌≡◌, ℕ, Some, slice_get}
-use Rattle.object_graph.specs.declared.object.Field.{Field}
-use Rattle.object_graph.specs.declared.path.Path.{Path}
-use Rattle.object_graph.specs.declared.path.PathField.{PathField}
+use Rattle.heap_model.specs.Types.{Field, Path, PathField}
 
 -- a field of an object without its value
 abbrev pub known_field : Field → PathField

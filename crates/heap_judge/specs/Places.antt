@@ -1,10 +1,10 @@
 -- The places of an object, in order of their addresses.
 use Rattle.std.specs.Prelude.{◌≡◌, ℕ, ◌+◌, ◌≤◌, ◌<◌, IsTrue}
-use Rattle.cell_layout.specs.declared.cell.Cell.{Cell}
+use Rattle.heap_model.specs.Types.{Cell}
 use Rattle.heap_model.specs.Heaps.{Heap}
 use Rattle.heap_model.specs.Slots.{is_object_kind, IsPlace}
 use Rattle.heap_check.specs.Spans.{StandsIn}
-use Rattle.heap_check.specs.Onward.{IsBoundary}
+use Rattle.heap_check.specs.NextCell.{IsBoundary}
 
 -- the cell is an object's own and carries the number
 pub record IsOf (cell : Cell) (number : ℕ) : Type 0 where
@@ -34,8 +34,8 @@ abbrev pub HasNoOnlyPlace : Heap → ℕ → Type 0
 HasNoOnlyPlace heap number = (cell : Cell) → IsOnlyPlace heap number cell → ⊥
 
 -- the cell carries the number of one of so many objects, if it is an object's own
-abbrev pub IsMade : Cell → ℕ → Type 0
-IsMade cell count = IsTrue (is_object_kind cell.layout.kind) → cell.header.object < count
+abbrev pub HasMadeNumber : Cell → ℕ → Type 0
+HasMadeNumber cell count = IsTrue (is_object_kind cell.layout.kind) → cell.header.object < count
 
 -- each object's cell carries the number of one of so many objects
 abbrev pub AreMade : Heap → ℕ → Type 0

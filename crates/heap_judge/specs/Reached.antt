@@ -1,6 +1,6 @@
 -- The objects that can be reached, and what shows them.
 use Rattle.std.specs.Prelude.{◌≡◌, ℕ, Bool, List, Some, slice_get, IsTrue}
-use Rattle.object_graph.specs.declared.object.Object.{Object}
+use Rattle.heap_model.specs.Types.{Object}
 use Rattle.object_graph.specs.Reach.{is_marked}
 use Rattle.heap_model.specs.Heaps.{Heap}
 use Rattle.heap_model.specs.Showing.{ShowsReached}

@@ -1,8 +1,7 @@
 -- What the slots of an object show, slot by slot.
 use Rattle.std.specs.Prelude.{◌≡◌, ℕ, List, Some, slice_get, nat_lt, ℤ, IsTrue}
 use Rattle.tagged_word.specs.Words.{small}
-use Rattle.object_graph.specs.declared.value.Value.{Value}
-use Rattle.object_graph.specs.declared.object.Field.{Field}
+use Rattle.heap_model.specs.Types.{Value, Field}
 use Rattle.heap_model.specs.Heaps.{Heap}
 use Rattle.heap_model.specs.Slots.{small_word}
 use Rattle.heap_model.specs.Showing.{ShowsValue, ShowsField}

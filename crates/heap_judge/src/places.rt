@@ -4,9 +4,9 @@ ghost use Rattle.heap_model.specs.Images.{image_heap};
 ghost use Rattle.heap_model.specs.Slots.{IsPlace};
 ghost use Rattle.heap_model.specs.Wholeness.{HasRows};
 ghost use Rattle.heap_check.specs.Walks.{HasWords};
-ghost use Rattle.heap_check.specs.Onward.{IsBoundary};
+ghost use Rattle.heap_check.specs.NextCell.{IsBoundary};
 ghost use Rattle.heap_judge.specs.Places.{IsOf, IsFirstPlace, HasNoPlaceFrom, IsOnlyPlace};
-ghost use Rattle.heap_judge.specs.Places.{HasNoOnlyPlace, AreMade, IsMade};
+ghost use Rattle.heap_judge.specs.Places.{HasNoOnlyPlace, AreMade, HasMadeNumber};
 
 use cell_layout::Cell;
 use heap_check::{find_cell, is_object, next_from};
@@ -90,7 +90,7 @@ pub(crate) fn are_made(image: &HeapImage, count: usize) -> bool
 
 /// Whether the cell carries the number of one of so many objects, if it is an object's own.
 fn is_made(cell: Cell, count: usize) -> bool
-    ensures { IsTrue result ↔ IsMade cell count }
+    ensures { IsTrue result ↔ HasMadeNumber cell count }
 {
     if is_object(cell.layout.kind) {
         (cell.header.object as usize) < count

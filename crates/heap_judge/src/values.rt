@@ -8,7 +8,7 @@ ghost use Rattle.heap_model.specs.Wholeness.{HasRows};
 ghost use Rattle.heap_check.specs.Walks.{HasWords};
 ghost use Rattle.heap_judge.specs.ShownSlots.{IsSmallWordOf};
 
-use heap_check::{Sort, is_undefined, sort_of};
+use heap_check::{Referent, is_undefined, sort_of};
 use heap_model::HeapImage;
 use ideal_graph::Value;
 use shape_tree::Rep;
@@ -60,11 +60,11 @@ pub(crate) fn refers_to(image: &HeapImage, word: u64, number: u32) -> bool
 }
 
 /// Whether it is the object of this number.
-fn is_object_of(sort: Sort, number: u32) -> bool
-    ensures { IsTrue result ↔ (sort ≡ Sort.Object number) }
+fn is_object_of(sort: Referent, number: u32) -> bool
+    ensures { IsTrue result ↔ (sort ≡ Referent.Object number) }
 {
     match sort {
-        Sort::Object(other) => other == number,
+        Referent::Object(other) => other == number,
         _ => false,
     }
 }
@@ -79,11 +79,11 @@ fn refers_to_box(image: &HeapImage, word: u64, v: i64) -> bool
 }
 
 /// Whether it is a box that holds this integer.
-fn is_box_of(sort: Sort, v: i64) -> bool
-    ensures { IsTrue result ↔ (sort ≡ Sort.Boxed v) }
+fn is_box_of(sort: Referent, v: i64) -> bool
+    ensures { IsTrue result ↔ (sort ≡ Referent.Boxed v) }
 {
     match sort {
-        Sort::Boxed(other) => other == v,
+        Referent::Boxed(other) => other == v,
         _ => false,
     }
 }

@@ -5,7 +5,7 @@ use Rattle.std.specs.Ordering.{nat_cmp, eq_by_cmp}
 use Rattle.std.specs.Cmp.{unsigned_tied}
 use Rattle.std.proofs.lemmas.Cmp.{nat_cmp_total}
 use Rattle.std.proofs.lemmas.Bool.Decides.{nat_tests}
-use Rattle.object_graph.specs.declared.value.Value.{Value}
+use Rattle.heap_model.specs.Types.{Value}
 use Rattle.object_graph.specs.Graphs.{Graph, bind}
 use Rattle.heap_model.specs.Laws.{BindsAnew}
 

@@ -1,8 +1,7 @@
 -- A heap in which a variable was bound anew: it has the same cells, and is whole.
 use Rattle.std.proofs.Common.{ℕ, ◌<◌, ◌≤◌, inl, inr, List, [], Contains, Option, sym, subst, arith, append-nil}
 use Rattle.std.proofs.lemmas.Bool.{cases_eq}
-use Rattle.object_graph.specs.declared.value.Value.{Value}
-use Rattle.handle_roots.specs.declared.held.Held.{Held}
+use Rattle.heap_model.specs.Types.{Value, Held}
 use Rattle.handle_roots.specs.Roots.{FitsHeld, Holds, with_root}
 use Rattle.heap_model.specs.Heaps.{Heap}
 use Rattle.heap_model.specs.Wholeness.{IsHeld, HasRoot, Whole}
@@ -11,7 +10,7 @@ use Rattle.heap_model.specs.Changes.{IsOwnChange}
 use Rattle.heap_model.specs.Laws.{bound}
 use Rattle.heap_model.proofs.CellsApart.{used_few}
 use Rattle.heap_model.proofs.Moves.{Moves}
-use Rattle.heap_model.proofs.Fates.{CellsMove}
+use Rattle.heap_model.proofs.CellOutcomes.{CellsMove}
 use Rattle.heap_model.proofs.SoundStays.{sound_stays}
 use Rattle.heap_model.proofs.OwnedStays.{owned_stays_owned}
 use Rattle.heap_model.proofs.WholeStays.{held_stays}

@@ -6,7 +6,7 @@ use Rattle.std.proofs.lemmas.Slice.{between_is}
 use Rattle.page_space.specs.Extents.{Space, roots_start, layouts_start, marks_start}
 use Rattle.page_space.proofs.Starts.{layouts_start_is, marks_start_is}
 use Rattle.object_graph.proofs.Lists.{slice_get-set_same, slice_get-set_other}
-use Rattle.handle_roots.specs.declared.held.Held.{Held}
+use Rattle.heap_model.specs.Types.{Held}
 use Rattle.handle_roots.specs.Roots.{FitsHeld, Holds, root_at, first_word, second_word, with_root}
 use Rattle.heap_model.proofs.WordsAlike.{AreAlike}
 

@@ -4,15 +4,12 @@ use Rattle.std.proofs.Common.{Some, None, slice_get, unwrap_or, IsTrue, refl, sy
 use Rattle.std.specs.Prelude.{option_map}
 use Rattle.std.proofs.lemmas.Bool.{ne_eqb, eq-eqb, false≢true}
 use Rattle.std.proofs.lemmas.Option.{same_Some, slice_get-map}
-use Rattle.tagged_word.specs.declared.layout.Kind.{Kind}
+use Rattle.heap_model.specs.Types.{Kind, LayoutWord, Path, Cell}
 use Rattle.tagged_word.specs.declared.layout.Kind.TheVariants as kind
-use Rattle.tagged_word.specs.declared.layout.LayoutWord.{LayoutWord}
 use Rattle.tagged_word.specs.Layouts.{layout_bits, IsLayoutOfKind}
 use Rattle.tagged_word.specs.Shapes.{box_shape}
 use Rattle.tagged_word.proofs.Layouts.{same_layout}
-use Rattle.object_graph.specs.declared.path.Path.{Path}
 use Rattle.shape_tree.specs.ShapeLayouts.{layout_of, layout_word}
-use Rattle.cell_layout.specs.declared.cell.Cell.{Cell}
 use Rattle.cell_layout.proofs.CellsThere.{slice_get-layouts_in}
 use Rattle.heap_model.specs.Heaps.{Heap, HasCell}
 use Rattle.heap_model.specs.Slots.{is_object_kind}

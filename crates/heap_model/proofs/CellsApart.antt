@@ -3,15 +3,15 @@ use Rattle.std.proofs.Common.{◌≡◌, ℕ, ◌+◌, ◌≤◌, ◌<◌, inl, 
 use Rattle.std.proofs.Common.{sym, ◌∙◌, ap, subst, arith}
 use Rattle.std.proofs.lemmas.List.Elements.{Contains-append_cases}
 use Rattle.tagged_word.proofs.Members.{in_cases}
-use Rattle.page_space.specs.declared.region.Region.{Region}
+use Rattle.heap_model.specs.Types.{Region, Cell}
 use Rattle.page_space.specs.declared.region.Region.TheVariants.{Page, Eden, Segment, Root, Layout, Mark, Board, Outside}
-use Rattle.page_space.specs.Extents.{Space, Extent, Holds, extents, cell_stretches, root_stretches, layout_stretches}
+use Rattle.page_space.specs.Extents.{Space, Extent, ContainsAddress, extents, cell_stretches, root_stretches}
+use Rattle.page_space.specs.Extents.{layout_stretches}
 use Rattle.page_space.specs.Extents.{mark_stretches, board_stretches}
 use Rattle.page_space.proofs.Stretches.{stands_first}
 use Rattle.page_space.proofs.Covering.{disjoint}
 use Rattle.page_space.proofs.Standing.{length_of}
 use Rattle.page_space.proofs.Placed.{placed}
-use Rattle.cell_layout.specs.declared.cell.Cell.{Cell}
 use Rattle.cell_layout.specs.Cells.{IsCell, IsRow}
 use Rattle.cell_layout.proofs.OneCell.{one_cell, cells_have_words}
 use Rattle.cell_layout.proofs.Rows.{rows_part_around, cell_within}
@@ -86,7 +86,7 @@ used_few rows = omega (arith, rows.few)
 
 -- the region of a cell's row holds the cell's addresses
 row_holds : {heap : Heap} {cell : Cell} {words : List ℕ} (at : ℕ) → heap.used ≤ heap.space.sizes.young
-    → (has : HasCell heap cell words) → IsOfCell cell at → Holds has.row.extent at
+    → (has : HasCell heap cell words) → IsOfCell cell at → ContainsAddress has.row.extent at
 row_holds {heap} {cell} at few has of_cell =
     let row = has.row in
     let within = cell_within heap.space heap.words row.extent.start row.end row.cells cell has.used.stands has.in_row in

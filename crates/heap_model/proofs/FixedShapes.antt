@@ -1,13 +1,12 @@
 -- The kind of a cell by its shape, where that is a fixed one.
 use Rattle.std.proofs.Common.{◌≡◌, ℕ, ◌%◌, List, refl, sym, ◌∙◌, ap}
 use Rattle.std.proofs.lemmas.Option.{same_Some}
-use Rattle.tagged_word.specs.declared.layout.Kind.{Kind}
+use Rattle.heap_model.specs.Types.{Kind, Cell}
 use Rattle.tagged_word.specs.declared.layout.Kind.TheVariants as kind
 use Rattle.tagged_word.specs.Layouts.{layout_bits, kind_number}
 use Rattle.tagged_word.specs.Shapes.{list_shape, weak_shape}
 use Rattle.tagged_word.proofs.Layouts.{parts, same_kind}
 use Rattle.shape_tree.specs.ShapeLayouts.{layout_word}
-use Rattle.cell_layout.specs.declared.cell.Cell.{Cell}
 use Rattle.cell_layout.proofs.CellsThere.{slice_get-layouts_in}
 use Rattle.heap_model.specs.Heaps.{Heap, HasCell}
 use Rattle.heap_model.specs.Wholeness.{HasSizes}

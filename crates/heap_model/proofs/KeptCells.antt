@@ -8,7 +8,7 @@ use Rattle.page_space.specs.Extents.{Space, Extent, eden_start, extents_from, wo
 use Rattle.tagged_word.proofs.Members.{first_in}
 use Rattle.page_space.proofs.Stretches.{stands_first, stands_then}
 use Rattle.page_space.proofs.Standing.{extent_of, pages, eden, to_eden, to_half, words_in-pages}
-use Rattle.cell_layout.specs.declared.cell.Cell.{Cell}
+use Rattle.heap_model.specs.Types.{Cell}
 use Rattle.cell_layout.proofs.Rows.{cell_within}
 use Rattle.heap_model.specs.Heaps.{Heap, Row, EndsUsed, HasCell, cell_extents, words_of_cell}
 use Rattle.heap_model.specs.Changes.{Patch, IsPatched}

@@ -5,19 +5,17 @@ use Rattle.std.proofs.lemmas.List.{get_or_append_left}
 use Rattle.tagged_word.specs.declared.layout.Kind.TheVariants as kind
 use Rattle.tagged_word.specs.Shapes.{first_path_shape}
 use Rattle.tagged_word.specs.Cells.{store_slot}
-use Rattle.object_graph.specs.declared.path.Path.{Path}
-use Rattle.object_graph.specs.declared.path.PathField.{PathField}
+use Rattle.heap_model.specs.Types.{Path, PathField, Cell}
 use Rattle.object_graph.specs.declared.value.Rep.TheVariants as rep
 use Rattle.shape_tree.specs.Shapes.{IsPathShape, shape_path}
-use Rattle.cell_layout.specs.declared.cell.Cell.{Cell}
 use Rattle.heap_model.specs.Heaps.{Heap, HasCell}
-use Rattle.heap_model.specs.Slots.{is_object_kind, RefersTo, IsBeside}
+use Rattle.heap_model.specs.Slots.{is_object_kind, RefersTo, HoldsStore}
 use Rattle.heap_model.specs.Kinds.{HasWord, HasSlots, Pair, HasTable}
 use Rattle.heap_model.specs.Wholeness.{IsOwnedKind, HasSlotAt, NamesFrom}
 use Rattle.heap_model.proofs.ObjectSlots.{HasSlotOf, FieldSlot, store_slot_at}
 use Rattle.heap_model.proofs.SlotWords.{store_is_owned}
 use Rattle.heap_model.proofs.WordsStay.{BoxStays}
-use Rattle.heap_model.proofs.Fates.{CellsMove}
+use Rattle.heap_model.proofs.CellOutcomes.{CellsMove}
 use Rattle.heap_model.proofs.Moves.{Moves, named_stays}
 
 -- an object of the old heap that did not go
@@ -66,10 +64,10 @@ kept_box moves keeps slot v box =
 -- what stands beside it stays
 pub kept_beside : {old new : Heap} {gone came made : List Cell} {owner : Cell} {words slots : List ℕ} (store : ℕ)
     → Moves old new gone came made → Keeps old new gone owner words → HasWord words store_slot store
-    → IsBeside old kind.Store store slots → IsBeside new kind.Store store slots
-kept_beside store moves keeps slot IsBeside.none = IsBeside.none
-kept_beside store moves keeps slot (IsBeside.store to cell others refers is) =
-    IsBeside.store store cell others
+    → HoldsStore old kind.Store store slots → HoldsStore new kind.Store store slots
+kept_beside store moves keeps slot HoldsStore.none = HoldsStore.none
+kept_beside store moves keeps slot (HoldsStore.store to cell others refers is) =
+    HoldsStore.store store cell others
     (owned_stays moves keeps (store_slot_at store keeps.object slot) refers (store_is_owned (inl is))) is
 
 -- its table stays

@@ -5,14 +5,12 @@ use Rattle.std.proofs.Common.{sym, ◌∙◌, ap, arith}
 use Rattle.std.proofs.lemmas.List.{map-append}
 use Rattle.std.proofs.lemmas.Bool.{cases_lt}
 use Rattle.std.proofs.lemmas.Option.{slice_get_past, same_Some}
-use Rattle.tagged_word.specs.declared.layout.LayoutWord.{LayoutWord}
+use Rattle.heap_model.specs.Types.{LayoutWord, Path, Cell}
 use Rattle.tagged_word.specs.Layouts.{layout_bits}
 use Rattle.tagged_word.specs.Shapes.{shapes_most, fixed_layout_words}
 use Rattle.tagged_word.proofs.Layouts.{kind_number-some}
 use Rattle.page_space.specs.Extents.{Space, layouts_start}
-use Rattle.object_graph.specs.declared.path.Path.{Path}
 use Rattle.shape_tree.specs.ShapeLayouts.{layout_of, layout_words, layout_word}
-use Rattle.cell_layout.specs.declared.cell.Cell.{Cell}
 use Rattle.cell_layout.specs.Cells.{IsCell, layouts_in}
 use Rattle.cell_layout.proofs.CellsThere.{slice_get-layouts_in, slice_get-layouts_past}
 use Rattle.heap_model.proofs.CellWords.{slice_get-append_left}

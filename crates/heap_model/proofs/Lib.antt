@@ -11,7 +11,7 @@ pub mod SlotsHold
 pub mod OneBeside
 pub mod OneOwner
 pub mod WordsStay
-pub mod Fates
+pub mod CellOutcomes
 pub mod Moves
 pub mod KeptObjects
 pub mod SoundStays

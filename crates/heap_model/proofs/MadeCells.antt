@@ -2,10 +2,10 @@
 use Rattle.std.proofs.Common.{◌≡◌, ℕ, List, [], ◌∷◌, Contains, IsTrue, sym, subst}
 use Rattle.tagged_word.specs.Cells.{store_slot}
 use Rattle.tagged_word.proofs.Members.{one_in}
-use Rattle.cell_layout.specs.declared.cell.Cell.{Cell}
+use Rattle.heap_model.specs.Types.{Cell}
 use Rattle.heap_model.specs.Heaps.{Heap, HasCell, words_of_cell}
 use Rattle.heap_model.specs.Slots.{is_object_kind, reference_word}
-use Rattle.heap_model.specs.Kinds.{IsSound}
+use Rattle.heap_model.specs.Kinds.{IsSoundCell}
 use Rattle.heap_model.specs.Wholeness.{HasSlotAt, NamesFrom}
 use Rattle.heap_model.specs.Laws.{RefersToNothing, MadeCellsAreOwn}
 use Rattle.heap_model.proofs.CellsApart.{one_words}
@@ -44,7 +44,7 @@ made_cells_are_own old new cell sound nothing change =
       objects_stay = λ one there. absurd (none_in one there);
       objects_stood = λ one there. absurd (none_in one there);
       boxes_stay = λ one there. absurd (none_in one there);
-      sound = λ one there. subst (λ (c : Cell). IsSound new c (words_of_cell new c)) (one_in cell one there) sound;
+      sound = λ one there. subst (λ (c : Cell). IsSoundCell new c (words_of_cell new c)) (one_in cell one there) sound;
       named = λ owner slot at there names. absurd (no_names owner slot at there names);
       once = λ owner another slot other at there there_too names names_too. absurd (no_names owner slot at there names);
     }

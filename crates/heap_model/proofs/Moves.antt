@@ -3,7 +3,7 @@
 use Rattle.std.proofs.Common.{◌≡◌, ℕ, inl, inr, List, Contains, IsTrue, ℤ}
 use Rattle.std.proofs.Common.{sym, ◌∙◌, ap, subst}
 use Rattle.std.proofs.lemmas.List.Elements.{Contains-append_left}
-use Rattle.cell_layout.specs.declared.cell.Cell.{Cell}
+use Rattle.heap_model.specs.Types.{Cell}
 use Rattle.heap_model.specs.Heaps.{Heap, HasCell, words_of_cell}
 use Rattle.heap_model.specs.Slots.{is_object_kind, reference_word, RefersToBox}
 use Rattle.heap_model.specs.Slots.{IsSlotWord}
@@ -12,7 +12,7 @@ use Rattle.heap_model.specs.Wholeness.{IsOwnedKind, NamesFrom, Whole}
 use Rattle.heap_model.specs.Changes.{IsOwnOf, IsOwnChange}
 use Rattle.heap_model.proofs.CellsApart.{one_at}
 use Rattle.heap_model.proofs.WordsStay.{PlacesStay, slot_word_stays}
-use Rattle.heap_model.proofs.Fates.{CellsMove, Fate, fate, places_stay}
+use Rattle.heap_model.proofs.CellOutcomes.{CellsMove, Fate, fate, places_stay}
 use Rattle.heap_model.proofs.OneOwner.{object_is_not_owned, one_owner}
 
 -- the cells of a whole heap change, and this change is some objects' own

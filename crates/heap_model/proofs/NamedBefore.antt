@@ -1,6 +1,6 @@
 -- A slot word that stays and refers to a store, weak table or box in the new heap referred to one before.
 use Rattle.std.proofs.Common.{◌≡◌, ℕ, List, IsTrue, sym, ◌∙◌, subst}
-use Rattle.cell_layout.specs.declared.cell.Cell.{Cell}
+use Rattle.heap_model.specs.Types.{Cell}
 use Rattle.heap_model.specs.Heaps.{Heap, HasCell}
 use Rattle.heap_model.specs.Slots.{is_object_kind, RefersTo, RefersToObject, IsSlotWord}
 use Rattle.heap_model.specs.Wholeness.{IsOwnedKind, HasSlotAt, NamesFrom, Whole}

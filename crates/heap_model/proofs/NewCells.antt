@@ -3,7 +3,7 @@ use Rattle.std.proofs.Common.{◌≡◌, ℕ, ◌+◌, ◌≤◌, ◌<◌, List,
 use Rattle.std.proofs.Common.{refl, sym, subst, arith}
 use Rattle.std.proofs.lemmas.List.Elements.{All-contains}
 use Rattle.page_space.specs.Extents.{Space, eden_start}
-use Rattle.cell_layout.specs.declared.cell.Cell.{Cell}
+use Rattle.heap_model.specs.Types.{Cell}
 use Rattle.cell_layout.specs.Cells.{IsRow}
 use Rattle.cell_layout.proofs.OneCell.{cells_have_words}
 use Rattle.cell_layout.proofs.Rows.{rows_part_around, cell_within}

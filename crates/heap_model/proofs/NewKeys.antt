@@ -5,7 +5,7 @@ use Rattle.tagged_word.specs.declared.layout.Kind.TheVariants as kind
 use Rattle.tagged_word.specs.Cells.{store_head}
 use Rattle.std.proofs.lemmas.Option.{same_Some}
 use Rattle.object_graph.specs.Graphs.{Graph}
-use Rattle.cell_layout.specs.declared.cell.Cell.{Cell}
+use Rattle.heap_model.specs.Types.{Cell}
 use Rattle.heap_model.specs.Heaps.{Heap, HasCell}
 use Rattle.heap_model.specs.Slots.{undefined_word, is_object_kind, RefersTo, RefersToPlace}
 use Rattle.heap_model.specs.Kinds.{Pair, pairs_in, HasTable, IsWeakCell, IsSoundOf}
@@ -15,7 +15,7 @@ use Rattle.heap_model.proofs.WordClasses.{same_reference, undefined_refers_not, 
 use Rattle.heap_model.proofs.CellsApart.{one_at, one_words}
 use Rattle.heap_model.proofs.SlotWords.{same_target}
 use Rattle.heap_model.proofs.WordsStay.{refers_to_place_stays}
-use Rattle.heap_model.proofs.Fates.{cells_move}
+use Rattle.heap_model.proofs.CellOutcomes.{cells_move}
 use Rattle.heap_model.proofs.Moves.{Moves, place_stays}
 use Rattle.heap_model.proofs.KeptObjects.{Keeps, kept_table}
 

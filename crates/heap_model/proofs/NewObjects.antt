@@ -9,11 +9,10 @@ use Rattle.std.proofs.lemmas.Option.{same_Some}
 use Rattle.tagged_word.proofs.Members.{first_in, one_in}
 use Rattle.page_space.specs.Extents.{Space}
 use Rattle.object_graph.specs.declared.value.Value.TheVariants.{Ref}
-use Rattle.object_graph.specs.declared.object.Object.{Object}
+use Rattle.heap_model.specs.Types.{Object, Cell}
 use Rattle.object_graph.specs.declared.object.Object.TheVariants as graph_object
 use Rattle.object_graph.specs.Graphs.{Graph, make}
 use Rattle.object_graph.specs.Reach.{is_marked, reach}
-use Rattle.cell_layout.specs.declared.cell.Cell.{Cell}
 use Rattle.handle_roots.specs.declared.held.Held.TheVariants as held
 use Rattle.heap_model.specs.Heaps.{Heap, words_of_cell}
 use Rattle.heap_model.specs.Slots.{IsPlace}
@@ -23,7 +22,7 @@ use Rattle.heap_model.specs.Changes.{CellsChange}
 use Rattle.heap_model.specs.Laws.{BindsAnew, IsNoEntryKey, NewObjectsShow}
 use Rattle.heap_model.proofs.CellWords.{slice_get-append_left, slice_get-append_right}
 use Rattle.heap_model.proofs.Moves.{Moves}
-use Rattle.heap_model.proofs.Fates.{cells_move}
+use Rattle.heap_model.proofs.CellOutcomes.{cells_move}
 use Rattle.heap_model.proofs.PlacesBefore.{AreNumberedFrom}
 use Rattle.heap_model.proofs.ShownObjects.{ObjectKeysStay, object_of_shown}
 use Rattle.heap_model.proofs.ReachedStays.{reach_below, keys_stay, reached_stays, made_below}

@@ -7,12 +7,11 @@ use Rattle.std.proofs.lemmas.List.Elements.{All-nil, All-cons, All-append, All-c
 use Rattle.std.proofs.lemmas.List.Elements.{All-contains_itself}
 use Rattle.std.proofs.lemmas.List.Sums.{sum_by-cons}
 use Rattle.tagged_word.proofs.Members.{first_in, rest_in, in_map}
-use Rattle.page_space.specs.declared.region.Region.{Region}
+use Rattle.heap_model.specs.Types.{Region, Cell}
 use Rattle.page_space.specs.declared.region.Region.TheVariants.{Page, Eden, Segment, Root, Layout, Mark, Board, Outside}
-use Rattle.page_space.specs.Extents.{Space, Extent, Holds, eden_start}
+use Rattle.page_space.specs.Extents.{Space, Extent, ContainsAddress, eden_start}
 use Rattle.page_space.proofs.Standing.{start_of}
 use Rattle.page_space.proofs.Placed.{placed}
-use Rattle.cell_layout.specs.declared.cell.Cell.{Cell}
 use Rattle.cell_layout.specs.Cells.{IsRow}
 use Rattle.cell_layout.proofs.Rows.{row_ascends, rows_join}
 use Rattle.heap_model.specs.Heaps.{Heap, Row, EndsUsed, IsUsedRow, survivors_in, survivors_of, cell_extents}
@@ -38,7 +37,8 @@ pub record NewRow (old new : Heap) (patches : List Patch) (made : List Cell) (ro
 
 -- no patch has the address where a row ends before its region does
 end_is_free : {old new : Heap} {patches : List Patch} {made : List Cell} {row : Row}
-    → RowPatching old new patches made row → Holds row.extent row.end → Spot patches row.end → IsFree patches row.end
+    → RowPatching old new patches made row → ContainsAddress row.extent row.end → Spot patches row.end
+    → IsFree patches row.end
 end_is_free context holds (Spot.free is_free) = is_free
 end_is_free context holds (Spot.in_patch patch there patched) =
     absurd (omega (arith, (patch_in_row context there patched holds).to, patched.below))

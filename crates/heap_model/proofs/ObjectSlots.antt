@@ -7,23 +7,18 @@ use Rattle.std.specs.List.{range_with_len}
 use Rattle.std.proofs.lemmas.Bool.{false≢true, cases_lt}
 use Rattle.std.proofs.lemmas.Bool.Decides.{nat_tests}
 use Rattle.std.proofs.lemmas.Option.{none-some, same_Some}
-use Rattle.tagged_word.specs.declared.layout.Kind.{Kind}
+use Rattle.heap_model.specs.Types.{Kind, LayoutWord, Path, PathField, Rep, Cell}
 use Rattle.tagged_word.specs.declared.layout.Kind.TheVariants as kind
-use Rattle.tagged_word.specs.declared.layout.LayoutWord.{LayoutWord}
 use Rattle.tagged_word.specs.Layouts.{is_raw}
 use Rattle.tagged_word.specs.Cells.{words_of, scavenge_offsets, scavenge_offsets_of, in_object_offsets, store_head}
 use Rattle.tagged_word.specs.Cells.{store_slot, plain_head}
 use Rattle.tagged_word.proofs.Members.{first_in, rest_in, in_range}
 use Rattle.tagged_word.proofs.Offsets.{IsInObject, in_object_in}
-use Rattle.object_graph.specs.declared.path.Path.{Path}
-use Rattle.object_graph.specs.declared.path.PathField.{PathField}
-use Rattle.object_graph.specs.declared.value.Rep.{Rep}
 use Rattle.object_graph.specs.declared.value.Rep.TheVariants as rep
 use Rattle.shape_tree.specs.Shapes.{IsPathShape, shape_path}
 use Rattle.shape_tree.specs.ShapeLayouts.{layout_of, raw_bit}
-use Rattle.cell_layout.specs.declared.cell.Cell.{Cell}
 use Rattle.heap_model.specs.Heaps.{Heap, HasCell}
-use Rattle.heap_model.specs.Slots.{is_object_kind, RefersTo, IsBeside}
+use Rattle.heap_model.specs.Slots.{is_object_kind, RefersTo, HoldsStore}
 use Rattle.heap_model.specs.Kinds.{HasWord, HasSlots, Pair, pairs_in, HasTable}
 use Rattle.heap_model.specs.Wholeness.{HasSizes, HasSlotAt}
 use Rattle.heap_model.proofs.CellWords.{slice_get-drop, slice_get-append_left, slice_get-append_right, words_by_kind}
@@ -65,9 +60,9 @@ HasSlotOf heap cell words word = (slot : ℕ) × HasSlotAt heap cell words slot 
 
 -- an object has the slots that stand beside it
 pub slot_beside : {heap : Heap} {cell : Cell} {words slots : List ℕ} (store k word : ℕ) → HasWord words store_slot store
-    → IsBeside heap kind.Store store slots → HasWord slots k word → HasSlotOf heap cell words word
-slot_beside store k word slot IsBeside.none there = absurd (none-some word there)
-slot_beside store k word slot (IsBeside.store to other others refers of_kind) there =
+    → HoldsStore heap kind.Store store slots → HasWord slots k word → HasSlotOf heap cell words word
+slot_beside store k word slot HoldsStore.none there = absurd (none-some word there)
+slot_beside store k word slot (HoldsStore.store to other others refers of_kind) there =
     (other.at + (store_head + k), beside_slot store k other.length word kind.Store slot refers of_kind refl refl there)
 
 -- the words of a pair stand one behind the other

@@ -3,24 +3,24 @@ use Rattle.std.proofs.Common.{◌≡◌, ℕ, List, drop, ◌++◌, refl, sym, �
 use Rattle.std.proofs.lemmas.Option.{same_Some}
 use Rattle.tagged_word.specs.declared.layout.Kind.TheVariants as kind
 use Rattle.tagged_word.specs.Cells.{plain_head, store_head}
-use Rattle.cell_layout.specs.declared.cell.Cell.{Cell}
+use Rattle.heap_model.specs.Types.{Cell}
 use Rattle.heap_model.specs.Heaps.{Heap, HasCell}
-use Rattle.heap_model.specs.Slots.{IsBeside}
+use Rattle.heap_model.specs.Slots.{HoldsStore}
 use Rattle.heap_model.specs.Kinds.{HasSlots}
 use Rattle.heap_model.proofs.WordClasses.{same_reference, undefined_refers_not}
 use Rattle.heap_model.proofs.CellsApart.{one_at, one_words}
 
 -- one word has one list of slots beside it
 pub one_beside : {heap : Heap} (word other : ℕ) (beside others : List ℕ) → word ≡ other
-    → IsBeside heap kind.Store word beside
-    → IsBeside heap kind.Store other others → beside ≡ others
-one_beside word other beside others same IsBeside.none IsBeside.none = refl
-one_beside word other beside others same IsBeside.none (IsBeside.store to cell words refers of_kind) =
+    → HoldsStore heap kind.Store word beside
+    → HoldsStore heap kind.Store other others → beside ≡ others
+one_beside word other beside others same HoldsStore.none HoldsStore.none = refl
+one_beside word other beside others same HoldsStore.none (HoldsStore.store to cell words refers of_kind) =
     absurd (undefined_refers_not cell.at (same ∙ refers.refers))
-one_beside word other beside others same (IsBeside.store to cell words refers of_kind) IsBeside.none =
+one_beside word other beside others same (HoldsStore.store to cell words refers of_kind) HoldsStore.none =
     absurd (undefined_refers_not cell.at (sym same ∙ refers.refers))
-one_beside {heap} word other beside others same (IsBeside.store to cell words refers of_kind)
-    (IsBeside.store to' cell' words' refers' of_kind') =
+one_beside {heap} word other beside others same (HoldsStore.store to cell words refers of_kind)
+    (HoldsStore.store to' cell' words' refers' of_kind') =
     let one : cell ≡ cell' = one_at refers.has refers'.has
     (same_reference cell.at cell'.at (sym refers.refers ∙ same ∙ refers'.refers)) in
     let has = subst (λ (c : Cell). HasCell heap c words) one refers.has in

@@ -1,6 +1,6 @@
 -- No two slots name one store, table or box after a change that is some objects' own.
 use Rattle.std.proofs.Common.{◌≡◌, ℕ, ◌++◌, inl, inr, List, Contains, sym, ◌∙◌, subst}
-use Rattle.cell_layout.specs.declared.cell.Cell.{Cell}
+use Rattle.heap_model.specs.Types.{Cell}
 use Rattle.heap_model.specs.Heaps.{Heap, HasCell}
 use Rattle.heap_model.specs.Slots.{RefersTo}
 use Rattle.heap_model.specs.Wholeness.{HasSlotAt, NamesFrom, IsOwned}

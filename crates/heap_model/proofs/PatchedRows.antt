@@ -1,9 +1,9 @@
 -- The row of a region has each patch that has an address of the region.
 use Rattle.std.proofs.Common.{◌≡◌, ℕ, ◌-◌, ◌≤◌, ◌<◌, List, Contains}
 use Rattle.std.proofs.Common.{ap, arith}
-use Rattle.page_space.specs.Extents.{Extent, Holds}
+use Rattle.page_space.specs.Extents.{Extent, ContainsAddress}
 use Rattle.page_space.proofs.Covering.{disjoint}
-use Rattle.cell_layout.specs.declared.cell.Cell.{Cell}
+use Rattle.heap_model.specs.Types.{Cell}
 use Rattle.cell_layout.proofs.Rows.{cell_within}
 use Rattle.heap_model.specs.Heaps.{Heap, Row, IsUsedRow, cell_extents}
 use Rattle.heap_model.specs.Changes.{Patch, IsPatch, IsPatched}
@@ -44,12 +44,12 @@ in_own_row {old} {patch = patch} at is patched =
 
 -- a patch with an address of a region is a part of the region's row
 pub patch_in_row : {old new : Heap} {patches : List Patch} {made : List Cell} {row : Row} {patch : Patch} {at : ℕ}
-    → RowPatching old new patches made row → Contains patches patch → IsPatched at patch → Holds row.extent at
+    → RowPatching old new patches made row → Contains patches patch → IsPatched at patch → ContainsAddress row.extent at
     → IsInRow row patch
 patch_in_row {old} {new} {row = row} {patch} {at} context there patched holds =
     let is : IsPatch old new patch = patch_is context.patching there in
     let one = covered old.space old.words patch.from patch.to patch.before at is.stood patched.from patched.below in
-    let holds_too : Holds is.row.extent at =
+    let holds_too : ContainsAddress is.row.extent at =
     row_holds context.patching.rows is.in_region is.used (before_in_row is one.among) one.of_cell in
     let same : is.row.extent ≡ row.extent =
     disjoint old.space is.row.extent row.extent at (cell_extent_stands old.space is.row.extent is.in_region)

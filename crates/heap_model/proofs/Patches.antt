@@ -7,10 +7,10 @@ use Rattle.std.proofs.lemmas.List.Elements.{All-nil, All-cons, All-contains}
 use Rattle.std.proofs.lemmas.List.Elements.{Contains-append_left, Contains-append_right}
 use Rattle.tagged_word.proofs.Members.{first_in, rest_in}
 use Rattle.page_space.specs.declared.region.Region.TheVariants.{Eden}
-use Rattle.page_space.specs.Extents.{Space, Extent, Holds, eden_start}
+use Rattle.page_space.specs.Extents.{Space, Extent, ContainsAddress, eden_start}
 use Rattle.page_space.proofs.Covering.{disjoint}
 use Rattle.page_space.proofs.Standing.{extent_of, eden_stands}
-use Rattle.cell_layout.specs.declared.cell.Cell.{Cell}
+use Rattle.heap_model.specs.Types.{Cell}
 use Rattle.cell_layout.proofs.Rows.{cell_within}
 use Rattle.heap_model.specs.Heaps.{Heap, Row, EndsUsed, IsUsedRow, HasCell, cell_extents, words_of_cell}
 use Rattle.heap_model.specs.Wholeness.{HasRows, HasSizes}
@@ -110,7 +110,7 @@ new_few {old} {new} patching =
 -- the region of a cell's row has the cell's addresses
 pub row_holds : {heap : Heap} {row : Row} {cell : Cell} {at : ℕ} → HasRows heap
     → Contains (cell_extents heap.space) row.extent → IsUsedRow heap row → Contains row.cells cell → IsOfCell cell at
-    → Holds row.extent at
+    → ContainsAddress row.extent at
 row_holds {heap} {row} {cell} rows there used in_row of_cell =
     let within = cell_within heap.space heap.words row.extent.start row.end row.cells cell used.stands in_row in
     let ends = ends_within heap row (used_few rows) there used in
@@ -126,7 +126,7 @@ pub not_new : {old new : Heap} {patches : List Patch} {made : List Cell} {cell :
     → Patching old new patches made → HasCell old cell words → IsOfCell cell at → IsNewlyUsed old new at → ⊥
 not_new {old} {new} {cell = cell} {at = at} patching has of_cell is_new =
     let row : Row = has.row in
-    let in_eden : Holds (extent_of old.space Eden) at =
+    let in_eden : ContainsAddress (extent_of old.space Eden) at =
     record { from = omega (arith, is_new.from); below = omega (arith, is_new.below, new_few patching) } in
     let same : row.extent ≡ extent_of old.space Eden =
     disjoint old.space row.extent (extent_of old.space Eden) at (cell_extent_stands old.space row.extent has.in_region)

@@ -8,15 +8,12 @@ use Rattle.std.proofs.lemmas.Option.{slice_get_within, same_Some}
 use Rattle.tagged_word.specs.Layouts.{layout_bits, is_raw}
 use Rattle.tagged_word.specs.Shapes.{first_path_shape, shapes_most}
 use Rattle.tagged_word.proofs.Layouts.{same_layout}
-use Rattle.object_graph.specs.declared.path.Path.{Path}
-use Rattle.object_graph.specs.declared.path.PathField.{PathField}
-use Rattle.object_graph.specs.declared.value.Rep.{Rep}
+use Rattle.heap_model.specs.Types.{Path, PathField, Rep, Cell}
 use Rattle.object_graph.specs.declared.value.Rep.TheVariants as rep
 use Rattle.object_graph.specs.Invariants.{IsPath, cap_most}
 use Rattle.shape_tree.specs.Shapes.{AreShapes, IsPathShape, shape_path}
 use Rattle.shape_tree.specs.ShapeLayouts.{in_object_fields, raw_bit, raw_mask, layout_of}
 use Rattle.shape_tree.proofs.PathLayouts.{layout_word-path, IsLayout-path}
-use Rattle.cell_layout.specs.declared.cell.Cell.{Cell}
 use Rattle.cell_layout.proofs.CellsThere.{slice_get-layouts_in}
 use Rattle.heap_model.specs.Heaps.{Heap, HasCell}
 use Rattle.heap_model.specs.Wholeness.{HasSizes}

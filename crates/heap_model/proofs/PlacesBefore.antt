@@ -2,7 +2,7 @@
 use Rattle.std.proofs.Common.{ℕ, List, Contains, ◌∙◌, arith, ◌<◌, ◌≤◌}
 use Rattle.std.proofs.Common.{IsTrue, inl, inr}
 use Rattle.std.proofs.lemmas.List.Elements.{Contains-append_cases}
-use Rattle.cell_layout.specs.declared.cell.Cell.{Cell}
+use Rattle.heap_model.specs.Types.{Cell}
 use Rattle.heap_model.specs.Heaps.{Heap, words_of_cell}
 use Rattle.heap_model.specs.Slots.{is_object_kind, IsPlace, RefersToPlace}
 use Rattle.heap_model.proofs.Moves.{Moves}

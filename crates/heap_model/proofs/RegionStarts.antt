@@ -1,6 +1,6 @@
 -- The regions of cells by the addresses at which they begin.
 use Rattle.std.proofs.Common.{◌≡◌, ℕ, Contains, refl, sym, subst}
-use Rattle.page_space.specs.declared.region.Region.{Region}
+use Rattle.heap_model.specs.Types.{Region}
 use Rattle.page_space.specs.Extents.{Space, Extent, IsIn}
 use Rattle.page_space.specs.RegionLaws.{IsSpace}
 use Rattle.page_space.proofs.LawsHold.{addresses_are_in_one, regions_stand_once, starts_are_inside}

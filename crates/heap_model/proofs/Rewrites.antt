@@ -4,7 +4,7 @@ use Rattle.std.proofs.Common.{refl, sym, ◌∙◌, ap, subst, append_assoc, ari
 use Rattle.std.specs.List.{flat_map}
 use Rattle.std.proofs.lemmas.List.Elements.{All-contains, All-map, All-weaker}
 use Rattle.tagged_word.proofs.Members.{map_from}
-use Rattle.cell_layout.specs.declared.cell.Cell.{Cell}
+use Rattle.heap_model.specs.Types.{Cell}
 use Rattle.cell_layout.specs.Cells.{IsCell, IsRow, none, next}
 use Rattle.cell_layout.specs.CellLaws.{ReadsAlike}
 use Rattle.cell_layout.proofs.OneCell.{cells_stay}
@@ -12,7 +12,7 @@ use Rattle.page_space.specs.Extents.{Space}
 use Rattle.cell_layout.proofs.Rows.{rows_part_around, one_row}
 use Rattle.heap_model.specs.Heaps.{Heap, HasCell, words_of_cell}
 use Rattle.heap_model.specs.Wholeness.{HasRows}
-use Rattle.heap_model.specs.Changes.{IsPatch, IsPatched, AreApart, Rewrite, IsRewrite, patch_of, CellsChange}
+use Rattle.heap_model.specs.Changes.{IsPatch, IsPatched, PatchesDisjoint, Rewrite, IsRewrite, patch_of, CellsChange}
 use Rattle.heap_model.specs.Laws.{gone_with, come_with, RewritesArePatches, RewritesKeepCells}
 use Rattle.heap_model.proofs.WordChanges.{changes_keep_cells}
 use Rattle.heap_model.proofs.CellsApart.{IsOfCell, has_is_cell, cells_apart}
@@ -56,7 +56,7 @@ one_patch {old} {new} one other is is_other same =
 
 -- the patches of rewrites are apart
 rewrites_apart : {old new : Heap} (rewrites : List Rewrite) → HasRows old → All (IsRewrite old new) rewrites
-    → AreApart (map patch_of rewrites)
+    → PatchesDisjoint (map patch_of rewrites)
 rewrites_apart {old} {new} rewrites rows each one other at there there_too patched patched_too =
     let a = map_from patch_of rewrites one there in
     let b = map_from patch_of rewrites other there_too in

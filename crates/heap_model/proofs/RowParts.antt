@@ -5,7 +5,7 @@ use Rattle.std.proofs.Common.{refl, sym, ◌∙◌, subst, arith}
 use Rattle.std.proofs.lemmas.List.Elements.{All-nil, All-cons, All-weaker, All-contains_itself, All-append}
 use Rattle.tagged_word.proofs.Members.{first_in, rest_in}
 use Rattle.page_space.specs.Extents.{Space}
-use Rattle.cell_layout.specs.declared.cell.Cell.{Cell}
+use Rattle.heap_model.specs.Types.{Cell}
 use Rattle.cell_layout.specs.Cells.{IsRow, none}
 use Rattle.cell_layout.proofs.Rows.{row_begins, row_from, row_of_none, row_ascends, rows_join, cell_within}
 use Rattle.heap_model.specs.Heaps.{Heap, Row, HasCell, words_of_cell}

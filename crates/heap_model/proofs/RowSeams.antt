@@ -2,8 +2,8 @@
 use Rattle.std.proofs.Common.{◌≡◌, ℕ, ◌+◌, ◌-◌, ◌≤◌, ◌<◌, inl, inr, List, Contains, ap, arith}
 use Rattle.std.proofs.lemmas.Bool.{cases_lt}
 use Rattle.std.proofs.lemmas.List.Elements.{All-contains}
-use Rattle.page_space.specs.Extents.{Holds}
-use Rattle.cell_layout.specs.declared.cell.Cell.{Cell}
+use Rattle.page_space.specs.Extents.{ContainsAddress}
+use Rattle.heap_model.specs.Types.{Cell}
 use Rattle.heap_model.specs.Heaps.{Heap, Row, HasCell}
 use Rattle.heap_model.specs.Changes.{Patch, IsPatched}
 use Rattle.heap_model.proofs.CellsApart.{IsOfCell, first_of_cell, ends_within, used_few}
@@ -58,7 +58,7 @@ pub seam_at_start : {old new : Heap} {patches : List Patch} {made : List Cell} {
 seam_at_start {old} {row = row} context patch there some_left patched =
     let start : ℕ = row.extent.start in
     let room = ends_within old row (used_few context.patching.rows) context.there context.used in
-    let holds : Holds row.extent start = record { from = omega arith; below = omega (arith, some_left, room) } in
+    let holds : ContainsAddress row.extent start = record { from = omega arith; below = omega (arith, some_left, room) } in
     omega (arith, (patch_in_row context there patched holds).from, patched.from)
 
 -- behind a cell of a patch the old row is in the patch, or at its end

@@ -8,10 +8,8 @@ use Rattle.page_space.specs.RegionLaws.{IsSpace}
 use Rattle.page_space.proofs.Starts.{layouts_start_is, marks_start_is, board_start_is, words_count_is}
 use Rattle.page_space.proofs.Limits.{words_count_most}
 use Rattle.page_space.proofs.CellEnds.{end_before_roots, before_end}
-use Rattle.object_graph.specs.declared.value.Value.{Value}
-use Rattle.object_graph.specs.declared.value.Rep.{Rep}
+use Rattle.heap_model.specs.Types.{Value, Rep, Cell}
 use Rattle.object_graph.specs.declared.value.Rep.TheVariants as rep
-use Rattle.cell_layout.specs.declared.cell.Cell.{Cell}
 use Rattle.heap_model.specs.Heaps.{Heap, HasCell}
 use Rattle.heap_model.specs.Slots.{reference_word, RefersToPlace, RefersToBox}
 use Rattle.heap_model.specs.Wholeness.{HasSizes}

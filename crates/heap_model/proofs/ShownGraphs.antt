@@ -5,19 +5,16 @@ use Rattle.std.proofs.Common.{◌≡◌, ℕ, ◌<◌, inl, inr, List, [], get_o
 use Rattle.std.proofs.lemmas.Option.{slice_get-get_or}
 use Rattle.std.specs.FinMap.{get}
 use Rattle.page_space.specs.Extents.{Space}
-use Rattle.object_graph.specs.declared.value.Value.{Value}
-use Rattle.object_graph.specs.declared.object.Object.{Object}
+use Rattle.heap_model.specs.Types.{Value, Object, Cell, Held}
 use Rattle.object_graph.specs.declared.object.Object.TheVariants as graph_object
 use Rattle.object_graph.specs.Graphs.{Graph}
 use Rattle.object_graph.specs.Reach.{is_marked, reach}
-use Rattle.cell_layout.specs.declared.cell.Cell.{Cell}
-use Rattle.handle_roots.specs.declared.held.Held.{Held}
 use Rattle.heap_model.specs.Heaps.{Heap}
 use Rattle.heap_model.specs.Showing.{ShowsReached, ShowsHeld, ShowsBinding, Shows}
 use Rattle.heap_model.specs.Changes.{CellsChange}
 use Rattle.heap_model.specs.Laws.{OwnChangesShow}
 use Rattle.heap_model.proofs.Moves.{Moves, place_stays}
-use Rattle.heap_model.proofs.Fates.{cells_move}
+use Rattle.heap_model.proofs.CellOutcomes.{cells_move}
 use Rattle.heap_model.proofs.WholeStays.{holds_stays}
 use Rattle.heap_model.proofs.PlacesBefore.{AreNumberedFrom}
 use Rattle.heap_model.proofs.ReachedStays.{reach_below, keys_stay, reached_stays, reached_came, made_below}

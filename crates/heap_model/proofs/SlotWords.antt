@@ -3,19 +3,15 @@ use Rattle.std.proofs.Common.{◌≡◌, ℕ, ◌<◌, ◌⊎◌, Bool, true, fa
 use Rattle.std.proofs.Common.{refl, sym, ◌∙◌, ap, subst, inl, inr, ◌==◌}
 use Rattle.std.proofs.lemmas.Bool.{false≢true}
 use Rattle.std.proofs.lemmas.Option.{same_Some, slice_get_within, get_or_from_slice_get}
-use Rattle.tagged_word.specs.declared.layout.Kind.{Kind}
+use Rattle.heap_model.specs.Types.{Kind, Path, PathField, Rep, Cell}
 use Rattle.tagged_word.specs.declared.layout.Kind.TheVariants as kind
 use Rattle.tagged_word.specs.Layouts.{is_raw}
 use Rattle.tagged_word.specs.Cells.{store_slot}
-use Rattle.object_graph.specs.declared.path.Path.{Path}
-use Rattle.object_graph.specs.declared.path.PathField.{PathField}
-use Rattle.object_graph.specs.declared.value.Rep.{Rep}
 use Rattle.object_graph.specs.declared.value.Rep.TheVariants as rep
 use Rattle.shape_tree.specs.ShapeLayouts.{layout_of, raw_bit}
-use Rattle.cell_layout.specs.declared.cell.Cell.{Cell}
 use Rattle.heap_model.specs.Heaps.{Heap, HasCell}
 use Rattle.heap_model.specs.Slots.{undefined_word, is_object_kind, RefersTo, IsSlotWord, IsValueWord, IsWideWord}
-use Rattle.heap_model.specs.Slots.{IsFieldWord, IsBeside}
+use Rattle.heap_model.specs.Slots.{IsFieldWord, HoldsStore}
 use Rattle.heap_model.specs.Kinds.{HasWord, Pair, HasTable, IsSoundOf}
 use Rattle.heap_model.specs.Wholeness.{IsOwnedKind, Whole}
 use Rattle.heap_model.proofs.WordClasses.{same_reference, undefined_refers_not}
@@ -52,9 +48,9 @@ store_target (IsStoreWord.store cell words target is) refers =
     subst (λ (one : Cell). IsStoreKind one.layout.kind) (same_target target refers) is
 
 -- a property store or the elements of a list
-beside_word : {heap : Heap} (word : ℕ) (slots : List ℕ) → IsBeside heap kind.Store word slots → IsStoreWord heap word
-beside_word word slots IsBeside.none = IsStoreWord.none refl
-beside_word word slots (IsBeside.store to cell words refers of_kind) = IsStoreWord.store cell words refers (inl of_kind)
+beside_word : {heap : Heap} (word : ℕ) (slots : List ℕ) → HoldsStore heap kind.Store word slots → IsStoreWord heap word
+beside_word word slots HoldsStore.none = IsStoreWord.none refl
+beside_word word slots (HoldsStore.store to cell words refers of_kind) = IsStoreWord.store cell words refers (inl of_kind)
 
 -- a weak table
 table_word : {heap : Heap} (word : ℕ) (pairs : List Pair) → HasTable heap word pairs → IsStoreWord heap word

@@ -4,10 +4,9 @@ use Rattle.std.proofs.Common.{append-nil, refl, sym, ◌∙◌, ap, subst, arith
 use Rattle.std.specs.List.{flat_map}
 use Rattle.std.proofs.lemmas.List.Elements.{All-contains, All-map, All-weaker, All-contains_itself}
 use Rattle.tagged_word.proofs.Members.{in_map}
-use Rattle.object_graph.specs.declared.path.Path.{Path}
+use Rattle.heap_model.specs.Types.{Path, Cell}
 use Rattle.page_space.specs.Extents.{roots_start, layouts_start, eden_start}
 use Rattle.page_space.proofs.Starts.{layouts_start_is}
-use Rattle.cell_layout.specs.declared.cell.Cell.{Cell}
 use Rattle.cell_layout.specs.Cells.{none}
 use Rattle.cell_layout.specs.CellLaws.{ReadsAlike, IsOfSlot}
 use Rattle.heap_model.specs.Heaps.{Heap}

@@ -3,24 +3,20 @@ use Rattle.std.proofs.Common.{◌≡◌, ℕ, ◌+◌, ◌-◌, ◌*◌, ◌<◌
 use Rattle.std.proofs.Common.{drop, Some, Contains, slice_get, get_or, IsTrue, sym, ◌∙◌, subst, arith, length-take}
 use Rattle.std.proofs.lemmas.Bool.{false≢true}
 use Rattle.std.proofs.lemmas.Option.{slice_get_within, slice_get-get_or}
-use Rattle.tagged_word.specs.declared.layout.Kind.{Kind}
+use Rattle.heap_model.specs.Types.{Kind, LayoutWord, Path, PathField, Cell}
 use Rattle.tagged_word.specs.declared.layout.Kind.TheVariants as kind
-use Rattle.tagged_word.specs.declared.layout.LayoutWord.{LayoutWord}
 use Rattle.tagged_word.specs.Layouts.{is_raw}
 use Rattle.tagged_word.specs.Cells.{scavenge_offsets, scavenge_offsets_of, in_object_offsets, store_head, store_slot}
 use Rattle.tagged_word.specs.Cells.{plain_head}
 use Rattle.tagged_word.proofs.Members.{in_cases, one_in, range_bounds}
 use Rattle.tagged_word.proofs.Offsets.{in_object_is}
-use Rattle.object_graph.specs.declared.path.Path.{Path}
-use Rattle.object_graph.specs.declared.path.PathField.{PathField}
 use Rattle.object_graph.specs.declared.value.Rep.TheVariants as rep
 use Rattle.shape_tree.specs.Shapes.{shape_path}
 use Rattle.shape_tree.specs.ShapeLayouts.{layout_of, in_object_fields}
-use Rattle.cell_layout.specs.declared.cell.Cell.{Cell}
 use Rattle.cell_layout.proofs.OneCell.{slots_lie_within}
 use Rattle.heap_model.specs.Heaps.{Heap, HasCell}
 use Rattle.heap_model.specs.Slots.{is_object_kind, RefersTo, IsSlotWord}
-use Rattle.heap_model.specs.Kinds.{HasWord, IsPlainCell, IsStoreCell, IsSoundOf, IsSound}
+use Rattle.heap_model.specs.Kinds.{HasWord, IsPlainCell, IsStoreCell, IsSoundOf, IsSoundCell}
 use Rattle.heap_model.specs.Wholeness.{HasSizes, HasSlotAt, Whole}
 use Rattle.heap_model.proofs.CellsApart.{IsOfCell, has_is_cell}
 use Rattle.heap_model.proofs.CellWords.{slice_get-drop, slice_get-append_left, slots_of_kind}
@@ -83,7 +79,7 @@ own_slot_holds {heap} {cell} {words} kind.Weak offset word sized has is sound th
 own_slot_holds _ offset word sized has is sound there slot = absurd (false≢true is)
 
 -- a slot of a store or table that is sound holds a slot word
-pub beside_holds : {heap : Heap} (other : Cell) (others : List ℕ) (offset word : ℕ) → IsSound heap other others
+pub beside_holds : {heap : Heap} (other : Cell) (others : List ℕ) (offset word : ℕ) → IsSoundCell heap other others
     → IsStoreKind other.layout.kind → Contains (scavenge_offsets other.layout other.length) offset
     → HasWord others offset word → IsSlotWord heap word
 beside_holds {heap} other others offset word is_sound (inl is) there slot =

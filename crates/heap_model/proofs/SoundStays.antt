@@ -2,16 +2,14 @@
 use Rattle.std.proofs.Common.{◌≡◌, ℕ, ◌⊎◌, inl, inr, List, drop, Contains, Some, slice_get, IsTrue, refl, sym}
 use Rattle.std.proofs.Common.{◌∙◌, ap, subst}
 use Rattle.std.proofs.lemmas.List.Elements.{All-weaker}
-use Rattle.tagged_word.specs.declared.layout.Kind.{Kind}
+use Rattle.heap_model.specs.Types.{Kind, Path, Cell}
 use Rattle.tagged_word.specs.declared.layout.Kind.TheVariants as kind
 use Rattle.tagged_word.specs.Cells.{store_head}
-use Rattle.object_graph.specs.declared.path.Path.{Path}
 use Rattle.shape_tree.specs.Shapes.{shape_path}
-use Rattle.cell_layout.specs.declared.cell.Cell.{Cell}
 use Rattle.heap_model.specs.Heaps.{Heap, HasCell}
 use Rattle.heap_model.specs.Slots.{is_object_kind, IsSlotWord}
 use Rattle.heap_model.specs.Kinds.{HoldFields, IsPlainCell, IsListCell, Pair, free_pair, IsFoundPair, IsWeakCell}
-use Rattle.heap_model.specs.Kinds.{IsStoreCell, IsSoundOf, IsSound}
+use Rattle.heap_model.specs.Kinds.{IsStoreCell, IsSoundOf, IsSoundCell}
 use Rattle.heap_model.proofs.ObjectSlots.{field_slot, slot_beside, value_slot}
 use Rattle.heap_model.proofs.WordsStay.{refers_to_place_stays, value_stays, field_stays}
 use Rattle.heap_model.proofs.Moves.{Moves, place_stays, slot_words_stay}
@@ -129,10 +127,10 @@ sound_of cell words kind.Gap moves had has not_gone is sound = sound
 
 -- each cell of the new heap is sound
 pub sound_stays : {old new : Heap} {gone came made : List Cell} → Moves old new gone came made
-    → (cell : Cell) (words : List ℕ) → HasCell new cell words → IsSound new cell words
+    → (cell : Cell) (words : List ℕ) → HasCell new cell words → IsSoundCell new cell words
 sound_stays {old} {new} moves cell words has =
     elim (moves.cells.back cell words has) [
-      | inl comes ↦ subst (IsSound new cell) has.words_are (moves.own.sound cell comes)
+      | inl comes ↦ subst (IsSoundCell new cell) has.words_are (moves.own.sound cell comes)
       | inr stays ↦
           sound_of cell words cell.layout.kind moves stays.0 has stays.1 refl (moves.whole.sound cell words stays.0)
     ]

@@ -2,8 +2,7 @@
 use Rattle.std.proofs.Common.{ℕ, ◌+◌, ◌<◌, List, sym, ◌∙◌, subst, arith}
 use Rattle.page_space.specs.Extents.{Space}
 use Rattle.page_space.proofs.Starts.{layouts_start_is}
-use Rattle.cell_layout.specs.declared.cell.Cell.{Cell}
-use Rattle.handle_roots.specs.declared.held.Held.{Held}
+use Rattle.heap_model.specs.Types.{Cell, Held}
 use Rattle.handle_roots.specs.declared.held.Held.TheVariants as held
 use Rattle.handle_roots.specs.Roots.{Holds, root_at}
 use Rattle.heap_model.specs.Heaps.{Heap}
@@ -11,7 +10,7 @@ use Rattle.heap_model.specs.Wholeness.{IsHeld}
 use Rattle.heap_model.specs.Changes.{CellsChange}
 use Rattle.heap_model.specs.Laws.{OwnChangesKeepWhole}
 use Rattle.heap_model.proofs.Moves.{Moves, place_stays}
-use Rattle.heap_model.proofs.Fates.{cells_move}
+use Rattle.heap_model.proofs.CellOutcomes.{cells_move}
 use Rattle.heap_model.proofs.SoundStays.{sound_stays}
 use Rattle.heap_model.proofs.OwnedStays.{owned_stays_owned}
 

@@ -4,7 +4,7 @@ use Rattle.std.proofs.Common.{◌≢◌, ℕ, ◌+◌, inl, inr, List, ◌++◌,
 use Rattle.std.proofs.Common.{sym, subst}
 use Rattle.std.proofs.lemmas.List.Elements.{Contains-append_cases}
 use Rattle.page_space.specs.Extents.{eden_start}
-use Rattle.cell_layout.specs.declared.cell.Cell.{Cell}
+use Rattle.heap_model.specs.Types.{Cell}
 use Rattle.heap_model.specs.Heaps.{Heap, HasCell, words_of_cell}
 use Rattle.heap_model.specs.Changes.{Patch, IsNewlyUsed, CellsChange}
 use Rattle.heap_model.specs.Laws.{ChangesKeepCells, gone_with, come_with}

@@ -5,11 +5,10 @@ use Rattle.std.proofs.lemmas.Bool.{cases_lt}
 use Rattle.std.proofs.lemmas.List.Elements.{All-weaker, All-contains, All-contains_itself}
 use Rattle.tagged_word.specs.Shapes.{shapes_most}
 use Rattle.tagged_word.proofs.Members.{in_map}
-use Rattle.page_space.specs.declared.region.Region.{Region}
+use Rattle.heap_model.specs.Types.{Region, Cell}
 use Rattle.page_space.specs.declared.region.Region.TheVariants.{Page, Eden, Segment, Root, Layout, Mark, Board, Outside}
 use Rattle.page_space.specs.Extents.{Space, Extent, cell_stretches, roots_start, layouts_start}
 use Rattle.page_space.proofs.Covering.{between}
-use Rattle.cell_layout.specs.declared.cell.Cell.{Cell}
 use Rattle.cell_layout.specs.Cells.{IsCell, IsRow, layouts_in}
 use Rattle.cell_layout.specs.CellLaws.{ReadsAlike}
 use Rattle.cell_layout.proofs.OneCell.{cells_have_words}

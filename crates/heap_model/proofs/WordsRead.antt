@@ -4,11 +4,10 @@ use Rattle.std.proofs.Common.{◌∙◌, ap, arith}
 use Rattle.std.proofs.Common.{Option, option_map}
 use Rattle.std.specs.Option.{option_and_then}
 use Rattle.std.proofs.lemmas.Option.{slice_get_within}
-use Rattle.tagged_word.specs.declared.header.Header.{Header}
+use Rattle.heap_model.specs.Types.{Header, Cell}
 use Rattle.tagged_word.specs.Headers.{header_bits}
 use Rattle.tagged_word.specs.Readings.{header_in, header_at}
 use Rattle.tagged_word.proofs.Readings.{header_to}
-use Rattle.cell_layout.specs.declared.cell.Cell.{Cell}
 use Rattle.heap_model.specs.Heaps.{Heap, HasCell}
 use Rattle.heap_model.specs.Kinds.{HasWord}
 use Rattle.heap_model.specs.Needs.{word_at, shape_at}

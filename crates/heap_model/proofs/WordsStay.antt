@@ -2,8 +2,7 @@
 -- stays.
 use Rattle.std.proofs.Common.{◌≡◌, ℕ, Bool, true, false, ℤ}
 use Rattle.std.proofs.lemmas.Bool.{false≢true}
-use Rattle.object_graph.specs.declared.value.Value.{Value}
-use Rattle.object_graph.specs.declared.value.Rep.{Rep}
+use Rattle.heap_model.specs.Types.{Value, Rep}
 use Rattle.object_graph.specs.declared.value.Rep.TheVariants as rep
 use Rattle.heap_model.specs.Heaps.{Heap}
 use Rattle.heap_model.specs.Slots.{IsPlace, RefersToPlace, RefersToObject, RefersToBox, IsSlotWord, IsValueWord}

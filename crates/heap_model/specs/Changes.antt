@@ -2,17 +2,15 @@
 use Rattle.std.specs.Prelude.{◌≡◌, ◌≢◌, ℕ, ◌+◌, ◌<◌, ◌≤◌, Bool, List, ◌++◌, Some, length}
 use Rattle.std.specs.Prelude.{[], ◌∷◌, All, Contains, slice_get, ◌⊎◌, IsTrue}
 use Rattle.tagged_word.specs.declared.layout.Kind.TheVariants as kind
-use Rattle.object_graph.specs.declared.path.Path.{Path}
-use Rattle.object_graph.specs.declared.object.Object.{Object}
+use Rattle.heap_model.specs.Types.{Path, Object, Cell}
 use Rattle.object_graph.specs.Graphs.{Graph}
 use Rattle.object_graph.specs.Reach.{is_marked, reach}
 use Rattle.page_space.specs.Extents.{eden_start, roots_start, layouts_start}
-use Rattle.cell_layout.specs.declared.cell.Cell.{Cell}
 use Rattle.cell_layout.specs.Cells.{IsRow}
 use Rattle.cell_layout.specs.CellLaws.{IsOfSlot}
 use Rattle.heap_model.specs.Heaps.{Heap, Row, IsUsedRow, HasCell, cell_extents, words_of_cell}
 use Rattle.heap_model.specs.Slots.{is_object_kind}
-use Rattle.heap_model.specs.Kinds.{IsSound}
+use Rattle.heap_model.specs.Kinds.{IsSoundCell}
 use Rattle.heap_model.specs.Wholeness.{HasSizes, NamesFrom}
 use Rattle.heap_model.specs.Showing.{ShowsObject}
 
@@ -40,8 +38,8 @@ pub record IsPatched (at : ℕ) (patch : Patch) : Type 0 where
   pub below : at < patch.to
 
 -- no address is in two of the patches
-abbrev pub AreApart : List Patch → Type 0
-AreApart patches =
+abbrev pub PatchesDisjoint : List Patch → Type 0
+PatchesDisjoint patches =
     (one other : Patch) (at : ℕ) → Contains patches one → Contains patches other → IsPatched at one → IsPatched at other
     → one ≡ other
 
@@ -92,7 +90,7 @@ pub record IsChange (old new : Heap) (patches : List Patch) (made : List Cell) :
   pub paths : new.paths ≡ old.paths ++ more
   pub sized : HasSizes new
   pub each : All (IsPatch old new) patches
-  pub apart : AreApart patches
+  pub apart : PatchesDisjoint patches
   pub made_stand : IsRow new.space new.words (eden_start old.space + old.used) (eden_start old.space + new.used) made
   pub cells_stay : (at : ℕ) → at < roots_start old.space → (All (λ patch. IsPatched at patch → ⊥) patches)
       → (IsNewlyUsed old new at → ⊥) → slice_get new.words at ≡ slice_get old.words at
@@ -150,7 +148,7 @@ pub record IsOwnChange (old new : Heap) (gone came made : List Cell) : Type 0 wh
   pub objects_stay : (cell : Cell) → Contains gone cell → IsTrue (is_object_kind cell.layout.kind) → IsStill came cell
   pub objects_stood : (cell : Cell) → Contains came cell → IsTrue (is_object_kind cell.layout.kind) → IsStill gone cell
   pub boxes_stay : (cell : Cell) → Contains gone cell → cell.layout.kind ≡ kind.Boxed → IsStillBox came cell
-  pub sound : (cell : Cell) → Contains (came ++ made) cell → IsSound new cell (words_of_cell new cell)
+  pub sound : (cell : Cell) → Contains (came ++ made) cell → IsSoundCell new cell (words_of_cell new cell)
   pub named : (owner : Cell) (slot at : ℕ) → Contains (came ++ made) owner → NamesFrom new owner slot at
       → ((before : Cell) × ((place : ℕ) × Contains gone before × NamesFrom old before place at))
       ⊎ IsNewPlace old at

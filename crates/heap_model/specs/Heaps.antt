@@ -1,11 +1,9 @@
 -- A heap between two commands: its words, what of them is used, and the cells that stand there.
 use Rattle.std.specs.Prelude.{◌≡◌, ℕ, ◌+◌, ◌-◌, ◌≤◌, List, map, All, Contains, sum_by, slice_get}
 use Rattle.std.specs.Prelude.{slice_range, Some, ◌⊎◌}
-use Rattle.object_graph.specs.declared.path.Path.{Path}
-use Rattle.page_space.specs.declared.region.Region.{Region}
+use Rattle.heap_model.specs.Types.{Path, Region, Cell}
 use Rattle.page_space.specs.declared.region.Region.TheVariants.{Page, Eden, Segment}
 use Rattle.page_space.specs.Extents.{Space, Extent, cell_stretches, extents_from}
-use Rattle.cell_layout.specs.declared.cell.Cell.{Cell}
 use Rattle.cell_layout.specs.Cells.{IsRow}
 
 -- The words of pages, eden, segments, roots and layout words; how many words of eden are used; how many words the

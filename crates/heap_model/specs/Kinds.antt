@@ -3,17 +3,15 @@ use Rattle.std.specs.Prelude.{◌≡◌, ℕ, ◌<◌, ◌≤◌, ◌^◌, Bool,
 use Rattle.std.specs.Prelude.{◌∷◌, ◌++◌, length, drop, All, Some, slice_get, nat_lt, count_by, not, ◌&&◌}
 use Rattle.std.specs.Prelude.{◌==◌, ◌⊎◌, ℤ, FitsSigned}
 use Rattle.std.specs.Int.{w64}
-use Rattle.tagged_word.specs.declared.layout.Kind.{Kind}
+use Rattle.heap_model.specs.Types.{Kind, Path, PathField, Cell}
 use Rattle.tagged_word.specs.declared.layout.Kind.TheVariants as kind
 use Rattle.tagged_word.specs.Cells.{plain_head, store_head, store_slot}
 use Rattle.linear_probing.specs.Tables as probing
-use Rattle.object_graph.specs.declared.path.Path.{Path}
-use Rattle.object_graph.specs.declared.path.PathField.{PathField}
 use Rattle.object_graph.specs.Meaning.{list_most}
 use Rattle.shape_tree.specs.Shapes.{IsPathShape, shape_path}
-use Rattle.cell_layout.specs.declared.cell.Cell.{Cell}
 use Rattle.heap_model.specs.Heaps.{Heap}
-use Rattle.heap_model.specs.Slots.{undefined_word, hole_word, raw_word, IsSlotWord, IsValueWord, IsFieldWord, IsBeside}
+use Rattle.heap_model.specs.Slots.{undefined_word, hole_word, raw_word, IsSlotWord, IsValueWord, IsFieldWord}
+use Rattle.heap_model.specs.Slots.{HoldsStore}
 use Rattle.heap_model.specs.Slots.{RefersTo, RefersToPlace}
 
 -- a word of the cell is this one
@@ -37,7 +35,7 @@ pub record HasSlots (heap : Heap) (words slots : List ℕ) : Type 0 where
   pub store : ℕ
   pub slot : HasWord words store_slot store
   pub beside : List ℕ
-  pub stands : IsBeside heap kind.Store store beside
+  pub stands : HoldsStore heap kind.Store store beside
   pub are : slots ≡ drop plain_head words ++ beside
 
 -- a plain object: its shape is a path's, and its slots hold the fields of that path
@@ -58,7 +56,7 @@ pub record IsListCell (heap : Heap) (words : List ℕ) : Type 0 where
   pub store : ℕ
   pub slot : HasWord words store_slot store
   pub beside : List ℕ
-  pub stands : IsBeside heap kind.Store store beside
+  pub stands : HoldsStore heap kind.Store store beside
   pub count : ℕ
   pub counted : HasWord words count_offset count
   pub few : count ≤ list_most
@@ -147,5 +145,5 @@ IsSoundOf kind.Filler heap cell words = HasNoNumber cell
 IsSoundOf kind.Gap heap cell words = HasNoNumber cell
 
 -- the words of the cell are what its kind has
-abbrev pub IsSound : Heap → Cell → List ℕ → Type 0
-IsSound heap cell words = IsSoundOf cell.layout.kind heap cell words
+abbrev pub IsSoundCell : Heap → Cell → List ℕ → Type 0
+IsSoundCell heap cell words = IsSoundOf cell.layout.kind heap cell words

@@ -4,21 +4,19 @@ use Rattle.std.specs.Prelude.{Contains, IsTrue, slice_get, Some, All, map}
 use Rattle.std.specs.FinMap.{get}
 use Rattle.tagged_word.specs.declared.layout.Kind.TheVariants as kind
 use Rattle.tagged_word.specs.Cells.{scavenge_offsets}
-use Rattle.object_graph.specs.declared.object.Object.{Object}
+use Rattle.heap_model.specs.Types.{Object, Entry, Cell, Held}
 use Rattle.object_graph.specs.declared.object.Object.TheVariants.{Weak}
-use Rattle.object_graph.specs.declared.object.Entry.{Entry}
 use Rattle.object_graph.specs.Graphs.{Graph, make}
 use Rattle.object_graph.specs.Reach.{is_marked, reach}
-use Rattle.cell_layout.specs.declared.cell.Cell.{Cell}
-use Rattle.handle_roots.specs.declared.held.Held.{Held}
 use Rattle.handle_roots.specs.declared.held.Held.TheVariants as held
 use Rattle.handle_roots.specs.Roots.{FitsHeld, with_root}
 use Rattle.heap_model.specs.Heaps.{Heap, HasCell, words_of_cell}
 use Rattle.heap_model.specs.Slots.{reference_word, RefersToPlace}
-use Rattle.heap_model.specs.Kinds.{HasWord, Pair, IsSound}
+use Rattle.heap_model.specs.Kinds.{HasWord, Pair, IsSoundCell}
 use Rattle.heap_model.specs.Wholeness.{Whole, HasRows, HasSizes}
 use Rattle.heap_model.specs.Showing.{HasPair, ShowsObject, ShowsReached, ShowsHeld, Shows}
-use Rattle.heap_model.specs.Changes.{Patch, IsPatch, AreApart, Rewrite, IsRewrite, patch_of, IsChange, CellsChange}
+use Rattle.heap_model.specs.Changes.{Patch, IsPatch, PatchesDisjoint, Rewrite, IsRewrite, patch_of, IsChange}
+use Rattle.heap_model.specs.Changes.{CellsChange}
 use Rattle.heap_model.specs.Changes.{IsOwnChange, IsGraphChange, written, WritesSlots}
 
 -- the cells that went with the patches
@@ -40,7 +38,7 @@ ChangesKeepCells =
 abbrev pub RewritesArePatches : Type 0
 RewritesArePatches =
     (old new : Heap) (rewrites : List Rewrite) → HasRows old → All (IsRewrite old new) rewrites
-    → All (IsPatch old new) (map patch_of rewrites) × AreApart (map patch_of rewrites)
+    → All (IsPatch old new) (map patch_of rewrites) × PatchesDisjoint (map patch_of rewrites)
 
 -- Where only these and newly used words change, those that were rewritten went, and those that they became came.
 abbrev pub RewritesKeepCells : Type 0
@@ -79,7 +77,7 @@ RefersToNothing cell words =
 -- A cell that was made, is sound and refers to nothing is such a change.
 abbrev pub MadeCellsAreOwn : Type 0
 MadeCellsAreOwn =
-    (old new : Heap) (cell : Cell) → IsSound new cell (words_of_cell new cell)
+    (old new : Heap) (cell : Cell) → IsSoundCell new cell (words_of_cell new cell)
     → RefersToNothing cell (words_of_cell new cell)
     → CellsChange old new [] [] (cell ∷ []) → IsOwnChange old new [] [] (cell ∷ [])
 

@@ -1,3 +1,4 @@
+pub mod Types
 pub mod Heaps
 pub mod Images
 pub mod Slots

@@ -6,24 +6,19 @@ use Rattle.std.specs.FinMap.{get}
 use Rattle.tagged_word.specs.declared.layout.Kind.TheVariants as kind
 use Rattle.tagged_word.specs.Words.{small}
 use Rattle.tagged_word.specs.Cells.{store_slot}
-use Rattle.object_graph.specs.declared.value.Value.{Value}
+use Rattle.heap_model.specs.Types.{Value, Rep, Object, Field, Entry, Cell, Held}
 use Rattle.object_graph.specs.declared.value.Value.TheVariants.{Int, Undefined, Ref}
-use Rattle.object_graph.specs.declared.value.Rep.{Rep}
 use Rattle.object_graph.specs.declared.value.Rep.TheVariants as rep
-use Rattle.object_graph.specs.declared.object.Object.{Object}
 use Rattle.object_graph.specs.declared.object.Object.TheVariants as graph_object
-use Rattle.object_graph.specs.declared.object.Field.{Field}
-use Rattle.object_graph.specs.declared.object.Entry.{Entry}
 use Rattle.object_graph.specs.Paths.{path_of}
 use Rattle.object_graph.specs.Graphs.{Graph}
 use Rattle.object_graph.specs.Reach.{is_marked, reach}
 use Rattle.shape_tree.specs.Shapes.{shape_path}
-use Rattle.cell_layout.specs.declared.cell.Cell.{Cell}
-use Rattle.handle_roots.specs.declared.held.Held.{Held}
 use Rattle.handle_roots.specs.declared.held.Held.TheVariants as held
 use Rattle.handle_roots.specs.Roots.{Holds}
 use Rattle.heap_model.specs.Heaps.{Heap, HasCell}
-use Rattle.heap_model.specs.Slots.{small_word, undefined_word, raw_word, IsPlace, RefersToPlace, RefersToBox, IsBeside}
+use Rattle.heap_model.specs.Slots.{small_word, undefined_word, raw_word, IsPlace, RefersToPlace, RefersToBox}
+use Rattle.heap_model.specs.Slots.{HoldsStore}
 use Rattle.heap_model.specs.Kinds.{HasWord, HasSlots, Pair, HasTable, count_offset, free_pair}
 use Rattle.heap_model.specs.Wholeness.{Whole}
 
@@ -63,7 +58,7 @@ pub record ShowsList (heap : Heap) (cell : Cell) (words : List ℕ) (elements : 
   pub store : ℕ
   pub slot : HasWord words store_slot store
   pub slots : List ℕ
-  pub has : IsBeside heap kind.Store store slots
+  pub has : HoldsStore heap kind.Store store slots
   pub each : (at : ℕ) (value : Value) (word : ℕ) → slice_get elements at ≡ Some value → HasWord slots at word
       → ShowsValue heap word value
 

@@ -2,14 +2,12 @@
 use Rattle.std.specs.Prelude.{◌≡◌, ℕ, Bool, true, false, List, [], drop, Some, slice_get, ℤ, IsTrue, FitsSigned}
 use Rattle.std.specs.Int.{cast_unsigned, w64}
 use Rattle.tagged_word.specs.declared.word.Class.TheVariants.{Small, Ref, Odd}
-use Rattle.tagged_word.specs.declared.layout.Kind.{Kind}
+use Rattle.heap_model.specs.Types.{Kind, Rep, Cell}
 use Rattle.tagged_word.specs.declared.layout.Kind.TheVariants as kind
 use Rattle.tagged_word.specs.Words.{small, bits_of}
 use Rattle.tagged_word.specs.Odds.{undefined_code, hole_code}
 use Rattle.tagged_word.specs.Cells.{store_head}
-use Rattle.object_graph.specs.declared.value.Rep.{Rep}
 use Rattle.object_graph.specs.declared.value.Rep.TheVariants as rep
-use Rattle.cell_layout.specs.declared.cell.Cell.{Cell}
 use Rattle.heap_model.specs.Heaps.{Heap, HasCell}
 
 -- the word of a small integer
@@ -100,7 +98,7 @@ pub data IsFieldWord (heap : Heap) (own : Bool) : Rep → ℕ → Type 0 where
   tagged : (word : ℕ) → IsValueWord heap word → IsFieldWord heap own rep.Tagged word
 
 -- Nothing, or the slots of the store of the kind to which the word refers.
-pub data IsBeside (heap : Heap) (of : Kind) : ℕ → List ℕ → Type 0 where
-  none : IsBeside heap of undefined_word []
+pub data HoldsStore (heap : Heap) (of : Kind) : ℕ → List ℕ → Type 0 where
+  none : HoldsStore heap of undefined_word []
   store : (word : ℕ) (cell : Cell) (words : List ℕ) → RefersTo heap word cell words → cell.layout.kind ≡ of
-      → IsBeside heap of word (drop store_head words)
+      → HoldsStore heap of word (drop store_head words)

@@ -1,19 +1,17 @@
 -- When a heap is whole.
 use Rattle.std.specs.Prelude.{◌≡◌, ℕ, ◌+◌, ◌<◌, ◌≤◌, List, length, Contains, Some, slice_get, IsTrue}
-use Rattle.tagged_word.specs.declared.layout.Kind.{Kind}
+use Rattle.heap_model.specs.Types.{Kind, Cell, Held}
 use Rattle.tagged_word.specs.declared.layout.Kind.TheVariants as kind
 use Rattle.tagged_word.specs.Shapes.{shapes_most}
 use Rattle.tagged_word.specs.Cells.{store_slot, scavenge_offsets}
 use Rattle.page_space.specs.Extents.{layouts_start, marks_start}
 use Rattle.shape_tree.specs.Shapes.{AreShapes}
 use Rattle.shape_tree.specs.ShapeLayouts.{layout_word}
-use Rattle.cell_layout.specs.declared.cell.Cell.{Cell}
-use Rattle.handle_roots.specs.declared.held.Held.{Held}
 use Rattle.handle_roots.specs.declared.held.Held.TheVariants as held
 use Rattle.handle_roots.specs.Roots.{Holds}
 use Rattle.heap_model.specs.Heaps.{Heap, Row, AreRows, HasCell, survivors_of}
 use Rattle.heap_model.specs.Slots.{is_object_kind, RefersTo, IsPlace}
-use Rattle.heap_model.specs.Kinds.{HasWord, IsSound}
+use Rattle.heap_model.specs.Kinds.{HasWord, IsSoundCell}
 
 -- As many words as the regions before the marks have. The paths are those of a tree of shapes, and the layout words are
 -- those of the shapes in use, and else 0.
@@ -81,7 +79,7 @@ pub record Whole (heap : Heap) : Type 0 where
   pub sized : HasSizes heap
   pub rows : HasRows heap
   pub roots : (variable : ℕ) → variable < heap.space.variables → HasRoot heap variable
-  pub sound : (cell : Cell) (words : List ℕ) → HasCell heap cell words → IsSound heap cell words
+  pub sound : (cell : Cell) (words : List ℕ) → HasCell heap cell words → IsSoundCell heap cell words
   pub owned : IsOwned heap
 
 -- Of an image: the words of eden behind the used ones, and those of each segment behind its cells, are 0.

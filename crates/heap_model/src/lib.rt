@@ -7,8 +7,6 @@
 //! Invariant: none of its own. `Whole` of `specs/Wholeness.antt` is that of a heap between two
 //! commands, and `Shows` of `specs/Showing.antt` says which graph it shows. Each law here is a
 //! clause of a function that does nothing.
-//! Below: `cell_layout`, `shape_tree`, `handle_roots`, `object_graph`. Above: all that changes a
-//! heap.
 #![tactic(auto)]
 
 pub mod cells;

@@ -1,10 +1,9 @@
 -- The cells of a moved heap: where those that stay stand, and where those that stand there are from.
 use Rattle.std.proofs.Common.{◌≡◌, ℕ, List, Option, Some, IsTrue, refl, sym, ◌∙◌, ap, subst}
 use Rattle.std.proofs.lemmas.Bool.{false≢true}
-use Rattle.tagged_word.specs.declared.layout.Kind.{Kind}
+use Rattle.heap_model.specs.Types.{Kind, Cell}
 use Rattle.tagged_word.specs.declared.layout.Kind.TheVariants as kind
 use Rattle.tagged_word.specs.Cells.{is_free_kind}
-use Rattle.cell_layout.specs.declared.cell.Cell.{Cell}
 use Rattle.heap_model.specs.Heaps.{Heap, HasCell}
 use Rattle.heap_model.specs.Slots.{is_object_kind, IsPlace, RefersToPlace}
 use Rattle.heap_model.specs.Wholeness.{IsOwnedKind}

@@ -2,9 +2,7 @@
 use Rattle.std.proofs.Common.{◌≡◌, ℕ, ◌<◌, ◌≤◌, Option, IsTrue, sym, ◌∙◌, ap, subst, refl}
 use Rattle.std.proofs.lemmas.Option.{same_Some}
 use Rattle.page_space.specs.Extents.{Space}
-use Rattle.handle_roots.specs.declared.held.Held.{Held}
-use Rattle.object_graph.specs.declared.value.Value.{Value}
-use Rattle.object_graph.specs.declared.object.Object.{Object}
+use Rattle.heap_model.specs.Types.{Held, Value, Object}
 use Rattle.object_graph.specs.Graphs.{Graph}
 use Rattle.object_graph.specs.Reach.{is_marked, reach}
 use Rattle.heap_model.specs.Heaps.{Heap}

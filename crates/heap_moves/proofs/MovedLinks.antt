@@ -6,18 +6,12 @@ use Rattle.std.proofs.lemmas.Option.{same_Some, slice_get-get_or, slice_get_with
 use Rattle.tagged_word.specs.declared.layout.Kind.TheVariants as kind
 use Rattle.tagged_word.specs.Cells.{store_slot}
 use Rattle.tagged_word.proofs.Members.{first_in}
-use Rattle.object_graph.specs.declared.value.Value.{Value}
+use Rattle.heap_model.specs.Types.{Value, Rep, Object, Field, Entry, Path, Cell}
 use Rattle.object_graph.specs.declared.value.Value.TheVariants.{Ref}
-use Rattle.object_graph.specs.declared.value.Rep.{Rep}
-use Rattle.object_graph.specs.declared.object.Object.{Object}
 use Rattle.object_graph.specs.declared.object.Object.TheVariants as graph_object
-use Rattle.object_graph.specs.declared.object.Field.{Field}
-use Rattle.object_graph.specs.declared.object.Entry.{Entry}
-use Rattle.object_graph.specs.declared.path.Path.{Path}
 use Rattle.object_graph.specs.Graphs.{object_in}
 use Rattle.object_graph.specs.Reach.{is_marked}
 use Rattle.shape_tree.specs.Shapes.{shape_path}
-use Rattle.cell_layout.specs.declared.cell.Cell.{Cell}
 use Rattle.graph_laws.specs.ReachLaws.{LinksTo}
 use Rattle.heap_model.specs.Heaps.{Heap, HasCell}
 use Rattle.heap_model.specs.Slots.{RefersToPlace}

@@ -6,10 +6,9 @@ use Rattle.tagged_word.specs.Words.{small, bits_of}
 use Rattle.tagged_word.specs.declared.word.Class.TheVariants.{Odd}
 use Rattle.tagged_word.specs.Odds.{unbound_code, wide_code}
 use Rattle.page_space.specs.Extents.{Space, marks_start}
-use Rattle.handle_roots.specs.declared.held.Held.{Held}
+use Rattle.heap_model.specs.Types.{Held, Value}
 use Rattle.handle_roots.specs.declared.held.Held.TheVariants as held
 use Rattle.handle_roots.specs.Roots.{Holds, first_of, first_word, root_at}
-use Rattle.object_graph.specs.declared.value.Value.{Value}
 use Rattle.heap_model.specs.Heaps.{Heap}
 use Rattle.heap_model.specs.Slots.{reference_word, IsPlace}
 use Rattle.heap_model.specs.Wholeness.{HasSizes, IsHeld}

@@ -5,16 +5,10 @@ use Rattle.std.proofs.lemmas.Option.{slice_get-map}
 use Rattle.tagged_word.specs.declared.layout.Kind.TheVariants as kind
 use Rattle.tagged_word.specs.Cells.{store_slot}
 use Rattle.tagged_word.proofs.Members.{first_in, one_in}
-use Rattle.object_graph.specs.declared.value.Value.{Value}
-use Rattle.object_graph.specs.declared.object.Object.{Object}
+use Rattle.heap_model.specs.Types.{Value, Object, Field, Entry, Path, PathField, Cell}
 use Rattle.object_graph.specs.declared.object.Object.TheVariants as graph_object
-use Rattle.object_graph.specs.declared.object.Field.{Field}
-use Rattle.object_graph.specs.declared.object.Entry.{Entry}
-use Rattle.object_graph.specs.declared.path.Path.{Path}
-use Rattle.object_graph.specs.declared.path.PathField.{PathField}
 use Rattle.object_graph.specs.Paths.{path_of}
 use Rattle.shape_tree.specs.Shapes.{shape_path}
-use Rattle.cell_layout.specs.declared.cell.Cell.{Cell}
 use Rattle.heap_model.specs.Heaps.{Heap, HasCell}
 use Rattle.heap_model.specs.Slots.{reference_word, RefersToPlace}
 use Rattle.heap_model.specs.Kinds.{Pair, free_pair, count_offset, IsPlainCell, IsSoundOf}

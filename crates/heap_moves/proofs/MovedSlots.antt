@@ -6,18 +6,14 @@ use Rattle.std.proofs.lemmas.Bool.{cases_lt, false≢true}
 use Rattle.std.proofs.lemmas.Bool.Decides.{nat_tests}
 use Rattle.std.proofs.lemmas.Option.{same_Some, slice_get_within, slice_get-get_or}
 use Rattle.tagged_word.specs.declared.layout.Kind.TheVariants as kind
-use Rattle.tagged_word.specs.declared.layout.LayoutWord.{LayoutWord}
+use Rattle.heap_model.specs.Types.{LayoutWord, Path, PathField, Rep, Cell}
 use Rattle.tagged_word.specs.Layouts.{is_raw}
 use Rattle.tagged_word.specs.Cells.{scavenge_offsets, in_object_offsets, plain_head, store_slot}
 use Rattle.tagged_word.proofs.Members.{in_cases, first_in}
 use Rattle.tagged_word.proofs.Offsets.{in_object_is}
-use Rattle.object_graph.specs.declared.path.Path.{Path}
-use Rattle.object_graph.specs.declared.path.PathField.{PathField}
-use Rattle.object_graph.specs.declared.value.Rep.{Rep}
 use Rattle.object_graph.specs.declared.value.Rep.TheVariants as rep
 use Rattle.shape_tree.specs.Shapes.{IsPathShape, shape_path}
 use Rattle.shape_tree.specs.ShapeLayouts.{layout_of, raw_bit}
-use Rattle.cell_layout.specs.declared.cell.Cell.{Cell}
 use Rattle.heap_model.specs.Heaps.{Heap, HasCell}
 use Rattle.heap_model.specs.Slots.{hole_word}
 use Rattle.heap_model.specs.Kinds.{HasWord, HasSlots}

@@ -3,17 +3,15 @@ use Rattle.std.proofs.Common.{◌≡◌, ℕ, ◌*◌, List, [], drop, get_or, O
 use Rattle.std.proofs.Common.{IsTrue, refl, sym, ◌∙◌, subst, arith}
 use Rattle.std.proofs.lemmas.Bool.{false≢true}
 use Rattle.std.proofs.lemmas.Option.{slice_get-get_or}
-use Rattle.tagged_word.specs.declared.layout.Kind.{Kind}
+use Rattle.heap_model.specs.Types.{Kind, Path, Cell}
 use Rattle.tagged_word.specs.declared.layout.Kind.TheVariants as kind
 use Rattle.tagged_word.specs.Cells.{is_free_kind, store_head, store_slot}
 use Rattle.tagged_word.proofs.Members.{first_in, one_in}
-use Rattle.object_graph.specs.declared.path.Path.{Path}
 use Rattle.shape_tree.specs.Shapes.{IsPathShape, shape_path}
-use Rattle.cell_layout.specs.declared.cell.Cell.{Cell}
 use Rattle.heap_model.specs.Heaps.{Heap, HasCell}
 use Rattle.heap_model.specs.Slots.{IsSlotWord}
 use Rattle.heap_model.specs.Kinds.{HasWord, count_offset, HoldFields, IsPlainCell, IsListCell, IsWeakCell, IsStoreCell}
-use Rattle.heap_model.specs.Kinds.{IsBoxCell, HasNoNumber, IsSoundOf, IsSound}
+use Rattle.heap_model.specs.Kinds.{IsBoxCell, HasNoNumber, IsSoundOf, IsSoundCell}
 use Rattle.heap_model.specs.Wholeness.{HasSizes}
 use Rattle.heap_model.proofs.CellWords.{slots_by_kind, slots_of_kind}
 use Rattle.heap_model.proofs.SlotWords.{All-slice_get}
@@ -156,19 +154,19 @@ module _ {old new : Heap} {to : ℕ → Option ℕ} (moved : IsMoved old new to)
 
   -- a cell that is one that stays, moved, is sound
   sound_from : {cell : Cell} {words : List ℕ} → WholeFor old (Stays to) → Origin old to cell words
-      → IsSound new cell words
+      → IsSoundCell new cell words
   sound_from {cell} {words} whole from =
       let sound = whole.sound from.was from.words from.had (cell.at, from.stays) in
-      subst (λ (one : Cell). IsSound new one words) from.same
+      subst (λ (one : Cell). IsSoundCell new one words) from.same
       (sound_by from.was.layout.kind cell.at whole.sized from.had refl from.are sound)
 
   -- each cell is sound, by where it is from
   sound_of : {cell : Cell} {words : List ℕ} → WholeFor old (Stays to) → HasCell new cell words → IsFrom old to cell
-      → IsSound new cell words
+      → IsSoundCell new cell words
   sound_of whole has (IsFrom.stood was before had stays) = sound_from whole (origin_of moved was before has had stays)
   sound_of {cell} {words} whole has (IsFrom.free free none) = free_sound cell.layout.kind cell words free none
 
   -- each cell is sound
   pub all_sound : WholeFor old (Stays to) → (cell : Cell) (words : List ℕ) → HasCell new cell words
-      → IsSound new cell words
+      → IsSoundCell new cell words
   all_sound whole cell words has = sound_of whole has (moved.back cell words has)

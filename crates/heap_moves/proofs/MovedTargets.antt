@@ -3,13 +3,12 @@ use Rattle.std.proofs.Common.{◌≡◌, ℕ, suc, ◌+◌, ◌*◌, ◌<◌, Li
 use Rattle.std.proofs.Common.{refl, sym, ◌∙◌, subst, arith, length-drop}
 use Rattle.std.specs.List.{range_with_len}
 use Rattle.std.proofs.lemmas.Option.{none-some}
-use Rattle.tagged_word.specs.declared.layout.Kind.{Kind}
+use Rattle.heap_model.specs.Types.{Kind, Cell}
 use Rattle.tagged_word.specs.declared.layout.Kind.TheVariants as kind
 use Rattle.tagged_word.specs.Cells.{words_of, scavenge_offsets_of, store_head}
 use Rattle.tagged_word.proofs.Members.{in_range}
-use Rattle.cell_layout.specs.declared.cell.Cell.{Cell}
 use Rattle.heap_model.specs.Heaps.{Heap, HasCell}
-use Rattle.heap_model.specs.Slots.{undefined_word, RefersTo, RefersToBox, IsBeside}
+use Rattle.heap_model.specs.Slots.{undefined_word, RefersTo, RefersToBox, HoldsStore}
 use Rattle.heap_model.specs.Kinds.{HasWord, Pair, pairs_in, HasTable}
 use Rattle.heap_model.proofs.WordClasses.{undefined_refers_not}
 use Rattle.heap_model.proofs.CellWords.{words_by_kind, slots_by_kind, slots_of_kind, behind_head, behind_head_few}
@@ -74,7 +73,7 @@ pub record IsTarget (new : Heap) (to : ℕ → Option ℕ) (cell : Cell) (words 
 -- the slots of a store after they were moved
 pub record MovedBeside (new : Heap) (to : ℕ → Option ℕ) (word : ℕ) (slots : List ℕ) : Type 0 where
   pub others : List ℕ
-  pub stands : IsBeside new kind.Store word others
+  pub stands : HoldsStore new kind.Store word others
   pub are : AreAllMoved to slots others
 
 -- the pairs of a table after they were moved
@@ -117,18 +116,18 @@ module _ {old new : Heap} {to : ℕ → Option ℕ} (moved : IsMoved old new to)
   undefined_stays moved_word = not_referred moved_word undefined_refers_not
 
   -- what stands beside an object is moved
-  pub beside_moved : {word now : ℕ} {slots : List ℕ} → IsMovedWord to word now → IsBeside old kind.Store word slots
+  pub beside_moved : {word now : ℕ} {slots : List ℕ} → IsMovedWord to word now → HoldsStore old kind.Store word slots
       → MovedBeside new to now slots
-  beside_moved moved_word IsBeside.none = record {
+  beside_moved moved_word HoldsStore.none = record {
     others = [];
-    stands = subst (λ n. IsBeside new kind.Store n []) (sym (undefined_stays moved_word)) IsBeside.none;
+    stands = subst (λ n. HoldsStore new kind.Store n []) (sym (undefined_stays moved_word)) HoldsStore.none;
     are = no_words;
   }
-  beside_moved {now = now} moved_word (IsBeside.store word cell words refers is) =
+  beside_moved {now = now} moved_word (HoldsStore.store word cell words refers is) =
       let there = target moved_word refers in
       record {
         others = drop store_head there.others;
-        stands = IsBeside.store now (moved_to cell there.now) there.others there.refers is;
+        stands = HoldsStore.store now (moved_to cell there.now) there.others there.refers is;
         are = slots_moved kind.Store cell.length refers.has is refl refl there.are;
       }
 

@@ -1,8 +1,7 @@
 -- Words of slots that are moved: what they stood for they stand for.
 use Rattle.std.proofs.Common.{◌≡◌, ℕ, Bool, true, false, Option, refl, sym, ◌∙◌, subst, ℤ}
 use Rattle.std.proofs.lemmas.Bool.{false≢true}
-use Rattle.object_graph.specs.declared.value.Value.{Value}
-use Rattle.object_graph.specs.declared.value.Rep.{Rep}
+use Rattle.heap_model.specs.Types.{Value, Rep}
 use Rattle.object_graph.specs.declared.value.Rep.TheVariants as rep
 use Rattle.heap_model.specs.Heaps.{Heap}
 use Rattle.heap_model.specs.Slots.{undefined_word, hole_word, small_word, RefersToObject}

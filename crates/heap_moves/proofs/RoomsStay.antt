@@ -1,6 +1,6 @@
 -- The rooms of a graph's objects are the same in a moved heap.
 use Rattle.std.proofs.Common.{◌≡◌, ℕ, inr, Bool, List, sym, ◌∙◌, ap}
-use Rattle.object_graph.specs.declared.object.Object.{Object}
+use Rattle.heap_model.specs.Types.{Object}
 use Rattle.object_graph.specs.declared.object.Object.TheVariants.{Plain, Weak, List as ListOf}
 use Rattle.heap_model.specs.Heaps.{Heap}
 use Rattle.heap_model.specs.Slots.{IsPlace}

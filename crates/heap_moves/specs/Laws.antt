@@ -1,7 +1,7 @@
 -- Laws of moved heaps: they are whole, show what was shown, and keep the room of each object.
 use Rattle.std.specs.Prelude.{◌≡◌, ℕ, ◌⊎◌, ◌↔◌, List, Option, Some, IsTrue}
 use Rattle.tagged_word.specs.declared.layout.Kind.TheVariants as kind
-use Rattle.cell_layout.specs.declared.cell.Cell.{Cell}
+use Rattle.heap_model.specs.Types.{Cell}
 use Rattle.object_graph.specs.Graphs.{Graph}
 use Rattle.object_graph.specs.Reach.{is_marked, reach}
 use Rattle.heap_model.specs.Heaps.{Heap, HasCell}

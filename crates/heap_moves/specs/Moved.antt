@@ -1,7 +1,7 @@
 -- A heap whose cells were moved: each cell that stays stands somewhere, and what referred to it refers to that.
 use Rattle.std.specs.Prelude.{◌≡◌, ◌≢◌, ℕ, ◌+◌, ◌^◌, ◌<◌, ◌↔◌, List, length, Option, Some, Contains, slice_get, IsTrue}
 use Rattle.tagged_word.specs.Cells.{scavenge_offsets, is_free_kind}
-use Rattle.cell_layout.specs.declared.cell.Cell.{Cell}
+use Rattle.heap_model.specs.Types.{Cell}
 use Rattle.handle_roots.specs.Roots.{root_at}
 use Rattle.heap_model.specs.Heaps.{Heap, HasCell}
 use Rattle.heap_model.specs.Slots.{reference_word}

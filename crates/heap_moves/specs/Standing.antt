@@ -1,13 +1,12 @@
 -- What is asked of a heap before it is moved: it is whole and shows a graph, but for what stands in cells that go.
 use Rattle.std.specs.Prelude.{◌≡◌, ℕ, ◌<◌, ◌≤◌, List, length, Option, Some, None, slice_get, IsTrue}
 use Rattle.std.specs.FinMap.{get}
-use Rattle.object_graph.specs.declared.object.Object.{Object}
+use Rattle.heap_model.specs.Types.{Object, Cell}
 use Rattle.object_graph.specs.Graphs.{Graph}
 use Rattle.object_graph.specs.Reach.{is_marked, reach}
-use Rattle.cell_layout.specs.declared.cell.Cell.{Cell}
 use Rattle.heap_model.specs.Heaps.{Heap, HasCell}
 use Rattle.heap_model.specs.Slots.{IsPlace}
-use Rattle.heap_model.specs.Kinds.{IsSound}
+use Rattle.heap_model.specs.Kinds.{IsSoundCell}
 use Rattle.heap_model.specs.Wholeness.{HasSizes, HasRows, HasRoot, NamesFrom}
 use Rattle.heap_model.specs.Showing.{ShowsBinding, ShowsReached}
 
@@ -20,7 +19,7 @@ pub record WholeFor (heap : Heap) (live : ℕ → Type 0) : Type 0 where
   pub sized : HasSizes heap
   pub rows : HasRows heap
   pub roots : (variable : ℕ) → variable < heap.space.variables → HasRoot heap variable
-  pub sound : (cell : Cell) (words : List ℕ) → HasCell heap cell words → live cell.at → IsSound heap cell words
+  pub sound : (cell : Cell) (words : List ℕ) → HasCell heap cell words → live cell.at → IsSoundCell heap cell words
   pub owned : (owner another : Cell) (slot other named : ℕ) → live owner.at → live another.at
       → NamesFrom heap owner slot named → NamesFrom heap another other named → slot ≡ other
 

@@ -3,7 +3,7 @@ use Rattle.std.proofs.Common.{arith, ◌≡◌, ◌≢◌, ℕ, List, [], ◌∷
 use Rattle.std.proofs.Common.{None, IfSome, Err, refl, sym, subst, lit<, ◌⊎◌, inl, inr}
 use Rattle.std.specs.Prelude.{Contains, Bool, true, false, not, ◌&&◌, ◌||◌, if◌then◌else◌}
 use Rattle.std.specs.Prelude.{option_and_then, bytes_eq}
-use Rattle.page_space.specs.declared.sizes.Sizes.{Sizes}
+use Rattle.heap_model.specs.Types.{Sizes}
 use Rattle.command_line.specs.declared.invocation.Invocation.{Invocation}
 use Rattle.command_line.specs.declared.invocation.Invocation.TheVariants.{Run}
 use Rattle.command_line.specs.Given.{given_of}

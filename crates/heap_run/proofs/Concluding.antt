@@ -3,7 +3,7 @@ use Rattle.std.proofs.Common.{◌≡◌, ◌≢◌, ℕ, ◌+◌, ◌≤◌, ◌
 use Rattle.std.proofs.Common.{arith, Some, None, Ok, refl, subst, ◌∙◌}
 use Rattle.script_text.specs.Scripts.{ScriptText}
 use Rattle.script_text.specs.Grammar.{reading}
-use Rattle.page_space.specs.declared.sizes.Sizes.{Sizes}
+use Rattle.heap_model.specs.Types.{Sizes}
 use Rattle.heap_model.specs.declared.image.HeapImage.{HeapImage}
 use Rattle.heap_model.specs.Images.{image_heap}
 use Rattle.heap_model.specs.Wholeness.{Blank}
@@ -13,13 +13,13 @@ use Rattle.byte_ends.proofs.Appending.{Appends-append}
 use Rattle.heap_script.specs.declared.finished.How.{How}
 use Rattle.heap_script.specs.declared.finished.How.TheVariants.{End, Fault, HeapFull, SinkFault, LineLimit}
 use Rattle.heap_script.specs.declared.finished.Finished.{Finished}
-use Rattle.heap_script.specs.Runs.{Reached, HasSpent, ComesTo, Finishes, need_at, IsCut}
+use Rattle.heap_script.specs.Runs.{RanTo, HasSpent, EndsRun, Finishes, need_at, IsCut}
 use Rattle.heap_script.proofs.Handing.{front-behind, front-longer}
 use Rattle.heap_script.specs.TheConstants.{OUTPUT_BYTES}
 use Rattle.heap_run.specs.declared.ended.Kept.{Kept}
 use Rattle.heap_run.specs.declared.ended.Ended.{Ended}
 use Rattle.heap_run.specs.Texts.{last_bytes, status_of}
-use Rattle.heap_run.specs.Answers.{Answer, Keeps, Comes, Taken, Runs, last_line_of}
+use Rattle.heap_run.specs.Answers.{Answer, IsKeptHeapOf, Comes, Taken, Runs, last_line_of}
 
 -- what is kept of a run
 abbrev pub kept_by : HeapImage → How → ℕ → ℕ → Kept
@@ -46,16 +46,16 @@ pub record IsKeepable (sizes : Sizes) (script : ScriptText) (image : HeapImage) 
 
 -- what is kept of a run that has come so far
 abbrev pub keeps : {sizes : Sizes} {script : ScriptText} {image : HeapImage} (how : How) (line n : ℕ)
-    → IsKeepable sizes script image → Reached script (image_heap image) n → HasSpent script (image_heap image) n
-    → Keeps sizes script (kept_by image how line n)
+    → IsKeepable sizes script image → RanTo script (image_heap image) n → HasSpent script (image_heap image) n
+    → IsKeptHeapOf sizes script (kept_by image how line n)
 keeps how line n is reached spent =
     record { regions = is.regions; blank = is.blank; reached = reached; spent = spent }
 
 -- a run that came to an end, and its last line
 Runs-ended : (sizes : Sizes) (bytes : List ℕ) (script : ScriptText) (image : HeapImage) (how : How) (line n status : ℕ)
     (old mid new : List ℕ → Type 0) (faults_old faults_mid faults_new : ℕ) → reading bytes ≡ Ok script
-    → IsKeepable sizes script image → (reached : Reached script (image_heap image) n)
-    → HasSpent script (image_heap image) n → ComesTo script (image_heap image) n reached.so_far how line
+    → IsKeepable sizes script image → (reached : RanTo script (image_heap image) n)
+    → HasSpent script (image_heap image) n → EndsRun script (image_heap image) n reached.so_far how line
     → Appends old mid reached.so_far.bytes → faults_mid ≡ faults_old
     → Lasts how line mid new faults_mid faults_new status → (status ≡ 5) ⊎ (status ≢ 5)
     → Runs sizes bytes old new faults_old faults_new (ended_by image how line n status)

@@ -2,7 +2,7 @@
 use Rattle.std.proofs.Common.{◌≡◌, ℕ, ◌+◌, List, [], ◌∷◌, Option, Some, None, ap, ◌∙◌, sym}
 use Rattle.std.proofs.Common.{subst, inl, inr, IsTrue}
 use Rattle.std.proofs.Common.{nat_lt}
-use Rattle.heap_command.specs.declared.command.Command.{Command}
+use Rattle.heap_model.specs.Types.{Command}
 use Rattle.heap_command.specs.Executed.{Executed}
 use Rattle.page_space.specs.Extents.{Space}
 use Rattle.object_graph.specs.Graphs.{Graph}
@@ -15,7 +15,7 @@ use Rattle.collector.specs.ImageLaws.{ImagesShow, ImagesKeepStores, ImagesHaveRo
 use Rattle.heap_script.specs.declared.finished.How.{How}
 use Rattle.heap_script.specs.declared.finished.How.TheVariants as how
 use Rattle.heap_script.specs.declared.finished.Finished.{Finished}
-use Rattle.heap_script.specs.Runs.{left_after, Reached, HasSpent, IsFull, IsFullFor, IsFullAt, ComesTo, FailedAt}
+use Rattle.heap_script.specs.Runs.{left_after, RanTo, HasSpent, IsFull, LacksRoomFor, IsFullAt, EndsRun, FailedAt}
 use Rattle.heap_script.specs.Runs.{Writes, Finishes}
 
 -- the laws of images
@@ -26,7 +26,7 @@ pub record Laws : Type 0 where
 
 -- the run has come so far on the image too
 abbrev pub reached_imaged : {script : ScriptText} {heap image : Heap} {n : ℕ} → Laws → IsImageOf heap image
-    → Reached script heap n → Reached script image n
+    → RanTo script heap n → RanTo script image n
 reached_imaged {heap = heap} {image = image} laws is r = record {
   within = r.within;
   few = r.few;
@@ -64,7 +64,7 @@ as_full {heap = heap} {image = image} graph need is full =
 
 -- it is full for the command of a line, if the heap is
 full_for : {heap image : Heap} (graph : Graph) (need : ℕ) (command : Option Command) → Laws → Shows heap graph
-    → IsImageOf heap image → IsFullFor heap graph need command → IsFullFor image graph need command
+    → IsImageOf heap image → LacksRoomFor heap graph need command → LacksRoomFor image graph need command
 full_for graph need None laws shows is full = full
 full_for {heap = heap} {image = image} graph need (Some command) laws shows is (needs, full) = (
   λ rooms has. needs rooms (laws.rooms heap image graph rooms shows is has),
@@ -80,8 +80,8 @@ full_at {heap = heap} {image = image} graph line need (next ∷ more) laws shows
 
 -- a run comes to the same on the image
 comes_imaged : {script : ScriptText} {heap image : Heap} {n : ℕ} (came : How) (line : ℕ) → Laws
-    → IsImageOf heap image → (r : Reached script heap n) → ComesTo script heap n r.so_far came line
-    → ComesTo script image n r.so_far came line
+    → IsImageOf heap image → (r : RanTo script heap n) → EndsRun script heap n r.so_far came line
+    → EndsRun script image n r.so_far came line
 comes_imaged how.End line laws is r comes = comes
 comes_imaged (how.Fault word) line laws is r comes = comes
 comes_imaged {script = script} {heap = heap} {image = image} {n = n} (how.HeapFull need) line laws is r comes =
@@ -95,7 +95,7 @@ comes_imaged how.LineLimit line laws is r comes = comes
 
 -- the sink failed where it failed
 failed_imaged : {script : ScriptText} {heap image : Heap} {n : ℕ} (line need : ℕ) → Laws
-    → IsImageOf heap image → (r : Reached script heap n) → FailedAt script heap n r.so_far line need
+    → IsImageOf heap image → (r : RanTo script heap n) → FailedAt script heap n r.so_far line need
     → FailedAt script image n r.so_far line need
 failed_imaged line need laws is r (inl between) = inl between
 failed_imaged line need laws is r (inr (came, comes, same)) =
@@ -104,7 +104,7 @@ failed_imaged line need laws is r (inr (came, comes, same)) =
 -- what was written was written
 writes_imaged : {script : ScriptText} {heap image : Heap} (came : How) (finished : Finished) (old new : List ℕ → Type 0)
     (faults_old faults_new : ℕ) → Laws → IsImageOf heap image
-    → (r : Reached script heap finished.executed)
+    → (r : RanTo script heap finished.executed)
     → Writes script heap finished r.so_far old new faults_old faults_new came
     → Writes script image finished r.so_far old new faults_old faults_new came
 writes_imaged how.End finished old new fo fn laws is r (comes, appends, steady) =

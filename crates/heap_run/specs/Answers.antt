@@ -1,9 +1,9 @@
 -- What a run comes to, and what of it the sink took.
 use Rattle.std.specs.Prelude.{◌≡◌, ◌⊎◌, ℕ, ◌+◌, ◌<◌, ◌≤◌, List, [], ◌∷◌, ◌++◌}
 use Rattle.std.specs.Prelude.{length, drop, Option, Some, None, IfSome, MatchOption, Contains, Result, Ok, Err}
-use Rattle.page_space.specs.declared.sizes.Sizes.{Sizes}
+use Rattle.heap_model.specs.Types.{Sizes}
 use Rattle.command_line.specs.declared.invocation.Invocation.TheVariants.{Run}
-use Rattle.command_line.specs.Invocations.{built_invocation_of, unbuilt_today, BeginsBuilt}
+use Rattle.command_line.specs.Invocations.{built_invocation_of, unbuilt_commands, BeginsBuilt}
 use Rattle.script_text.specs.declared.script.BadScript.{BadScript}
 use Rattle.script_text.specs.declared.script.BadScript.TheVariants as bad
 use Rattle.script_text.specs.Scripts.{ScriptText}
@@ -14,7 +14,7 @@ use Rattle.byte_ends.specs.Sink.{Appends, AppendsSome}
 use Rattle.heap_script.specs.declared.finished.How.{How}
 use Rattle.heap_script.specs.declared.finished.How.TheVariants as how
 use Rattle.heap_script.specs.TheConstants.{OUTPUT_BYTES}
-use Rattle.heap_script.specs.Runs.{Reached, HasSpent, ComesTo, need_at, IsDue}
+use Rattle.heap_script.specs.Runs.{RanTo, HasSpent, EndsRun, need_at, IsDue}
 use Rattle.heap_model.specs.Images.{image_heap}
 use Rattle.heap_model.specs.Wholeness.{Blank}
 use Rattle.heap_run.specs.declared.ended.Kept.{Kept}
@@ -29,11 +29,11 @@ source_most = 1048576
 
 -- the words ask for the run of a script with these sizes
 abbrev pub AsksToRun : List (List ℕ) → Sizes → Type 0
-AsksToRun words sizes = built_invocation_of unbuilt_today words ≡ Some (Run sizes)
+AsksToRun words sizes = built_invocation_of unbuilt_commands words ≡ Some (Run sizes)
 
 -- the words ask for nothing that is built
 abbrev pub AsksForNothing : List (List ℕ) → Type 0
-AsksForNothing words = built_invocation_of unbuilt_today words ≡ None
+AsksForNothing words = built_invocation_of unbuilt_commands words ≡ None
 
 -- what a source had left before a run and has after it, where it tells that, and its counts of faults
 pub record Input : Type 0 where
@@ -96,10 +96,10 @@ unopened line = record { told = []; last = Some line; kept = None }
 -- The kept heap of a script that was run with these sizes: its regions are those of the sizes and of the script's
 -- variables, it shows the graph after the executed lines, as many words are used as these lines needed, and all words
 -- that no cell uses are 0.
-pub record Keeps (sizes : Sizes) (script : ScriptText) (kept : Kept) : Type 0 where
+pub record IsKeptHeapOf (sizes : Sizes) (script : ScriptText) (kept : Kept) : Type 0 where
   pub regions : kept.image.regions ≡ record { sizes = sizes; variables = length script.variables }
   pub blank : Blank (image_heap kept.image)
-  pub reached : Reached script (image_heap kept.image) kept.executed
+  pub reached : RanTo script (image_heap kept.image) kept.executed
   pub spent : HasSpent script (image_heap kept.image) kept.executed
 
 -- What a run comes to, by the words and the source.
@@ -123,8 +123,8 @@ pub data Comes (words : List (List ℕ)) (input : Input) : Answer → Type 0 whe
   -- the source is a script, and its run came to an end
   ended : (sizes : Sizes) (bytes : List ℕ) (script : ScriptText) (kept : Kept) (came : How)
       → AsksToRun words sizes → ReadsAll input bytes → reading bytes ≡ Ok script
-      → (keeps : Keeps sizes script kept)
-      → ComesTo script (image_heap kept.image) kept.executed keeps.reached.so_far came kept.line
+      → (keeps : IsKeptHeapOf sizes script kept)
+      → EndsRun script (image_heap kept.image) kept.executed keeps.reached.so_far came kept.line
       → kept.need ≡ need_at came
       → Comes words input (record {
         told = keeps.reached.so_far.bytes;
@@ -134,7 +134,7 @@ pub data Comes (words : List (List ℕ)) (input : Input) : Answer → Type 0 whe
   -- the source is a script, and the sink failed between two of its lines, just where an output was due
   cut_short : (sizes : Sizes) (bytes : List ℕ) (script : ScriptText) (kept : Kept)
       → AsksToRun words sizes → ReadsAll input bytes → reading bytes ≡ Ok script
-      → (keeps : Keeps sizes script kept) → kept.line ≡ 0 → kept.need ≡ 0 → IsDue script kept.executed
+      → (keeps : IsKeptHeapOf sizes script kept) → kept.line ≡ 0 → kept.need ≡ 0 → IsDue script kept.executed
       → Comes words input (record { told = keeps.reached.so_far.bytes; last = None; kept = Some kept })
 
 -- the bytes of a last line, if there is one
@@ -162,7 +162,7 @@ IsKeptAt status kept =
 -- The source is a script, and the heap that is kept of its run with these sizes shows the graph after the executed
 -- lines.
 abbrev pub KeepsGraph : Sizes → Result ScriptText BadScript → Kept → Type 0
-KeepsGraph sizes (Ok script) kept = Keeps sizes script kept
+KeepsGraph sizes (Ok script) kept = IsKeptHeapOf sizes script kept
 KeepsGraph sizes (Err stop) kept = ⊥
 
 -- How a run ended, with this status and this heap, is what the words and the source come to, and the sink took of it

@@ -9,7 +9,7 @@
 mod ended;
 mod last_line;
 mod program;
-mod reading;
+mod source_bytes;
 
 pub use byte_ends::{
     Failed, MemSink, MemSource, Sink, Source, StdSink, StdSource, SureSource, Tally,

@@ -4,7 +4,7 @@ ghost use Rattle.std.specs.Prelude.{Some, None, Ok, IfSome, IfOk};
 ghost use Rattle.object_graph.specs.Graphs.{start};
 ghost use Rattle.script_text.specs.Grammar.{reading};
 ghost use Rattle.page_space.specs.Sizes.{AreWithin};
-ghost use Rattle.write_barrier.specs.Mains.{IsOpened};
+ghost use Rattle.write_barrier.specs.MutatorState.{IsOpened};
 ghost use Rattle.collector.specs.States.{HeapShows};
 ghost use Rattle.byte_ends.specs.Faults.{Rose};
 ghost use Rattle.byte_ends.specs.Source.{IsInput};
@@ -16,7 +16,7 @@ ghost use Rattle.heap_run.specs.Answers.{input_of, last_line_of, unopened};
 
 use crate::ended::{Ended, Kept};
 use crate::last_line::{LastLine, SINK_FAULT};
-use crate::reading::{ReadStop, read_source};
+use crate::source_bytes::{ReadStop, read_source};
 use byte_ends::{Sink, Source};
 use collector::Heap;
 use command_line::{Invocation, WordsStop, read_words};
@@ -31,7 +31,7 @@ use tagged_word::NoMemory;
 
 /// Runs the program. `words` are the words of the command line without the program's name, `source`
 /// is the script, and `sink` takes what it writes and the last line. The heap has the sizes that the
-/// words give; threads and gates are not used so far.
+/// words give; threads and gates are not used.
 ///
 /// Where a heap is kept, it shows the graph after the executed lines, whatever became of the bytes.
 pub fn run<S: Source, K: Sink, G: Gate, R: Threads + Sync>(

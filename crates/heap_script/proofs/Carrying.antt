@@ -2,15 +2,15 @@
 use Rattle.std.proofs.Common.{◌≡◌, ◌∙◌, ℕ, zero, suc, ◌≤◌, List, Result, Ok}
 use Rattle.std.proofs.Common.{Err, IsErrAnd, ap, arith, sym, subst}
 use Rattle.tagged_word.specs.Cells.{cell_words_most}
-use Rattle.heap_command.specs.declared.command.Command.{Command}
+use Rattle.heap_model.specs.Types.{Command}
 use Rattle.heap_command.specs.Commands.{IsWithin}
 use Rattle.object_graph.specs.Graphs.{Graph}
 use Rattle.page_space.specs.Extents.{Space}
 use Rattle.nursery.specs.Young.{HasRoom}
 use Rattle.mutator.specs.declared.stop.Stop.{Stop}
 use Rattle.mutator.specs.declared.stop.Stop.TheVariants.{NoRoom}
-use Rattle.mutator.specs.Carries.{Carries}
-use Rattle.write_barrier.specs.Mains.{Mutator, heap_of, MainShows}
+use Rattle.mutator.specs.CarriesOut.{Carries}
+use Rattle.write_barrier.specs.MutatorState.{Mutator, heap_of, MainShows}
 use Rattle.heap_script.proofs.FewWords.{need_few}
 use Rattle.heap_model.proofs.ShownRooms.{shown_objects_have_rooms}
 

@@ -6,12 +6,9 @@ use Rattle.std.specs.Ordering.{nat_cmp}
 use Rattle.std.specs.FinMap.{FinMap}
 use Rattle.std.proofs.Math.ListN.{length-set}
 use Rattle.std.proofs.lemmas.List.{length_push, append-nil}
-use Rattle.heap_command.specs.declared.command.Command.{Command}
+use Rattle.heap_model.specs.Types.{Command, Value, Object, Path}
 use Rattle.heap_command.specs.declared.command.Command.TheVariants as command
-use Rattle.object_graph.specs.declared.value.Value.{Value}
-use Rattle.object_graph.specs.declared.object.Object.{Object}
 use Rattle.object_graph.specs.declared.object.Object.TheVariants.{Plain, List as ListOf, Weak}
-use Rattle.object_graph.specs.declared.path.Path.{Path}
 use Rattle.object_graph.specs.Graphs.{Graph}
 use Rattle.object_graph.specs.Meaning.{Limits, done, does}
 use Rattle.object_graph.proofs.Leads.{Leads, each, if_not, if_there}

@@ -3,7 +3,7 @@ use Rattle.std.proofs.Common.{◌≡◌, ℕ, ◌<◌, ◌≤◌, false, List, [
 use Rattle.std.proofs.Common.{Some, None, Err, cond, refl, sym, ap, subst, ◌∙◌, arith}
 use Rattle.std.specs.Prelude.{slice_get, ◌==◌, nat_lt}
 use Rattle.std.proofs.lemmas.Bool.Decides.{nat_tests}
-use Rattle.heap_command.specs.declared.command.Command.{Command}
+use Rattle.heap_model.specs.Types.{Command}
 use Rattle.heap_command.specs.Executed.{Executed}
 use Rattle.object_graph.specs.Graphs.{Graph}
 use Rattle.object_graph.specs.Run.{lines_most, Ending, end, fault_at, limit_at, fault_in, fault_of, ending_here, ending}
@@ -15,10 +15,10 @@ use Rattle.mutator.specs.declared.stop.Stop.{Stop}
 use Rattle.mutator.specs.declared.stop.Stop.TheVariants.{Fault, NoRoom, NoClear}
 use Rattle.object_graph.specs.Limits.{ideal_limits}
 use Rattle.heap_model.specs.Heaps.{Heap}
-use Rattle.write_barrier.specs.Mains.{Mutator, heap_of, IsTied}
-use Rattle.mutator.specs.Carries.{Carries}
+use Rattle.write_barrier.specs.MutatorState.{Mutator, heap_of, IsTied}
+use Rattle.mutator.specs.CarriesOut.{Carries}
 use Rattle.heap_script.specs.declared.finished.How.TheVariants as how
-use Rattle.heap_script.specs.Runs.{left_after, Reached, Spends, EndsAs, ComesTo, IsFullAt}
+use Rattle.heap_script.specs.Runs.{left_after, RanTo, Spends, EndsAs, EndsRun, IsFullAt}
 use Rattle.heap_script.specs.Progress.{how_of, CarriesLine, Handed, Pauses}
 use Rattle.heap_script.proofs.Lacking.{full_for}
 
@@ -45,15 +45,15 @@ ending-limit : (names : List (List ℕ)) (graph : Graph) (next : Executed) (more
 ending-limit names graph next more = refl
 
 -- a run that has reached so many lines ends as it ends at those that are left
-pub EndsAs-reached : (script : ScriptText) (heap : Heap) (n : ℕ) (how : Ending) → (r : Reached script heap n)
+pub EndsAs-reached : (script : ScriptText) (heap : Heap) (n : ℕ) (how : Ending) → (r : RanTo script heap n)
     → ending ideal_limits script.fields r.so_far.graph n (left_after script n) ≡ Some how → EndsAs script n r.so_far how
 EndsAs-reached script heap n how r ends = record { within = r.within; said = r.said; ends = ends }
 
 -- no line is left
-pub ComesTo-end : (script : ScriptText) (heap : Heap) (at n : ℕ) (ts : List ℕ) → (r : Reached script heap n)
+pub EndsRun-end : (script : ScriptText) (heap : Heap) (at n : ℕ) (ts : List ℕ) → (r : RanTo script heap n)
     → IsLeft script.lines at ts (left_after script n) → slice_get script.lines at ≡ None
-    → ComesTo script heap n r.so_far how.End 0
-ComesTo-end script heap at n ts r left none =
+    → EndsRun script heap n r.so_far how.End 0
+EndsRun-end script heap at n ts r left none =
     let ended = at_end script.lines at ts (left_after script n) left none in
     let ends : ending ideal_limits script.fields r.so_far.graph n (left_after script n) ≡ Some end =
     ap (ending ideal_limits script.fields r.so_far.graph n) ended.1
@@ -61,10 +61,10 @@ ComesTo-end script heap at n ts r left none =
     (refl, EndsAs-reached script heap n end r ends)
 
 -- a line is left, and no more may be executed
-pub ComesTo-limit : (script : ScriptText) (heap : Heap) (at' n number : ℕ) (ts' : List ℕ) (command : Option Command)
-    → (r : Reached script heap n) → Goes script.lines at' ts' (left_after script n) (executed number command)
-    → n ≡ lines_most → ComesTo script heap n r.so_far how.LineLimit number
-ComesTo-limit script heap at' n number ts' command r goes most =
+pub EndsRun-limit : (script : ScriptText) (heap : Heap) (at' n number : ℕ) (ts' : List ℕ) (command : Option Command)
+    → (r : RanTo script heap n) → Goes script.lines at' ts' (left_after script n) (executed number command)
+    → n ≡ lines_most → EndsRun script heap n r.so_far how.LineLimit number
+EndsRun-limit script heap at' n number ts' command r goes most =
     let ends : ending ideal_limits script.fields r.so_far.graph n (left_after script n) ≡ Some (limit_at number) =
     ap (ending ideal_limits script.fields r.so_far.graph n) goes.is
     ∙ ap (λ m. ending ideal_limits script.fields r.so_far.graph m (executed number command ∷ goes.rest)) most
@@ -72,20 +72,20 @@ ComesTo-limit script heap at' n number ts' command r goes most =
     EndsAs-reached script heap n (limit_at number) r ends
 
 -- a command was not carried out
-ComesTo-stopped : (script : ScriptText) (main after : Mutator) (at' n number : ℕ) (ts' : List ℕ) (command : Command)
+EndsRun-stopped : (script : ScriptText) (main after : Mutator) (at' n number : ℕ) (ts' : List ℕ) (command : Command)
     (text : List ℕ) (stop : Stop)
-    → IsTied main → (r : Reached script (heap_of main) n) → n < lines_most
+    → IsTied main → (r : RanTo script (heap_of main) n) → n < lines_most
     → Goes script.lines at' ts' (left_after script n) (executed number (Some command))
     → Carries script.fields main after r.so_far.graph command text (Err stop)
-    → ComesTo script (heap_of main) n r.so_far (how_of stop) number
-ComesTo-stopped script main after at' n number ts' command text (Fault word) tied r below goes (does-is, same) =
+    → EndsRun script (heap_of main) n r.so_far (how_of stop) number
+EndsRun-stopped script main after at' n number ts' command text (Fault word) tied r below goes (does-is, same) =
     let graph = r.so_far.graph in
     let ends : ending ideal_limits script.fields graph n (left_after script n) ≡ Some (fault_at number word) =
     ap (ending ideal_limits script.fields graph n) goes.is
     ∙ ending-below script.fields graph n (executed number (Some command)) goes.rest below
     ∙ ap (fault_in number) does-is in
     EndsAs-reached script (heap_of main) n (fault_at number word) r ends
-ComesTo-stopped script main after at' n number ts' command text (NoRoom need) tied r below goes
+EndsRun-stopped script main after at' n number ts' command text (NoRoom need) tied r below goes
     (next, written, does-is, need-is, full, same) =
     let graph = r.so_far.graph in
     let first = executed number (Some command) in
@@ -96,20 +96,20 @@ ComesTo-stopped script main after at' n number ts' command text (NoRoom need) ti
       full = subst (IsFullAt (heap_of main) graph number need) (sym goes.is)
           (refl, (need-is, full_for main need tied full));
     }
-ComesTo-stopped script main after at' n number ts' command text (NoClear entries) tied r below goes carries =
+EndsRun-stopped script main after at' n number ts' command text (NoClear entries) tied r below goes carries =
     absurd carries
 
 -- a line was not executed
-pub ComesTo-line : (script : ScriptText) (main after : Mutator) (at' n number : ℕ) (ts' : List ℕ)
+pub EndsRun-line : (script : ScriptText) (main after : Mutator) (at' n number : ℕ) (ts' : List ℕ)
     (command : Option Command)
     (text : List ℕ) (stop : Stop)
-    → IsTied main → (r : Reached script (heap_of main) n) → n < lines_most
+    → IsTied main → (r : RanTo script (heap_of main) n) → n < lines_most
     → Goes script.lines at' ts' (left_after script n) (executed number command)
     → CarriesLine script.fields main after r.so_far.graph command text (Err stop)
-    → ComesTo script (heap_of main) n r.so_far (how_of stop) number
-ComesTo-line script main after at' n number ts' None text stop tied r below goes (same, nothing, is) = absurd (cc)
-ComesTo-line script main after at' n number ts' (Some command) text stop tied r below goes carries =
-    ComesTo-stopped script main after at' n number ts' command text stop tied r below goes carries
+    → EndsRun script (heap_of main) n r.so_far (how_of stop) number
+EndsRun-line script main after at' n number ts' None text stop tied r below goes (same, nothing, is) = absurd (cc)
+EndsRun-line script main after at' n number ts' (Some command) text stop tied r below goes carries =
+    EndsRun-stopped script main after at' n number ts' command text stop tied r below goes carries
 
 -- a command that is not carried out leaves the heap as it was
 same-stopped : (names : List (List ℕ)) (main after : Mutator) (graph : Graph) (command : Command) (text : List ℕ)
@@ -129,7 +129,7 @@ same-line names main after graph (Some command) text stop carries = same-stopped
 -- a run that halts at a line whose command was not carried out
 pub Pauses-stopped : (script : ScriptText) (heap : Heap) (waiting : List ℕ) (n number : ℕ) (stop : Stop)
     (old new : List ℕ → Type 0) (faults_old faults_new : ℕ)
-    → (r : Reached script heap n) → Spends script heap n → ComesTo script heap n r.so_far (how_of stop) number
+    → (r : RanTo script heap n) → Spends script heap n → EndsRun script heap n r.so_far (how_of stop) number
     → Handed old new waiting r.so_far.bytes → faults_new ≡ faults_old
     → Pauses script heap waiting (record { how = how_of stop; line = number; executed = n }) old new faults_old
     faults_new

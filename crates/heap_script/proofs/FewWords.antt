@@ -9,15 +9,11 @@ use Rattle.std.proofs.lemmas.List.{length-map}
 use Rattle.std.proofs.lemmas.List.Elements.{All-contains}
 use Rattle.std.proofs.lemmas.Option.{none-some, same_Some}
 use Rattle.tagged_word.specs.Cells.{store_head, cell_words_most}
-use Rattle.heap_command.specs.declared.command.Command.{Command}
+use Rattle.heap_model.specs.Types.{Command, Value, Object, Field, PathField}
 use Rattle.heap_command.specs.declared.command.Command.TheVariants as command
 use Rattle.heap_command.specs.Commands.{IsWithin}
-use Rattle.object_graph.specs.declared.value.Value.{Value}
 use Rattle.object_graph.specs.declared.value.Value.TheVariants.{Int, Undefined, Ref}
-use Rattle.object_graph.specs.declared.object.Object.{Object}
 use Rattle.object_graph.specs.declared.object.Object.TheVariants as kind
-use Rattle.object_graph.specs.declared.object.Field.{Field}
-use Rattle.object_graph.specs.declared.path.PathField.{PathField}
 use Rattle.object_graph.specs.Graphs.{Graph, PlainObject, as_plain, plain_at, value_of}
 use Rattle.object_graph.specs.Invariants.{IsGraph, IsPath, HasItsPath, fields_most}
 use Rattle.object_graph.specs.Meaning.{list_most}

@@ -7,7 +7,7 @@ use Rattle.byte_ends.specs.Sink.{Appends}
 use Rattle.heap_script.specs.declared.finished.How.{How}
 use Rattle.heap_script.specs.declared.finished.How.TheVariants.{End, Fault, HeapFull, SinkFault, LineLimit}
 use Rattle.heap_script.specs.declared.finished.Finished.{Finished}
-use Rattle.heap_script.specs.Runs.{Finishes, Spends, HasSpent, need_at, ComesTo, CutsOff}
+use Rattle.heap_script.specs.Runs.{Finishes, Spends, HasSpent, need_at, EndsRun, CutsOff}
 use Rattle.heap_script.specs.Progress.{Pauses, Handed}
 use Rattle.heap_script.proofs.Handing.{Appends-handed, CutsOff-handed}
 
@@ -43,7 +43,7 @@ Finishes-cut script heap waiting LineLimit line n need old new faults_old faults
 record PausedAt (script : ScriptText) (heap : Heap) (waiting : List ℕ) (how : How) (line n : ℕ)
     (old mid : List ℕ → Type 0) (faults_old faults_mid : ℕ)
     (paused : Pauses script heap waiting (finished_by how line n) old mid faults_old faults_mid) : Type 0 where
-  comes : ComesTo script heap n paused.reached.so_far how line
+  comes : EndsRun script heap n paused.reached.so_far how line
   handed : Handed old mid waiting paused.reached.so_far.bytes
   steady : faults_mid ≡ faults_old
 

@@ -5,7 +5,7 @@ use Rattle.std.proofs.lemmas.Bool.Decides.{nat_tests}
 use Rattle.page_space.specs.Extents.{Space}
 use Rattle.nursery.specs.Young.{HasRoom}
 use Rattle.heap_model.specs.Needs.{lacks_room}
-use Rattle.write_barrier.specs.Mains.{Mutator, heap_of, IsTied}
+use Rattle.write_barrier.specs.MutatorState.{Mutator, heap_of, IsTied}
 
 -- where the young generation has room for so many words, the heap does not lack it
 pub not_lacking : (main : Mutator) (need : ℕ) → IsTied main → HasRoom main.young need

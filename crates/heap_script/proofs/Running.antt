@@ -3,7 +3,7 @@ use Rattle.std.proofs.Common.{◌≡◌, ℕ, suc, zero, ◌+◌, ◌<◌, List,
 use Rattle.std.proofs.Common.{Option, Some, ◌≤◌}
 use Rattle.std.proofs.Common.{None, Ok, refl, sym, ap, subst, ◌∙◌, add-one, add-zero, append-nil, arith}
 use Rattle.std.specs.Prelude.{option_and_then, slice_get}
-use Rattle.heap_command.specs.declared.command.Command.{Command}
+use Rattle.heap_model.specs.Types.{Command}
 use Rattle.heap_command.specs.Executed.{Executed}
 use Rattle.object_graph.specs.Graphs.{Graph, start}
 use Rattle.object_graph.specs.Run.{Told, untold, told_with, tell, told, lines_most}
@@ -19,10 +19,10 @@ use Rattle.heap_model.specs.Heaps.{Heap}
 use Rattle.heap_model.specs.Rooms.{Room, HasRooms, need_of}
 use Rattle.heap_model.proofs.ShownRooms.{shown_objects_have_rooms}
 use Rattle.nursery.specs.Young.{Young}
-use Rattle.write_barrier.specs.Mains.{Mutator, heap_of, MainShows, IsOpened}
+use Rattle.write_barrier.specs.MutatorState.{Mutator, heap_of, MainShows, IsOpened}
 use Rattle.collector.specs.States.{HeapState, HeapShows, Spare, IsReady}
-use Rattle.mutator.specs.Carries.{Carries, TakesRoom}
-use Rattle.heap_script.specs.Runs.{left_after, Reached, Spends, Allocates, TellsAt}
+use Rattle.mutator.specs.CarriesOut.{Carries, TakesRoom}
+use Rattle.heap_script.specs.Runs.{left_after, RanTo, Spends, Allocates, TellsAt}
 use Rattle.heap_script.specs.Progress.{objects_made, made_by, CarriesLine, Handed}
 use Rattle.heap_script.proofs.Counts.{length-does, makes_one}
 use Rattle.heap_script.proofs.Lacking.{not_lacking}
@@ -32,7 +32,7 @@ use Rattle.heap_script.proofs.Handing.{Handed-none, Handed-more, Handed-told}
 -- handed on or waits, the objects are counted, and the words that are used are those that the lines need.
 pub record Running (script : ScriptText) (heap : HeapState) (objects : ℕ) (waiting : List ℕ)
     (old new : List ℕ → Type 0) (at : ℕ) (ts : List ℕ) (executed : ℕ) : Type 0 where
-  pub reached : Reached script (heap_of heap.main) executed
+  pub reached : RanTo script (heap_of heap.main) executed
   pub spends : Spends script (heap_of heap.main) executed
   pub shown : HeapShows heap reached.so_far.graph
   pub left : IsLeft script.lines at ts (left_after script executed)
@@ -105,7 +105,7 @@ pub Running-start : (script : ScriptText) (heap : HeapState) (old : List ℕ →
     → HeapShows heap start → IsOpened heap.main → heap.main.seat.space.variables ≡ length script.variables
     → Running script heap 0 [] old old 0 [] 0
 Running-start script heap old placed shown opened variables =
-    let reached : Reached script (heap_of heap.main) 0 = record {
+    let reached : RanTo script (heap_of heap.main) 0 = record {
       within = omega arith;
       few = omega arith;
       variables = variables;
@@ -168,7 +168,7 @@ Running-passed script heap objects waiting old new at at' ts ts' n number r belo
     let so_far = r.reached.so_far in
     let line = executed number None in
     let next = next-drop (executed_lines script.lines) n line goes.rest goes.is in
-    let reached : Reached script (heap_of heap.main) (n + 1) = record {
+    let reached : RanTo script (heap_of heap.main) (n + 1) = record {
       within = omega (arith, next.within);
       few = omega (arith, below);
       variables = r.reached.variables;
@@ -220,7 +220,7 @@ Running-carried script heap after objects waiting old new at at' ts ts' n number
     let later : Told = record { graph = graph; bytes = so_far.bytes ++ text } in
     let line = executed number (Some command) in
     let next = next-drop (executed_lines script.lines) n line goes.rest goes.is in
-    let reached : Reached script (heap_of after.main) (n + 1) = record {
+    let reached : RanTo script (heap_of after.main) (n + 1) = record {
       within = omega (arith, next.within);
       few = omega (arith, below);
       variables = ap (λ (space : Space). space.variables) space ∙ r.reached.variables;
@@ -269,7 +269,7 @@ Running-line script heap after objects waiting old new at at' ts ts' n number (S
 
 -- and it told its text
 pub TellsAt-line : (script : ScriptText) (heap : Heap) (old new : Mutator) (at' : ℕ) (ts' : List ℕ) (n number : ℕ)
-    (command : Option Command) (text : List ℕ) → (r : Reached script heap n)
+    (command : Option Command) (text : List ℕ) → (r : RanTo script heap n)
     → Goes script.lines at' ts' (left_after script n) (executed number command)
     → CarriesLine script.fields old new r.so_far.graph command text (Ok tt) → TellsAt script n text
 TellsAt-line script heap old new at' ts' n number None text r goes (same, nothing, is) =

@@ -10,7 +10,7 @@ use Rattle.script_text.specs.declared.script.What.TheVariants.{Run, Repeat, End}
 use Rattle.script_text.specs.Unrolled.{executed}
 use Rattle.script_text.specs.Left.{IsLeft, Goes}
 use Rattle.script_text.proofs.Left.{past_command, into_block, past_block, back, out, inside_block}
-use Rattle.heap_script.specs.Turns.{next_of}
+use Rattle.heap_script.specs.LoopCounters.{next_of}
 use Rattle.heap_script.specs.Progress.{command_in}
 
 -- a line, by its parts

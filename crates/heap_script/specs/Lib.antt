@@ -1,4 +1,4 @@
 pub mod Runs
-pub mod Turns
+pub mod LoopCounters
 pub mod Progress
 pub use Rattle.mutator.specs.declared.output.TheConstants

@@ -1,6 +1,6 @@
 -- How far a run has come between two of its lines.
 use Rattle.std.specs.Prelude.{◌≡◌, ℕ, List, [], ◌++◌, Option, Some, None, Result, Ok, Err}
-use Rattle.heap_command.specs.declared.command.Command.{Command}
+use Rattle.heap_model.specs.Types.{Command}
 use Rattle.heap_command.specs.declared.command.Command.TheVariants as command
 use Rattle.heap_command.specs.declared.command.FaultWord.TheVariants.{WeakFull}
 use Rattle.object_graph.specs.Graphs.{Graph}
@@ -10,15 +10,15 @@ use Rattle.script_text.specs.declared.script.What.TheVariants.{Run}
 use Rattle.script_text.specs.Scripts.{ScriptText}
 use Rattle.mutator.specs.declared.stop.Stop.{Stop}
 use Rattle.mutator.specs.declared.stop.Stop.TheVariants as stop
-use Rattle.write_barrier.specs.Mains.{Mutator}
+use Rattle.write_barrier.specs.MutatorState.{Mutator}
 use Rattle.heap_model.specs.Heaps.{Heap}
-use Rattle.mutator.specs.Carries.{Carries}
+use Rattle.mutator.specs.CarriesOut.{Carries}
 use Rattle.byte_ends.specs.Faults.{Rose}
 use Rattle.byte_ends.specs.Sink.{Appends}
 use Rattle.heap_script.specs.declared.finished.How.{How}
 use Rattle.heap_script.specs.declared.finished.How.TheVariants.{Fault, HeapFull, SinkFault}
 use Rattle.heap_script.specs.declared.finished.Finished.{Finished}
-use Rattle.heap_script.specs.Runs.{Reached, Spends, ComesTo, IsDue, CutsOff}
+use Rattle.heap_script.specs.Runs.{RanTo, Spends, EndsRun, IsDue, CutsOff}
 
 -- how many objects a command makes
 abbrev pub objects_made : Command → ℕ
@@ -69,12 +69,12 @@ Halts script heap waiting finished so_far old new faults_old faults_new (SinkFau
     ((finished.line ≡ 0) × (need ≡ 0) × IsDue script finished.executed)
     × CutsOff old new so_far.bytes × Rose faults_old faults_new
 Halts script heap waiting finished so_far old new faults_old faults_new came =
-    ComesTo script heap finished.executed so_far came finished.line
+    EndsRun script heap finished.executed so_far came finished.line
     × Handed old new waiting so_far.bytes × (faults_new ≡ faults_old)
 
 -- the run before its last bytes are handed on: how far it came, what it spent, and how it halted
 pub record Pauses (script : ScriptText) (heap : Heap) (waiting : List ℕ) (finished : Finished)
     (old new : List ℕ → Type 0) (faults_old faults_new : ℕ) : Type 0 where
-  pub reached : Reached script heap finished.executed
+  pub reached : RanTo script heap finished.executed
   pub spends : Spends script heap finished.executed
   pub halts : Halts script heap waiting finished reached.so_far old new faults_old faults_new finished.how

@@ -2,13 +2,13 @@
 use Rattle.std.specs.Prelude.{◌≡◌, ◌⊎◌, ℕ, ◌+◌, ◌<◌, ◌≤◌, List, ◌∷◌}
 use Rattle.std.specs.Prelude.{[], ◌++◌, length, take, drop, All, Option, Some, None, IsTrue}
 use Rattle.std.specs.Prelude.{false, slice_get, nat_lt, if◌then◌else◌}
-use Rattle.heap_command.specs.declared.command.Command.{Command}
+use Rattle.heap_model.specs.Types.{Command}
 use Rattle.heap_command.specs.Executed.{Executed}
 use Rattle.object_graph.specs.Graphs.{Graph}
 use Rattle.object_graph.specs.Limits.{ideal_limits}
 use Rattle.object_graph.specs.Run.{Told, told, lines_most, Ending, end, fault_at, limit_at, ending, EndsAfter}
 use Rattle.script_text.specs.Scripts.{ScriptText}
-use Rattle.script_text.specs.Table.{unbuilt_today}
+use Rattle.script_text.specs.Table.{unbuilt_keywords}
 use Rattle.script_text.specs.declared.script.Line.{Line}
 use Rattle.script_text.specs.Sound.{IsBuilt}
 use Rattle.script_text.specs.Unrolled.{executed_lines}
@@ -25,9 +25,9 @@ use Rattle.heap_script.specs.declared.finished.How.{How}
 use Rattle.heap_script.specs.declared.finished.How.TheVariants as how
 use Rattle.heap_script.specs.declared.finished.Finished.{Finished}
 
--- each line is one that is built today
+-- each line is one that is built
 abbrev pub AreBuilt : List Line → Type 0
-AreBuilt lines = All (λ line. IsBuilt unbuilt_today line.what) lines
+AreBuilt lines = All (λ line. IsBuilt unbuilt_keywords line.what) lines
 
 -- the executed lines of the script that are left after the first so many
 abbrev pub left_after : ScriptText → ℕ → List Executed
@@ -40,7 +40,7 @@ IsFull heap graph need = IsTrue (lacks_room heap need)
 
 -- The script was run for so many lines, of which none faulted, and the heap, which has a root for each variable of the
 -- script, shows the graph after them.
-pub record Reached (script : ScriptText) (heap : Heap) (executed : ℕ) : Type 0 where
+pub record RanTo (script : ScriptText) (heap : Heap) (executed : ℕ) : Type 0 where
   pub within : executed ≤ length (executed_lines script.lines)
   pub few : executed ≤ lines_most
   pub variables : heap.space.variables ≡ length script.variables
@@ -69,10 +69,10 @@ LineAllocates old new graph after (Some command) = Allocates old new graph after
 -- The words that the executed lines of a script spend, one line after another, up to this heap. No word is used before
 -- the first line, and each line uses what its command needs, by the graph and the rooms that the lines before it led to.
 pub data Spends (script : ScriptText) : Heap → ℕ → Type 0 where
-  none : (heap : Heap) → heap.used ≡ 0 → heap.survivors ≡ 0 → Reached script heap 0 → Spends script heap 0
+  none : (heap : Heap) → heap.used ≡ 0 → heap.survivors ≡ 0 → RanTo script heap 0 → Spends script heap 0
   one_more : (old new : Heap) (executed : ℕ) (line : Executed) → Spends script old executed
       → slice_get (executed_lines script.lines) executed ≡ Some line
-      → (before : Reached script old executed) (after : Reached script new (executed + 1))
+      → (before : RanTo script old executed) (after : RanTo script new (executed + 1))
       → LineAllocates old new before.so_far.graph after.so_far.graph line.command → Spends script new (executed + 1)
 
 -- The heap has the regions of the one to which the lines led that spent words, and as many words are used and have
@@ -93,14 +93,14 @@ EndsAs script executed so_far ended =
 
 -- the line runs a command that needs so many words, by the rooms of objects, and the heap, which shows this graph, is
 -- full for them
-abbrev pub IsFullFor : Heap → Graph → ℕ → Option Command → Type 0
-IsFullFor heap graph need None = ⊥
-IsFullFor heap graph need (Some command) =
+abbrev pub LacksRoomFor : Heap → Graph → ℕ → Option Command → Type 0
+LacksRoomFor heap graph need None = ⊥
+LacksRoomFor heap graph need (Some command) =
     ((rooms : ℕ → Room) → HasRooms heap graph rooms → need ≡ need_of graph rooms command) × IsFull heap graph need
 
 -- of these lines the next one has this number, and the heap is full for its command
 abbrev pub IsFullAt : Heap → Graph → ℕ → ℕ → List Executed → Type 0
-IsFullAt heap graph line need (next ∷ more) = (next.number ≡ line) × IsFullFor heap graph need next.command
+IsFullAt heap graph line need (next ∷ more) = (next.number ≡ line) × LacksRoomFor heap graph need next.command
 IsFullAt heap graph line need _ = ⊥
 
 -- The run does not end after so many lines: one is next, and it neither faults nor stands at the limit. But the heap is
@@ -110,12 +110,12 @@ pub record FullAt (script : ScriptText) (heap : Heap) (executed : ℕ) (so_far :
   pub full : IsFullAt heap so_far.graph line need (left_after script executed)
 
 -- After so many lines the run comes to an end, in this way and at this line; a sink that fails is no end of a script.
-abbrev pub ComesTo : ScriptText → Heap → ℕ → Told → How → ℕ → Type 0
-ComesTo script heap executed so_far how.End line = (line ≡ 0) × EndsAs script executed so_far end
-ComesTo script heap executed so_far (how.Fault word) line = EndsAs script executed so_far (fault_at line word)
-ComesTo script heap executed so_far (how.HeapFull need) line = FullAt script heap executed so_far line need
-ComesTo script heap executed so_far (how.SinkFault need) line = ⊥
-ComesTo script heap executed so_far how.LineLimit line = EndsAs script executed so_far (limit_at line)
+abbrev pub EndsRun : ScriptText → Heap → ℕ → Told → How → ℕ → Type 0
+EndsRun script heap executed so_far how.End line = (line ≡ 0) × EndsAs script executed so_far end
+EndsRun script heap executed so_far (how.Fault word) line = EndsAs script executed so_far (fault_at line word)
+EndsRun script heap executed so_far (how.HeapFull need) line = FullAt script heap executed so_far line need
+EndsRun script heap executed so_far (how.SinkFault need) line = ⊥
+EndsRun script heap executed so_far how.LineLimit line = EndsAs script executed so_far (limit_at line)
 
 -- the words that were wanted where the run came to this, or 0
 abbrev pub need_at : How → ℕ
@@ -142,15 +142,15 @@ pub record TellsAt (script : ScriptText) (executed : ℕ) (text : List ℕ) : Ty
 
 -- What the output holds after so many lines: nothing before the first one, and then what each line tells, behind what
 -- waited while it was executed.
-pub data Holds (script : ScriptText) : ℕ → List ℕ → Type 0 where
-  nothing : Holds script 0 []
-  one_more : (executed : ℕ) (held text : List ℕ) → Holds script executed held → TellsAt script executed text
-      → Holds script (executed + 1) (waiting_of held ++ text)
+pub data OutputHolds (script : ScriptText) : ℕ → List ℕ → Type 0 where
+  nothing : OutputHolds script 0 []
+  one_more : (executed : ℕ) (held text : List ℕ) → OutputHolds script executed held → TellsAt script executed text
+      → OutputHolds script (executed + 1) (waiting_of held ++ text)
 
 -- After so many lines an output is due: what it holds fills it, and one line more is to be executed, which may be.
 pub record IsDue (script : ScriptText) (executed : ℕ) : Type 0 where
   pub held : List ℕ
-  pub holds : Holds script executed held
+  pub holds : OutputHolds script executed held
   pub fills : FillsOutput held
   pub next : executed < length (executed_lines script.lines)
   pub few : executed < lines_most
@@ -171,7 +171,7 @@ IsCut _ = ⊥
 abbrev pub FailedAt : ScriptText → Heap → ℕ → Told → ℕ → ℕ → Type 0
 FailedAt script heap executed so_far line need =
     ((line ≡ 0) × (need ≡ 0) × IsDue script executed)
-    ⊎ ((came : How) × ComesTo script heap executed so_far came line × (need ≡ need_at came))
+    ⊎ ((came : How) × EndsRun script heap executed so_far came line × (need ≡ need_at came))
 
 -- What was told was written, and the run came to this. Or the sink failed, and a front of what was told was written.
 abbrev pub Writes : ScriptText → Heap → Finished → Told → (List ℕ → Type 0) → (List ℕ → Type 0)
@@ -180,13 +180,13 @@ Writes script heap finished so_far old new faults_old faults_new (how.SinkFault 
     FailedAt script heap finished.executed so_far finished.line need
     × CutsOff old new so_far.bytes × Rose faults_old faults_new
 Writes script heap finished so_far old new faults_old faults_new came =
-    ComesTo script heap finished.executed so_far came finished.line
+    EndsRun script heap finished.executed so_far came finished.line
     × Appends old new so_far.bytes × (faults_new ≡ faults_old)
 
 -- The run of a script: how far it came, what it spent, how it ended, and what the sink took, which may have taken these
 -- bytes before and after, with so many faults.
 pub record Finishes (script : ScriptText) (heap : Heap) (finished : Finished)
     (old new : List ℕ → Type 0) (faults_old faults_new : ℕ) : Type 0 where
-  pub reached : Reached script heap finished.executed
+  pub reached : RanTo script heap finished.executed
   pub spent : HasSpent script heap finished.executed
   pub writes : Writes script heap finished reached.so_far old new faults_old faults_new finished.how

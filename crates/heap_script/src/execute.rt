@@ -8,35 +8,35 @@ ghost use Rattle.object_graph.specs.Run.{lines_most};
 ghost use Rattle.heap_command.specs.Commands.{IsWithin};
 ghost use Rattle.script_text.specs.declared.script.What.TheVariants.{Run};
 ghost use Rattle.script_text.specs.Limits.{open_most};
-ghost use Rattle.script_text.specs.Table.{unbuilt_today};
+ghost use Rattle.script_text.specs.Table.{unbuilt_keywords};
 ghost use Rattle.script_text.specs.Sound.{IsBuilt, NamesWithin, AreShort};
 ghost use Rattle.nursery.specs.Young.{HasRoom};
-ghost use Rattle.write_barrier.specs.Mains.{MainShows};
-ghost use Rattle.mutator.specs.Carries.{Carries, field_numbers};
+ghost use Rattle.write_barrier.specs.MutatorState.{MainShows};
+ghost use Rattle.mutator.specs.CarriesOut.{Carries, field_numbers};
 ghost use Rattle.collector.specs.States.{HeapShows};
 ghost use Rattle.heap_script.specs.Progress.{objects_made, made_by, command_in};
 ghost use Rattle.heap_script.specs.Progress.{CarriesLine, outcome_of};
-ghost use Rattle.heap_script.specs.Turns.{next_of};
+ghost use Rattle.heap_script.specs.LoopCounters.{next_of};
 
-use crate::turns::Turns;
+use crate::loop_counters::LoopCounters;
 use collector::Heap;
 use heap_command::Command;
 use mutator::{OUTPUT_BYTES, Output, ROOM, Stop};
 use script_text::{Script, What};
 use write_barrier::Main;
 
-/// Executes a line, and answers where the run goes on. `objects` counts the objects made so far.
+/// Executes a line, and answers where the run goes on. `objects` counts the objects that were made.
 #[inline(always)]
 pub(crate) fn execute_line(
     heap: &mut Heap,
     script: &Script<'_>,
     objects: &mut u32,
-    turns: &mut Turns,
+    turns: &mut LoopCounters,
     at: usize,
     what: &What,
     out: &mut Output,
 ) -> Result<usize, Stop>
-    requires built { IsBuilt unbuilt_today what.now }
+    requires built { IsBuilt unbuilt_keywords what.now }
     requires shown { (graph : Graph) × HeapShows heap.old graph × (objects.old ≡ length graph.objects) }
     requires within { NamesWithin heap.old.main.seat.space.variables field_numbers what.now }
     requires few { objects.old < lines_most }
@@ -74,7 +74,7 @@ fn carry_out(
     command: &Command,
     out: &mut Output,
 ) -> Result<(), Stop>
-    requires built { IsBuilt unbuilt_today (Run command.now) }
+    requires built { IsBuilt unbuilt_keywords (Run command.now) }
     requires shown { (graph : Graph) × HeapShows heap.old graph × (objects.old ≡ length graph.objects) }
     requires within { IsWithin heap.old.main.seat.space.variables field_numbers command.now }
     requires few { objects.old < lines_most }
@@ -115,7 +115,7 @@ fn ensure_room(heap: &mut Heap, need: u32) -> bool
     heap.ensure(need).is_ok()
 }
 
-/// Carries a command out, if there is room for it. `objects` counts the objects made so far.
+/// Carries a command out, if there is room for it. `objects` counts the objects that were made.
 #[inline(always)]
 fn execute(
     main: &mut Main,
@@ -124,7 +124,7 @@ fn execute(
     command: &Command,
     out: &mut Output,
 ) -> Result<(), Stop>
-    requires built { IsBuilt unbuilt_today (Run command.now) }
+    requires built { IsBuilt unbuilt_keywords (Run command.now) }
     requires shown { (graph : Graph) × MainShows main.old graph × (objects.old ≡ length graph.objects) }
     requires within { IsWithin main.old.seat.space.variables field_numbers command.now }
     requires few { objects.old < lines_most }

@@ -1,8 +1,8 @@
 //! A script on the heap, line by line in the order of execution.
 ghost use Rattle.std.specs.Prelude.{◌≡◌, ◌≢◌, ◌+◌, ◌≤◌, false, [], length, OnOk, OnErr};
 ghost use Rattle.object_graph.specs.Graphs.{Graph, start};
-ghost use Rattle.mutator.specs.Carries.{field_numbers};
-ghost use Rattle.write_barrier.specs.Mains.{heap_of, IsOpened};
+ghost use Rattle.mutator.specs.CarriesOut.{field_numbers};
+ghost use Rattle.write_barrier.specs.MutatorState.{heap_of, IsOpened};
 ghost use Rattle.collector.specs.States.{HeapShows};
 ghost use Rattle.byte_ends.specs.Faults.{Rose};
 ghost use Rattle.script_text.specs.Sound.{AreShort};
@@ -11,8 +11,8 @@ ghost use Rattle.heap_script.specs.Progress.{Handed, Pauses, how_of};
 
 use crate::execute::execute_line;
 use crate::finished::{Finished, How};
-use crate::handing_on::hand_on;
-use crate::turns::Turns;
+use crate::flushing::flush;
+use crate::loop_counters::LoopCounters;
 use byte_ends::{Failed, Sink};
 use collector::Heap;
 use crew::Gate;
@@ -28,7 +28,7 @@ const LINES_MOST: u64 = 20_000_000;
 const FULL_FROM: usize = (OUTPUT_BYTES - ROOM) as usize;
 
 /// Runs a script on a heap that was just opened, with an output that is empty, and writes to the sink
-/// what it tells. Threads and gates are not used so far, and the heap is not checked.
+/// what it tells. Threads and gates are not used, and the heap is not checked.
 pub fn run_script<K: Sink, G: Gate, R: Threads + Sync>(
     _rt: &R,
     heap: &mut Heap,
@@ -55,7 +55,7 @@ pub fn run_script<K: Sink, G: Gate, R: Threads + Sync>(
     let finished = run_lines(heap, script, out, sink);
     match finished.how {
         How::SinkFault { .. } => finished,
-        how => match hand_on(sink, out) {
+        how => match flush(sink, out) {
             Ok(()) => finished,
             Err(Failed) => Finished {
                 how: How::SinkFault { need: how.need() },
@@ -86,7 +86,7 @@ fn run_lines<K: Sink>(
     ensures space { heap.new.main.seat.space ≡ heap.old.main.seat.space }
 {
     let lines = script.lines();
-    let mut turns = Turns::new();
+    let mut turns = LoopCounters::new();
     let (mut at, mut objects, mut executed) = (0usize, 0u32, 0u64);
     while at < lines.len() {
         let line = &lines[at];
@@ -97,7 +97,7 @@ fn run_lines<K: Sink>(
                 executed,
             };
         }
-        let Ok(()) = make_room(sink, out) else {
+        let Ok(()) = flush_if_full(sink, out) else {
             return Finished {
                 how: How::SinkFault { need: 0 },
                 line: 0,
@@ -135,7 +135,7 @@ fn stopped(stop: Stop, line: u32, executed: u64) -> Finished
 
 /// Hands the waiting bytes on where they leave too little room for a command.
 #[inline(always)]
-fn make_room<K: Sink>(sink: &mut K, out: &mut Output) -> Result<(), Failed>
+fn flush_if_full<K: Sink>(sink: &mut K, out: &mut Output) -> Result<(), Failed>
     ensures room { OnOk result (length out.new + ROOM ≤ OUTPUT_BYTES) }
     ensures handed { OnOk result (Handed (K.HasTaken sink.old) (K.HasTaken sink.new) out.new out.old) }
     ensures waits { OnOk result (out.new ≡ waiting_of out.old) }
@@ -145,7 +145,7 @@ fn make_room<K: Sink>(sink: &mut K, out: &mut Output) -> Result<(), Failed>
     ensures steady { OnOk result (K.faults sink.new ≡ K.faults sink.old) }
 {
     if out.bytes().len() > FULL_FROM {
-        hand_on(sink, out)?;
+        flush(sink, out)?;
     }
     Ok(())
 }

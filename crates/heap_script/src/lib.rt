@@ -1,7 +1,7 @@
 //! The run of a script on a heap: its lines in the order of execution, the limit on them, and the
 //! bytes that they write.
 //!
-//! Model: a run has come so far as it has executed lines. `Reached` of `specs/Runs.antt` says that a
+//! Model: a run has come so far as it has executed lines. `RanTo` of `specs/Runs.antt` says that a
 //! heap shows the graph after them, and `EndsAs` in what way a run ends. `Finishes` is what
 //! `run_script` promises.
 //! Invariant: between two lines the place in the script and the turns left of its open blocks stand
@@ -10,9 +10,9 @@
 
 mod execute;
 mod finished;
-mod handing_on;
+mod flushing;
 mod interpreter;
-mod turns;
+mod loop_counters;
 
 pub use finished::{Finished, How};
 pub use interpreter::run_script;

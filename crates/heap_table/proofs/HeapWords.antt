@@ -5,7 +5,7 @@ use Rattle.std.proofs.Math.Seq.{take-set-lt, drop-set-lt}
 use Rattle.std.proofs.lemmas.List.{get_or-take, length-take-le}
 use Rattle.std.proofs.lemmas.Option.{slice_get-get_or}
 use Rattle.page_space.specs.Extents.{marks_start, words_count}
-use Rattle.heap_table.specs.Seats.{Seat, heap_words, StaysBeside}
+use Rattle.heap_table.specs.Seats.{Seat, heap_words, RestStays}
 use Rattle.heap_table.proofs.MarksStart.{marks_start_within}
 
 -- a word of the first so many is the word of them all
@@ -35,7 +35,7 @@ heap_words-put seat a word below = take-set-lt (marks_start seat.space) seat.tab
 
 -- a word that is put before the marks changes nothing beside the heap words
 pub stays_beside-put : (seat : Seat) (a word : ℕ) → a < marks_start seat.space →
-    StaysBeside seat (record seat { table = slice_set seat.table a word })
+    RestStays seat (record seat { table = slice_set seat.table a word })
 stays_beside-put seat a word below = record {
   space = refl;
   phase = refl;

@@ -19,7 +19,7 @@ abbrev pub fresh : Space → Seat
 fresh space = record { space = space; phase = Quiet; table = replicate (words_count space) 0 }
 
 -- Everything but the heap words is the same: the regions, the phase, the marks and the board.
-pub record StaysBeside (old new : Seat) : Type 0 where
+pub record RestStays (old new : Seat) : Type 0 where
   pub space : new.space ≡ old.space
   pub phase : new.phase ≡ old.phase
   pub behind : drop (marks_start new.space) new.table ≡ drop (marks_start old.space) old.table

@@ -3,7 +3,7 @@ use Rattle.std.specs.Prelude.{◌≡◌, ◌≢◌, refl}
 use Rattle.std.specs.Borrow.{MutBor}
 use Rattle.std.proofs.Common.{◌∙◌, sym}
 use Rattle.heap_table.specs.declared.phase.Phase.TheVariants.{Scavenge}
-use Rattle.heap_table.specs.Seats.{Seat, StaysBeside}
+use Rattle.heap_table.specs.Seats.{Seat, RestStays}
 
 -- everything but the table is the same, and the seat is the one that was lent
 pub record StaysLent (old new : MutBor Seat) : Type 0 where
@@ -12,15 +12,15 @@ pub record StaysLent (old new : MutBor Seat) : Type 0 where
   pub phase : new.now.phase ≡ old.now.phase
 
 -- where nothing has happened, everything has stayed
-pub stays_beside_itself : (seat : Seat) → StaysBeside seat seat
-stays_beside_itself seat = record { space = refl; phase = refl; behind = refl }
+pub rest_stays_itself : (seat : Seat) → RestStays seat seat
+rest_stays_itself seat = record { space = refl; phase = refl; behind = refl }
 
 pub stays_lent_itself : (seat : MutBor Seat) → StaysLent seat seat
 stays_lent_itself seat = record { lender = refl; space = refl; phase = refl }
 
 -- what has stayed twice has stayed
-pub stays_beside_again : (a b c : Seat) → StaysBeside a b → StaysBeside b c → StaysBeside a c
-stays_beside_again a b c first then =
+pub rest_stays_again : (a b c : Seat) → RestStays a b → RestStays b c → RestStays a c
+rest_stays_again a b c first then =
     record { space = then.space ∙ first.space; phase = then.phase ∙ first.phase; behind = then.behind ∙ first.behind }
 
 pub stays_lent_again : (a b c : MutBor Seat) → StaysLent a b → StaysLent b c → StaysLent a c
@@ -28,5 +28,5 @@ stays_lent_again a b c first then =
     record { lender = then.lender ∙ first.lender; space = then.space ∙ first.space; phase = then.phase ∙ first.phase }
 
 -- a phase that has stayed is still another
-pub stays_steady_beside : (a b : Seat) → StaysBeside a b → a.phase ≢ Scavenge → b.phase ≢ Scavenge
-stays_steady_beside a b stays steady = λ same. steady (sym stays.phase ∙ same)
+pub rest_stays_steady : (a b : Seat) → RestStays a b → a.phase ≢ Scavenge → b.phase ≢ Scavenge
+rest_stays_steady a b stays steady = λ same. steady (sym stays.phase ∙ same)

@@ -2,9 +2,9 @@
 ghost use Rattle.std.specs.Prelude.{◌≡◌, ◌≢◌, ◌<◌, length, slice_get, slice_set, IfOk, Some};
 ghost use Rattle.page_space.specs.Extents.{words_count, marks_start};
 ghost use Rattle.heap_table.specs.declared.phase.Phase.TheVariants.{Quiet, Scavenge};
-ghost use Rattle.heap_table.specs.Seats.{fresh, heap_words, StaysBeside};
-ghost use Rattle.heap_table.specs.Staying.{stays_beside_itself, stays_beside_again};
-ghost use Rattle.heap_table.specs.Staying.{stays_steady_beside};
+ghost use Rattle.heap_table.specs.Seats.{fresh, heap_words, RestStays};
+ghost use Rattle.heap_table.specs.Staying.{rest_stays_itself, rest_stays_again};
+ghost use Rattle.heap_table.specs.Staying.{rest_stays_steady};
 
 use crate::paused::Paused;
 use crate::phase::Phase;
@@ -93,7 +93,7 @@ impl MainSeat {
         requires within { a < marks_start self.old.space }
         ensures put { self.new ≡ record self.old { table = slice_set self.old.table a word } }
         ensures heap { heap_words self.new ≡ slice_set (heap_words self.old) a word }
-        ensures rest { StaysBeside self.old self.new }
+        ensures rest { RestStays self.old self.new }
     {
         let _table_count = self.table_count();
         self.put_any(a, word);
@@ -142,13 +142,13 @@ impl Reads for MainSeat {
 
     ghost IsSteady = { λ seat. seat.phase ≢ Scavenge };
 
-    ghost Rest = { StaysBeside };
+    ghost Rest = { RestStays };
 
-    ghost rest_itself = { stays_beside_itself };
+    ghost rest_itself = { rest_stays_itself };
 
-    ghost rest_again = { stays_beside_again };
+    ghost rest_again = { rest_stays_again };
 
-    ghost stays_steady = { stays_steady_beside };
+    ghost stays_steady = { rest_stays_steady };
 
     #[inline(always)]
     fn count(&self) -> u32 {

@@ -6,9 +6,9 @@ ghost use Rattle.object_graph.specs.Graphs.{start};
 ghost use Rattle.cell_layout.specs.Cells.{IsCell};
 ghost use Rattle.heap_table.specs.declared.phase.Phase.TheVariants.{Quiet};
 ghost use Rattle.heap_table.specs.Seats.{heap_words};
-ghost use Rattle.shape_tree.specs.Shapes.{IsPathShape, IsFullFor, Leads, has_name, shape_path};
+ghost use Rattle.shape_tree.specs.Shapes.{IsPathShape, LacksPathsFor, Leads, has_name, shape_path};
 ghost use Rattle.shape_tree.specs.Shapes.{stepped};
-ghost use Rattle.write_barrier.specs.Mains.{IsOpened};
+ghost use Rattle.write_barrier.specs.MutatorState.{IsOpened};
 ghost use Rattle.collector.specs.States.{HeapShows};
 
 use crate::opened_words::{
@@ -18,7 +18,7 @@ use cell_layout::{Cell, NotACell, cell_at};
 use collector::{Full, Heap};
 use handle_roots::Held;
 use heap_table::HeapTable;
-use object_cells::{Content, content_of, fill_store, make_box, rep_of};
+use object_cells::{SlotContent, content_of, fill_store, make_box, rep_of};
 use page_space::{Regions, Run, Sizes};
 use shape_tree::{PathField, Rep, ShapesFull};
 use std::alloc::Global;
@@ -74,7 +74,7 @@ fn step(main: &mut Main, shape: u32, name: u32, rep: Rep) -> Result<u32, ShapesF
     ensures stepped { let path = stepped (shape_path main.old.paths shape) name rep in
         IfOk result (λ next. Leads main.old.paths main.new.paths path next) }
     ensures full { let path = stepped (shape_path main.old.paths shape) name rep in
-        IfErr result (λ full. IsFullFor main.old.paths main.new.paths path full) }
+        IfErr result (λ full. LacksPathsFor main.old.paths main.new.paths path full) }
     ensures rest { main.new ≡ record main.old { paths = main.new.paths } }
 {
     let field = PathField { name, rep };
@@ -293,8 +293,8 @@ fn calls_write_their_words_alone(rt: HostRuntime) -> Result<(), Fail> {
     adds_a_path(&rt, main);
     for (value, word) in &SLOTS {
         let held = match content_of(false, rep_of(*value), *value) {
-            Content::Tagged(held) => Some(held),
-            Content::Raw(_) | Content::Boxed(_) => None,
+            SlotContent::Tagged(held) => Some(held),
+            SlotContent::Raw(_) | SlotContent::Boxed(_) => None,
         };
         assert_eq!(rt; held, *word);
     }

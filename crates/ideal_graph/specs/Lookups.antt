@@ -7,8 +7,8 @@ use Rattle.ideal_graph.specs.declared.ideal.IdealStop.TheVariants.{ScriptFault, 
 use Rattle.object_graph.specs.Paths.{with_path}
 
 -- the path and its prefixes are added; where there may not be so many and for want of memory all stay
-abbrev pub AddsPath : Option ℕ → List Path → List Path → Path → Result (Unit {0}) IdealStop → Type 0
-AddsPath most old new path (Ok added) = with_path most old path ≡ Some new
-AddsPath most old new path (Err (ScriptFault word)) =
+abbrev pub LearnsPath : Option ℕ → List Path → List Path → Path → Result (Unit {0}) IdealStop → Type 0
+LearnsPath most old new path (Ok added) = with_path most old path ≡ Some new
+LearnsPath most old new path (Err (ScriptFault word)) =
     (with_path most old path ≡ None) × (word ≡ ShapesFull) × (new ≡ old)
-AddsPath most old new path (Err NoMemory) = new ≡ old
+LearnsPath most old new path (Err NoMemory) = new ≡ old

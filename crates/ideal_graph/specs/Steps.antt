@@ -13,11 +13,11 @@ pub record NamedGraph : Type 0 where
   pub graph : Graph
 
 -- the answer is this outcome, or want of memory; a fault and want of memory leave all as it was
-abbrev pub ComesTo : NamedGraph → NamedGraph → Outcome → Result (List ℕ) IdealStop → Type 0
-ComesTo old new outcome (Ok text) = (outcome ≡ done new.graph text) × (new.names ≡ old.names)
-ComesTo old new outcome (Err (ScriptFault word)) = (outcome ≡ fault word) × (new ≡ old)
-ComesTo old new outcome (Err NoMemory) = new ≡ old
+abbrev pub StepsTo : NamedGraph → NamedGraph → Outcome → Result (List ℕ) IdealStop → Type 0
+StepsTo old new outcome (Ok text) = (outcome ≡ done new.graph text) × (new.names ≡ old.names)
+StepsTo old new outcome (Err (ScriptFault word)) = (outcome ≡ fault word) × (new ≡ old)
+StepsTo old new outcome (Err NoMemory) = new ≡ old
 
 -- the answer is the command's meaning, or want of memory
 abbrev pub Steps : NamedGraph → NamedGraph → Command → Result (List ℕ) IdealStop → Type 0
-Steps old new command answer = ComesTo old new (does ideal_limits old.names old.graph command) answer
+Steps old new command answer = StepsTo old new (does ideal_limits old.names old.graph command) answer

@@ -10,13 +10,13 @@ use Rattle.std.specs.BTreeMap.{BTreeMap, Updates}
 use Rattle.heap_command.specs.declared.command.FaultWord.{FaultWord}
 use Rattle.object_graph.specs.declared.value.Value.{Value}
 use Rattle.object_graph.proofs.BoundValues.{entries_find}
-use Rattle.ideal_parts.specs.Lookups.{Finds}
+use Rattle.ideal_parts.specs.Lookups.{IsLookup}
 
 -- a look-up answers what is sought, or the fault
-pub Finds-ok_or : {A : Type 0} (word : FaultWord) (sought : Option A) (answer : Result A FaultWord)
-    → answer ≡ ok_or sought word → Finds word sought answer
-Finds-ok_or word None answer is = subst (λ r. Finds word None r) (sym is) (refl, refl)
-Finds-ok_or word (Some found) answer is = subst (λ r. Finds word (Some found) r) (sym is) refl
+pub IsLookup-ok_or : {A : Type 0} (word : FaultWord) (sought : Option A) (answer : Result A FaultWord)
+    → answer ≡ ok_or sought word → IsLookup word sought answer
+IsLookup-ok_or word None answer is = subst (λ r. IsLookup word None r) (sym is) (refl, refl)
+IsLookup-ok_or word (Some found) answer is = subst (λ r. IsLookup word (Some found) r) (sym is) refl
 
 -- the map of the entries answers as the tree does
 pub get-entries : (m : BTreeMap ℕ Value) (x : ℕ) → get (from_entries {R = nat_cmp} m.entries) x ≡ tree.get nat_cmp m x

@@ -24,7 +24,7 @@ missing_below paths path n = filter (is_missing paths) (map (prefix_of path) (ra
 abbrev pub and_unless : Bool → Path → List Path → List Path
 and_unless among next some = some ++ cond (not among) (next ∷ []) []
 
--- a loop that has all that are missing so far adds the next one, unless it is among the paths
+-- a loop that has all that are missing before adds the next one, unless it is among the paths
 pub missing_below-more : (paths : List Path) (path next : Path) (n : ℕ) (among : Bool) (some : List Path)
     → some ≡ missing_below paths path n → next ≡ prefix_of path n → among ≡ list_any (same_path next) paths
     → and_unless among next some ≡ missing_below paths path (n + 1)

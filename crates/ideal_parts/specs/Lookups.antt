@@ -12,8 +12,8 @@ FindsAs seen word sought (Ok found) = sought ≡ Some (seen found)
 FindsAs seen word sought (Err stop) = (sought ≡ None) × (stop ≡ word)
 
 -- what is sought is answered, and where there is nothing this fault
-abbrev pub Finds : {A : Type 0} → FaultWord → Option A → Result A FaultWord → Type 0
-Finds word sought answer = FindsAs (λ found. found) word sought answer
+abbrev pub IsLookup : {A : Type 0} → FaultWord → Option A → Result A FaultWord → Type 0
+IsLookup word sought answer = FindsAs (λ found. found) word sought answer
 
 -- a borrowed plain object, as the meaning of the commands sees it
 abbrev pub seen_plain : Plain → PlainObject

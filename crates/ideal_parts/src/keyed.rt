@@ -94,7 +94,7 @@ impl Keyed for Entry {
 pub fn value_under<T: Keyed>(items: &[T], key: u32) -> Option<Value>
     ensures { result ≡ T.keying.value_under items.now key }
 {
-    match place_of(items, key) {
+    match position_of_key(items, key) {
         Some(place) => Some(items[place].value()),
         None => None,
     }
@@ -110,7 +110,7 @@ pub fn with_value<T: Keyed>(
     ensures { IfOk result (λ changed. changed.items ≡ T.keying.with_value items.now key value) }
 {
     let mut copied = Vec::from_slice(alloc, items)?;
-    match place_of(items, key) {
+    match position_of_key(items, key) {
         Some(place) => copied[place] = items[place].revalued(value),
         None => copied.push(T::new(key, value))?,
     }
@@ -122,14 +122,14 @@ pub fn without_key<T: Keyed>(alloc: Global, items: &[T], key: u32) -> Result<Vec
     ensures { IfOk result (λ rest. rest.items ≡ T.keying.without_key items.now key) }
 {
     let mut copied = Vec::from_slice(alloc, items)?;
-    if let Some(place) = place_of(items, key) {
+    if let Some(place) = position_of_key(items, key) {
         copied.remove(place);
     }
     Ok(copied)
 }
 
 /// The place of the first item of this key.
-fn place_of<T: Keyed>(items: &[T], key: u32) -> Option<usize>
+fn position_of_key<T: Keyed>(items: &[T], key: u32) -> Option<usize>
     ensures { result ≡ position (λ item. T.keying.key item == key) items.now }
 {
     items.iter().position(|item| item.key() == key)

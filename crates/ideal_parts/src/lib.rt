@@ -3,7 +3,6 @@
 //!
 //! Model: none of its own. Each function's clause is a definition of `object_graph`.
 //! Invariant: a list is changed in a copy, so want of memory leaves it as it was.
-//! Below: `object_graph`, `heap_command`. Above: `ideal_graph`.
 #![tactic(auto)]
 
 mod bindings;

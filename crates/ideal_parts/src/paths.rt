@@ -1,4 +1,4 @@
-//! Field paths: the path of an object, and those of its prefixes that are not there yet.
+//! Field paths: the path of an object, and those of its prefixes that are not there.
 ghost use Rattle.std.specs.Prelude.{◌≡◌, ◌≤◌, length, map, IfOk};
 ghost use Rattle.std.specs.List.{list_any};
 ghost use Rattle.object_graph.specs.Paths.{path_of, same_path, prefix_of, missing, empty_paths};

@@ -11,18 +11,18 @@ use Rattle.std.specs.List.Sorted.{IsPermutation}
 use Rattle.linear_probing.specs.Tables.{steps_to, FindsAll, HoldsNumber, IsFree}
 use Rattle.linear_probing.specs.BackwardShift.{IsShifting}
 use Rattle.linear_probing.specs.ShiftLaws.{next_place}
-use Rattle.linear_probing.specs.Outcomes.{TakesOut}
+use Rattle.linear_probing.specs.Outcomes.{Removes}
 use Rattle.linear_probing.proofs.Places.{slice_get-set_other, slice_get-set_same}
 use Rattle.linear_probing.proofs.Rounds.{place_after_apart, place_after_within}
 use Rattle.linear_probing.proofs.BackwardShifts.{shift_begins, shift_ends, shift_moves, shift_passes}
 use Rattle.linear_probing.proofs.Distances.{distances, moves_nearer}
 
--- What stands at the place `at` of the table `old` is being taken out, and so far made the table `new`: with its hole
+-- What stands at the place `at` of the table `old` is being taken out, and has made the table `new`: with its hole
 -- free that has the rest of `old`, and where `old` finds all, taking out goes on from there.
 pub record IsRemoval (old : List (Option ℕ)) (at : ℕ) (new : List (Option ℕ)) (hole passed : ℕ) : Type 0 where
   pub within : hole < length new
   pub few : passed < length new
-  pub taken : TakesOut old (slice_set new hole None) at
+  pub taken : Removes old (slice_set new hole None) at
   pub shifting : FindsAll old → IsShifting new hole passed
 
 -- what is left to do: each move brings the numbers nearer to their homes

@@ -18,5 +18,5 @@ HasNoEnd table number = (at : ℕ) → IsMet table number at → ⊥
 
 -- The new table is the old one with the place free, in some other order or none: what stood at other places stands in
 -- it, as often, and nothing else.
-abbrev pub TakesOut : List (Option ℕ) → List (Option ℕ) → ℕ → Type 0
-TakesOut old new at = IsPermutation (slice_set old at None) new
+abbrev pub Removes : List (Option ℕ) → List (Option ℕ) → ℕ → Type 0
+Removes old new at = IsPermutation (slice_set old at None) new

@@ -6,7 +6,7 @@
 //! where each number is found, `specs/BackwardShift.antt` how one is removed without a mark, by
 //! backward-shift deletion: those behind it that would be lost move back.
 //! Invariant: none of its own. Each law is a clause of a function here with an empty body.
-//! `place_of` and `remove` are the plain functions on a slice, and run in no program: what keeps a
+//! `find_place` and `remove` are the plain functions on a slice, and run in no program: what keeps a
 //! table in words of its own follows them step by step.
 #![tactic(auto)]
 
@@ -16,4 +16,4 @@ mod table;
 
 pub use backward_shift::laws_of_backward_shift;
 pub use probing::laws_of_probing;
-pub use table::{place_of, remove};
+pub use table::{find_place, remove};

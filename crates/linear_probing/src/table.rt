@@ -1,7 +1,7 @@
 //! How a number is looked up in a table, and how one is taken out: slow and plain.
 ghost use Rattle.std.specs.Prelude.{◌≡◌, ◌+◌, ◌<◌, ◌^◌, length, MatchOption};
 ghost use Rattle.linear_probing.specs.Tables.{place_after, steps_to, FindsAll};
-ghost use Rattle.linear_probing.specs.Outcomes.{IsEnd, HasNoEnd, TakesOut};
+ghost use Rattle.linear_probing.specs.Outcomes.{IsEnd, HasNoEnd, Removes};
 
 /// The place that so many steps lead to from the home of a number, or from a place.
 fn place(capacity: usize, number: usize, steps: usize) -> usize
@@ -23,7 +23,7 @@ fn steps(capacity: usize, number: usize, at: usize) -> usize
 
 /// The place where probing for a number ends: the first on its way that is free, or holds the number.
 /// Where no place is free and none holds it, there is none.
-pub fn place_of(table: &[Option<u32>], number: u32) -> Option<usize>
+pub fn find_place(table: &[Option<u32>], number: u32) -> Option<usize>
     ensures { MatchOption result (HasNoEnd table.now number) (λ at. IsEnd table.now number at) }
 {
     for step in 0..table.len() {
@@ -45,7 +45,7 @@ pub fn place_of(table: &[Option<u32>], number: u32) -> Option<usize>
 pub fn remove(table: &mut [Option<u32>], at: usize)
     requires within { at < length table.old }
     ensures found { FindsAll table.old → FindsAll table.new }
-    ensures taken { TakesOut table.old table.new at }
+    ensures taken { Removes table.old table.new at }
 {
     let capacity = table.len();
     let mut hole = at;

@@ -11,23 +11,21 @@ use Rattle.object_graph.specs.Graphs.{Graph, ListObject}
 use Rattle.object_graph.specs.Meaning.{relist}
 use Rattle.object_graph.specs.Values.{rep_of}
 use Rattle.object_graph.specs.declared.value.Rep.TheVariants as rep
-use Rattle.object_graph.specs.declared.value.Value.{Value}
-use Rattle.cell_layout.specs.declared.cell.Cell.{Cell}
-use Rattle.handle_roots.specs.declared.held.Held.{Held}
+use Rattle.heap_model.specs.Types.{Value, Cell, Held}
 use Rattle.heap_model.specs.Heaps.{HasCell, words_of_cell}
 use Rattle.heap_model.specs.Kinds.{HasWord, HasNoNumber, IsSoundOf, count_offset}
 use Rattle.heap_model.specs.Needs.{capacity_at}
-use Rattle.heap_model.specs.Slots.{is_object_kind, reference_word, IsBeside, raw_word, RefersToBox}
+use Rattle.heap_model.specs.Slots.{is_object_kind, reference_word, HoldsStore, raw_word, RefersToBox}
 use Rattle.heap_model.specs.Wholeness.{NamesFrom}
 use Rattle.heap_model.proofs.BoundHeaps.{none_in}
 use Rattle.heap_model.proofs.CellWords.{words_by_kind}
 use Rattle.heap_model.proofs.CellsApart.{IsOfCell}
 use Rattle.heap_model.proofs.OneOwner.{names_store}
-use Rattle.write_barrier.specs.Mains.{Mutator, heap_of, MainShows, with_word}
+use Rattle.write_barrier.specs.MutatorState.{Mutator, heap_of, MainShows, with_word}
 use Rattle.object_cells.specs.Capacities.{ChangesObject}
-use Rattle.object_cells.specs.Made.{IsStoreAt, beside_content}
+use Rattle.object_cells.specs.Made.{IsStoreAt, store_content}
 use Rattle.object_cells.specs.OwnSlots.{IsNoBoxOf, ComesFrom}
-use Rattle.object_cells.specs.declared.content.Content.TheVariants as content
+use Rattle.object_cells.specs.declared.content.SlotContent.TheVariants as content
 use Rattle.object_cells.specs.declared.stores.Store.{Store}
 use Rattle.object_cells.proofs.ContentValues.{box_shows}
 use Rattle.object_cells.proofs.HeldContents.{HoldsValue}
@@ -52,7 +50,7 @@ module _ {old new : Mutator} {graph : Graph} {at slot count : ℕ} {list : ListO
     (becomes : Elements graph list what slot count) (is_store : IsStoreAt (heap_of old) at store)
     (below : slot < store.capacity) (enough : count ≤ store.capacity) (counted : length list.elements ≡ count)
     (holds_box : HasWord known.shown.shows.slots slot w) (box_of : IsBoxOf (heap_of old) w box)
-    (boxed : beside_content value ≡ content.Boxed v) (puts_it : new ≡ with_word old (box + 1) (raw_word v)) where
+    (boxed : store_content value ≡ content.Boxed v) (puts_it : new ≡ with_word old (box + 1) (raw_word v)) where
   -- the list's cell, its store's, and the box's
   abbrev cell : Cell
   cell = known.shown.cell
@@ -131,7 +129,7 @@ module _ {old new : Mutator} {graph : Graph} {at slot count : ℕ} {list : ListO
   ]
 
   -- how the value is held
-  abbrev holds_all : HoldsValue (heap_of old) false rep.Small (rep_of what) what (beside_content value)
+  abbrev holds_all : HoldsValue (heap_of old) false rep.Small (rep_of what) what (store_content value)
   holds_all = new_value_held false value what known.held.shows
 
   -- the integer is one of 64 bits
@@ -153,7 +151,7 @@ module _ {old new : Mutator} {graph : Graph} {at slot count : ℕ} {list : ListO
     are = record {
       store = known.shown.shows.store;
       slot = integer.word_now put_it store_slot known.shown.shows.store (omega (arith, size)) known.shown.shows.slot;
-      stands = IsBeside.store known.shown.shows.store other (words_of_cell (heap_of new) other)
+      stands = HoldsStore.store known.shown.shows.store other (words_of_cell (heap_of new) other)
           (record { refers = there.found.refers.refers; has = store_now }) there.found.of_kind;
     };
     counted = integer.word_now put_it count_offset (length becomes.after) (omega (arith, size))

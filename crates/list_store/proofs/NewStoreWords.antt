@@ -8,22 +8,20 @@ use Rattle.page_space.specs.Extents.{Space, eden_start, segments_start, marks_st
 use Rattle.page_space.proofs.Starts.{roots_start_is, layouts_start_is, marks_start_is}
 use Rattle.object_graph.specs.Graphs.{Graph, ListObject}
 use Rattle.object_graph.specs.Meaning.{list_most}
-use Rattle.object_graph.specs.declared.value.Value.{Value}
+use Rattle.heap_model.specs.Types.{Value, Cell, Held}
 use Rattle.object_graph.proofs.Lists.{slice_get-set_same, slice_get-set_other}
 use Rattle.cell_layout.specs.Cells.{IsRow, IsCell}
-use Rattle.cell_layout.specs.declared.cell.Cell.{Cell}
-use Rattle.handle_roots.specs.declared.held.Held.{Held}
 use Rattle.heap_table.specs.Seats.{heap_words}
 use Rattle.heap_model.specs.Kinds.{count_offset}
 use Rattle.heap_model.specs.Needs.{grown_list}
 use Rattle.heap_model.specs.Slots.{reference_word, hole_word}
 use Rattle.heap_model.proofs.BoundHeaps.{none_in}
 use Rattle.heap_model.proofs.CellsApart.{IsOfCell, first_of_cell}
-use Rattle.write_barrier.specs.Mains.{Mutator, heap_of}
+use Rattle.write_barrier.specs.MutatorState.{Mutator, heap_of}
 use Rattle.object_cells.specs.Formats.{empty_store}
 use Rattle.object_cells.specs.Contents.{next_at}
 use Rattle.object_cells.specs.ElementChanges.{WritesList}
-use Rattle.object_cells.specs.Made.{with_content, content_need, content_word, beside_content, begun_store}
+use Rattle.object_cells.specs.Made.{with_content, content_need, content_word, store_content, begun_store}
 use Rattle.object_cells.specs.declared.stores.Store.{Store}
 use Rattle.object_cells.proofs.MadeBoxes.{made_boxes, BoxStands, length-with_content, with_content_stays, row_with_box}
 use Rattle.object_cells.proofs.NewStores.{store_cell, store_is_cell}
@@ -81,17 +79,17 @@ module _ {old new : Mutator} {graph : Graph} {at count : ℕ} {list : ListObject
   place = next_at old + (store_head + count)
 
   abbrev pub word : ℕ
-  word = content_word (beside_content value) behind
+  word = content_word (store_content value) behind
 
   abbrev pub need : ℕ
-  need = store_head + capacity + content_need (beside_content value)
+  need = store_head + capacity + content_need (store_content value)
 
   -- the words with the store, the box, the element, and the reference
   abbrev pub begun : List ℕ
   begun = begun_store (heap_words old.seat) store capacity (next_at old)
 
   abbrev pub boxed : List ℕ
-  boxed = with_content begun (beside_content value) behind
+  boxed = with_content begun (store_content value) behind
 
   abbrev pub put : List ℕ
   put = slice_set boxed place word
@@ -141,7 +139,7 @@ module _ {old new : Mutator} {graph : Graph} {at count : ℕ} {list : ListObject
   -- there are as many words
   pub boxed_long : length boxed ≡ length (heap_words old.seat)
   boxed_long =
-      length-with_content begun (beside_content value) behind
+      length-with_content begun (store_content value) behind
       ∙ copied_long (heap_words old.seat) at store capacity (next_at old) makes
 
   -- also with the reference to the store
@@ -162,7 +160,7 @@ module _ {old new : Mutator} {graph : Graph} {at count : ℕ} {list : ListObject
   word_stays a not_reserved_one =
       slice_get-set_other boxed place a word
       (λ same. not_reserved_one (omega (arith, same)) (omega (arith, same, more)))
-      ∙ with_content_stays begun (beside_content value) behind a
+      ∙ with_content_stays begun (store_content value) behind a
       (λ from below. not_reserved_one (omega (arith, from)) (omega (arith, below)))
       ∙ begun_stays (heap_words old.seat) at store capacity (next_at old) makes a
       (λ from below. not_reserved_one from (omega (arith, below)))
@@ -200,7 +198,7 @@ module _ {old new : Mutator} {graph : Graph} {at count : ℕ} {list : ListObject
   store_word k below apart =
       run_word (next_at old + k) (omega arith) (omega (arith, below))
       ∙ slice_get-set_other boxed place (next_at old + k) word (λ same. apart (omega (arith, same)))
-      ∙ with_content_stays begun (beside_content value) behind (next_at old + k)
+      ∙ with_content_stays begun (store_content value) behind (next_at old + k)
       (λ from high. omega (arith, from, below))
 
   -- its head
@@ -234,21 +232,21 @@ module _ {old new : Mutator} {graph : Graph} {at count : ℕ} {list : ListObject
       ∙ empty_store_hole capacity k below
 
   -- a word of the box
-  box_word : (b : ℕ) → behind ≤ b → b < behind + content_need (beside_content value)
+  box_word : (b : ℕ) → behind ≤ b → b < behind + content_need (store_content value)
       → slice_get (heap_words new.seat) b ≡ slice_get boxed b
   box_word b from below =
       run_word b (omega (arith, from)) (omega (arith, below))
       ∙ slice_get-set_other boxed place b word (λ same. omega (arith, same, from, more))
 
   -- the box stands there
-  pub box_stands : BoxStands (heap_of new) (beside_content value) behind
+  pub box_stands : BoxStands (heap_of new) (store_content value) behind
   box_stands =
-      box_put begun (beside_content value) behind puts
+      box_put begun (store_content value) behind puts
       (copied_long (heap_words old.seat) at store capacity (next_at old) makes) (omega arith) (omega arith) box_word
 
   -- the cells that are made
   abbrev pub boxes : List Cell
-  boxes = made_boxes (beside_content value) behind
+  boxes = made_boxes (store_content value) behind
 
   abbrev pub made : List Cell
   made = other ∷ boxes
@@ -266,7 +264,7 @@ module _ {old new : Mutator} {graph : Graph} {at count : ℕ} {list : ListObject
   -- both are the row of the words that were reserved
   new_row : IsRow new.seat.space (heap_words new.seat) (next_at old) (next_at old + need) made
   new_row =
-      row_with_box (heap_of new) other (beside_content value) (next_at old + need) store_cell_is (own_sized puts)
+      row_with_box (heap_of new) other (store_content value) (next_at old + need) store_cell_is (own_sized puts)
       box_stands (omega arith)
 
   -- so cells were written

@@ -2,19 +2,18 @@
 use Rattle.std.proofs.Common.{◌≡◌, ◌≢◌, ℕ, ◌+◌, ◌==◌, true, false, cond, length, Some, sym, ◌∙◌, ap, arith}
 use Rattle.std.proofs.lemmas.Bool.Decides.{nat_tests}
 use Rattle.tagged_word.specs.Cells.{store_head}
-use Rattle.handle_roots.specs.declared.held.Held.{Held}
-use Rattle.object_graph.specs.declared.value.Value.{Value}
+use Rattle.heap_model.specs.Types.{Held, Value}
 use Rattle.object_graph.specs.Graphs.{ListObject}
 use Rattle.heap_model.specs.Heaps.{Heap}
 use Rattle.heap_model.specs.Showing.{ShowsHeld}
 use Rattle.heap_model.specs.Rooms.{push_need}
 use Rattle.heap_model.specs.Needs.{box_need, grown_list, list_store_need}
-use Rattle.object_cells.specs.Made.{is_wide_held, content_need, beside_content}
+use Rattle.object_cells.specs.Made.{is_wide_held, content_need, store_content}
 use Rattle.object_cells.proofs.HeldNeeds.{content_need_is, wide_is}
 
 -- a box alone, where the store has room
 pub need_to_store : (capacity count : ℕ) (value : Held) → count ≢ capacity
-    → list_store_need capacity count + box_need (is_wide_held value) ≡ content_need (beside_content value)
+    → list_store_need capacity count + box_need (is_wide_held value) ≡ content_need (store_content value)
 need_to_store capacity count value apart =
     let test : (count == capacity) ≡ false = grind (arith, nat_tests) in
     ap (λ t. cond t (store_head + grown_list count) 0 + box_need (is_wide_held value)) test ∙ omega arith
@@ -23,7 +22,7 @@ need_to_store capacity count value apart =
 -- a store and a box, where it is full
 pub need_to_new_store : (capacity count : ℕ) (value : Held) → count ≡ capacity
     → list_store_need capacity count + box_need (is_wide_held value)
-    ≡ store_head + grown_list count + content_need (beside_content value)
+    ≡ store_head + grown_list count + content_need (store_content value)
 need_to_new_store capacity count value full =
     let test : (count == capacity) ≡ true = grind (arith, nat_tests) in
     ap (λ t. cond t (store_head + grown_list count) 0 + box_need (is_wide_held value)) test

@@ -4,13 +4,12 @@ use Rattle.std.proofs.Common.{true, false, length, length-append, cond, sym, ◌
 use Rattle.std.proofs.Common.{subst, arith}
 use Rattle.std.proofs.lemmas.Bool.Decides.{nat_tests}
 use Rattle.page_space.specs.Sizes.{AreWithin}
-use Rattle.object_graph.specs.declared.value.Value.{Value}
+use Rattle.heap_model.specs.Types.{Value, Held}
 use Rattle.object_graph.specs.Graphs.{Graph, ListObject}
 use Rattle.object_graph.specs.Meaning.{list_most}
 use Rattle.nursery.specs.Young.{HasRoom}
-use Rattle.handle_roots.specs.declared.held.Held.{Held}
 use Rattle.heap_model.specs.Needs.{capacity_at}
-use Rattle.write_barrier.specs.Mains.{Mutator, heap_of}
+use Rattle.write_barrier.specs.MutatorState.{Mutator, heap_of}
 use Rattle.object_cells.specs.Capacities.{ChangesObject}
 use Rattle.object_cells.specs.Uses.{UsesMore}
 use Rattle.object_cells.proofs.NewElements.{pushed_elements_are_new}
@@ -18,7 +17,7 @@ use Rattle.object_cells.proofs.OneElement.{DiffersAt, pushed_differs}
 use Rattle.heap_model.specs.Needs.{grown_list}
 use Rattle.heap_model.specs.Rooms.{push_need, push_capacity}
 use Rattle.tagged_word.specs.Cells.{store_head}
-use Rattle.object_cells.specs.Made.{content_need, beside_content}
+use Rattle.object_cells.specs.Made.{content_need, store_content}
 use Rattle.list_store.specs.ListChanges.{HasPushed}
 use Rattle.list_store.specs.Pushes.{PushesAt}
 use Rattle.list_store.proofs.PushNeeds.{need_to_store, need_to_new_store, push_need_is}
@@ -51,7 +50,7 @@ has_pushed {old} {new} {at = at} {count} {list} {value} {what} known is few size
     let heap = heap_of old in
     let held : ℕ = capacity_at heap at in
     let apart : count ≢ held = λ same. omega (arith, same, room, can.is.capacity) in
-    let need : content_need (beside_content value) ≡ push_need held list what =
+    let need : content_need (store_content value) ≡ push_need held list what =
     sym (need_to_store held count value apart) ∙ push_need_is list held count value known.held.shows is in
     let test : (length list.elements == held) ≡ false = grind (arith, nat_tests, is, can.is.capacity, room) in
     record {
@@ -72,7 +71,7 @@ has_pushed {old} {new} {at = at} {count} {list} {value} {what} known is few size
     let heap = heap_of old in
     let held : ℕ = capacity_at heap at in
     let full_now : count ≡ held = full ∙ sym can.is.capacity in
-    let need : store_head + grown_list count + content_need (beside_content value) ≡ push_need held list what =
+    let need : store_head + grown_list count + content_need (store_content value) ≡ push_need held list what =
     sym (need_to_new_store held count value full_now) ∙ push_need_is list held count value known.held.shows is in
     let test : (length list.elements == held) ≡ true = eq-eqb (length list.elements) held (sym is ∙ full_now) in
     let grows : grown_list count ≡ push_capacity held (length list.elements) =

@@ -15,26 +15,24 @@ use Rattle.object_graph.specs.Graphs.{Graph, ListObject}
 use Rattle.object_graph.specs.Meaning.{list_most, relist}
 use Rattle.object_graph.specs.Values.{rep_of}
 use Rattle.object_graph.specs.declared.value.Rep.TheVariants as rep
-use Rattle.object_graph.specs.declared.value.Value.{Value}
+use Rattle.heap_model.specs.Types.{Value, Cell, Held}
 use Rattle.object_graph.proofs.Lists.{slice_get-set_same, slice_get-set_other}
-use Rattle.cell_layout.specs.declared.cell.Cell.{Cell}
-use Rattle.handle_roots.specs.declared.held.Held.{Held}
 use Rattle.heap_table.specs.Seats.{heap_words}
 use Rattle.heap_model.specs.Changes.{CellsChange}
 use Rattle.heap_model.specs.Heaps.{HasCell, words_of_cell}
 use Rattle.heap_model.specs.Kinds.{HasWord, HasNoNumber, count_offset}
 use Rattle.heap_model.specs.Showing.{ShowsValue}
-use Rattle.heap_model.specs.Slots.{reference_word, IsBeside, RefersToBox, hole_word}
+use Rattle.heap_model.specs.Slots.{reference_word, HoldsStore, RefersToBox, hole_word}
 use Rattle.heap_model.proofs.BoundHeaps.{none_in}
 use Rattle.heap_model.proofs.CellWords.{words_by_kind}
 use Rattle.heap_model.proofs.WordsStay.{PlacesStay}
-use Rattle.write_barrier.specs.Mains.{Mutator, heap_of, MainShows}
+use Rattle.write_barrier.specs.MutatorState.{Mutator, heap_of, MainShows}
 use Rattle.object_cells.specs.Capacities.{ChangesObject}
 use Rattle.object_cells.specs.Contents.{next_at}
 use Rattle.object_cells.specs.OwnSlots.{ComesFrom}
 use Rattle.object_cells.specs.ElementChanges.{WritesList}
-use Rattle.object_cells.specs.Made.{beside_content}
-use Rattle.object_cells.specs.declared.content.Content.TheVariants as content
+use Rattle.object_cells.specs.Made.{store_content}
+use Rattle.object_cells.specs.declared.content.SlotContent.TheVariants as content
 use Rattle.object_cells.specs.declared.stores.Store.{Store}
 use Rattle.object_cells.proofs.ContentValues.{content_shows, content_comes, is_made_box}
 use Rattle.object_cells.proofs.HeldContents.{HoldsValue}
@@ -101,7 +99,7 @@ module _ {old new : Mutator} {graph : Graph} {at count : ℕ} {list : ListObject
   abbrev writes : WritesList (heap_of old) (heap_of new) cell [] made
   writes = of_store.writes writing
 
-  abbrev box_stands : BoxStands (heap_of new) (beside_content value) behind
+  abbrev box_stands : BoxStands (heap_of new) (store_content value) behind
   box_stands = of_store.box_stands writing
 
   -- cells stand in the new heap
@@ -158,7 +156,7 @@ module _ {old new : Mutator} {graph : Graph} {at count : ℕ} {list : ListObject
   ]
 
   -- how the value is held
-  abbrev holds_all : HoldsValue (heap_of old) false rep.Small (rep_of what) what (beside_content value)
+  abbrev holds_all : HoldsValue (heap_of old) false rep.Small (rep_of what) what (store_content value)
   holds_all = new_value_held false value what known.held.shows
 
   -- the places of objects stay
@@ -166,11 +164,11 @@ module _ {old new : Mutator} {graph : Graph} {at count : ℕ} {list : ListObject
   places = written_places_stay list_owns known.shows.shows.whole writes
 
   -- the box that was made holds the integer
-  refers_box : (v : ℤ) → beside_content value ≡ content.Boxed v → RefersToBox (heap_of new) (reference_word behind) v
+  refers_box : (v : ℤ) → store_content value ≡ content.Boxed v → RefersToBox (heap_of new) (reference_word behind) v
   refers_box v is_box =
-      refers_to_made (beside_content value) behind v is_box
+      refers_to_made (store_content value) behind v is_box
       (boxed_integer (length graph.objects) v holds_all known.fits is_box) box_stands
-      (box_has (box_cell behind) (made_box (beside_content value) behind v is_box))
+      (box_has (box_cell behind) (made_box (store_content value) behind v is_box))
 
   -- the list's slot for a store refers to the one that was made
   named : slice_get (heap_words new.seat) (cell.at + store_slot) ≡ Some (reference_word (next_at old))
@@ -215,7 +213,7 @@ module _ {old new : Mutator} {graph : Graph} {at count : ℕ} {list : ListObject
   made_kinds : (one : Cell) → Contains made one → (one.layout.kind ≡ kind.Store) ⊎ (one.layout.kind ≡ kind.Boxed)
   made_kinds one among = elim (in_cases other boxes one among) [
     | inl same ↦ inl (ap (λ (c : Cell). c.layout.kind) (sym same))
-    | inr is_box ↦ inr (made_boxed (beside_content value) behind one is_box)
+    | inr is_box ↦ inr (made_boxed (store_content value) behind one is_box)
   ]
 
   -- so an element is pushed
@@ -232,7 +230,7 @@ module _ {old new : Mutator} {graph : Graph} {at count : ℕ} {list : ListObject
         are = record {
           store = reference_word (next_at old);
           slot = slot_now;
-          stands = IsBeside.store (reference_word (next_at old)) other (words_of_cell (heap_of new) other)
+          stands = HoldsStore.store (reference_word (next_at old)) other (words_of_cell (heap_of new) other)
               (record { refers = refl; has = store_has }) refl;
         };
         counted = count_now;
@@ -254,7 +252,7 @@ module _ {old new : Mutator} {graph : Graph} {at count : ℕ} {list : ListObject
             (content_comes (HasWord known.shown.shows.slots) made slot slot behind holds_all places
             (λ own wide. false≢true own)
             (λ v is_box. is_made_box behind
-            (rest_in other boxes (box_cell behind) (made_box (beside_content value) behind v is_box))));
+            (rest_in other boxes (box_cell behind) (made_box (store_content value) behind v is_box))));
         shows = λ x holds. subst (λ w. ShowsValue (heap_of new) w what)
             (holds_word x (subst (λ n. HasWord now n x) (sym is) holds))
             (content_shows behind holds_all places refers_box);
@@ -262,7 +260,7 @@ module _ {old new : Mutator} {graph : Graph} {at count : ℕ} {list : ListObject
         belong = λ one among. absurd (none_in one among);
         kinds = made_kinds;
         stores = λ one among is. subst (λ (c : Cell). HasNoNumber c × (reference_word (next_at old) ≡ reference_word c.at))
-            (only_first (beside_content value) behind kind.Store (store_is_no_box refl) one among is)
+            (only_first (store_content value) behind kind.Store (store_is_no_box refl) one among is)
             (refl, refl);
         boxes = boxes_sound (length graph.objects) behind (store_is_no_box refl) holds_all known.fits box_stands box_has;
       }

@@ -6,23 +6,21 @@ use Rattle.std.specs.Prelude.{slice_set}
 use Rattle.tagged_word.specs.declared.layout.Kind.TheVariants as kind
 use Rattle.tagged_word.specs.Cells.{store_head}
 use Rattle.page_space.specs.Sizes.{AreWithin}
-use Rattle.object_graph.specs.declared.value.Value.{Value}
+use Rattle.heap_model.specs.Types.{Value, Cell, Held}
 use Rattle.object_graph.specs.Graphs.{Graph, ListObject}
 use Rattle.object_graph.specs.Meaning.{list_most}
 use Rattle.object_graph.proofs.Lists.{slice_get-set_other}
 use Rattle.nursery.specs.Young.{HasRoom}
-use Rattle.cell_layout.specs.declared.cell.Cell.{Cell}
-use Rattle.handle_roots.specs.declared.held.Held.{Held}
 use Rattle.heap_table.specs.Seats.{heap_words}
 use Rattle.heap_model.specs.Kinds.{count_offset}
 use Rattle.heap_model.specs.Needs.{capacity_at, word_at, box_need, is_box_word}
 use Rattle.heap_model.proofs.CellsApart.{IsOfCell, cells_apart}
 use Rattle.heap_model.proofs.CellWords.{words_by_kind, words_are_size}
-use Rattle.write_barrier.specs.Mains.{Mutator, heap_of}
+use Rattle.write_barrier.specs.MutatorState.{Mutator, heap_of}
 use Rattle.object_cells.specs.declared.stores.Store.{Store}
 use Rattle.object_cells.specs.Capacities.{ChangesObject}
 use Rattle.object_cells.specs.Contents.{next_at, box_in, filling_of, filling_need, FillsSlot}
-use Rattle.object_cells.specs.Made.{IsStoreAt, with_content, content_need, content_word, beside_content, is_wide_held}
+use Rattle.object_cells.specs.Made.{IsStoreAt, with_content, content_need, content_word, store_content, is_wide_held}
 use Rattle.object_cells.specs.Uses.{UsesMore}
 use Rattle.object_cells.proofs.CellsRead.{word_stands}
 use Rattle.object_cells.proofs.HeldNeeds.{wide_is}
@@ -81,7 +79,7 @@ module _ {old : Mutator} {graph : Graph} {at : ℕ} {list : ListObject} {value :
   -- so many words it takes: those of a box, where the value is wide and the element is not
   pub need_to_put : AreWithin old.seat.space.sizes old.seat.space.variables → place < length list.elements
       → filling_need (filling_of (box_in (heap_of old) (word_at (heap_of old) (place_at store place))) (next_at old)
-      (beside_content value)) ≡ put_need list what place
+      (store_content value)) ≡ put_need list what place
   need_to_put sizes there =
       let heap = heap_of old in
       let element : Value = get_or list.elements place Undefined in
@@ -96,9 +94,9 @@ module _ {old : Mutator} {graph : Graph} {at : ℕ} {list : ListObject} {value :
       ∙ ap (λ found. on_found found (λ before. box_need (is_wide what && not (is_wide before)))) (sym stands)
 
   -- the length stays
-  pub count_stays : HasRoom old.young (content_need (beside_content value))
-      → slice_get (slice_set (with_content (heap_words old.seat) (beside_content value) (next_at old))
-      (place_at store place) (content_word (beside_content value) (next_at old))) (at + count_offset)
+  pub count_stays : HasRoom old.young (content_need (store_content value))
+      → slice_get (slice_set (with_content (heap_words old.seat) (store_content value) (next_at old))
+      (place_at store place) (content_word (store_content value) (next_at old))) (at + count_offset)
       ≡ Some (length list.elements)
   count_stays room =
       let shown = known.shown in
@@ -114,16 +112,16 @@ module _ {old : Mutator} {graph : Graph} {at : ℕ} {list : ListObject} {value :
         from = omega (arith, found.found.stands);
         below = omega (arith, found.found.stands, found.found.size, found.capacity, below);
       } in
-      slice_get-set_other (with_content (heap_words old.seat) (beside_content value) (next_at old))
+      slice_get-set_other (with_content (heap_words old.seat) (store_content value) (next_at old))
       (place_at store place)
-      (at + count_offset) (content_word (beside_content value) (next_at old))
+      (at + count_offset) (content_word (store_content value) (next_at old))
       (λ same.
       let cells = cells_apart (place_at store place) rows shown.has found.found.refers.has
       (subst (IsOfCell shown.cell) same of_list) of_store in
       list_is_no_store shown.shows.of_kind (ap (λ (c : Cell). c.layout.kind) cells ∙ found.found.of_kind))
-      ∙ with_content_stays (heap_words old.seat) (beside_content value) (next_at old) (at + count_offset)
+      ∙ with_content_stays (heap_words old.seat) (store_content value) (next_at old) (at + count_offset)
       (λ from high. cell_is_used rows shown.has of_list from
-      (omega (arith, high, next_before_segments old (content_need (beside_content value)) known.shows.tied room)))
+      (omega (arith, high, next_before_segments old (content_need (store_content value)) known.shows.tied room)))
       ∙ ap (λ n. slice_get (heap_words old.seat) (n + count_offset)) (sym shown.stands)
       ∙ word_stands count_offset (length list.elements) shown.has shown.shows.counted
 
@@ -133,8 +131,8 @@ pub has_put : {old new : Mutator} {graph : Graph} {at : ℕ} {list : ListObject}
     (place : ℕ) → Changing old graph at list value what → IsStoreAt (heap_of old) at store → place < store.capacity
     → place < length list.elements → length list.elements ≤ list_most → length list.elements ≤ store.capacity
     → AreWithin old.seat.space.sizes old.seat.space.variables
-    → FillsSlot old new (place_at store place) (beside_content value)
-    → FilledBy old new (place_at store place) (word_at (heap_of old) (place_at store place)) (beside_content value)
+    → FillsSlot old new (place_at store place) (store_content value)
+    → FilledBy old new (place_at store place) (word_at (heap_of old) (place_at store place)) (store_content value)
     → HasPut old new graph at list place what
 has_put {old} {new} {at = at} {list} {value} {what} store place known is_store below there few enough sizes fills
     (FilledBy.slot room words needs) =
@@ -172,8 +170,8 @@ has_put {old} {new} {at = at} {list} {value} {what} store place known is_store b
     let here = word_is store place known is_store below in
     let box_of = box_of_word w box known.shows.shows.whole.sized read.is (ap (box_in heap) (sym here) ∙ found) in
     let none : filling_need (filling_of (box_in heap (word_at heap (place_at store place))) (next_at old)
-    (beside_content value)) ≡ 0 =
-    ap (λ o. filling_need (filling_of o (next_at old) (beside_content value))) found
+    (store_content value)) ≡ 0 =
+    ap (λ o. filling_need (filling_of o (next_at old) (store_content value))) found
     ∙ ap (λ holds. filling_need (filling_of (Some box) (next_at old) holds)) boxed in
     let need = sym none ∙ need_to_put store place known is_store below sizes there in
     let becomes = put_elements place known there few in

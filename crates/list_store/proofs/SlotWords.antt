@@ -6,22 +6,20 @@ use Rattle.tagged_word.specs.declared.layout.Kind.TheVariants as kind
 use Rattle.tagged_word.specs.Cells.{store_head}
 use Rattle.tagged_word.proofs.Members.{first_in, one_in}
 use Rattle.object_graph.specs.Graphs.{Graph, ListObject}
-use Rattle.object_graph.specs.declared.value.Value.{Value}
+use Rattle.heap_model.specs.Types.{Value, Cell, Held}
 use Rattle.object_graph.proofs.Lists.{slice_get-set_other}
-use Rattle.cell_layout.specs.declared.cell.Cell.{Cell}
-use Rattle.handle_roots.specs.declared.held.Held.{Held}
 use Rattle.heap_table.specs.Seats.{heap_words}
 use Rattle.heap_model.specs.Heaps.{HasCell, words_of_cell}
 use Rattle.heap_model.specs.Kinds.{count_offset}
 use Rattle.heap_model.proofs.CellsApart.{IsOfCell, first_of_cell, cells_apart}
-use Rattle.write_barrier.specs.Mains.{Mutator, heap_of}
+use Rattle.write_barrier.specs.MutatorState.{Mutator, heap_of}
 use Rattle.object_cells.specs.Contents.{next_at}
 use Rattle.object_cells.specs.ElementChanges.{WritesList}
-use Rattle.object_cells.specs.Made.{IsStoreAt, with_content, content_need, content_word, beside_content}
+use Rattle.object_cells.specs.Made.{IsStoreAt, with_content, content_need, content_word, store_content}
 use Rattle.object_cells.specs.declared.stores.Store.{Store}
 use Rattle.object_cells.proofs.MadeBoxes.{made_boxes, BoxStands, made_row, length-with_content, with_content_stays}
 use Rattle.object_cells.proofs.OwnPlaces.{has_own_words}
-use Rattle.object_cells.proofs.OwnPuts.{PutsOwn, not_reserved, own_sized, own_writes, one_beside, box_put}
+use Rattle.object_cells.proofs.OwnPuts.{PutsOwn, not_reserved, own_sized, own_writes, one_owned, box_put}
 use Rattle.object_cells.proofs.StoresRead.{StoredAt}
 use Rattle.list_store.specs.Pushes.{WritesSlot, with_count}
 use Rattle.object_cells.proofs.ListChanging.{Changing, changing_store, list_is_no_store, list_word}
@@ -64,13 +62,13 @@ module _ {old new : Mutator} {graph : Graph} {at slot count : ℕ} {list : ListO
   place = store.at + (store_head + slot)
 
   abbrev pub word : ℕ
-  word = content_word (beside_content value) (next_at old)
+  word = content_word (store_content value) (next_at old)
 
   abbrev pub need : ℕ
-  need = content_need (beside_content value)
+  need = content_need (store_content value)
 
   abbrev pub boxed : List ℕ
-  boxed = with_content (heap_words old.seat) (beside_content value) (next_at old)
+  boxed = with_content (heap_words old.seat) (store_content value) (next_at old)
 
   abbrev pub put : List ℕ
   put = slice_set boxed place word
@@ -99,13 +97,13 @@ module _ {old new : Mutator} {graph : Graph} {at slot count : ℕ} {list : ListO
   word_stays a not_count not_place not_new =
       slice_get-set_other put (at + count_offset) a count not_count
       ∙ slice_get-set_other boxed place a word not_place
-      ∙ with_content_stays (heap_words old.seat) (beside_content value) (next_at old) a not_new
+      ∙ with_content_stays (heap_words old.seat) (store_content value) (next_at old) a not_new
 
   -- there are as many words
   long : length (with_count put at count) ≡ length (heap_words old.seat)
   long =
       length-set put (at + count_offset) count ∙ length-set boxed place word
-      ∙ length-with_content (heap_words old.seat) (beside_content value) (next_at old)
+      ∙ length-with_content (heap_words old.seat) (store_content value) (next_at old)
 
   -- so words of the list's own cells were put
   puts : PutsOwn kind.List old new cell (other ∷ []) need (with_count put at count)
@@ -149,13 +147,13 @@ module _ {old new : Mutator} {graph : Graph} {at slot count : ℕ} {list : ListO
       (record { from = omega (arith, same, of_store.from); below = omega (arith, same, of_store.below) }) from below)
 
   -- the box stands there
-  pub box_stands : BoxStands (heap_of new) (beside_content value) (next_at old)
+  pub box_stands : BoxStands (heap_of new) (store_content value) (next_at old)
   box_stands =
-      box_put (heap_words old.seat) (beside_content value) (next_at old) puts refl (omega arith) (omega arith) box_word
+      box_put (heap_words old.seat) (store_content value) (next_at old) puts refl (omega arith) (omega arith) box_word
 
   -- the cells that are made
   abbrev pub made : List Cell
-  made = made_boxes (beside_content value) (next_at old)
+  made = made_boxes (store_content value) (next_at old)
 
   -- the words of the store's head stay
   head_stays : (k : ℕ) → k < 2
@@ -172,5 +170,5 @@ module _ {old new : Mutator} {graph : Graph} {at slot count : ℕ} {list : ListO
       let first = first_of_cell known.shown.has in
       own_writes made puts (kept cell.at (inl first) (λ same. omega (arith, same, known.shown.stands))
       (λ same. apart cell.at first (subst (IsOfCell other) (sym same) of_store)))
-      (one_beside other_has there.found.of_kind head_stays)
-      (made_row (heap_of new) (beside_content value) (next_at old) (own_sized puts) box_stands)
+      (one_owned other_has there.found.of_kind head_stays)
+      (made_row (heap_of new) (store_content value) (next_at old) (own_sized puts) box_stands)

@@ -14,29 +14,27 @@ use Rattle.object_graph.specs.Graphs.{Graph, ListObject}
 use Rattle.object_graph.specs.Meaning.{relist}
 use Rattle.object_graph.specs.Values.{rep_of}
 use Rattle.object_graph.specs.declared.value.Rep.TheVariants as rep
-use Rattle.object_graph.specs.declared.value.Value.{Value}
+use Rattle.heap_model.specs.Types.{Value, Cell, Held}
 use Rattle.object_graph.proofs.Lists.{slice_get-set_same, slice_get-set_other}
-use Rattle.cell_layout.specs.declared.cell.Cell.{Cell}
-use Rattle.handle_roots.specs.declared.held.Held.{Held}
 use Rattle.heap_table.specs.Seats.{heap_words}
 use Rattle.heap_model.specs.Changes.{CellsChange}
 use Rattle.heap_model.specs.Heaps.{HasCell, words_of_cell}
 use Rattle.heap_model.specs.Kinds.{HasWord, HasNoNumber, IsSoundOf, count_offset}
 use Rattle.heap_model.specs.Needs.{capacity_at}
 use Rattle.heap_model.specs.Showing.{ShowsValue}
-use Rattle.heap_model.specs.Slots.{is_object_kind, reference_word, IsBeside, RefersToBox}
+use Rattle.heap_model.specs.Slots.{is_object_kind, reference_word, HoldsStore, RefersToBox}
 use Rattle.heap_model.specs.Wholeness.{NamesFrom}
 use Rattle.heap_model.proofs.CellWords.{words_by_kind}
 use Rattle.heap_model.proofs.CellsApart.{IsOfCell}
 use Rattle.heap_model.proofs.OneOwner.{names_store}
 use Rattle.heap_model.proofs.WordsStay.{PlacesStay}
-use Rattle.write_barrier.specs.Mains.{Mutator, heap_of, MainShows}
+use Rattle.write_barrier.specs.MutatorState.{Mutator, heap_of, MainShows}
 use Rattle.object_cells.specs.Capacities.{ChangesObject}
 use Rattle.object_cells.specs.Contents.{next_at}
 use Rattle.object_cells.specs.OwnSlots.{ComesFrom}
 use Rattle.object_cells.specs.ElementChanges.{WritesList}
-use Rattle.object_cells.specs.Made.{IsStoreAt, beside_content}
-use Rattle.object_cells.specs.declared.content.Content.TheVariants as content
+use Rattle.object_cells.specs.Made.{IsStoreAt, store_content}
+use Rattle.object_cells.specs.declared.content.SlotContent.TheVariants as content
 use Rattle.object_cells.specs.declared.stores.Store.{Store}
 use Rattle.object_cells.proofs.CellsRead.{word_stands}
 use Rattle.object_cells.proofs.ContentValues.{content_shows, content_comes, is_made_box}
@@ -100,7 +98,7 @@ module _ {old new : Mutator} {graph : Graph} {at slot count : ℕ} {list : ListO
   abbrev writes : WritesList (heap_of old) (heap_of new) cell (other ∷ []) made
   writes = of_slot.writes writing
 
-  abbrev box_stands : BoxStands (heap_of new) (beside_content value) (next_at old)
+  abbrev box_stands : BoxStands (heap_of new) (store_content value) (next_at old)
   box_stands = of_slot.box_stands writing
 
   -- cells stand in the new heap
@@ -145,7 +143,7 @@ module _ {old new : Mutator} {graph : Graph} {at slot count : ℕ} {list : ListO
       let within : place < length boxed =
       omega (
         arith,
-        length-with_content (heap_words old.seat) (beside_content value) (next_at old),
+        length-with_content (heap_words old.seat) (store_content value) (next_at old),
         known.shows.shows.whole.sized.words,
         is_store.within,
         below,
@@ -158,7 +156,7 @@ module _ {old new : Mutator} {graph : Graph} {at slot count : ℕ} {list : ListO
       ∙ sym (slot_stands slot store_has there.found.of_kind inside) ∙ holds)
 
   -- how the value is held
-  abbrev holds_all : HoldsValue (heap_of old) false rep.Small (rep_of what) what (beside_content value)
+  abbrev holds_all : HoldsValue (heap_of old) false rep.Small (rep_of what) what (store_content value)
   holds_all = new_value_held false value what known.held.shows
 
   -- the places of objects stay
@@ -166,12 +164,12 @@ module _ {old new : Mutator} {graph : Graph} {at slot count : ℕ} {list : ListO
   places = written_places_stay list_owns known.shows.shows.whole writes
 
   -- the box that was made holds the integer
-  refers_box : (v : ℤ) → beside_content value ≡ content.Boxed v
+  refers_box : (v : ℤ) → store_content value ≡ content.Boxed v
       → RefersToBox (heap_of new) (reference_word (next_at old)) v
   refers_box v is_box =
-      refers_to_made (beside_content value) (next_at old) v is_box
+      refers_to_made (store_content value) (next_at old) v is_box
       (boxed_integer (length graph.objects) v holds_all known.fits is_box) box_stands
-      (made_has (box_cell (next_at old)) (made_box (beside_content value) (next_at old) v is_box))
+      (made_has (box_cell (next_at old)) (made_box (store_content value) (next_at old) v is_box))
 
   -- the list's slot for a store stays
   slot_stays : slice_get (heap_words new.seat) (cell.at + store_slot)
@@ -197,7 +195,7 @@ module _ {old new : Mutator} {graph : Graph} {at slot count : ℕ} {list : ListO
       omega (
         arith,
         length-set boxed place word,
-        length-with_content (heap_words old.seat) (beside_content value) (next_at old),
+        length-with_content (heap_words old.seat) (store_content value) (next_at old),
         known.shows.shows.whole.sized.words,
         marks_start_is old.seat.space,
         cell_below_layouts known.shows.shows.whole known.shown.has size,
@@ -226,7 +224,7 @@ module _ {old new : Mutator} {graph : Graph} {at slot count : ℕ} {list : ListO
         are = record {
           store = known.shown.shows.store;
           slot = slot_now;
-          stands = IsBeside.store known.shown.shows.store other (words_of_cell (heap_of new) other)
+          stands = HoldsStore.store known.shown.shows.store other (words_of_cell (heap_of new) other)
               (record { refers = there.found.refers.refers; has = store_has }) there.found.of_kind;
         };
         counted = count_now;
@@ -246,7 +244,7 @@ module _ {old new : Mutator} {graph : Graph} {at slot count : ℕ} {list : ListO
             subst (ComesFrom (heap_of new) (HasWord known.shown.shows.slots) made slot slot slot) (holds_word x holds)
             (content_comes (HasWord known.shown.shows.slots) made slot slot (next_at old) holds_all places
             (λ own wide. false≢true own)
-            (λ v is_box. is_made_box (next_at old) (made_box (beside_content value) (next_at old) v is_box)));
+            (λ v is_box. is_made_box (next_at old) (made_box (store_content value) (next_at old) v is_box)));
         shows = λ x holds. subst (λ w. ShowsValue (heap_of new) w what)
             (holds_word x holds)
             (content_shows (next_at old) holds_all places refers_box);
@@ -257,9 +255,9 @@ module _ {old new : Mutator} {graph : Graph} {at slot count : ℕ} {list : ListO
               (names_store known.shown.shows.store known.shown.has (ap is_object_kind known.shown.shows.of_kind)
               known.shown.shows.slot there.found.refers (inl there.found.of_kind)),
         );
-        kinds = λ one among. inr (made_boxed (beside_content value) (next_at old) one among);
+        kinds = λ one among. inr (made_boxed (store_content value) (next_at old) one among);
         stores = λ one among is. subst (λ (c : Cell). HasNoNumber c × (known.shown.shows.store ≡ reference_word c.at))
-            (only_first (beside_content value) (next_at old) kind.Store (store_is_no_box refl) one among is)
+            (only_first (store_content value) (next_at old) kind.Store (store_is_no_box refl) one among is)
             (store_number, there.found.refers.refers);
         boxes = boxes_sound (length graph.objects) (next_at old) (store_is_no_box there.found.of_kind) holds_all
             known.fits box_stands made_has;
@@ -282,5 +280,5 @@ module _ {old new : Mutator} {graph : Graph} {at slot count : ℕ} {list : ListO
         whole = known.shows.shows.whole;
         writes = writes;
         belong = puts_element.belong;
-        kinds = λ one among. inr (made_boxed (beside_content value) (next_at old) one among);
+        kinds = λ one among. inr (made_boxed (store_content value) (next_at old) one among);
       }) slot_stays

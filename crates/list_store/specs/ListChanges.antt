@@ -3,20 +3,19 @@ use Rattle.tagged_word.specs.Cells.{store_head}
 use Rattle.std.specs.Prelude.{◌≡◌, ℕ, ◌+◌, ◌<◌, ◌≤◌, [], ◌∷◌}
 use Rattle.std.specs.Prelude.{◌++◌, length, Some, None, slice_get, slice_set, ℤ}
 use Rattle.std.specs.Prelude.{Result, Ok, Err}
-use Rattle.object_graph.specs.declared.value.Value.{Value}
+use Rattle.heap_model.specs.Types.{Value, Held}
 use Rattle.object_graph.specs.Graphs.{Graph, ListObject}
 use Rattle.object_graph.specs.Meaning.{list_most, below, relist}
 use Rattle.nursery.specs.Young.{HasRoom}
-use Rattle.handle_roots.specs.declared.held.Held.{Held}
 use Rattle.heap_model.specs.Showing.{ShowsHeld}
 use Rattle.heap_model.specs.Needs.{capacity_at}
 use Rattle.heap_model.specs.Rooms.{push_need, put_need, push_capacity}
-use Rattle.write_barrier.specs.Mains.{Mutator, heap_of, MainShows}
+use Rattle.write_barrier.specs.MutatorState.{Mutator, heap_of, MainShows}
 use Rattle.object_cells.specs.ListObjects.{IsListAt}
 use Rattle.object_cells.specs.HeldValues.{IsValueHeld}
 use Rattle.object_cells.specs.declared.stores.Store.{Store}
 use Rattle.object_cells.specs.Contents.{FillsSlot}
-use Rattle.object_cells.specs.Made.{IsStoreAt, beside_content}
+use Rattle.object_cells.specs.Made.{IsStoreAt, store_content}
 use Rattle.object_cells.specs.Uses.{UsesMore}
 use Rattle.object_cells.specs.Capacities.{ChangesObject}
 use Rattle.list_store.specs.Pushes.{PushesAt}
@@ -62,8 +61,8 @@ PushesElement old new graph at list value (Err (push.Full room)) =
 abbrev pub IsPlaceIn : ListObject → ℤ → ℕ → Type 0
 IsPlaceIn list index place = below (length list.elements) index ≡ Some place
 
-abbrev pub IsOutside : ListObject → ℤ → Type 0
-IsOutside list index = below (length list.elements) index ≡ None
+abbrev pub IsIndexOutside : ListObject → ℤ → Type 0
+IsIndexOutside list index = below (length list.elements) index ≡ None
 
 -- How the element at a place of the list at the address comes to be a value: it allocates what that needs, for which
 -- there is room, and the heap shows the graph in which it is. Which words are put is said: that of the element's slot
@@ -78,14 +77,14 @@ pub record HasPut (old new : Mutator) (graph : Graph) (at : ℕ) (list : ListObj
   pub is_store : IsStoreAt (heap_of old) at store
   pub held : Held
   pub holds : ShowsHeld (heap_of old) held (Some value)
-  pub puts : FillsSlot old new (store.at + (store_head + place)) (beside_content held)
+  pub puts : FillsSlot old new (store.at + (store_head + place)) (store_content held)
 
 -- `put`: the element that an index names becomes the value; or it names none, or there is no room, in this order, and
 -- nothing changes.
 abbrev pub PutsElement : Mutator → Mutator → Graph → ℕ → ListObject → ℤ → Value → Result Unit PutStop → Type 0
 PutsElement old new graph at list index value (Ok _) =
     (place : ℕ) × IsPlaceIn list index place × HasPut old new graph at list place value
-PutsElement old new graph at list index value (Err put.Range) = IsOutside list index × (new ≡ old)
+PutsElement old new graph at list index value (Err put.Range) = IsIndexOutside list index × (new ≡ old)
 PutsElement old new graph at list index value (Err (put.Full room)) =
     (place : ℕ) × IsPlaceIn list index place
     × (room.need ≡ put_need list value place) × (HasRoom old.young room.need → ⊥)
@@ -101,4 +100,4 @@ pub record IsElementAt (list : ListObject) (index : ℤ) (value : Value) : Type 
 abbrev pub TellsElement : Mutator → ListObject → ℤ → Result Held Range → Type 0
 TellsElement main list index (Ok held) =
     (value : Value) × IsElementAt list index value × ShowsHeld (heap_of main) held (Some value)
-TellsElement main list index (Err range) = IsOutside list index
+TellsElement main list index (Err range) = IsIndexOutside list index

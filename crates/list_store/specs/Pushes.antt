@@ -2,16 +2,16 @@
 use Rattle.std.specs.Prelude.{◌≡◌, ℕ, ◌+◌, ◌<◌, List, slice_set}
 use Rattle.tagged_word.specs.Cells.{store_head, store_slot}
 use Rattle.nursery.specs.Young.{HasRoom}
-use Rattle.handle_roots.specs.declared.held.Held.{Held}
+use Rattle.heap_model.specs.Types.{Held}
 use Rattle.heap_table.specs.Seats.{heap_words}
 use Rattle.heap_model.specs.Slots.{reference_word}
 use Rattle.heap_model.specs.Kinds.{count_offset}
-use Rattle.write_barrier.specs.Mains.{Mutator, heap_of, reserved}
+use Rattle.write_barrier.specs.MutatorState.{Mutator, heap_of, reserved}
 use Rattle.object_cells.specs.declared.stores.Store.{Store}
 use Rattle.object_cells.specs.ListObjects.{IsListReady}
 use Rattle.object_cells.specs.Contents.{next_at}
 use Rattle.object_cells.specs.Made.{PutsWords, IsStoreAt, begun_store, with_content, content_need, content_word}
-use Rattle.object_cells.specs.Made.{beside_content}
+use Rattle.object_cells.specs.Made.{store_content}
 use Rattle.heap_model.specs.Needs.{grown_list}
 
 -- The elements of the list at the address, which are so many, may change, and stand in this store.
@@ -22,7 +22,7 @@ pub record CanChange (main : Mutator) (list count : ℕ) (store : Store) : Type 
 -- the words with a value put in the slot at an address, where its box is made at another one, if it needs one
 abbrev pub with_element : List ℕ → ℕ → Held → ℕ → List ℕ
 with_element words at value box =
-    slice_set (with_content words (beside_content value) box) at (content_word (beside_content value) box)
+    slice_set (with_content words (store_content value) box) at (content_word (store_content value) box)
 
 -- the words with the length of the list at an address
 abbrev pub with_count : List ℕ → ℕ → ℕ → List ℕ
@@ -30,9 +30,9 @@ with_count words list count = slice_set words (list + count_offset) count
 
 -- The value comes to this slot of the list's store, and the list has so many elements; a box that it needs is made.
 pub record WritesSlot (old new : Mutator) (list slot count : ℕ) (value : Held) (store : Store) : Type 0 where
-  pub room : HasRoom old.young (content_need (beside_content value))
+  pub room : HasRoom old.young (content_need (store_content value))
   pub words : let put = with_element (heap_words old.seat) (store.at + (store_head + slot)) value (next_at old) in
-      PutsWords (reserved old (content_need (beside_content value))) new (with_count put list count)
+      PutsWords (reserved old (content_need (store_content value))) new (with_count put list count)
 
 -- The value comes to the next slot of the list's store.
 abbrev pub PushesToStore : Mutator → Mutator → ℕ → ℕ → Held → Store → Type 0
@@ -41,13 +41,13 @@ PushesToStore old new list count value store = WritesSlot old new list count (co
 -- A store is made in place of the one before, and the value comes to its first slot behind the slots of that one; a box
 -- that it needs is made behind the store. Then the store is the list's.
 pub record PushesToNewStore (old new : Mutator) (list count : ℕ) (value : Held) (store : Store) : Type 0 where
-  pub room : HasRoom old.young (store_head + grown_list count + content_need (beside_content value))
+  pub room : HasRoom old.young (store_head + grown_list count + content_need (store_content value))
   pub words : let at = next_at old in
       let behind = at + (store_head + grown_list count) in
       let begun = begun_store (heap_words old.seat) store (grown_list count) at in
       let put = with_element begun (at + (store_head + count)) value behind in
       let linked = slice_set put (list + store_slot) (reference_word at) in
-      PutsWords (reserved old (store_head + grown_list count + content_need (beside_content value))) new
+      PutsWords (reserved old (store_head + grown_list count + content_need (store_content value))) new
       (with_count linked list (count + 1))
 
 -- How the value comes behind so many elements of the list at the address: to the list's store, which is made anew where

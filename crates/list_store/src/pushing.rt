@@ -4,10 +4,10 @@ ghost use Rattle.tagged_word.specs.Cells.{store_head};
 ghost use Rattle.object_graph.specs.declared.value.Value.{Value as GraphValue};
 ghost use Rattle.object_graph.specs.Graphs.{Graph, ListObject};
 ghost use Rattle.object_graph.specs.Meaning.{list_most};
-ghost use Rattle.write_barrier.specs.Mains.{heap_of, MainShows};
+ghost use Rattle.write_barrier.specs.MutatorState.{heap_of, MainShows};
 ghost use Rattle.object_cells.specs.HeldValues.{IsValueHeld};
 ghost use Rattle.object_cells.specs.ListObjects.{IsListAt, IsListReady};
-ghost use Rattle.object_cells.specs.Made.{RefusesRoom, content_need, beside_content, is_wide_held};
+ghost use Rattle.object_cells.specs.Made.{RefusesRoom, content_need, store_content, is_wide_held};
 ghost use Rattle.heap_model.specs.Needs.{box_need, capacity_at, grown_list, list_store_need};
 ghost use Rattle.list_store.specs.Pushes.{CanChange, PushesToStore, PushesToNewStore};
 ghost use Rattle.list_store.specs.Pushes.{PushesAt};
@@ -25,7 +25,7 @@ use tagged_word::Word;
 use tagged_word::cell::{STORE_HEAD, STORE_SLOT};
 use write_barrier::{Main, NoRoom};
 
-// The value comes to the next slot of the list's store.
+/// The value comes to the next slot of the list's store.
 fn push_to_store(
     main: &mut Main,
     list: u32,
@@ -36,7 +36,7 @@ fn push_to_store(
     requires can { CanChange main.old list count store }
     requires room { count < store.capacity }
     ensures ok { OnOk result (PushesToStore main.old main.new list count value store) }
-    ensures refused { let need = content_need (beside_content value) in
+    ensures refused { let need = content_need (store_content value) in
         IfErr result (RefusesRoom main.old main.new need) }
 {
     let content = content_for(value);
@@ -47,7 +47,7 @@ fn push_to_store(
     Ok(())
 }
 
-// The value comes to the next slot of a store that takes the place of one that is full.
+/// The value comes to the next slot of a store that takes the place of one that is full.
 fn push_to_new_store(
     main: &mut Main,
     list: u32,
@@ -60,7 +60,7 @@ fn push_to_new_store(
     requires few { count < list_most }
     ensures ok { OnOk result (PushesToNewStore main.old main.new list count value store) }
     ensures refused { let words = store_head + grown_list count in
-        let need = words + content_need (beside_content value) in
+        let need = words + content_need (store_content value) in
         IfErr result (RefusesRoom main.old main.new need) }
 {
     main.addresses_fit();
@@ -78,7 +78,7 @@ fn push_to_new_store(
     Ok(())
 }
 
-// The value comes behind the elements of the list, to its store or to a new one.
+/// The value comes behind the elements of the list, to its store or to a new one.
 fn push_value(main: &mut Main, list: u32, count: u32, value: Held) -> Result<(), NoRoom>
     requires ready { IsListReady main.old list count }
     requires few { count < list_most }

@@ -4,29 +4,29 @@ ghost use Rattle.page_space.specs.Extents.{marks_start};
 ghost use Rattle.object_graph.specs.declared.value.Value.{Value as GraphValue};
 ghost use Rattle.object_graph.specs.Graphs.{Graph, ListObject};
 ghost use Rattle.heap_model.specs.Needs.{word_at};
-ghost use Rattle.write_barrier.specs.Mains.{heap_of, IsTied, MainShows};
-ghost use Rattle.object_cells.specs.CellsAt.{IsWhole};
+ghost use Rattle.write_barrier.specs.MutatorState.{heap_of, IsTied, MainShows};
+ghost use Rattle.object_cells.specs.CellsAt.{IsQuietWhole};
 ghost use Rattle.object_cells.specs.Contents.{HoldsSlotWord, FillsOrRefuses};
 ghost use Rattle.object_cells.specs.HeldValues.{IsValueHeld};
 ghost use Rattle.object_cells.specs.ListObjects.{IsListAt};
-ghost use Rattle.object_cells.specs.Made.{beside_content};
+ghost use Rattle.object_cells.specs.Made.{store_content};
 ghost use Rattle.list_store.specs.ListChanges.{IsShownSetting, PutsElement};
 
 use crate::stop::PutStop;
 use handle_roots::Held;
-use object_cells::{content_for, count_of, fill, filling_of, place_of, store_of};
+use object_cells::{checked_index, content_for, count_of, fill, filling_of, store_of};
 use tagged_word::cell::STORE_HEAD;
 use write_barrier::{Main, NoRoom};
 
-// The slot at an offset of a list's store comes to hold the value: a wide one in the box that
-// stands there, or in one that is made.
+/// The slot at an offset of a list's store comes to hold the value: a wide one in the box that
+/// stands there, or in one that is made.
 fn fill_slot(main: &mut Main, store: u32, offset: u32, value: Held) -> Result<(), NoRoom>
-    requires whole { IsWhole main.old }
+    requires whole { IsQuietWhole main.old }
     requires tied { IsTied main.old }
     requires within { store + offset < marks_start main.old.seat.space }
     requires held { let word = word_at (heap_of main.old) (store + offset) in
-        HoldsSlotWord (heap_of main.old) word (beside_content value) }
-    ensures { let content = beside_content value in
+        HoldsSlotWord (heap_of main.old) word (store_content value) }
+    ensures { let content = store_content value in
         FillsOrRefuses main.old main.new (store + offset) content result }
 {
     main.addresses_fit();
@@ -47,7 +47,7 @@ pub fn put(main: &mut Main, list: u32, index: i64, value: Held) -> Result<(), Pu
         → PutsElement main.old main.new graph list one index what result }
 {
     main.addresses_fit();
-    let Some(place) = place_of(count_of(main, list), index) else {
+    let Some(place) = checked_index(count_of(main, list), index) else {
         return Err(PutStop::Range);
     };
     let store = store_of(main, list);

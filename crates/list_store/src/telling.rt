@@ -1,11 +1,11 @@
 //! The call `at`.
 ghost use Rattle.object_graph.specs.Graphs.{Graph, ListObject};
-ghost use Rattle.write_barrier.specs.Mains.{MainShows};
+ghost use Rattle.write_barrier.specs.MutatorState.{MainShows};
 ghost use Rattle.object_cells.specs.ListObjects.{IsListAt, IsShownList};
 ghost use Rattle.list_store.specs.ListChanges.{TellsElement};
 
 use handle_roots::Held;
-use object_cells::{Range, count_of, place_of, store_of};
+use object_cells::{Range, checked_index, count_of, store_of};
 use tagged_word::Word;
 use tagged_word::cell::STORE_HEAD;
 use write_barrier::{Main, laws_of_values};
@@ -21,7 +21,7 @@ pub fn at(main: &Main, list: u32, index: i64) -> Result<Held, Range>
 {
     main.addresses_fit();
     laws_of_values();
-    let Some(place) = place_of(count_of(main, list), index) else {
+    let Some(place) = checked_index(count_of(main, list), index) else {
         return Err(Range);
     };
     let store = store_of(main, list);

@@ -3,7 +3,7 @@ use Rattle.std.proofs.Common.{ℕ, ◌<◌, ◌≡◌, true, IsTrue, List, lengt
 use Rattle.std.proofs.Common.{subst, ◌∙◌, ◌↔◌}
 use Rattle.std.proofs.lemmas.List.{get_or_default}
 use Rattle.mark_laws.proofs.Stores.{free_is}
-use Rattle.mark_world.specs.declared.views.MainView.{MainView}
+use Rattle.mark_laws.specs.Types.{MainView}
 use Rattle.mark_world.specs.Pages.{is_free, EachFree}
 
 -- this holds of each of the first so many of a list that is a free start

@@ -2,7 +2,7 @@
 use Rattle.std.proofs.Common.{ℕ, ◌<◌, ◌+◌, ◌≡◌, List, length, get_or, drop, ap, sym, drop-cons, add-one, map}
 use Rattle.std.proofs.Common.{subst, arith}
 use Rattle.std.proofs.lemmas.List.{length-map, get_or-map}
-use Rattle.mark_world.specs.declared.snap.SnapSlot.{SnapSlot}
+use Rattle.mark_laws.specs.Types.{SnapSlot}
 use Rattle.seat_steps.specs.Lists.{joined}
 use Rattle.seat_steps.specs.Boards.{joined_by}
 use Rattle.mark_world.specs.Pages.{target, targets_joined}

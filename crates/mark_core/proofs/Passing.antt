@@ -5,9 +5,8 @@ use Rattle.std.proofs.Common.{◌&&◌, ◌⊎◌, not, if◌then◌else◌, Opt
 use Rattle.std.proofs.lemmas.Bool.{cases_lt}
 use Rattle.std.proofs.lemmas.List.Elements.{Contains-get_or}
 use Rattle.std.specs.List.{Contains, list_any}
-use Rattle.tagged_word.specs.declared.layout.Kind.{Kind}
+use Rattle.mark_laws.specs.Types.{Kind, LayoutWord, SnapSlot}
 use Rattle.tagged_word.specs.declared.layout.Kind.TheVariants as kind
-use Rattle.tagged_word.specs.declared.layout.LayoutWord.{LayoutWord}
 use Rattle.tagged_word.specs.Layouts.{IsLayout, IsLayoutOfKind, HasInObjectSlots}
 use Rattle.tagged_word.proofs.Members.{in_cases}
 use Rattle.tagged_word.proofs.Offsets.{in_object_is}
@@ -18,7 +17,6 @@ use Rattle.tagged_word.specs.Cells.{tagged_offsets, tagged_offsets_of}
 use Rattle.tagged_word.proofs.Cells.{size_bounds, slot_within, tagged_is_scavenged}
 use Rattle.seat_steps.specs.Lists.{is_in}
 use Rattle.seat_steps.proofs.Joining.{in_found, found_in}
-use Rattle.mark_world.specs.declared.snap.SnapSlot.{SnapSlot}
 
 -- this holds of each of the first numbers that is in a list
 abbrev pub PassBelow : List ℕ → (ℕ → Type 0) → ℕ → Type 0

@@ -7,7 +7,7 @@ use Rattle.std.proofs.lemmas.Bool.Decides.{nat_tests}
 use Rattle.std.specs.List.Sorted.{IsStrictlyIncreasing}
 use Rattle.std.proofs.lemmas.List.{map-append, append-nil}
 use Rattle.std.proofs.lemmas.List.Elements.{Contains-get_or}
-use Rattle.tagged_word.specs.declared.reading.Reading.{Reading}
+use Rattle.mark_laws.specs.Types.{Reading}
 use Rattle.tagged_word.specs.Readings.{read_cell}
 use Rattle.tagged_word.proofs.Cells.{slot_within, tagged_is_scavenged}
 use Rattle.tagged_word.proofs.CellReadings.{cell_from}

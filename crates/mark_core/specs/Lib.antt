@@ -1,4 +1,4 @@
-pub mod Spots
+pub mod Locations
 pub mod Names
-pub mod Sureness
+pub mod HeaderChange
 pub mod Runs

@@ -1,10 +1,8 @@
 -- Where a run of events stops before its end.
 use Rattle.std.specs.Prelude.{◌≡◌, ℕ, List, slice_get, Some}
-use Rattle.seat_steps.specs.declared.stop.StepStop.{StepStop}
+use Rattle.mark_laws.specs.Types.{StepStop, Event, World}
 use Rattle.seat_steps.specs.declared.stop.StepStop.TheVariants.{NotEnabled, NoMemory}
-use Rattle.mark_world.specs.declared.event.Event.{Event}
-use Rattle.mark_world.specs.declared.world.World.{World}
-use Rattle.mark_world.specs.Moments.{Possible, WerePossible, moment}
+use Rattle.mark_world.specs.AfterEvents.{Possible, WerePossible, moment}
 
 -- those before the event of a number were possible, each at its moment, and it is not
 pub record IsFirstImpossible (start : World) (events : List Event) (at : ℕ) : Type 0 where

@@ -5,7 +5,7 @@ ghost use Rattle.tagged_word.specs.declared.reading.Reading.{Reading};
 ghost use Rattle.seat_steps.specs.Lists.{is_in};
 ghost use Rattle.mark_world.specs.Pages.{page_end, cell_at, slots_of, is_inside, is_head, is_head_of};
 ghost use Rattle.mark_world.specs.Pages.{is_quiet, leaves_alone, is_free, EachFree, IsOutside};
-ghost use Rattle.mark_world.specs.Covering.{cell_of};
+ghost use Rattle.mark_world.specs.Coverage.{cell_of};
 
 use crate::lists::is_in;
 use mark_world::{MainView, World};
@@ -44,7 +44,7 @@ pub(crate) fn is_slot(cell: Reading, offset: u32) -> bool
     cell.layout.is_tagged(cell.length, offset)
 }
 
-// Whether a word lies in the cell that begins at an address.
+/// Whether a word lies in the cell that begins at an address.
 fn is_inside(start: u32, cell: Option<Reading>, at: u32) -> bool
     ensures { result ≡ is_inside start cell at }
 {
@@ -54,15 +54,15 @@ fn is_inside(start: u32, cell: Option<Reading>, at: u32) -> bool
     }
 }
 
-// Whether an offset is that of a header, or of a length that a size is read from.
+/// Whether an offset is that of a header, or of a length that a size is read from.
 fn is_head(cell: Reading, offset: u32) -> bool
     ensures { result ≡ is_head cell offset }
 {
     offset == 0 || (cell.layout.kind.has_length() && offset == LENGTH)
 }
 
-// Whether a word is the header of the cell that begins at an address, or a length that its size is
-// read from.
+/// Whether a word is the header of the cell that begins at an address, or a length that its size is
+/// read from.
 fn is_head_of(start: u32, cell: Option<Reading>, at: u32) -> bool
     ensures { result ≡ is_head_of start cell at }
 {
@@ -72,14 +72,14 @@ fn is_head_of(start: u32, cell: Option<Reading>, at: u32) -> bool
     }
 }
 
-// Whether no helper that reads the cell minds a word of it.
+/// Whether no helper that reads the cell minds a word of it.
 fn is_quiet(cell: Reading, offset: u32) -> bool
     ensures { result ≡ is_quiet cell offset }
 {
     !is_head(cell, offset) && !is_slot(cell, offset)
 }
 
-// Whether a store into a word leaves the cell that begins at an address alone.
+/// Whether a store into a word leaves the cell that begins at an address alone.
 fn leaves_alone(start: u32, cell: Option<Reading>, at: u32) -> bool
     ensures { result ≡ leaves_alone start cell at }
 {

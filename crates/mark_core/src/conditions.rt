@@ -11,7 +11,7 @@ ghost use Rattle.mark_world.specs.Conditions.{MayStoreHeader, MayAddLayout, MayB
 ghost use Rattle.mark_world.specs.Conditions.{MayMain, MayHelper, AwaitsLayout, AwaitsLength, MayBegin};
 ghost use Rattle.mark_world.specs.Naming.{named, read_offsets, IsToRead, IsReadOut};
 ghost use Rattle.std.specs.List.{Contains};
-ghost use Rattle.mark_core.specs.Sureness.{IsSureSlot};
+ghost use Rattle.mark_core.specs.HeaderChange.{IsSureSlot};
 
 use crate::cells::{is_free, is_no_head, is_outside, leaves_all_alone, word_at};
 use crate::lists::{has, target};
@@ -21,7 +21,7 @@ use mark_world::{Event, HelperView, Laid, MainView, Snap, World};
 use page_space::BOARD_WORDS;
 use tagged_word::{Header, Kind, LayoutWord, Word};
 
-// Whether a word has no target, or one that a list has.
+/// Whether a word has no target, or one that a list has.
 fn has_target_in(old: u32, word: u64, list: &[u32]) -> bool
     ensures { IsTrue result ↔ OfTarget old word (λ to. Contains list.now to) }
 {
@@ -31,7 +31,7 @@ fn has_target_in(old: u32, word: u64, list: &[u32]) -> bool
     }
 }
 
-// Whether a word may go into a slot.
+/// Whether a word may go into a slot.
 fn may_store_slot(world: &World, at: u32, word: u64) -> bool
     ensures { let w = world.now in IsTrue result
         ↔ MayStoreSlot w.old w.words w.layouts w.main at word }
@@ -42,7 +42,7 @@ fn may_store_slot(world: &World, at: u32, word: u64) -> bool
         && has_target_in(world.old, word, world.main.born.as_slice())
 }
 
-// Whether a word may go where no helper visits.
+/// Whether a word may go where no helper visits.
 fn may_store_owned(world: &World, at: u32) -> bool
     ensures { let w = world.now in IsTrue result
         ↔ MayStoreOwned w.old w.words w.layouts w.main at }
@@ -56,10 +56,10 @@ fn may_store_owned(world: &World, at: u32) -> bool
     leaves_all_alone(world, at)
 }
 
-// The most words of a plain cell.
+/// The most words of a plain cell.
 const PLAIN_MOST: u32 = 10;
 
-// Whether the mutator is sure of the target in a slot, if there is one.
+/// Whether the mutator is sure of the target in a slot, if there is one.
 fn is_sure_at(world: &World, at: u32, offset: u32) -> bool
     ensures { let w = world.now in IsTrue result ↔ OfTarget w.old
         (slice_index w.words (at + offset)) (λ to. Contains w.main.sure to) }
@@ -68,7 +68,7 @@ fn is_sure_at(world: &World, at: u32, offset: u32) -> bool
     has_target_in(world.old, word, world.main.sure.as_slice())
 }
 
-// Whether a slot was tagged before, or the mutator is sure of its target, if there is one.
+/// Whether a slot was tagged before, or the mutator is sure of its target, if there is one.
 fn is_sure_slot(world: &World, at: u32, old: Laid, offset: u32) -> bool
     ensures { let w = world.now in IsTrue result ↔ IsSureSlot w at (plain_slots old) offset }
 {
@@ -78,8 +78,8 @@ fn is_sure_slot(world: &World, at: u32, old: Laid, offset: u32) -> bool
     is_sure_at(world, at, offset)
 }
 
-// Whether the mutator is sure of each target in a slot that is tagged after a change of a header and
-// not before.
+/// Whether the mutator is sure of each target in a slot that is tagged after a change of a header and
+/// not before.
 fn are_sure(world: &World, at: u32, old: Laid, new: Laid) -> bool
     requires is { IsLayout new.layout }
     requires plain { new.layout.kind ≡ Kind.Plain }
@@ -94,7 +94,7 @@ fn are_sure(world: &World, at: u32, old: Laid, new: Laid) -> bool
     true
 }
 
-// The same of two headers of plain cells.
+/// The same of two headers of plain cells.
 fn are_sure_after(world: &World, at: u32, word: u64) -> bool
     requires { IsSafe world.now.layouts (slice_index world.now.words at) word }
     ensures { let w = world.now in IsTrue result
@@ -110,7 +110,7 @@ fn are_sure_after(world: &World, at: u32, word: u64) -> bool
     are_sure(world, at, old, new)
 }
 
-// Whether a header stands where one may change.
+/// Whether a header stands where one may change.
 fn may_change_at(world: &World, at: u32) -> bool
     ensures { let w = world.now in IsTrue result
         ↔ (IsTrue (is_free w.main at) ⊎ IsOutside w.old w.words w.layouts w.main at) }
@@ -121,7 +121,7 @@ fn may_change_at(world: &World, at: u32) -> bool
     is_outside(world, at)
 }
 
-// Whether a header may change.
+/// Whether a header may change.
 fn may_store_header(world: &World, at: u32, word: u64) -> bool
     ensures { let w = world.now in IsTrue result
         ↔ MayStoreHeader w.old w.words w.layouts w.main at word }
@@ -139,7 +139,7 @@ fn may_store_header(world: &World, at: u32, word: u64) -> bool
     are_sure_after(world, at, word)
 }
 
-// Whether a layout word may go to a shape.
+/// Whether a layout word may go to a shape.
 fn may_add_layout(layouts: &[u64], shape: u32, word: u64) -> bool
     ensures { IsTrue result ↔ MayAddLayout layouts.now shape word }
 {
@@ -149,7 +149,7 @@ fn may_add_layout(layouts: &[u64], shape: u32, word: u64) -> bool
     *found == 0 && LayoutWord::parse(word).is_some()
 }
 
-// Whether a cell may be new.
+/// Whether a cell may be new.
 fn may_be_new(world: &World, at: u32) -> bool
     ensures { let w = world.now in IsTrue result
         ↔ MayBeNew w.old w.words w.layouts w.main at }
@@ -157,7 +157,7 @@ fn may_be_new(world: &World, at: u32) -> bool
     at < world.old && is_outside(world, at)
 }
 
-// Whether a cell may go to a word of the board.
+/// Whether a cell may go to a word of the board.
 fn may_give(list: &[u32], place: u32, at: u32) -> bool
     ensures { IsTrue result ↔ MayGive list.now place at }
 {
@@ -186,7 +186,7 @@ pub(crate) fn may_main(world: &World, event: Event) -> bool
     }
 }
 
-// Whether a snap has no layout word yet, and its header a shape that there may be.
+/// Whether a snap has no layout word, and its header a shape that there may be.
 fn awaits_layout(snap: &Snap) -> bool
     ensures { IsTrue result ↔ AwaitsLayout snap.now }
 {
@@ -199,21 +199,21 @@ fn awaits_layout(snap: &Snap) -> bool
     }
 }
 
-// Whether the length is what a snap still lacks.
+/// Whether the length is what a snap still lacks.
 fn awaits_length(snap: &Snap) -> bool
     ensures { IsTrue result ↔ AwaitsLength snap.now }
 {
     snap.layout.is_some() && snap.length.is_none() && is_unread(snap)
 }
 
-// Whether a helper may begin a snap.
+/// Whether a helper may begin a snap.
 fn may_begin(view: &HelperView) -> bool
     ensures { IsTrue result ↔ MayBegin view.now }
 {
     view.snap.is_none() && view.visit.as_slice().is_empty()
 }
 
-// Whether a helper has a snap that awaits its layout.
+/// Whether a helper has a snap that awaits its layout.
 fn may_load_layout(snap: &Option<Snap>) -> bool
     ensures { IsTrue result ↔ IsSomeAnd snap.now AwaitsLayout }
 {
@@ -223,7 +223,7 @@ fn may_load_layout(snap: &Option<Snap>) -> bool
     }
 }
 
-// Whether a helper has a snap that awaits its length.
+/// Whether a helper has a snap that awaits its length.
 fn may_load_length(snap: &Option<Snap>) -> bool
     ensures { IsTrue result ↔ IsSomeAnd snap.now AwaitsLength }
 {
@@ -233,7 +233,7 @@ fn may_load_length(snap: &Option<Snap>) -> bool
     }
 }
 
-// Whether a helper has a snap that the slot is to be read for.
+/// Whether a helper has a snap that the slot is to be read for.
 fn may_load_slot(snap: &Option<Snap>, offset: u32) -> bool
     ensures { IsTrue result ↔ IsSomeAnd snap.now
         (λ snap. IsToRead (named snap) (read_offsets snap) offset) }
@@ -244,7 +244,7 @@ fn may_load_slot(snap: &Option<Snap>, offset: u32) -> bool
     }
 }
 
-// Whether a helper has a snap of which nothing is left to read.
+/// Whether a helper has a snap of which nothing is left to read.
 fn may_settle(snap: &Option<Snap>) -> bool
     ensures { IsTrue result ↔ IsSomeAnd snap.now
         (λ snap. IsReadOut (named snap) (read_offsets snap)) }

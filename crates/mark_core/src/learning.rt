@@ -4,10 +4,10 @@ ghost use Rattle.std.specs.Option.{option_map};
 ghost use Rattle.seat_steps.specs.Boards.{giver_left, taker_joined};
 ghost use Rattle.seat_steps.specs.Lists.{joined, left};
 ghost use Rattle.mark_world.specs.Pages.{slot_words};
-ghost use Rattle.mark_world.specs.Covering.{cell_of};
+ghost use Rattle.mark_world.specs.Coverage.{cell_of};
 ghost use Rattle.mark_world.specs.Steps.{noted, main_spot, main_learns, joined_if_white};
 ghost use Rattle.mark_world.specs.Steps.{free_slot_words, blackened, taken_back};
-ghost use Rattle.mark_core.specs.Spots.{FitsSpot};
+ghost use Rattle.mark_core.specs.Locations.{FitsSpot};
 
 use crate::cells::{cell_of, is_free, is_slot, word_at};
 use crate::lists::{join_all, join_by, join_if_white, join_target, join_targets};
@@ -41,7 +41,7 @@ pub(crate) fn join_taken(list: &mut Items<u32>, found: u64) -> Result<(), NoMemo
     join_by(list, Word(found).address())
 }
 
-// The words of the tagged slots of a cell, in order.
+/// The words of the tagged slots of a cell, in order.
 fn slot_words(alloc: Global, world: &World, at: u32, cell: Reading) -> Result<Items<u64>, NoMemory>
     requires { cell_of world.now at ≡ Some cell }
     ensures { IfOk result (λ words. words ≡ slot_words world.now.words at cell) }
@@ -55,7 +55,7 @@ fn slot_words(alloc: Global, world: &World, at: u32, cell: Reading) -> Result<It
     Ok(words)
 }
 
-// The words of the tagged slots of a cell, if it is a free start.
+/// The words of the tagged slots of a cell, if it is a free start.
 fn free_slot_words(alloc: Global, world: &World, at: u32) -> Result<Items<u64>, NoMemory>
     ensures { let w = world.now in IfOk result (λ words.
         words ≡ free_slot_words w.old w.words w.layouts w.main at) }
@@ -69,7 +69,7 @@ fn free_slot_words(alloc: Global, world: &World, at: u32) -> Result<Items<u64>, 
     }
 }
 
-// What the mutator knows once it has shaded a cell.
+/// What the mutator knows once it has shaded a cell.
 fn shade(main: &mut MainView, at: u32, found: u64) -> Result<(), NoMemory>
     requires { found < 256 }
     ensures { OnOk result (main.new ≡ record main.old {
@@ -85,7 +85,7 @@ fn shade(main: &mut MainView, at: u32, found: u64) -> Result<(), NoMemory>
     note_colour(&mut main.log, at, found)
 }
 
-// What the mutator knows once it has made a cell black whose tagged slots hold words.
+/// What the mutator knows once it has made a cell black whose tagged slots hold words.
 fn blacken(
     main: &mut MainView,
     old: u32,
@@ -105,7 +105,7 @@ fn blacken(
     note_colour(&mut main.log, at, found)
 }
 
-// What the mutator knows once it has made a new cell black.
+/// What the mutator knows once it has made a new cell black.
 fn add_new(main: &mut MainView, at: u32) -> Result<(), NoMemory>
     ensures { OnOk result (main.new ≡ record main.old {
       starts = joined main.old.starts at;
@@ -119,7 +119,7 @@ fn add_new(main: &mut MainView, at: u32) -> Result<(), NoMemory>
     Ok(())
 }
 
-// What the mutator knows once it has given a cell to the board.
+/// What the mutator knows once it has given a cell to the board.
 fn give(main: &mut MainView, place: u32, at: u32, found: u64) -> Result<(), NoMemory>
     ensures { OnOk result (main.new ≡ record main.old {
       grey = giver_left main.old.grey found at;
@@ -130,7 +130,7 @@ fn give(main: &mut MainView, place: u32, at: u32, found: u64) -> Result<(), NoMe
     main.log.push(Note::Gave { place, found })
 }
 
-// What the mutator knows once it has taken a cell from the board.
+/// What the mutator knows once it has taken a cell from the board.
 fn take(main: &mut MainView, place: u32, found: u64) -> Result<(), NoMemory>
     ensures { OnOk result (main.new ≡ record main.old {
       grey = taker_joined main.old.grey found;
@@ -176,7 +176,7 @@ pub(crate) fn take_back(main: &mut MainView, view: &HelperView) -> Result<(), No
     join_by(&mut main.grey, snap_cell(&view.snap))
 }
 
-// The cell of a snap, if there is one.
+/// The cell of a snap, if there is one.
 fn snap_cell(snap: &Option<Snap>) -> Option<u32>
     ensures { result ≡ option_map (λ snap. snap.cell) snap.now }
 {

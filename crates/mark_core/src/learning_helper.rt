@@ -5,7 +5,7 @@ ghost use Rattle.seat_steps.specs.Boards.{giver_left, taker_joined};
 ghost use Rattle.seat_steps.specs.Lists.{left};
 ghost use Rattle.mark_world.specs.Steps.{noted, helper_spot, helper_learns, snap_settled, with_slot};
 ghost use Rattle.mark_world.specs.Steps.{with_layout, with_length, snap_begun, joined_if_white};
-ghost use Rattle.mark_core.specs.Spots.{FitsSpot};
+ghost use Rattle.mark_core.specs.Locations.{FitsSpot};
 ghost use Rattle.mark_world.specs.declared.step.Spot.TheVariants as Spot;
 
 use crate::learning::{join_taken, leave_given, note_colour};
@@ -15,7 +15,7 @@ use seat_steps::{Items, Note, leave};
 use std::alloc::Global;
 use tagged_word::NoMemory;
 
-// What a helper knows once it has read a header.
+/// What a helper knows once it has read a header.
 fn begin(alloc: Global, view: &mut HelperView, cell: u32, found: u64) -> Result<(), NoMemory>
     ensures { OnOk result (view.new ≡ record view.old {
       snap = Some (snap_begun cell found);
@@ -34,7 +34,7 @@ fn begin(alloc: Global, view: &mut HelperView, cell: u32, found: u64) -> Result<
     view.log.push(Note::Loaded { at: cell })
 }
 
-// The snap with a layout word that was read.
+/// The snap with a layout word that was read.
 fn add_layout(snap: &mut Option<Snap>, found: u64)
     ensures { snap.new ≡ option_map (with_layout found) snap.old }
 {
@@ -43,7 +43,7 @@ fn add_layout(snap: &mut Option<Snap>, found: u64)
     }
 }
 
-// The snap with a length that was read.
+/// The snap with a length that was read.
 fn add_length(snap: &mut Option<Snap>, found: u64)
     ensures { snap.new ≡ option_map (with_length found) snap.old }
 {
@@ -52,7 +52,7 @@ fn add_length(snap: &mut Option<Snap>, found: u64)
     }
 }
 
-// The snap with a slot that was read.
+/// The snap with a slot that was read.
 fn add_slot(snap: &mut Option<Snap>, offset: u32, found: u64) -> Result<(), NoMemory>
     ensures { OnOk result (snap.new ≡ option_map (with_slot offset found) snap.old) }
 {
@@ -65,7 +65,7 @@ fn add_slot(snap: &mut Option<Snap>, offset: u32, found: u64) -> Result<(), NoMe
     Ok(())
 }
 
-// What a helper knows once its snap has ended.
+/// What a helper knows once its snap has ended.
 fn settle(alloc: Global, old: u32, view: &mut HelperView, found: u64) -> Result<(), NoMemory>
     requires { FitsSpot (option_map (λ snap. Spot.Colour snap.cell) view.old.snap) found }
     ensures { OnOk result (view.new ≡ snap_settled old view.old found view.old.snap) }
@@ -76,7 +76,7 @@ fn settle(alloc: Global, old: u32, view: &mut HelperView, found: u64) -> Result<
     }
 }
 
-// What a helper knows once this snap has ended.
+/// What a helper knows once this snap has ended.
 fn end_snap(
     alloc: Global,
     old: u32,
@@ -96,7 +96,7 @@ fn end_snap(
     Ok(())
 }
 
-// What a helper knows once it has shaded a cell.
+/// What a helper knows once it has shaded a cell.
 fn shade_visited(view: &mut HelperView, at: u32, found: u64) -> Result<(), NoMemory>
     requires { found < 256 }
     ensures { OnOk result (view.new ≡ record view.old {
@@ -110,7 +110,7 @@ fn shade_visited(view: &mut HelperView, at: u32, found: u64) -> Result<(), NoMem
     note_colour(&mut view.log, at, found)
 }
 
-// What a helper knows once it has given a cell to the board.
+/// What a helper knows once it has given a cell to the board.
 fn give_on(view: &mut HelperView, place: u32, at: u32, found: u64) -> Result<(), NoMemory>
     ensures { OnOk result (view.new ≡ record view.old {
       grey = giver_left view.old.grey found at;
@@ -121,7 +121,7 @@ fn give_on(view: &mut HelperView, place: u32, at: u32, found: u64) -> Result<(),
     view.log.push(Note::Gave { place, found })
 }
 
-// What a helper knows once it has taken a cell from the board.
+/// What a helper knows once it has taken a cell from the board.
 fn take_up(view: &mut HelperView, place: u32, found: u64) -> Result<(), NoMemory>
     ensures { OnOk result (view.new ≡ record view.old {
       grey = taker_joined view.old.grey found;

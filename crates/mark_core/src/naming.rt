@@ -24,7 +24,7 @@ pub(crate) enum Name {
     Cell(LayoutWord, u64),
 }
 
-// The size of a cell as far as marking asks for it.
+/// The size of a cell as far as marking asks for it.
 fn known_size(layout: LayoutWord, long: u64) -> Option<u32>
     ensures { result ≡ known_size layout long }
 {
@@ -35,7 +35,7 @@ fn known_size(layout: LayoutWord, long: u64) -> Option<u32>
     }
 }
 
-// Whether a cell of a size ends in the page that it begins in.
+/// Whether a cell of a size ends in the page that it begins in.
 fn is_in_page(start: u32, size: Option<u32>) -> bool
     ensures { result ≡ is_in_page start size }
 {
@@ -45,7 +45,7 @@ fn is_in_page(start: u32, size: Option<u32>) -> bool
     }
 }
 
-// A cell with a layout and a length.
+/// A cell with a layout and a length.
 fn name_slots(start: u32, layout: LayoutWord, long: u64) -> Name
     requires { IsLayout layout }
     ensures name { named_by result ≡ named_slots start layout long }
@@ -58,7 +58,7 @@ fn name_slots(start: u32, layout: LayoutWord, long: u64) -> Name
     }
 }
 
-// A cell of which marking asks the length, before it is read.
+/// A cell of which marking asks the length, before it is read.
 fn name_unread(start: u32, layout: LayoutWord) -> Name
     ensures name { named_by result ≡ named_unread start layout }
     ensures fits { IsShort result }
@@ -70,7 +70,7 @@ fn name_unread(start: u32, layout: LayoutWord) -> Name
     }
 }
 
-// A cell with a layout, by the length that was read.
+/// A cell with a layout, by the length that was read.
 fn name_long(start: u32, layout: LayoutWord, long: Option<u64>) -> Name
     requires { IsLayout layout }
     ensures name { named_by result ≡ named_long start layout long }
@@ -82,7 +82,7 @@ fn name_long(start: u32, layout: LayoutWord, long: Option<u64>) -> Name
     }
 }
 
-// A cell with a layout, if its word is one's.
+/// A cell with a layout, if its word is one's.
 fn name_laid(start: u32, long: Option<u64>, layout: Option<LayoutWord>) -> Name
     requires { IfSome layout IsLayout }
     ensures name { named_by result ≡ named_laid start long layout }
@@ -94,7 +94,7 @@ fn name_laid(start: u32, long: Option<u64>, layout: Option<LayoutWord>) -> Name
     }
 }
 
-// A cell with this layout.
+/// A cell with this layout.
 fn name_by_kind(start: u32, long: Option<u64>, layout: LayoutWord) -> Name
     requires { IsLayout layout }
     ensures name { named_by result ≡ named_laid start long (Some layout) }
@@ -107,7 +107,7 @@ fn name_by_kind(start: u32, long: Option<u64>, layout: LayoutWord) -> Name
     }
 }
 
-// A cell by the layout word that was read.
+/// A cell by the layout word that was read.
 fn name_shaped(start: u32, long: Option<u64>, word: Option<u64>) -> Name
     ensures name { named_by result ≡ named_shaped start long word }
     ensures fits { IsShort result }
@@ -125,7 +125,7 @@ pub(crate) fn is_shape(header: Header) -> bool
     header.shape < shape::COUNT
 }
 
-// What a snap with this header names.
+/// What a snap with this header names.
 fn name_headed(snap: &Snap, header: Header) -> Name
     ensures name { named_by result
         ≡ named_headed snap.now.cell snap.now.layout snap.now.length (Some header) }
@@ -138,7 +138,7 @@ fn name_headed(snap: &Snap, header: Header) -> Name
     }
 }
 
-// What a snap names.
+/// What a snap names.
 fn name_of(snap: &Snap) -> Name
     ensures name { named_by result ≡ named snap.now }
     ensures fits { IsShort result }
@@ -149,14 +149,14 @@ fn name_of(snap: &Snap) -> Name
     }
 }
 
-// Whether the slot at an offset was read.
+/// Whether the slot at an offset was read.
 fn was_read(snap: &Snap, offset: u32) -> bool
     ensures { IsTrue result ↔ Contains (read_offsets snap.now) offset }
 {
     has_slot(snap.slots.as_slice(), offset)
 }
 
-// Whether a slot stands at an offset.
+/// Whether a slot stands at an offset.
 fn has_slot(slots: &[SnapSlot], offset: u32) -> bool
     ensures { result ≡ list_any (λ slot. slot.offset == offset) slots.now }
 {
@@ -174,7 +174,7 @@ pub(crate) fn is_to_read(snap: &Snap, offset: u32) -> bool
     }
 }
 
-// Whether each tagged slot of a cell was read.
+/// Whether each tagged slot of a cell was read.
 fn are_read(snap: &Snap, layout: LayoutWord, long: u64) -> bool
     requires { IsShort (Name.Cell layout long) }
     ensures { IsTrue result

@@ -1,9 +1,9 @@
 //! A list of events carried out, one after another.
 ghost use Rattle.std.specs.Prelude.{◌≡◌, IfOk, IfErr, length};
-ghost use Rattle.mark_world.specs.Moments.{after_all, WerePossible};
-ghost use Rattle.mark_world.specs.Resting.{IsDrained, MarksAll, Settled};
+ghost use Rattle.mark_world.specs.AfterEvents.{after_all, WerePossible};
+ghost use Rattle.mark_world.specs.BetweenCommands.{IsDrained, MarksAll, Settled};
 ghost use Rattle.mark_world.specs.OneLayouts.{OneLayout};
-ghost use Rattle.mark_laws.specs.Runs.{IsWhole, HasNoneOut};
+ghost use Rattle.mark_laws.specs.Runs.{IsSoundAndBorn, HasNoneOut};
 ghost use Rattle.mark_core.specs.Runs.{StopsThere};
 
 use crate::possible::is_possible;
@@ -19,9 +19,9 @@ use std::alloc::Global;
 pub fn replay(alloc: Global, start: &World, events: &[Event]) -> Result<World, StepStop>
     ensures carried { IfOk result (λ world. world ≡ after_all start.now events.now) }
     ensures possible { IfOk result (λ _. WerePossible start.now events.now (length events.now)) }
-    ensures whole { IfOk result (λ world. IsWhole start.now → IsWhole world) }
-    ensures marked { IfOk result (λ world. IsWhole start.now → IsDrained world → Settled world → MarksAll world) }
-    ensures one_layout { IfOk result (λ _. IsWhole start.now → HasNoneOut start.now →
+    ensures whole { IfOk result (λ world. IsSoundAndBorn start.now → IsSoundAndBorn world) }
+    ensures marked { IfOk result (λ world. IsSoundAndBorn start.now → IsDrained world → Settled world → MarksAll world) }
+    ensures one_layout { IfOk result (λ _. IsSoundAndBorn start.now → HasNoneOut start.now →
         OneLayout start.now events.now) }
     ensures stopped { IfErr result (StopsThere start.now events.now) }
 {

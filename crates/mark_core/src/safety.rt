@@ -2,13 +2,13 @@
 ghost use Rattle.std.specs.Prelude.{◌≡◌, ◌↔◌, IsTrue, IfSome};
 ghost use Rattle.tagged_word.specs.Layouts.{IsLayout};
 ghost use Rattle.tagged_word.specs.Readings.{shape_layout};
-ghost use Rattle.mark_world.specs.Safety.{is_slot_class, IsSlotWord, laid_in, plain_slots, Includes};
+ghost use Rattle.mark_world.specs.Safety.{is_slot_class, FitsTaggedSlot, laid_in, plain_slots, Includes};
 ghost use Rattle.mark_world.specs.Safety.{IsSafeChange, IsSafe};
 
 use mark_world::Laid;
 use tagged_word::{Class, Header, Kind, LayoutWord, Word, odd, shape};
 
-// Whether a tagged slot may hold a word of a class.
+/// Whether a tagged slot may hold a word of a class.
 fn is_slot_class(class: Class) -> bool
     ensures { result ≡ is_slot_class class }
 {
@@ -21,7 +21,7 @@ fn is_slot_class(class: Class) -> bool
 
 /// Whether a tagged slot may hold a word.
 pub(crate) fn is_slot_word(word: u64) -> bool
-    ensures { IsTrue result ↔ IsSlotWord word }
+    ensures { IsTrue result ↔ FitsTaggedSlot word }
 {
     match Word(word).class() {
         Some(class) => is_slot_class(class),
@@ -29,7 +29,7 @@ pub(crate) fn is_slot_word(word: u64) -> bool
     }
 }
 
-// The layout of a shape, if it is in place.
+/// The layout of a shape, if it is in place.
 fn shape_layout(layouts: &[u64], number: u32) -> Option<LayoutWord>
     ensures layout { result ≡ shape_layout layouts.now number }
     ensures is { IfSome result IsLayout }
@@ -51,7 +51,7 @@ pub(crate) fn laid_in(layouts: &[u64], word: u64) -> Option<Laid>
     Some(Laid { header, layout })
 }
 
-// Whether a cell of this kind is a plain one.
+/// Whether a cell of this kind is a plain one.
 fn is_plain(kind: Kind) -> bool
     ensures { IsTrue result ↔ (kind ≡ Kind.Plain) }
 {
@@ -61,10 +61,10 @@ fn is_plain(kind: Kind) -> bool
     }
 }
 
-// The most words of a plain cell.
+/// The most words of a plain cell.
 const PLAIN_MOST: u32 = 10;
 
-// Whether each slot that is tagged under one layout is tagged under another.
+/// Whether each slot that is tagged under one layout is tagged under another.
 fn includes(new: Laid, old: Laid) -> bool
     requires is { IsLayout old.layout }
     requires plain { old.layout.kind ≡ Kind.Plain }
@@ -78,7 +78,7 @@ fn includes(new: Laid, old: Laid) -> bool
     true
 }
 
-// Whether one header is a safe change of another.
+/// Whether one header is a safe change of another.
 fn is_safe_change(old: Laid, new: Laid) -> bool
     requires { IsLayout old.layout }
     ensures { IsTrue result ↔ IsSafeChange old new }

@@ -3,8 +3,8 @@ ghost use Rattle.std.specs.Prelude.{◌≡◌, ◌+◌, ◌≤◌, slice_index, 
 ghost use Rattle.std.specs.Option.{option_map};
 ghost use Rattle.seat_steps.specs.Boards.{given_word};
 ghost use Rattle.mark_world.specs.Steps.{actor, main_spot, helper_spot, layout_spot, shaded, settled, becomes};
-ghost use Rattle.mark_world.specs.Moments.{word_at, with_word};
-ghost use Rattle.mark_core.specs.Spots.{FitsSpot};
+ghost use Rattle.mark_world.specs.AfterEvents.{word_at, with_word};
+ghost use Rattle.mark_core.specs.Locations.{FitsSpot};
 
 use crate::cells::word_at;
 use mark_world::{Actor, Event, HelperView, Snap, Spot, World};
@@ -53,7 +53,7 @@ pub(crate) fn main_spot(event: Event) -> Option<Spot>
     }
 }
 
-// The layout word of the shape of the header that was read.
+/// The layout word of the shape of the header that was read.
 fn layout_spot(snap: &Snap) -> Option<Spot>
     ensures { result ≡ layout_spot snap.now }
 {
@@ -82,7 +82,7 @@ pub(crate) fn helper_spot(view: &HelperView, event: Event) -> Option<Spot>
     }
 }
 
-// The word at an offset of the cell of a snap.
+/// The word at an offset of the cell of a snap.
 fn snap_spot(snap: &Option<Snap>, offset: u64) -> Option<Spot>
     requires { offset ≤ 4294967295 }
     ensures { result ≡ option_map (λ snap. Spot.Heap (snap.cell + offset)) snap.now }
@@ -122,7 +122,7 @@ pub(crate) fn becomes(event: Event, found: u64) -> u64
     }
 }
 
-// A word of the board once a cell was given to it.
+/// A word of the board once a cell was given to it.
 fn given(found: u64, at: u32) -> u64
     ensures { result ≡ given_word found at }
 {
@@ -133,14 +133,14 @@ fn given(found: u64, at: u32) -> u64
     }
 }
 
-// A colour once a cell was shaded.
+/// A colour once a cell was shaded.
 fn shaded(found: u64) -> u64
     ensures { result ≡ shaded found }
 {
     if found == 0 { 1 } else { found }
 }
 
-// A colour once a snap of the cell was settled.
+/// A colour once a snap of the cell was settled.
 fn settled(found: u64) -> u64
     ensures { result ≡ settled found }
 {
@@ -182,7 +182,7 @@ pub(crate) fn put(world: &mut World, spot: Option<Spot>, word: u64)
     }
 }
 
-// Puts a word at a place of a list, if there is one.
+/// Puts a word at a place of a list, if there is one.
 fn set_word(list: &mut Items<u64>, at: u64, word: u64)
     ensures { list.new ≡ slice_set list.old at word }
 {
@@ -191,7 +191,7 @@ fn set_word(list: &mut Items<u64>, at: u64, word: u64)
     }
 }
 
-// Puts a colour at a place of a list, if there is one.
+/// Puts a colour at a place of a list, if there is one.
 fn set_colour(list: &mut Items<u8>, at: u32, colour: u8)
     ensures { list.new ≡ slice_set list.old at colour }
 {

@@ -2,8 +2,8 @@
 ghost use Rattle.std.specs.Prelude.{◌≡◌, ◌<◌, OnOk, length, slice_get, slice_set, Some};
 ghost use Rattle.mark_world.specs.declared.views.HelperView.{HelperView};
 ghost use Rattle.mark_world.specs.Steps.{helper_learns, helper_spot};
-ghost use Rattle.mark_core.specs.Spots.{FitsSpot};
-ghost use Rattle.mark_world.specs.Moments.{after, after_main, after_helper, after_return};
+ghost use Rattle.mark_core.specs.Locations.{FitsSpot};
+ghost use Rattle.mark_world.specs.AfterEvents.{after, after_main, after_helper, after_return};
 
 use crate::learning::{learn_main, take_back};
 use crate::learning_helper::learn_helper;
@@ -25,7 +25,7 @@ pub fn apply(alloc: Global, world: &mut World, event: Event) -> Result<(), NoMem
     }
 }
 
-// The world after a step of the mutator.
+/// The world after a step of the mutator.
 fn step_main(alloc: Global, world: &mut World, event: Event) -> Result<(), NoMemory>
     ensures { OnOk result (world.exit.now ≡ after_main world.entry.now event) }
 {
@@ -36,7 +36,7 @@ fn step_main(alloc: Global, world: &mut World, event: Event) -> Result<(), NoMem
     Ok(())
 }
 
-// The views after a step of a helper, by the word found.
+/// The views after a step of a helper, by the word found.
 fn step_view(
     alloc: Global,
     old: u32,
@@ -57,7 +57,7 @@ fn step_view(
     Ok(())
 }
 
-// The world after a step of a helper.
+/// The world after a step of a helper.
 fn step_helper(alloc: Global, world: &mut World, helper: u32, event: Event) -> Result<(), NoMemory>
     ensures { let w = world.entry.now in OnOk result (world.exit.now
         ≡ after_helper w helper event (slice_get w.helpers helper)) }
@@ -72,7 +72,7 @@ fn step_helper(alloc: Global, world: &mut World, helper: u32, event: Event) -> R
     Ok(())
 }
 
-// The world after a seat was taken back.
+/// The world after a seat was taken back.
 fn step_return(alloc: Global, world: &mut World, helper: u32) -> Result<(), NoMemory>
     ensures { let w = world.entry.now in OnOk result (world.exit.now
         ≡ after_return w helper (slice_get w.helpers helper)) }

@@ -2,7 +2,7 @@
 use Rattle.std.proofs.Common.{ℕ, ◌+◌, ◌<◌, ◌≤◌, ◌≡◌, ◌∙◌, zero, suc, Bool, true, false, List, [], ◌∷◌}
 use Rattle.std.proofs.Common.{length, min, take, slice_get, slice_index, Option, Some, None, refl, sym, ap, arith}
 use Rattle.std.proofs.lemmas.List.{get_or-take, length-take}
-use Rattle.tagged_word.specs.declared.reading.Reading.{Reading}
+use Rattle.mark_laws.specs.Types.{Reading}
 use Rattle.tagged_word.specs.Cells.{has_length, length_by, length_offset}
 use Rattle.tagged_word.specs.Readings.{read_cell}
 use Rattle.tagged_word.proofs.CellReadings.{cell_from, cell_to}

@@ -5,16 +5,13 @@ use Rattle.std.proofs.Common.{ap, subst, arith}
 use Rattle.std.proofs.lemmas.Bool.{cases_lt}
 use Rattle.std.proofs.lemmas.Bool.Decides.{nat_tests}
 use Rattle.std.proofs.lemmas.List.{get_or-set_other, get_or-set_same, get_or_past, length-set}
-use Rattle.tagged_word.specs.declared.header.Header.{Header}
-use Rattle.tagged_word.specs.declared.reading.Reading.{Reading}
+use Rattle.mark_laws.specs.Types.{Header, Reading, Laid, World}
 use Rattle.tagged_word.specs.Readings.{header_in, read_cell, reference_in}
 use Rattle.tagged_word.proofs.Cells.{made}
 use Rattle.tagged_word.proofs.CellReadings.{cell_from}
-use Rattle.mark_world.specs.declared.laid.Laid.{Laid}
-use Rattle.mark_world.specs.declared.world.World.{World}
 use Rattle.mark_world.specs.Pages.{is_head_of, page_end}
 use Rattle.mark_world.specs.Safety.{IsSafeChange, laid_in}
-use Rattle.mark_world.specs.Resting.{any_cell}
+use Rattle.mark_world.specs.BetweenCommands.{any_cell}
 use Rattle.mark_laws.proofs.Cells.{layout_keeps}
 use Rattle.mark_laws.proofs.Laid.{laid_of}
 use Rattle.mark_laws.proofs.Reading.{store_keeps}

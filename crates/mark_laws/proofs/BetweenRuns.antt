@@ -1,17 +1,17 @@
 -- The mutator's part, and what is known, but of the cells that it is making or changing, along lists of events.
 use Rattle.std.proofs.Common.{ℕ, List, [], ◌∷◌}
-use Rattle.mark_world.specs.declared.event.Event.{Event}
-use Rattle.mark_world.specs.declared.world.World.{World}
-use Rattle.mark_world.specs.Moments.{after, after_all}
+use Rattle.mark_laws.specs.Types.{Event, World}
+use Rattle.mark_world.specs.AfterEvents.{after, after_all}
 use Rattle.mark_world.specs.Unfinished.{EachSpares, SettlingBut, made_after, made_after_all}
 use Rattle.mark_world.specs.Knowing.{EachSparesKnown, KnownBut}
-use Rattle.mark_laws.specs.Runs.{IsWhole}
+use Rattle.mark_laws.specs.Runs.{IsSoundAndBorn}
 use Rattle.mark_laws.proofs.Knowing.{known_stays}
 use Rattle.mark_laws.proofs.SettlingSteps.{settling_stays}
 use Rattle.mark_laws.proofs.SoundWorlds.{sound_stays}
 
 -- the mutator's part stays under way but for these cells along a list of events from a whole world
-pub settling_along : (world : World) (made : List ℕ) (events : List Event) → IsWhole world → SettlingBut world made
+pub settling_along : (world : World) (made : List ℕ) (events : List Event) → IsSoundAndBorn world
+    → SettlingBut world made
     → EachSpares world made events → SettlingBut (after_all world events) (made_after_all made events)
 settling_along world made [] whole has spare = has
 settling_along world made (of ∷ rest) whole has spare =

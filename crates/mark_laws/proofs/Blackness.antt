@@ -2,20 +2,15 @@
 use Rattle.tagged_word.proofs.Cells.{some_same}
 use Rattle.std.proofs.Common.{ℕ, ◌+◌, ◌≡◌, ◌∙◌, inl, inr, IsTrue, List, Option, Some, None, IsSomeAnd, Contains}
 use Rattle.std.proofs.Common.{slice_get, slice_index, refl, sym, subst}
-use Rattle.tagged_word.specs.declared.reading.Reading.{Reading}
-use Rattle.mark_world.specs.declared.event.Event.{Event}
-use Rattle.mark_world.specs.declared.step.Actor.{Actor}
-use Rattle.mark_world.specs.declared.views.HelperView.{HelperView}
-use Rattle.mark_world.specs.declared.views.MainView.{MainView}
-use Rattle.mark_world.specs.declared.world.World.{World}
+use Rattle.mark_laws.specs.Types.{Reading, Event, Actor, HelperView, MainView, World}
 use Rattle.mark_world.specs.Pages.{is_free, slots_of}
 use Rattle.mark_world.specs.Steps.{actor}
 use Rattle.mark_world.specs.Conditions.{MayHelper, MayMain}
-use Rattle.mark_world.specs.Moments.{after, after_helper, after_main, after_return, after_step, MayStep, Possible}
-use Rattle.mark_world.specs.Moments.{PossibleStep}
-use Rattle.mark_world.specs.Covering.{EachSlot, HasCovered, IsCovered, cell_of}
+use Rattle.mark_world.specs.AfterEvents.{after, after_helper, after_main, after_return, after_step, MayStep, Possible}
+use Rattle.mark_world.specs.AfterEvents.{PossibleStep}
+use Rattle.mark_world.specs.Coverage.{EachSlot, HasCovered, IsCovered, cell_of}
 use Rattle.mark_world.specs.Soundness.{HasBlack, HasCells, HasLists, HasSizes, HasSnaps, HasSure}
-use Rattle.mark_world.specs.Lineage.{Born}
+use Rattle.mark_world.specs.BornCells.{Born}
 use Rattle.mark_laws.proofs.Blacks.{helper_black, main_black}
 use Rattle.mark_laws.proofs.Coverage.{step_covers}
 use Rattle.mark_laws.proofs.FreeStarts.{step_free}

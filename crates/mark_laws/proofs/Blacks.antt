@@ -9,16 +9,12 @@ use Rattle.std.proofs.lemmas.List.{get_or_past, get_or-set_other, get_or-set_sam
 use Rattle.tagged_word.specs.Cells.{length_offset}
 use Rattle.seat_steps.specs.Lists.{joined}
 use Rattle.seat_steps.proofs.Joining.{joined_in}
-use Rattle.mark_world.specs.declared.event.Event.{Event}
+use Rattle.mark_laws.specs.Types.{Event, Spot, Snap, HelperView, World}
 use Rattle.mark_world.specs.declared.event.Event.TheVariants as event
-use Rattle.mark_world.specs.declared.step.Spot.{Spot}
-use Rattle.mark_world.specs.declared.snap.Snap.{Snap}
-use Rattle.mark_world.specs.declared.views.HelperView.{HelperView}
-use Rattle.mark_world.specs.declared.world.World.{World}
 use Rattle.mark_world.specs.Pages.{is_free}
 use Rattle.mark_world.specs.Steps.{black, grey, helper_spot, settled, shaded}
-use Rattle.mark_world.specs.Moments.{after_helper, after_main, with_word, word_at}
-use Rattle.mark_world.specs.Covering.{colour_of}
+use Rattle.mark_world.specs.AfterEvents.{after_helper, after_main, with_word, word_at}
+use Rattle.mark_world.specs.Coverage.{colour_of}
 use Rattle.mark_laws.proofs.Stores.{free_is}
 use Rattle.mark_laws.proofs.Listing.{load_colours, loads_heap, loads_layout}
 use Rattle.mark_laws.proofs.Waiting.{one_or_other}

@@ -8,21 +8,16 @@ use Rattle.tagged_word.specs.Cells.{length_offset}
 use Rattle.tagged_word.proofs.Members.{map_from}
 use Rattle.seat_steps.specs.Lists.{left}
 use Rattle.seat_steps.proofs.Leaving.{left_from}
-use Rattle.mark_world.specs.declared.event.Event.{Event}
+use Rattle.mark_laws.specs.Types.{Event, Snap, SnapSlot, Spot, HelperView, World}
 use Rattle.mark_world.specs.declared.event.Event.TheVariants as event
-use Rattle.mark_world.specs.declared.snap.Snap.{Snap}
-use Rattle.mark_world.specs.declared.snap.SnapSlot.{SnapSlot}
-use Rattle.mark_world.specs.declared.step.Spot.{Spot}
-use Rattle.mark_world.specs.declared.views.HelperView.{HelperView}
-use Rattle.mark_world.specs.declared.world.World.{World}
 use Rattle.mark_world.specs.Naming.{IsToRead, Named, named, read_offsets, read_words}
 use Rattle.mark_world.specs.Steps.{becomes, grey, helper_learns, helper_spot, snap_settled, snap_targets, white}
 use Rattle.mark_world.specs.Steps.{with_layout, with_length, with_slot}
 use Rattle.mark_world.specs.Conditions.{MayHelper}
-use Rattle.mark_world.specs.Moments.{after_helper, IsReached, with_word, word_at}
-use Rattle.mark_world.specs.Covering.{colour_of}
+use Rattle.mark_world.specs.AfterEvents.{after_helper, IsReached, with_word, word_at}
+use Rattle.mark_world.specs.Coverage.{colour_of}
 use Rattle.mark_world.specs.Soundness.{AreIn, HasCells, HasLists, HasSnaps, HasViewLists, IsTrueSnap}
-use Rattle.mark_world.specs.Lineage.{Born, HasBorn}
+use Rattle.mark_world.specs.BornCells.{Born, HasBorn}
 use Rattle.mark_laws.proofs.BornSlots.{Grows, SnapBorn, ViewBorn, view_born, views_born}
 use Rattle.mark_laws.proofs.Helped.{helped, helper_helped, views_after}
 use Rattle.mark_laws.proofs.Joins.{all_from, of_slot, of_target, some_and, targets_from}

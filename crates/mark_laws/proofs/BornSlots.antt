@@ -4,22 +4,17 @@ use Rattle.std.proofs.Common.{slice_index, Option, Some, IfSome, All, Contains, 
 use Rattle.std.proofs.Common.{eqb-true}
 use Rattle.std.proofs.lemmas.Bool.{eqb-false}
 use Rattle.std.proofs.lemmas.List.Elements.{All-contains}
-use Rattle.tagged_word.specs.declared.reading.Reading.{Reading}
+use Rattle.mark_laws.specs.Types.{Reading, Snap, SnapSlot, HelperView, MainView, World}
 use Rattle.tagged_word.proofs.Cells.{some_same}
 use Rattle.seat_steps.proofs.Joining.{decided}
 use Rattle.mark_world.specs.declared.event.Event.TheVariants as event
-use Rattle.mark_world.specs.declared.snap.Snap.{Snap}
-use Rattle.mark_world.specs.declared.snap.SnapSlot.{SnapSlot}
-use Rattle.mark_world.specs.declared.views.HelperView.{HelperView}
-use Rattle.mark_world.specs.declared.views.MainView.{MainView}
-use Rattle.mark_world.specs.declared.world.World.{World}
 use Rattle.mark_world.specs.Pages.{is_free, is_head_of, page_end, slots_of, target}
 use Rattle.mark_world.specs.Steps.{grey}
 use Rattle.mark_world.specs.Conditions.{MayAddLayout, MayStoreHeader, MayStoreOwned, MayStoreSlot}
-use Rattle.mark_world.specs.Moments.{after_main, IsReached}
-use Rattle.mark_world.specs.Covering.{EachSlot, cell_of, colour_of}
+use Rattle.mark_world.specs.AfterEvents.{after_main, IsReached}
+use Rattle.mark_world.specs.Coverage.{EachSlot, cell_of, colour_of}
 use Rattle.mark_world.specs.Soundness.{HasCells, HasLists, HasSure, HasViewLists}
-use Rattle.mark_world.specs.Lineage.{HasBorn}
+use Rattle.mark_world.specs.BornCells.{HasBorn}
 use Rattle.mark_laws.proofs.Cells.{layout_keeps, owned_no_head}
 use Rattle.mark_laws.proofs.Joins.{of_slot}
 use Rattle.mark_laws.proofs.Listing.{all_weaker, some_weaker}

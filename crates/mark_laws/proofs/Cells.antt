@@ -3,21 +3,19 @@ use Rattle.std.proofs.Common.{ℕ, ◌+◌, ◌≤◌, ◌≡◌, ◌≢◌, ◌
 use Rattle.std.proofs.Common.{Bool, true, false, not, IsTrue, List, min, slice_set, slice_get, Option, Some, refl, sym}
 use Rattle.std.proofs.Common.{ap, subst, arith}
 use Rattle.std.proofs.lemmas.Bool.Decides.{nat_tests}
-use Rattle.tagged_word.specs.declared.reading.Reading.{Reading}
+use Rattle.mark_laws.specs.Types.{Reading, Event, World}
 use Rattle.tagged_word.specs.Layouts.{layout_bits}
 use Rattle.tagged_word.specs.Readings.{read_cell}
 use Rattle.tagged_word.proofs.Cells.{some_same}
 use Rattle.tagged_word.proofs.CellReadings.{cell_from, cell_to}
 use Rattle.tagged_word.proofs.Layouts.{kind_number-some}
 use Rattle.seat_steps.specs.Lists.{is_in}
-use Rattle.mark_world.specs.declared.event.Event.{Event}
 use Rattle.mark_world.specs.declared.event.Event.TheVariants as event
-use Rattle.mark_world.specs.declared.world.World.{World}
 use Rattle.mark_world.specs.Pages.{EachFree, cell_at, is_free, is_head, is_head_of, is_inside, leaves_alone}
 use Rattle.mark_world.specs.Pages.{offset_in, page_end, slots_of}
 use Rattle.mark_world.specs.Conditions.{MayMain}
-use Rattle.mark_world.specs.Moments.{after_main}
-use Rattle.mark_world.specs.Covering.{cell_of}
+use Rattle.mark_world.specs.AfterEvents.{after_main}
+use Rattle.mark_world.specs.Coverage.{cell_of}
 use Rattle.mark_world.specs.Soundness.{HasCells}
 use Rattle.mark_laws.specs.Cells.{StoresHeader}
 use Rattle.mark_laws.proofs.Reading.{slice_get_other, store_keeps}

@@ -1,16 +1,13 @@
 -- Each free start reads its cell as before through every event, or a wider one of the same size.
 use Rattle.std.proofs.Common.{ℕ, ◌≡◌, ◌∙◌, inl, inr, IsTrue, Option, Some, IsSomeAnd, slice_get, refl, sym, subst}
 use Rattle.std.proofs.lemmas.List.Elements.{All-contains_itself}
-use Rattle.tagged_word.specs.declared.reading.Reading.{Reading}
-use Rattle.mark_world.specs.declared.event.Event.{Event}
+use Rattle.mark_laws.specs.Types.{Reading, Event, Actor, World}
 use Rattle.mark_world.specs.declared.event.Event.TheVariants as event
-use Rattle.mark_world.specs.declared.step.Actor.{Actor}
-use Rattle.mark_world.specs.declared.world.World.{World}
 use Rattle.mark_world.specs.Pages.{is_free, slots_of}
 use Rattle.mark_world.specs.Steps.{actor}
 use Rattle.mark_world.specs.Conditions.{MayMain}
-use Rattle.mark_world.specs.Moments.{after, after_main, after_step, Possible, PossibleStep}
-use Rattle.mark_world.specs.Covering.{cell_of}
+use Rattle.mark_world.specs.AfterEvents.{after, after_main, after_step, Possible, PossibleStep}
+use Rattle.mark_world.specs.Coverage.{cell_of}
 use Rattle.mark_world.specs.Soundness.{HasCells}
 use Rattle.mark_laws.specs.Cells.{StoresHeader, Widens}
 use Rattle.mark_laws.proofs.SafeChanges.{header_widens}

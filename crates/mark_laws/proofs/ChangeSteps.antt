@@ -3,13 +3,11 @@ use Rattle.std.proofs.Common.{ℕ, ◌≡◌, ◌∙◌, List, [], ◌∷◌, Al
 use Rattle.std.proofs.Common.{slice_get}
 use Rattle.std.proofs.Common.{refl, sym, ap}
 use Rattle.std.proofs.lemmas.List.Elements.{All-head, All-tail}
-use Rattle.mark_world.specs.declared.event.Event.{Event}
+use Rattle.mark_laws.specs.Types.{Event, Actor, World}
 use Rattle.mark_world.specs.declared.event.Event.TheVariants as event
-use Rattle.mark_world.specs.declared.step.Actor.{Actor}
-use Rattle.mark_world.specs.declared.world.World.{World}
 use Rattle.mark_world.specs.Steps.{actor}
-use Rattle.mark_world.specs.Moments.{after, after_main}
-use Rattle.mark_world.specs.Moments.{after_step}
+use Rattle.mark_world.specs.AfterEvents.{after, after_main}
+use Rattle.mark_world.specs.AfterEvents.{after_step}
 use Rattle.mark_world.specs.Unfinished.{made_after, made_after_all}
 use Rattle.mark_laws.specs.Changes.{LeavesDone, WordsAreStored, all_stored, steps_of, stored}
 use Rattle.mark_laws.proofs.SamePages.{helper_pages, return_pages}

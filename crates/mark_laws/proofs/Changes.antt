@@ -3,22 +3,17 @@ use Rattle.std.proofs.Common.{ℕ, suc, ◌+◌, ◌≡◌, ◌≢◌, ◌∙◌
 use Rattle.std.proofs.Common.{Contains, IsSomeAnd, get_or, length, slice_get, slice_set, Option, Some, None}
 use Rattle.std.proofs.Common.{refl, sym, ap, subst, arith}
 use Rattle.std.proofs.lemmas.List.Elements.{All-contains}
-use Rattle.tagged_word.specs.declared.reading.Reading.{Reading}
+use Rattle.mark_laws.specs.Types.{Reading, Event, Actor, HelperView, MainView, World}
 use Rattle.tagged_word.proofs.Cells.{some_same}
 use Rattle.tagged_word.proofs.Members.{first_in, rest_in}
 use Rattle.seat_steps.specs.Lists.{joined}
-use Rattle.mark_world.specs.declared.event.Event.{Event}
 use Rattle.mark_world.specs.declared.event.Event.TheVariants as event
-use Rattle.mark_world.specs.declared.step.Actor.{Actor}
-use Rattle.mark_world.specs.declared.views.HelperView.{HelperView}
-use Rattle.mark_world.specs.declared.views.MainView.{MainView}
-use Rattle.mark_world.specs.declared.world.World.{World}
 use Rattle.mark_world.specs.Pages.{cell_at, is_head_of, is_inside, page_end}
 use Rattle.mark_world.specs.Steps.{actor}
 use Rattle.mark_world.specs.Conditions.{AreSureAfter, MayMain}
-use Rattle.mark_world.specs.Moments.{Possible, PossibleStep, WerePossible, after, after_helper, after_main}
-use Rattle.mark_world.specs.Moments.{after_return, after_step}
-use Rattle.mark_world.specs.Covering.{EachSlot, cell_of}
+use Rattle.mark_world.specs.AfterEvents.{Possible, PossibleStep, WerePossible, after, after_helper, after_main}
+use Rattle.mark_world.specs.AfterEvents.{after_return, after_step}
+use Rattle.mark_world.specs.Coverage.{EachSlot, cell_of}
 use Rattle.mark_world.specs.Unfinished.{Spares, made_after}
 use Rattle.mark_laws.specs.Changes.{ApartIsSpared, LeavesDone, LiesApart, steps_of}
 use Rattle.mark_laws.proofs.Cells.{layout_keeps}

@@ -6,14 +6,11 @@ use Rattle.tagged_word.proofs.Members.{in_cases}
 use Rattle.seat_steps.specs.Lists.{joined}
 use Rattle.seat_steps.proofs.Joining.{joined_in, joined_keeps}
 use Rattle.seat_steps.proofs.Leaving.{left_keeps}
-use Rattle.mark_world.specs.declared.event.Event.{Event}
+use Rattle.mark_laws.specs.Types.{Event, Actor, HelperView, World}
 use Rattle.mark_world.specs.declared.event.Event.TheVariants as event
-use Rattle.mark_world.specs.declared.step.Actor.{Actor}
-use Rattle.mark_world.specs.declared.views.HelperView.{HelperView}
-use Rattle.mark_world.specs.declared.world.World.{World}
 use Rattle.mark_world.specs.Pages.{target}
 use Rattle.mark_world.specs.Steps.{actor, becomes, main_spot}
-use Rattle.mark_world.specs.Moments.{after, after_all, after_main, after_return, after_step, word_at}
+use Rattle.mark_world.specs.AfterEvents.{after, after_all, after_main, after_return, after_step, word_at}
 use Rattle.mark_world.specs.Unfinished.{HasSureOrOwed, IsSureOrOwed, SettledBut, SettlingBut, made_after_all}
 use Rattle.mark_laws.specs.Changes.{ChangesKeep, ChangesSettle, HasEnded, LeavesDone, StoredIsSure, steps_of}
 use Rattle.mark_laws.specs.LayoutChanges.{LayoutChangesSettle, changed}

@@ -11,25 +11,19 @@ use Rattle.std.proofs.lemmas.List.Elements.{All-contains}
 use Rattle.seat_steps.specs.Lists.{left}
 use Rattle.seat_steps.proofs.Joining.{decided}
 use Rattle.seat_steps.proofs.Leaving.{left_keeps}
-use Rattle.mark_world.specs.declared.event.Event.{Event}
+use Rattle.mark_laws.specs.Types.{Event, Actor, Spot, Snap, HelperView, World, MainView}
 use Rattle.mark_world.specs.declared.event.Event.TheVariants as event
-use Rattle.mark_world.specs.declared.step.Actor.{Actor}
-use Rattle.mark_world.specs.declared.step.Spot.{Spot}
-use Rattle.mark_world.specs.declared.snap.Snap.{Snap}
-use Rattle.mark_world.specs.declared.views.HelperView.{HelperView}
-use Rattle.mark_world.specs.declared.world.World.{World}
-use Rattle.mark_world.specs.declared.views.MainView.{MainView}
 use Rattle.mark_world.specs.Pages.{target, targets_joined}
 use Rattle.mark_world.specs.Naming.{IsReadOut, named, read_offsets}
 use Rattle.mark_world.specs.Steps.{actor, all_joined, becomes, black, free_slot_words, helper_learns, helper_spot, lent}
 use Rattle.mark_world.specs.Steps.{main_spot, returned}
 use Rattle.mark_world.specs.Steps.{shaded, white}
 use Rattle.mark_world.specs.Conditions.{MayHelper, MayMain}
-use Rattle.mark_world.specs.Moments.{after, after_helper, after_main, after_return, after_step, MayStep, Possible}
-use Rattle.mark_world.specs.Moments.{PossibleStep, with_word, word_at}
-use Rattle.mark_world.specs.Covering.{IsCovered, colour_of}
+use Rattle.mark_world.specs.AfterEvents.{after, after_helper, after_main, after_return, after_step, MayStep, Possible}
+use Rattle.mark_world.specs.AfterEvents.{PossibleStep, with_word, word_at}
+use Rattle.mark_world.specs.Coverage.{IsCovered, colour_of}
 use Rattle.mark_world.specs.Soundness.{HasCells, HasLists, HasSizes, HasViewLists}
-use Rattle.mark_world.specs.Lineage.{Born}
+use Rattle.mark_world.specs.BornCells.{Born}
 use Rattle.mark_laws.proofs.Colours.{helper_rises, step_rises}
 use Rattle.mark_laws.proofs.Starts.{start_old}
 use Rattle.mark_laws.proofs.Joins.{all_keep, all_there, any_through, joined_by_keeps, of_get, targets_keep, some_and}

@@ -2,20 +2,17 @@
 use Rattle.std.proofs.Common.{ℕ, ◌+◌, ◌≤◌, ◌≡◌, ◌≢◌, inl, inr, false, List, [], length}
 use Rattle.std.proofs.Common.{slice_index, Option, Some, None, IsSomeAnd, Contains, sym, ap, ◌∙◌, arith}
 use Rattle.std.proofs.lemmas.List.Elements.{All-contains}
-use Rattle.tagged_word.specs.declared.reading.Reading.{Reading}
+use Rattle.mark_laws.specs.Types.{Reading, World, HelperView, Snap}
 use Rattle.tagged_word.specs.Readings.{reference_in}
-use Rattle.mark_world.specs.declared.world.World.{World}
-use Rattle.mark_world.specs.declared.views.HelperView.{HelperView}
-use Rattle.mark_world.specs.declared.snap.Snap.{Snap}
 use Rattle.mark_world.specs.Pages.{slots_of, target}
 use Rattle.mark_world.specs.Steps.{white, grey, black}
-use Rattle.mark_world.specs.Moments.{IsReached}
-use Rattle.mark_world.specs.Covering.{EachSlot, HasCovered, IsCovered, IsToVisit, cell_of, colour_of}
+use Rattle.mark_world.specs.AfterEvents.{IsReached}
+use Rattle.mark_world.specs.Coverage.{EachSlot, HasCovered, IsCovered, IsToVisit, cell_of, colour_of}
 use Rattle.mark_world.specs.Soundness.{HasLists, HasViewLists, IsEmptyView, Sound, Waits}
 use Rattle.mark_laws.proofs.Colours.{each_colour}
 use Rattle.mark_laws.proofs.Starts.{free_or_mine}
 use Rattle.mark_laws.proofs.Joins.{of_slot, of_target}
-use Rattle.mark_world.specs.Resting.{HasSureTarget, IsDrained, MarksAll, Reached, Settled}
+use Rattle.mark_world.specs.BetweenCommands.{HasSureTarget, IsDrained, MarksAll, IsReachable, Settled}
 
 -- an empty list has no member
 in_none : {X : Type 0} (xs : List X) (x : X) → xs ≡ [] → Contains xs x → ⊥
@@ -92,10 +89,10 @@ next_reached world sound settled drained from at offset cell reached reads there
     ]
 
 -- each old cell that is reached, in so many steps or few, is reached at once
-all_reached : (world : World) → Sound world → Settled world → IsDrained world → (at : ℕ) → Reached world at
+all_reached : (world : World) → Sound world → Settled world → IsDrained world → (at : ℕ) → IsReachable world at
     → IsReached world at
-all_reached world sound settled drained _ (Reached.start at reached) = reached
-all_reached world sound settled drained _ (Reached.slot from at offset cell before reads there refers) =
+all_reached world sound settled drained _ (IsReachable.start at reached) = reached
+all_reached world sound settled drained _ (IsReachable.slot from at offset cell before reads there refers) =
     next_reached world sound settled drained from at offset cell
     (all_reached world sound settled drained from before) reads there refers
 

@@ -2,15 +2,11 @@
 use Rattle.std.proofs.Common.{ℕ, inl, inr, IsTrue, Option, Some, None, Contains, slice_get, sym, subst}
 use Rattle.seat_steps.specs.Lists.{joined}
 use Rattle.seat_steps.proofs.Joining.{joined_in, joined_from, joined_keeps}
-use Rattle.mark_world.specs.declared.event.Event.{Event}
+use Rattle.mark_laws.specs.Types.{Event, Actor, HelperView, MainView, World}
 use Rattle.mark_world.specs.declared.event.Event.TheVariants as event
-use Rattle.mark_world.specs.declared.step.Actor.{Actor}
-use Rattle.mark_world.specs.declared.views.HelperView.{HelperView}
-use Rattle.mark_world.specs.declared.views.MainView.{MainView}
-use Rattle.mark_world.specs.declared.world.World.{World}
 use Rattle.mark_world.specs.Pages.{is_free}
 use Rattle.mark_world.specs.Steps.{actor}
-use Rattle.mark_world.specs.Moments.{after, after_main, after_return, after_step}
+use Rattle.mark_world.specs.AfterEvents.{after, after_main, after_return, after_step}
 use Rattle.mark_laws.proofs.Sureness.{helper_main}
 use Rattle.mark_laws.proofs.Stores.{free_is, free_made}
 use Rattle.mark_laws.proofs.Waiting.{one_or_other}

@@ -6,15 +6,10 @@ use Rattle.std.proofs.lemmas.List.{get_or_append_left, length-append}
 use Rattle.seat_steps.specs.Lists.{joined}
 use Rattle.seat_steps.specs.Boards.{joined_by}
 use Rattle.seat_steps.proofs.Joining.{joined_in}
-use Rattle.mark_world.specs.declared.event.Event.{Event}
-use Rattle.mark_world.specs.declared.step.Actor.{Actor}
-use Rattle.mark_world.specs.declared.snap.Snap.{Snap}
-use Rattle.mark_world.specs.declared.views.HelperView.{HelperView}
-use Rattle.mark_world.specs.declared.views.MainView.{MainView}
-use Rattle.mark_world.specs.declared.world.World.{World}
+use Rattle.mark_laws.specs.Types.{Event, Actor, Snap, HelperView, MainView, World}
 use Rattle.mark_world.specs.Steps.{actor, all_joined, grey, lent, returned, taken_back}
-use Rattle.mark_world.specs.Moments.{after, after_helper, after_return, after_step, MayStep, Possible, PossibleStep}
-use Rattle.mark_world.specs.Covering.{colour_of}
+use Rattle.mark_world.specs.AfterEvents.{after, after_helper, after_return, after_step, MayStep, Possible, PossibleStep}
+use Rattle.mark_world.specs.Coverage.{colour_of}
 use Rattle.mark_world.specs.Soundness.{HasCells, HasGrey, HasLists, HasSizes, HasViewLists, Waits}
 use Rattle.mark_laws.proofs.Joins.{all_from, all_keep, all_there, any_through, joined_by_keeps, of_get, some_and}
 use Rattle.mark_laws.proofs.Waiting.{InView, grey_waits}

@@ -4,15 +4,11 @@ use Rattle.std.proofs.Common.{sym, subst, arith}
 use Rattle.std.proofs.lemmas.List.Elements.{All-contains, All-contains_itself}
 use Rattle.seat_steps.specs.Lists.{joined}
 use Rattle.seat_steps.proofs.Joining.{joined_keeps}
-use Rattle.mark_world.specs.declared.event.Event.{Event}
+use Rattle.mark_laws.specs.Types.{Event, Actor, HelperView, MainView, World}
 use Rattle.mark_world.specs.declared.event.Event.TheVariants as event
-use Rattle.mark_world.specs.declared.step.Actor.{Actor}
-use Rattle.mark_world.specs.declared.views.HelperView.{HelperView}
-use Rattle.mark_world.specs.declared.views.MainView.{MainView}
-use Rattle.mark_world.specs.declared.world.World.{World}
 use Rattle.mark_world.specs.Pages.{targets_joined}
 use Rattle.mark_world.specs.Steps.{actor, free_slot_words}
-use Rattle.mark_world.specs.Moments.{after, after_all, after_main, after_return, after_step, moment}
+use Rattle.mark_world.specs.AfterEvents.{after, after_all, after_main, after_return, after_step, moment}
 use Rattle.mark_world.specs.Soundness.{AreIn}
 use Rattle.mark_laws.specs.Growing.{Grows}
 use Rattle.mark_laws.proofs.Joins.{all_from, targets_keep}

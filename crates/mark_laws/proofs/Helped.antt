@@ -3,14 +3,10 @@ use Rattle.std.proofs.Common.{ℕ, ◌+◌, ◌≡◌, List, slice_set, Option, 
 use Rattle.std.proofs.lemmas.List.{set-get_or}
 use Rattle.std.specs.Option.{option_and_then, option_map}
 use Rattle.tagged_word.specs.Cells.{length_offset}
-use Rattle.mark_world.specs.declared.event.Event.{Event}
+use Rattle.mark_laws.specs.Types.{Event, Snap, Spot, HelperView, World}
 use Rattle.mark_world.specs.declared.event.Event.TheVariants as event
-use Rattle.mark_world.specs.declared.snap.Snap.{Snap}
-use Rattle.mark_world.specs.declared.step.Spot.{Spot}
-use Rattle.mark_world.specs.declared.views.HelperView.{HelperView}
-use Rattle.mark_world.specs.declared.world.World.{World}
 use Rattle.mark_world.specs.Steps.{helper_learns, helper_spot, layout_spot, settled}
-use Rattle.mark_world.specs.Moments.{after_helper, with_word, word_at}
+use Rattle.mark_world.specs.AfterEvents.{after_helper, with_word, word_at}
 use Rattle.mark_laws.proofs.Listing.{IsLoad, loads_heap, loads_layout}
 
 -- the world with other colours, another board and other views

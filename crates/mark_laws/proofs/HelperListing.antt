@@ -7,26 +7,19 @@ use Rattle.std.proofs.lemmas.List.Elements.{All-contains, All-set}
 use Rattle.tagged_word.specs.Cells.{length_offset}
 use Rattle.tagged_word.specs.Readings.{reference_in}
 use Rattle.page_space.specs.Extents.{board_words}
-use Rattle.seat_steps.specs.declared.note.Note.{Note}
+use Rattle.mark_laws.specs.Types.{Note, Event, Actor, Spot, Snap, HelperView, MainView, World}
 use Rattle.seat_steps.specs.declared.note.Note.TheVariants.{Coloured, Gave, Took}
 use Rattle.mark_world.specs.Naming.{IsReadOut, named, read_offsets}
 use Rattle.seat_steps.specs.Lists.{left}
 use Rattle.seat_steps.specs.Boards.{given_word, giver_left, taker_joined}
-use Rattle.mark_world.specs.declared.event.Event.{Event}
 use Rattle.mark_world.specs.declared.event.Event.TheVariants as event
-use Rattle.mark_world.specs.declared.step.Actor.{Actor}
-use Rattle.mark_world.specs.declared.step.Spot.{Spot}
-use Rattle.mark_world.specs.declared.snap.Snap.{Snap}
-use Rattle.mark_world.specs.declared.views.HelperView.{HelperView}
-use Rattle.mark_world.specs.declared.views.MainView.{MainView}
-use Rattle.mark_world.specs.declared.world.World.{World}
 use Rattle.mark_world.specs.Steps.{becomes, helper_learns, helper_spot, joined_if_white, noted, snap_settled}
 use Rattle.mark_world.specs.Steps.{with_layout, with_length, with_slot, white}
 use Rattle.mark_world.specs.Conditions.{MayHelper}
-use Rattle.mark_world.specs.Moments.{after_helper, IsReached, MayStep, with_word, word_at}
-use Rattle.mark_world.specs.Covering.{colour_of}
+use Rattle.mark_world.specs.AfterEvents.{after_helper, IsReached, MayStep, with_word, word_at}
+use Rattle.mark_world.specs.Coverage.{colour_of}
 use Rattle.mark_world.specs.Soundness.{AreIn, HasCells, HasLists, HasSizes, HasViewLists}
-use Rattle.mark_world.specs.Lineage.{Born}
+use Rattle.mark_world.specs.BornCells.{Born}
 use Rattle.mark_laws.proofs.Starts.{start_old}
 use Rattle.mark_laws.proofs.Joins.{of_get, some_and}
 use Rattle.mark_laws.proofs.Coverage.{shaded_coloured, with_word_main}

@@ -12,18 +12,13 @@ use Rattle.tagged_word.specs.Cells.{length_offset}
 use Rattle.tagged_word.specs.Readings.{reference_in}
 use Rattle.page_space.specs.Extents.{board_words}
 use Rattle.seat_steps.proofs.Leaving.{left_keeps}
-use Rattle.mark_world.specs.declared.event.Event.{Event}
+use Rattle.mark_laws.specs.Types.{Event, Spot, Snap, HelperView, MainView, World}
 use Rattle.mark_world.specs.declared.event.Event.TheVariants as event
-use Rattle.mark_world.specs.declared.step.Spot.{Spot}
-use Rattle.mark_world.specs.declared.snap.Snap.{Snap}
-use Rattle.mark_world.specs.declared.views.HelperView.{HelperView}
-use Rattle.mark_world.specs.declared.views.MainView.{MainView}
-use Rattle.mark_world.specs.declared.world.World.{World}
 use Rattle.mark_world.specs.Steps.{becomes, grey, helper_learns, helper_spot, joined_if_white, settled, snap_settled}
 use Rattle.mark_world.specs.Steps.{white, with_layout, with_length, with_slot}
 use Rattle.mark_world.specs.Conditions.{MayHelper}
-use Rattle.mark_world.specs.Moments.{after_helper, IsReached, with_word, word_at}
-use Rattle.mark_world.specs.Covering.{colour_of}
+use Rattle.mark_world.specs.AfterEvents.{after_helper, IsReached, with_word, word_at}
+use Rattle.mark_world.specs.Coverage.{colour_of}
 use Rattle.mark_world.specs.Soundness.{HasGrey, HasLists, HasSizes, HasViewLists, Waits}
 use Rattle.mark_laws.proofs.Colours.{helper_rises}
 use Rattle.mark_laws.proofs.Joins.{any_through, joined_by_keeps}

@@ -5,20 +5,15 @@ use Rattle.std.proofs.Common.{slice_get, Option, Some, None, IsSome, IsSomeAnd, 
 use Rattle.std.proofs.Common.{◌∙◌, ◌+◌, ◌&&◌, nat_le, nat_lt, arith}
 use Rattle.std.proofs.lemmas.List.{get_or-set_same}
 use Rattle.std.proofs.lemmas.List.Elements.{All-contains}
-use Rattle.tagged_word.specs.declared.reading.Reading.{Reading}
+use Rattle.mark_laws.specs.Types.{Reading, Event, Actor, HelperView, MainView, World}
 use Rattle.seat_steps.specs.Lists.{joined}
 use Rattle.seat_steps.proofs.Joining.{joined_in}
-use Rattle.mark_world.specs.declared.event.Event.{Event}
 use Rattle.mark_world.specs.declared.event.Event.TheVariants as event
-use Rattle.mark_world.specs.declared.step.Actor.{Actor}
-use Rattle.mark_world.specs.declared.views.HelperView.{HelperView}
-use Rattle.mark_world.specs.declared.views.MainView.{MainView}
-use Rattle.mark_world.specs.declared.world.World.{World}
 use Rattle.mark_world.specs.Pages.{EachFree, is_free, is_inside}
 use Rattle.mark_world.specs.Steps.{actor, black}
 use Rattle.mark_world.specs.Conditions.{MayMain}
-use Rattle.mark_world.specs.Moments.{after, after_main, after_return, after_step, Possible, PossibleStep}
-use Rattle.mark_world.specs.Covering.{cell_of, colour_of}
+use Rattle.mark_world.specs.AfterEvents.{after, after_main, after_return, after_step, Possible, PossibleStep}
+use Rattle.mark_world.specs.Coverage.{cell_of, colour_of}
 use Rattle.mark_world.specs.Soundness.{AreIn, HasCells, HasLists, HasSizes}
 use Rattle.mark_laws.specs.Cells.{Widens}
 use Rattle.mark_laws.proofs.Colours.{each_colour, step_rises}

@@ -2,24 +2,20 @@
 use Rattle.std.proofs.Common.{ℕ, ◌≤◌, ◌≡◌, ◌∙◌, true, List, length, slice_get, slice_index, get_or}
 use Rattle.std.proofs.Common.{Some, Contains, IsTrue, refl, sym, ap, subst, arith}
 use Rattle.std.proofs.lemmas.List.Elements.{All-contains, All-contains_itself}
-use Rattle.tagged_word.specs.declared.reading.Reading.{Reading}
+use Rattle.mark_laws.specs.Types.{Reading, Event, Laid, Actor, World}
 use Rattle.tagged_word.specs.Cells.{marks_by_length}
 use Rattle.tagged_word.proofs.Cells.{some_same}
-use Rattle.mark_world.specs.declared.event.Event.{Event}
 use Rattle.mark_world.specs.declared.event.Event.TheVariants as event
-use Rattle.mark_world.specs.declared.laid.Laid.{Laid}
-use Rattle.mark_world.specs.declared.step.Actor.{Actor}
-use Rattle.mark_world.specs.declared.world.World.{World}
 use Rattle.mark_world.specs.Pages.{is_free, slots_of}
 use Rattle.mark_world.specs.Safety.{laid_in}
 use Rattle.mark_world.specs.Steps.{actor}
 use Rattle.mark_world.specs.Conditions.{MayMain}
-use Rattle.mark_world.specs.Moments.{Possible, PossibleStep, WerePossible, after, after_main, after_step, moment}
-use Rattle.mark_world.specs.Covering.{cell_of, colour_of}
+use Rattle.mark_world.specs.AfterEvents.{Possible, PossibleStep, WerePossible, after, after_main, after_step, moment}
+use Rattle.mark_world.specs.Coverage.{cell_of, colour_of}
 use Rattle.mark_world.specs.Soundness.{HasCells}
 use Rattle.mark_world.specs.OneLayouts.{KeepsSlots}
 use Rattle.mark_laws.specs.Cells.{StoresHeader, Widens}
-use Rattle.mark_laws.specs.Runs.{IsWhole}
+use Rattle.mark_laws.specs.Runs.{IsSoundAndBorn}
 use Rattle.mark_laws.proofs.CellsAfter.{cells_stay, step_widens}
 use Rattle.mark_laws.proofs.Colours.{colours_rise}
 use Rattle.mark_laws.proofs.Joins.{some_and}
@@ -102,7 +98,7 @@ keeps_on world of cells may cell header read free keeps =
 
 -- the worlds at the moments up to one are whole
 abbrev pub AreWhole : World → List Event → ℕ → Type 0
-AreWhole start events count = (k : ℕ) → k ≤ count → IsWhole (moment start events k)
+AreWhole start events count = (k : ℕ) → k ≤ count → IsSoundAndBorn (moment start events k)
 
 -- a cell keeps that from one moment to another, if it is a free start at each
 pub keeps_along : (start : World) (events : List Event) (from count cell header : ℕ) (read : Reading)

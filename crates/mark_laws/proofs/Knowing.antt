@@ -2,24 +2,20 @@
 use Rattle.std.proofs.Common.{ℕ, ◌+◌, ◌<◌, ◌≡◌, ◌≢◌, ◌∙◌, ◌⊎◌, inl, inr, List, ◌∷◌, All, Contains, Option}
 use Rattle.std.proofs.Common.{Some, None, slice_get, slice_index, refl, sym, ap, subst}
 use Rattle.tagged_word.specs.declared.layout.Kind.TheVariants as kind
-use Rattle.tagged_word.specs.declared.reading.Reading.{Reading}
+use Rattle.mark_laws.specs.Types.{Reading, Event, Actor, HelperView, MainView, World}
 use Rattle.tagged_word.specs.Readings.{reference_in}
 use Rattle.tagged_word.proofs.Members.{first_in, in_cases, rest_in}
 use Rattle.seat_steps.proofs.Joining.{joined_from}
 use Rattle.std.proofs.lemmas.List.Elements.{All-contains}
-use Rattle.mark_world.specs.declared.event.Event.{Event}
 use Rattle.mark_world.specs.declared.event.Event.TheVariants as event
-use Rattle.mark_world.specs.declared.step.Actor.{Actor}
-use Rattle.mark_world.specs.declared.views.HelperView.{HelperView}
-use Rattle.mark_world.specs.declared.views.MainView.{MainView}
-use Rattle.mark_world.specs.declared.world.World.{World}
 use Rattle.mark_world.specs.Pages.{OfTarget, target}
 use Rattle.mark_world.specs.Steps.{actor}
 use Rattle.mark_world.specs.Conditions.{MayMain}
-use Rattle.mark_world.specs.Moments.{after, after_helper, after_main, after_return, after_step, Possible, PossibleStep}
+use Rattle.mark_world.specs.AfterEvents.{after, after_helper, after_main, after_return, after_step, Possible}
+use Rattle.mark_world.specs.AfterEvents.{PossibleStep}
 use Rattle.mark_world.specs.Soundness.{AreIn}
-use Rattle.mark_world.specs.Lineage.{HasBorn}
-use Rattle.mark_world.specs.Resting.{HasSureTarget, IsKept, any_cell, key_word, value_word}
+use Rattle.mark_world.specs.BornCells.{HasBorn}
+use Rattle.mark_world.specs.BetweenCommands.{HasSureTarget, IsYoungOrBorn, any_cell, key_word, value_word}
 use Rattle.mark_world.specs.Unfinished.{made_after}
 use Rattle.mark_world.specs.Knowing.{IsKnownCell, KnownBut, SparesKnown, SparesTables, key_place}
 use Rattle.mark_laws.specs.Growing.{Grows}
@@ -65,8 +61,8 @@ roots_later world later roots same grown has =
 grown_known : (world later : World) (young more reached : List ℕ) (count at : ℕ) → SamePages world later
     → Grows world.main later.main → (Contains more at → Contains young at)
     → ((table : Reading) (pair key : ℕ) → any_cell world at ≡ Some table → table.layout.kind ≡ kind.Table
-    → pair < table.length → reference_in (key_word world at pair) ≡ Some key → IsKept later more key
-    → IsKept world young key ⊎ HasBorn world (value_word world at pair))
+    → pair < table.length → reference_in (key_word world at pair) ≡ Some key → IsYoungOrBorn later more key
+    → IsYoungOrBorn world young key ⊎ HasBorn world (value_word world at pair))
     → IsKnownCell world young reached count at → IsKnownCell later more reached count at
 grown_known world later young more reached count at pages grown fewer new known =
     carry_known world later young more reached count at (λ cell e. any_same world later pages at ∙ e)
@@ -90,7 +86,7 @@ pages_known : (world later : World) (made roots young reached : List ℕ) (count
     → Grows world.main later.main → later.main.born ≡ world.main.born
     → KnownBut world made roots young reached count → KnownBut later made roots young reached count
 pages_known world later made roots young reached count pages grown born known =
-    let before : (at : ℕ) → IsKept later young at → IsKept world young at =
+    let before : (at : ℕ) → IsYoungOrBorn later young at → IsYoungOrBorn world young at =
     λ at kept. subst (λ (list : List ℕ). Contains young at ⊎ Contains list at) born kept in
     record {
       from_roots = roots_later world later roots pages.old grown known.from_roots;
@@ -105,7 +101,8 @@ pages_known world later made roots young reached count pages grown born known =
 join_known : (world later : World) (new : ℕ) (made roots young more reached : List ℕ) (count : ℕ)
     → SamePages world later → Grows world.main later.main
     → ((at : ℕ) → at ≢ new → Contains more at → Contains young at)
-    → ((at : ℕ) → at ≢ new → IsKept later more at → IsKept world young at) → SparesTables world made young new
+    → ((at : ℕ) → at ≢ new → IsYoungOrBorn later more at → IsYoungOrBorn world young at)
+    → SparesTables world made young new
     → KnownBut world made roots young reached count → KnownBut later (new ∷ made) roots more reached count
 join_known world later new made roots young more reached count pages grown fewer before spares known = record {
   from_roots = roots_later world later roots pages.old grown known.from_roots;
@@ -152,8 +149,8 @@ new_known world at made roots young reached count =
 store_known : (world later : World) (made roots young reached : List ℕ) (count : ℕ)
     → KnownBut world made roots young reached count
     → All (HasBorn later) roots
-    → ((at : ℕ) → IsKept later young at → IsKept world young at)
-    → ((at : ℕ) → IsKept world young at → IsKnownCell world young reached count at
+    → ((at : ℕ) → IsYoungOrBorn later young at → IsYoungOrBorn world young at)
+    → ((at : ℕ) → IsYoungOrBorn world young at → IsKnownCell world young reached count at
     → Contains made at ⊎ IsKnownCell later young reached count at)
     → KnownBut later made roots young reached count
 store_known world later made roots young reached count known born before stays = record {

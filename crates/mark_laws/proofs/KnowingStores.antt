@@ -3,20 +3,17 @@ use Rattle.std.proofs.Common.{ℕ, ◌+◌, ◌<◌, ◌≤◌, ◌≡◌, ◌�
 use Rattle.std.proofs.Common.{nat_lt}
 use Rattle.std.proofs.Common.{Contains, IfSome, IsSome, slice_index, slice_set, refl, sym, ap, subst, arith}
 use Rattle.std.proofs.lemmas.List.Elements.{All-contains}
-use Rattle.tagged_word.specs.declared.layout.Kind.{Kind}
+use Rattle.mark_laws.specs.Types.{Kind, Reading, Laid, World}
 use Rattle.tagged_word.specs.declared.layout.Kind.TheVariants as kind
-use Rattle.tagged_word.specs.declared.reading.Reading.{Reading}
 use Rattle.tagged_word.specs.Cells.{is_object_kind, tagged_offsets}
 use Rattle.tagged_word.specs.Readings.{reference_in}
 use Rattle.tagged_word.proofs.Cells.{made, slot_within, some_same, tagged_is_scavenged}
 use Rattle.tagged_word.proofs.CellReadings.{cell_from}
-use Rattle.mark_world.specs.declared.laid.Laid.{Laid}
-use Rattle.mark_world.specs.declared.world.World.{World}
 use Rattle.mark_world.specs.Pages.{OfTarget, is_head_of, slots_of, target}
 use Rattle.mark_world.specs.Safety.{IsSafe, IsSafeChange, laid_in, slots_by}
 use Rattle.mark_world.specs.Conditions.{AreSureAfter}
-use Rattle.mark_world.specs.Lineage.{HasBorn}
-use Rattle.mark_world.specs.Resting.{HasBornValues, HasSureTarget, IsBornObject, IsKept, any_cell}
+use Rattle.mark_world.specs.BornCells.{HasBorn}
+use Rattle.mark_world.specs.BetweenCommands.{HasBornValues, HasSureTarget, IsBornObject, IsYoungOrBorn, any_cell}
 use Rattle.mark_world.specs.Knowing.{IsKnownCell, SparesCell, SparesHead, key_place}
 use Rattle.mark_laws.proofs.AnyCells.{any_changed, any_read, any_stays, bound_by, header_no_reference, put_either}
 use Rattle.mark_laws.proofs.KnownCells.{carry_known}
@@ -30,7 +27,7 @@ stored_pair : (world : World) (at word : ℕ) (owed young : List ℕ) (start pai
     → SparesCell world young at word start → any_cell world start ≡ Some table → table.layout.kind ≡ kind.Table
     → HasBornValues world young start table → pair < table.length
     → reference_in (slice_index (slice_set world.words at word) (key_place start pair)) ≡ Some key
-    → IsKept world young key
+    → IsYoungOrBorn world young key
     → HasBorn world (slice_index (slice_set world.words at word) (key_place start pair + 1))
 stored_pair world at word owed young start pair key table spares e is_table born within refers kept =
     elim (put_either world.words at word (key_place start pair + 1)) [

@@ -3,13 +3,12 @@ use Rattle.std.proofs.Common.{ℕ, ◌+◌, ◌≡◌, ◌↔◌, inl, inr, List
 use Rattle.std.proofs.Common.{Option, Some, slice_index, refl, sym, subst, arith}
 use Rattle.std.proofs.lemmas.List.Elements.{All-contains}
 use Rattle.tagged_word.specs.declared.layout.Kind.TheVariants as kind
-use Rattle.tagged_word.specs.declared.reading.Reading.{Reading}
+use Rattle.mark_laws.specs.Types.{Reading, World}
 use Rattle.tagged_word.proofs.Cells.{some_same}
 use Rattle.tagged_word.proofs.Members.{in_cases}
-use Rattle.mark_world.specs.declared.world.World.{World}
 use Rattle.mark_world.specs.Pages.{slots_of}
-use Rattle.mark_world.specs.Lineage.{HasBorn}
-use Rattle.mark_world.specs.Resting.{HasBornValues, HasSureTarget, IsKept, Known, any_cell}
+use Rattle.mark_world.specs.BornCells.{HasBorn}
+use Rattle.mark_world.specs.BetweenCommands.{HasBornValues, HasSureTarget, IsYoungOrBorn, Known, any_cell}
 use Rattle.mark_world.specs.Soundness.{AreIn}
 use Rattle.mark_world.specs.Knowing.{IsKnownCell, KeptAreRead, KnownBut}
 use Rattle.mark_laws.proofs.Joins.{all_from}
@@ -18,7 +17,7 @@ use Rattle.mark_laws.proofs.Starts.{value_of}
 
 -- where no cell is made each kept one is known
 each_known : (world : World) (roots young reached : List ℕ) (count : ℕ) → KnownBut world [] roots young reached count
-    → (at : ℕ) → IsKept world young at → IsKnownCell world young reached count at
+    → (at : ℕ) → IsYoungOrBorn world young at → IsKnownCell world young reached count at
 each_known world roots young reached count known at kept = elim (known.cells at kept) [
   | inl is_made ↦ absurd (omega (arith, is_made.1))
   | inr is_known ↦ is_known

@@ -1,16 +1,14 @@
 -- A word that lies beside the kept cells spares what is known.
 use Rattle.std.proofs.Common.{ℕ, ◌+◌, ◌*◌, ◌<◌, ◌≤◌, ◌≡◌, ◌∙◌, inl, inr, true, false, List, Contains, IsSomeAnd}
 use Rattle.std.proofs.Common.{Option, Some, nat_lt, sym, ap, subst, arith}
-use Rattle.tagged_word.specs.declared.layout.Kind.{Kind}
+use Rattle.mark_laws.specs.Types.{Kind, Reading, World}
 use Rattle.tagged_word.specs.declared.layout.Kind.TheVariants as kind
-use Rattle.tagged_word.specs.declared.reading.Reading.{Reading}
 use Rattle.tagged_word.specs.Cells.{store_head, words_least, words_of}
 use Rattle.tagged_word.proofs.Cells.{size_is, slot_within, some_same, tagged_is_scavenged}
 use Rattle.tagged_word.proofs.CellReadings.{cell_from}
 use Rattle.mark_world.specs.declared.event.Event.TheVariants as event
-use Rattle.mark_world.specs.declared.world.World.{World}
 use Rattle.mark_world.specs.Pages.{is_head_of, is_inside, slots_of}
-use Rattle.mark_world.specs.Resting.{any_cell}
+use Rattle.mark_world.specs.BetweenCommands.{any_cell}
 use Rattle.mark_world.specs.Knowing.{SparesCell, key_place}
 use Rattle.mark_laws.specs.KnownChanges.{BesideIsSpared}
 use Rattle.mark_laws.proofs.AnyCells.{any_read, bound_by}

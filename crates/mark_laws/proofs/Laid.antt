@@ -6,11 +6,8 @@ use Rattle.std.proofs.lemmas.Bool.Decides.{nat_tests}
 use Rattle.std.proofs.lemmas.List.Elements.{All-contains}
 use Rattle.std.proofs.lemmas.Option.{option_and_then_some, get_or_from_slice_get}
 use Rattle.std.specs.Option.{option_and_then}
-use Rattle.tagged_word.specs.declared.header.Header.{Header}
-use Rattle.tagged_word.specs.declared.layout.Kind.{Kind}
+use Rattle.mark_laws.specs.Types.{Header, Kind, LayoutWord, Reading, Laid, World}
 use Rattle.tagged_word.specs.declared.layout.Kind.TheVariants as kind
-use Rattle.tagged_word.specs.declared.layout.LayoutWord.{LayoutWord}
-use Rattle.tagged_word.specs.declared.reading.Reading.{Reading}
 use Rattle.tagged_word.specs.Cells.{marks_by_length, tagged_offsets, tagged_offsets_of}
 use Rattle.tagged_word.specs.Headers.{header_bits}
 use Rattle.tagged_word.specs.Layouts.{layout_bits}
@@ -19,11 +16,9 @@ use Rattle.tagged_word.specs.Shapes.{shapes_most}
 use Rattle.tagged_word.proofs.Cells.{some_same}
 use Rattle.tagged_word.proofs.CellReadings.{cell_from}
 use Rattle.tagged_word.proofs.Readings.{header_to, layout_to}
-use Rattle.mark_world.specs.declared.laid.Laid.{Laid}
-use Rattle.mark_world.specs.declared.world.World.{World}
 use Rattle.mark_world.specs.Pages.{page_end}
 use Rattle.mark_world.specs.Safety.{IsSafe, IsSafeChange, laid_by, laid_in, plain_slots}
-use Rattle.mark_world.specs.Covering.{cell_of}
+use Rattle.mark_world.specs.Coverage.{cell_of}
 use Rattle.mark_laws.proofs.Reading.{slice_get_other}
 use Rattle.mark_laws.proofs.Slots.{and_some}
 use Rattle.mark_laws.proofs.Joins.{some_and}

@@ -1,12 +1,12 @@
 -- Where nothing waits, words of which none has a white target lead to black cells alone.
 use Rattle.std.proofs.Common.{ℕ, ◌≡◌, ◌≢◌, List, All}
 use Rattle.std.proofs.lemmas.List.Elements.{All-contains}
-use Rattle.mark_world.specs.declared.world.World.{World}
+use Rattle.mark_laws.specs.Types.{World}
 use Rattle.mark_world.specs.Steps.{black, white}
-use Rattle.mark_world.specs.Moments.{IsReached}
-use Rattle.mark_world.specs.Covering.{IsCovered, colour_of}
+use Rattle.mark_world.specs.AfterEvents.{IsReached}
+use Rattle.mark_world.specs.Coverage.{IsCovered, colour_of}
 use Rattle.mark_world.specs.Soundness.{Sound}
-use Rattle.mark_world.specs.Resting.{IsDrained, Settled}
+use Rattle.mark_world.specs.BetweenCommands.{IsDrained, Settled}
 use Rattle.mark_laws.specs.Leads.{HasColouredTarget, LedTo}
 use Rattle.mark_laws.proofs.Drained.{covered_reached, next_reached, reached_black}
 use Rattle.mark_laws.proofs.Joins.{all_from, of_target}

@@ -44,7 +44,7 @@ pub mod SoundWorlds
 pub mod Moments
 pub mod SoundRuns
 pub mod PutViews
-pub mod Stems
+pub mod SnapOrigins
 pub mod StemsSteps
 pub mod KeptCells
 pub mod OneLayouts

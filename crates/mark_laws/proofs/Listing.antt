@@ -5,7 +5,7 @@ use Rattle.std.proofs.Common.{Contains, refl, sym, subst, arith, suc, ifâ—Œthenâ
 use Rattle.std.specs.Option.{option_map, option_and_then}
 use Rattle.std.proofs.lemmas.List.Elements.{All-contains}
 use Rattle.tagged_word.specs.declared.word.Class.TheVariants.{Ref}
-use Rattle.tagged_word.specs.declared.header.Header.{Header}
+use Rattle.mark_laws.specs.Types.{Header, Event, Actor, Spot, Snap, HelperView, MainView, World}
 use Rattle.tagged_word.specs.Words.{bits_of}
 use Rattle.tagged_word.specs.Readings.{header_in, reference_in}
 use Rattle.tagged_word.proofs.Readings.{reference_from}
@@ -13,17 +13,10 @@ use Rattle.seat_steps.specs.Lists.{joined, left}
 use Rattle.seat_steps.specs.Boards.{given_word}
 use Rattle.seat_steps.proofs.Joining.{joined_keeps}
 use Rattle.seat_steps.proofs.Leaving.{left_from}
-use Rattle.mark_world.specs.declared.event.Event.{Event}
 use Rattle.mark_world.specs.declared.event.Event.TheVariants as event
-use Rattle.mark_world.specs.declared.step.Actor.{Actor}
-use Rattle.mark_world.specs.declared.step.Spot.{Spot}
-use Rattle.mark_world.specs.declared.snap.Snap.{Snap}
-use Rattle.mark_world.specs.declared.views.HelperView.{HelperView}
-use Rattle.mark_world.specs.declared.views.MainView.{MainView}
-use Rattle.mark_world.specs.declared.world.World.{World}
 use Rattle.mark_world.specs.Steps.{all_joined, layout_spot, white}
-use Rattle.mark_world.specs.Moments.{after_main, after_return, after_step, IsReached, with_word, word_at}
-use Rattle.mark_world.specs.Covering.{colour_of}
+use Rattle.mark_world.specs.AfterEvents.{after_main, after_return, after_step, IsReached, with_word, word_at}
+use Rattle.mark_world.specs.Coverage.{colour_of}
 use Rattle.mark_world.specs.Soundness.{HasLists, HasSizes, HasViewLists}
 use Rattle.mark_laws.proofs.Colours.{put_or_stays, step_rises}
 use Rattle.mark_laws.proofs.Joins.{all_from}

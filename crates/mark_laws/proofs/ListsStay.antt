@@ -4,15 +4,11 @@ use Rattle.std.proofs.Common.{arith}
 use Rattle.std.specs.Option.{option_map}
 use Rattle.std.proofs.lemmas.List.Elements.{All-append, All-set}
 use Rattle.tagged_word.specs.Readings.{reference_in}
-use Rattle.mark_world.specs.declared.event.Event.{Event}
-use Rattle.mark_world.specs.declared.step.Actor.{Actor}
-use Rattle.mark_world.specs.declared.snap.Snap.{Snap}
-use Rattle.mark_world.specs.declared.views.HelperView.{HelperView}
-use Rattle.mark_world.specs.declared.world.World.{World}
+use Rattle.mark_laws.specs.Types.{Event, Actor, Snap, HelperView, World}
 use Rattle.mark_world.specs.Steps.{actor, all_joined, lent, returned}
-use Rattle.mark_world.specs.Moments.{after, after_return, after_step, IsReached, Possible, PossibleStep}
+use Rattle.mark_world.specs.AfterEvents.{after, after_return, after_step, IsReached, Possible, PossibleStep}
 use Rattle.mark_world.specs.Soundness.{HasCells, HasLists, HasSizes, HasViewLists}
-use Rattle.mark_world.specs.Lineage.{Born}
+use Rattle.mark_world.specs.BornCells.{Born}
 use Rattle.mark_laws.proofs.Joins.{of_get, some_and}
 use Rattle.mark_laws.proofs.Sureness.{target_joins}
 use Rattle.mark_laws.proofs.Listing.{all_join, all_weaker, some_weaker, reached_stays, view_lists_stay, all_one}

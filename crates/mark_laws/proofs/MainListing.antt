@@ -7,14 +7,12 @@ use Rattle.page_space.specs.Extents.{board_words}
 use Rattle.seat_steps.specs.Lists.{joined}
 use Rattle.seat_steps.specs.Boards.{given_word}
 use Rattle.seat_steps.proofs.Joining.{joined_in, joined_keeps}
-use Rattle.mark_world.specs.declared.event.Event.{Event}
+use Rattle.mark_laws.specs.Types.{Event, Actor, World}
 use Rattle.mark_world.specs.declared.event.Event.TheVariants as event
-use Rattle.mark_world.specs.declared.step.Actor.{Actor}
-use Rattle.mark_world.specs.declared.world.World.{World}
 use Rattle.mark_world.specs.Steps.{becomes, main_spot, white}
 use Rattle.mark_world.specs.Conditions.{MayMain}
-use Rattle.mark_world.specs.Moments.{after_main, IsReached, word_at}
-use Rattle.mark_world.specs.Covering.{colour_of}
+use Rattle.mark_world.specs.AfterEvents.{after_main, IsReached, word_at}
+use Rattle.mark_world.specs.Coverage.{colour_of}
 use Rattle.mark_world.specs.Soundness.{HasCells, HasLists, HasSizes, HasViewLists}
 use Rattle.mark_laws.proofs.Starts.{start_old}
 use Rattle.mark_laws.proofs.Coverage.{shaded_coloured, with_word_views}

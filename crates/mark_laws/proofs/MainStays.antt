@@ -11,26 +11,21 @@ use Rattle.std.proofs.lemmas.List.FromFn.{get_or-map-range_with_len, length-map-
 use Rattle.std.proofs.lemmas.List.Elements.{All-contains, All-nil, All-replicate}
 use Rattle.tagged_word.specs.Readings.{reference_in}
 use Rattle.page_space.specs.Extents.{board_words}
-use Rattle.seat_steps.specs.declared.note.Note.{Note}
+use Rattle.mark_laws.specs.Types.{Note, Event, Actor, HelperView, MainView, World}
 use Rattle.seat_steps.specs.declared.note.Note.TheVariants.{Coloured, Gave, Took}
 use Rattle.seat_steps.specs.Boards.{empty_board, giver_left, joined_by, taker_joined}
 use Rattle.seat_steps.specs.Lists.{is_in, left}
 use Rattle.seat_steps.proofs.Handing.{empty_is_board}
 use Rattle.seat_steps.proofs.Joining.{decided, found_in, in_found}
-use Rattle.mark_world.specs.declared.event.Event.{Event}
 use Rattle.mark_world.specs.declared.event.Event.TheVariants as event
-use Rattle.mark_world.specs.declared.step.Actor.{Actor}
-use Rattle.mark_world.specs.declared.views.HelperView.{HelperView}
-use Rattle.mark_world.specs.declared.views.MainView.{MainView}
-use Rattle.mark_world.specs.declared.world.World.{World}
 use Rattle.mark_world.specs.Pages.{target, targets_joined}
 use Rattle.mark_world.specs.Steps.{actor, black, free_slot_words, grey, joined_if_white, noted, white}
 use Rattle.mark_world.specs.Conditions.{MayMain}
-use Rattle.mark_world.specs.Moments.{IsReached, Possible, PossibleStep, after, after_main, after_step}
-use Rattle.mark_world.specs.Covering.{HasCovered, IsCovered, cell_of, colour_of}
+use Rattle.mark_world.specs.AfterEvents.{IsReached, Possible, PossibleStep, after, after_main, after_step}
+use Rattle.mark_world.specs.Coverage.{HasCovered, IsCovered, cell_of, colour_of}
 use Rattle.mark_world.specs.Soundness.{AreIn, HasCells, HasLists, HasSizes, HasSure, HasViewLists}
 use Rattle.mark_world.specs.Soundness.{IsTrueSnap, Sound, Waits}
-use Rattle.mark_world.specs.Lineage.{Born, HasBorn}
+use Rattle.mark_world.specs.BornCells.{Born, HasBorn}
 use Rattle.mark_laws.specs.PageWords.{HasMainSound, MainSound, MainSoundStays}
 use Rattle.mark_laws.proofs.Joins.{all_from, of_slot, targets_from, targets_there}
 use Rattle.mark_laws.proofs.Listing.{some_weaker}

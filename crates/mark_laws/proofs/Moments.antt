@@ -4,10 +4,9 @@ use Rattle.std.proofs.Common.{take, length, get_or, slice_get, Some, refl, ap, s
 use Rattle.std.proofs.lemmas.Bool.{cases_lt}
 use Rattle.std.proofs.lemmas.Option.{slice_get-get_or}
 use Rattle.tagged_word.proofs.Cells.{some_same}
-use Rattle.mark_world.specs.declared.event.Event.{Event}
+use Rattle.mark_laws.specs.Types.{Event, World}
 use Rattle.mark_world.specs.declared.event.Event.TheVariants as event
-use Rattle.mark_world.specs.declared.world.World.{World}
-use Rattle.mark_world.specs.Moments.{after, after_all, moment, Possible, WerePossible}
+use Rattle.mark_world.specs.AfterEvents.{after, after_all, moment, Possible, WerePossible}
 
 -- the first so many and one more
 pub take_next : (events : List Event) (k : ℕ) (of : Event) → slice_get events k ≡ Some of

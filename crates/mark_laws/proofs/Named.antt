@@ -5,25 +5,19 @@ use Rattle.std.proofs.Common.{if◌then◌else◌, refl, sym, ap, subst, arith}
 use Rattle.std.specs.Option.{option_and_then}
 use Rattle.std.proofs.lemmas.Bool.Decides.{nat_tests}
 use Rattle.std.proofs.lemmas.List.Elements.{All-contains}
-use Rattle.tagged_word.specs.declared.header.Header.{Header}
-use Rattle.tagged_word.specs.declared.layout.Kind.{Kind}
+use Rattle.mark_laws.specs.Types.{Header, Kind, LayoutWord, Reading, Laid, Snap, World}
 use Rattle.tagged_word.specs.declared.layout.Kind.TheVariants as kind
-use Rattle.tagged_word.specs.declared.layout.LayoutWord.{LayoutWord}
-use Rattle.tagged_word.specs.declared.reading.Reading.{Reading}
 use Rattle.tagged_word.specs.Cells.{cell_size, has_length, length_by, length_offset, marks_by_length, size_within}
 use Rattle.tagged_word.specs.Cells.{tagged_offsets, words_least, words_of}
 use Rattle.tagged_word.specs.Readings.{header_in, layout_in, shape_layout}
 use Rattle.tagged_word.specs.Shapes.{shapes_most}
 use Rattle.tagged_word.proofs.Cells.{size_is, some_same}
 use Rattle.tagged_word.proofs.CellReadings.{cell_from}
-use Rattle.mark_world.specs.declared.laid.Laid.{Laid}
-use Rattle.mark_world.specs.declared.snap.Snap.{Snap}
-use Rattle.mark_world.specs.declared.world.World.{World}
 use Rattle.mark_world.specs.Pages.{page_end}
 use Rattle.mark_world.specs.Safety.{laid_in, slots_by}
 use Rattle.mark_world.specs.Naming.{IsReadOut, Named, is_in_page, known_size, named, named_headed, named_laid}
 use Rattle.mark_world.specs.Naming.{named_long, named_shaped, named_slots, read_offsets}
-use Rattle.mark_world.specs.Covering.{cell_of}
+use Rattle.mark_world.specs.Coverage.{cell_of}
 use Rattle.mark_world.specs.Soundness.{IsTrueSnap, header_slots}
 use Rattle.mark_laws.proofs.Laid.{laid_from, unmarked_slots}
 use Rattle.mark_laws.proofs.Listing.{some_weaker}

@@ -2,17 +2,14 @@
 use Rattle.std.proofs.Common.{ℕ, ◌+◌, ◌<◌, ◌≤◌, ◌≡◌, ◌&&◌, Bool, true, false, not, List, Contains, Option}
 use Rattle.std.proofs.Common.{Some, None, nat_le, if◌then◌else◌, refl, sym, ap, subst, ◌∙◌, arith}
 use Rattle.std.proofs.lemmas.Bool.Decides.{nat_tests}
-use Rattle.tagged_word.specs.declared.header.Header.{Header}
-use Rattle.tagged_word.specs.declared.layout.Kind.{Kind}
+use Rattle.mark_laws.specs.Types.{Header, Kind, LayoutWord, Snap}
 use Rattle.tagged_word.specs.declared.layout.Kind.TheVariants as kind
-use Rattle.tagged_word.specs.declared.layout.LayoutWord.{LayoutWord}
 use Rattle.tagged_word.specs.Cells.{cell_size, has_length, length_offset, marks_by_length, tagged_offsets}
 use Rattle.tagged_word.specs.Cells.{tagged_offsets_of}
 use Rattle.tagged_word.specs.Layouts.{IsLayout}
 use Rattle.tagged_word.specs.Readings.{header_in, layout_in}
 use Rattle.tagged_word.proofs.Cells.{slot_within, tagged_is_scavenged}
 use Rattle.tagged_word.proofs.Readings.{layout_from}
-use Rattle.mark_world.specs.declared.snap.Snap.{Snap}
 use Rattle.mark_world.specs.Pages.{page_end}
 use Rattle.mark_world.specs.Naming.{Named, is_in_page, is_shape, known_size, named, named_headed, named_laid}
 use Rattle.mark_world.specs.Naming.{named_long, named_shaped, named_slots, named_unread}

@@ -4,25 +4,19 @@ use Rattle.std.proofs.Common.{min, slice_index, slice_get, Option, Some, None, I
 use Rattle.std.proofs.Common.{refl, sym, ap, subst, arith}
 use Rattle.std.proofs.lemmas.Bool.Decides.{nat_tests}
 use Rattle.std.proofs.lemmas.List.Elements.{All-contains}
-use Rattle.tagged_word.specs.declared.header.Header.{Header}
-use Rattle.tagged_word.specs.declared.layout.Kind.{Kind}
+use Rattle.mark_laws.specs.Types.{Header, Kind, LayoutWord, Reading, Laid, Snap, World}
 use Rattle.tagged_word.specs.declared.layout.Kind.TheVariants as kind
-use Rattle.tagged_word.specs.declared.layout.LayoutWord.{LayoutWord}
-use Rattle.tagged_word.specs.declared.reading.Reading.{Reading}
 use Rattle.tagged_word.specs.Cells.{has_length, length_by, length_offset, marks_by_length, tagged_offsets}
 use Rattle.tagged_word.specs.Readings.{header_in, layout_in}
 use Rattle.tagged_word.specs.Shapes.{shapes_most}
 use Rattle.tagged_word.proofs.Cells.{some_same}
 use Rattle.tagged_word.proofs.CellReadings.{cell_from}
-use Rattle.mark_world.specs.declared.laid.Laid.{Laid}
-use Rattle.mark_world.specs.declared.snap.Snap.{Snap}
-use Rattle.mark_world.specs.declared.world.World.{World}
 use Rattle.mark_world.specs.Pages.{page_end, slots_of}
 use Rattle.mark_world.specs.Safety.{IsSafeChange, laid_in, plain_slots, slots_by}
 use Rattle.mark_world.specs.Naming.{Named, is_in_page, is_shape, known_size, named, named_headed, named_laid}
 use Rattle.mark_world.specs.Naming.{named_long}
 use Rattle.mark_world.specs.Naming.{named_shaped, named_slots}
-use Rattle.mark_world.specs.Covering.{cell_of}
+use Rattle.mark_world.specs.Coverage.{cell_of}
 use Rattle.mark_world.specs.Soundness.{IsTrueSnap, header_slots}
 use Rattle.mark_laws.proofs.Laid.{cell_laid, laid_is, laid_of, plain_any, safe_from, shape_is, unmarked_slots}
 use Rattle.mark_laws.proofs.Slots.{some_at}

@@ -3,33 +3,27 @@ use Rattle.std.proofs.Common.{ℕ, ◌<◌, ◌≤◌, ◌≡◌, ◌≢◌, ◌
 use Rattle.std.proofs.Common.{get_or, Option, Some, IsSomeAnd, All, Contains, ap, subst, arith}
 use Rattle.std.proofs.lemmas.List.Elements.{All-contains, Contains-get_or}
 use Rattle.std.proofs.lemmas.Option.{slice_get_within}
-use Rattle.tagged_word.specs.declared.reading.Reading.{Reading}
+use Rattle.mark_laws.specs.Types.{Reading, Event, Laid, Snap, SnapSlot, HelperView, World}
 use Rattle.tagged_word.specs.Cells.{marks_by_length, tagged_offsets}
 use Rattle.tagged_word.proofs.Members.{in_map}
 use Rattle.seat_steps.proofs.Joining.{decided}
-use Rattle.mark_world.specs.declared.event.Event.{Event}
 use Rattle.mark_world.specs.declared.event.Event.TheVariants as event
-use Rattle.mark_world.specs.declared.laid.Laid.{Laid}
-use Rattle.mark_world.specs.declared.snap.Snap.{Snap}
-use Rattle.mark_world.specs.declared.snap.SnapSlot.{SnapSlot}
-use Rattle.mark_world.specs.declared.views.HelperView.{HelperView}
-use Rattle.mark_world.specs.declared.world.World.{World}
 use Rattle.mark_world.specs.Pages.{is_free, slots_of}
 use Rattle.mark_world.specs.Safety.{slots_by}
 use Rattle.mark_world.specs.Naming.{IsReadOut, Named, named, read_offsets}
 use Rattle.mark_world.specs.Steps.{grey, white}
-use Rattle.mark_world.specs.Moments.{IsReached, MayStep, WerePossible, moment}
-use Rattle.mark_world.specs.Covering.{EachSlot, HasCovered, cell_of, colour_of}
+use Rattle.mark_world.specs.AfterEvents.{IsReached, MayStep, WerePossible, moment}
+use Rattle.mark_world.specs.Coverage.{EachSlot, HasCovered, cell_of, colour_of}
 use Rattle.mark_world.specs.Soundness.{IsTrueSnap, Sound, header_slots}
 use Rattle.mark_world.specs.OneLayouts.{HasOneLayout, KeepsSlots, OneLayout, WasLoaded}
-use Rattle.mark_laws.specs.Runs.{HasNoneOut, IsWhole}
+use Rattle.mark_laws.specs.Runs.{HasNoneOut, IsSoundAndBorn}
 use Rattle.mark_laws.proofs.Joins.{of_get, some_and}
 use Rattle.mark_laws.proofs.KeptCells.{AreWhole, Keeps, keeps_along, keeps_itself, rises_along}
 use Rattle.mark_laws.proofs.Laid.{unmarked_slots}
 use Rattle.mark_laws.proofs.Named.{header_named, header_read}
 use Rattle.mark_laws.proofs.Slots.{and_some, each_slot, free_cell, grey_free, some_at}
 use Rattle.mark_laws.proofs.SoundRuns.{whole_along}
-use Rattle.mark_laws.proofs.Stems.{Names, SlotLoad, Stems}
+use Rattle.mark_laws.proofs.SnapOrigins.{Names, SlotLoad, Stems}
 use Rattle.mark_laws.proofs.StemsSteps.{HasSnap, stems_along}
 use Rattle.mark_laws.proofs.TrueSnaps.{GreyTrue, ViewTrue, true_slot}
 
@@ -196,7 +190,7 @@ fewer_possible : (start : World) (events : List Event) (k count : ℕ) → k ≤
 fewer_possible start events k count l were j of early there = were j of (omega (arith, l, early)) there
 
 -- from a whole world where no seat is out, each snap that is settled while its cell is grey was read under one layout
-pub one_layout : (start : World) (events : List Event) → IsWhole start → HasNoneOut start
+pub one_layout : (start : World) (events : List Event) → IsSoundAndBorn start → HasNoneOut start
     → WerePossible start events (length events) → OneLayout start events
 one_layout start events first none_out were k number snap settles =
     let within : k < length events = slice_get_within events k (event.Settle number) settles.settles in

@@ -7,10 +7,8 @@ use Rattle.tagged_word.specs.Readings.{reference_in}
 use Rattle.seat_steps.specs.Boards.{joined_by}
 use Rattle.seat_steps.specs.Lists.{joined, left}
 use Rattle.seat_steps.proofs.Leaving.{left_from}
-use Rattle.mark_world.specs.declared.event.Event.{Event}
+use Rattle.mark_laws.specs.Types.{Event, Snap, HelperView}
 use Rattle.mark_world.specs.declared.event.Event.TheVariants as event
-use Rattle.mark_world.specs.declared.snap.Snap.{Snap}
-use Rattle.mark_world.specs.declared.views.HelperView.{HelperView}
 use Rattle.mark_world.specs.Pages.{target, targets_joined}
 use Rattle.mark_world.specs.Naming.{IsReadOut, IsToRead, named, read_offsets, read_words}
 use Rattle.mark_world.specs.Steps.{grey, helper_learns, lent, returned, snap_settled, snap_targets, white, with_layout}

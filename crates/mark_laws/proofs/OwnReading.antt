@@ -9,11 +9,8 @@ use Rattle.seat_steps.specs.Lists.{HasNoRepeats}
 use Rattle.seat_steps.specs.Boards.{joined_by}
 use Rattle.seat_steps.proofs.Joining.{joined_no_repeats}
 use Rattle.seat_steps.proofs.Leaving.{left_no_repeats}
-use Rattle.mark_world.specs.declared.event.Event.{Event}
+use Rattle.mark_laws.specs.Types.{Event, Snap, SnapSlot, HelperView}
 use Rattle.mark_world.specs.declared.event.Event.TheVariants as event
-use Rattle.mark_world.specs.declared.snap.Snap.{Snap}
-use Rattle.mark_world.specs.declared.snap.SnapSlot.{SnapSlot}
-use Rattle.mark_world.specs.declared.views.HelperView.{HelperView}
 use Rattle.mark_world.specs.Pages.{target, targets_joined}
 use Rattle.mark_world.specs.Naming.{IsReadOut, IsToRead, Named, named, read_offsets, read_words}
 use Rattle.mark_world.specs.Steps.{grey, helper_learns, lent, returned, snap_settled, snap_targets, with_layout}
@@ -23,7 +20,7 @@ use Rattle.mark_laws.specs.OwnViews.{HasReadNamed, IsNamed, IsOwnView}
 use Rattle.mark_laws.proofs.BornHelper.{to_read}
 use Rattle.mark_laws.proofs.Joins.{some_and}
 use Rattle.mark_laws.proofs.Slots.{some_at}
-use Rattle.mark_laws.proofs.Stems.{awaits_unread}
+use Rattle.mark_laws.proofs.SnapOrigins.{awaits_unread}
 
 -- an empty list has no repeats
 none_repeat : HasNoRepeats []
@@ -46,7 +43,7 @@ either_once : (test : Bool) (xs ys : List ℕ) → HasNoRepeats xs → HasNoRepe
 either_once true xs ys first second = first
 either_once false xs ys first second = second
 
--- a snap that names nothing yet has read no slot
+-- a snap that names nothing has read no slot
 more_read : (snap : Snap) (layout length : Option ℕ) → HasReadNamed snap → named snap ≡ Named.unread
     → HasReadNamed (record snap { layout = layout; length = length })
 more_read snap layout length has unread = record {

@@ -6,17 +6,13 @@ use Rattle.std.specs.Option.{option_and_then, option_map}
 use Rattle.std.proofs.lemmas.Bool.Decides.{nat_tests}
 use Rattle.std.proofs.lemmas.List.Elements.{All-contains}
 use Rattle.std.proofs.lemmas.Option.{option_and_then_some}
-use Rattle.tagged_word.specs.declared.header.Header.{Header}
+use Rattle.mark_laws.specs.Types.{Header, Event, Snap, Spot, HelperView}
 use Rattle.tagged_word.specs.Cells.{length_offset}
 use Rattle.tagged_word.specs.Readings.{given, header_in, reference_in}
 use Rattle.tagged_word.specs.Shapes.{shapes_most}
 use Rattle.tagged_word.proofs.Readings.{given_is}
 use Rattle.page_space.specs.Sizes.{page_words}
-use Rattle.mark_world.specs.declared.event.Event.{Event}
 use Rattle.mark_world.specs.declared.event.Event.TheVariants as event
-use Rattle.mark_world.specs.declared.snap.Snap.{Snap}
-use Rattle.mark_world.specs.declared.step.Spot.{Spot}
-use Rattle.mark_world.specs.declared.views.HelperView.{HelperView}
 use Rattle.mark_world.specs.Pages.{page_end, target}
 use Rattle.mark_world.specs.Naming.{IsReadOut, IsToRead, is_shape, named, read_offsets}
 use Rattle.mark_world.specs.Steps.{helper_spot, layout_spot}

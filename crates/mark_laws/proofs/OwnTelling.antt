@@ -5,17 +5,13 @@ use Rattle.std.proofs.Common.{sym, subst, arith}
 use Rattle.std.proofs.lemmas.List.Elements.{All-contains}
 use Rattle.tagged_word.specs.Cells.{tagged_offsets}
 use Rattle.tagged_word.specs.Readings.{reference_in}
-use Rattle.mark_world.specs.declared.event.Event.{Event}
+use Rattle.mark_laws.specs.Types.{Event, Snap, Actor, HelperView, World}
 use Rattle.mark_world.specs.declared.event.Event.TheVariants as event
-use Rattle.mark_world.specs.declared.snap.Snap.{Snap}
-use Rattle.mark_world.specs.declared.step.Actor.{Actor}
-use Rattle.mark_world.specs.declared.views.HelperView.{HelperView}
-use Rattle.mark_world.specs.declared.world.World.{World}
 use Rattle.mark_world.specs.Naming.{Named, named}
 use Rattle.mark_world.specs.Steps.{actor, black, grey}
 use Rattle.mark_world.specs.Conditions.{MayHelper}
-use Rattle.mark_world.specs.Moments.{AsksWorld, IsReached, MayStep, Possible, PossibleStep}
-use Rattle.mark_world.specs.Covering.{colour_of}
+use Rattle.mark_world.specs.AfterEvents.{AsksWorld, IsReached, MayStep, Possible, PossibleStep}
+use Rattle.mark_world.specs.Coverage.{colour_of}
 use Rattle.mark_world.specs.Soundness.{HasViewLists, IsTrueSnap, Sound}
 use Rattle.mark_laws.specs.OwnViews.{AsksOwnView, HasSnap}
 use Rattle.mark_laws.proofs.Drained.{last_colour}

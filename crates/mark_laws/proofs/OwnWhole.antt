@@ -2,12 +2,10 @@
 use Rattle.std.proofs.Common.{ℕ, ◌≡◌, ◌∙◌, ◌↔◌, inl, inr, true, false, List, Contains, sym}
 use Rattle.std.proofs.Common.{subst}
 use Rattle.std.proofs.lemmas.List.Elements.{All-contains}
-use Rattle.mark_world.specs.declared.snap.Snap.{Snap}
-use Rattle.mark_world.specs.declared.views.HelperView.{HelperView}
-use Rattle.mark_world.specs.declared.world.World.{World}
+use Rattle.mark_laws.specs.Types.{Snap, HelperView, World}
 use Rattle.mark_world.specs.Naming.{IsReadOut, Named, named, read_offsets}
 use Rattle.mark_world.specs.Steps.{grey}
-use Rattle.mark_world.specs.Covering.{colour_of}
+use Rattle.mark_world.specs.Coverage.{colour_of}
 use Rattle.mark_world.specs.Soundness.{Sound, header_slots}
 use Rattle.mark_laws.specs.OwnViews.{HasReadNamed, HasReadWhole, HasSnap, IsNamed, IsOwnView}
 use Rattle.mark_laws.proofs.Named.{header_named}

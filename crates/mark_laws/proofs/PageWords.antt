@@ -2,16 +2,12 @@
 use Rattle.std.proofs.Common.{ℕ, ◌+◌, ◌≤◌, ◌≡◌, ◌∙◌, false, List, length}
 use Rattle.std.proofs.Common.{get_or, min, take, Option, Some, IsSome, sym, ap, subst, arith}
 use Rattle.std.proofs.lemmas.List.{length-take}
-use Rattle.tagged_word.specs.declared.reading.Reading.{Reading}
+use Rattle.mark_laws.specs.Types.{Reading, Note, Snap, HelperView, World}
 use Rattle.tagged_word.specs.Readings.{reference_in}
 use Rattle.tagged_word.proofs.CellReadings.{cell_from}
-use Rattle.seat_steps.specs.declared.note.Note.{Note}
-use Rattle.mark_world.specs.declared.snap.Snap.{Snap}
-use Rattle.mark_world.specs.declared.views.HelperView.{HelperView}
-use Rattle.mark_world.specs.declared.world.World.{World}
 use Rattle.mark_world.specs.Pages.{is_inside, page_end}
-use Rattle.mark_world.specs.Moments.{IsReached}
-use Rattle.mark_world.specs.Covering.{EachSlot, cell_of}
+use Rattle.mark_world.specs.AfterEvents.{IsReached}
+use Rattle.mark_world.specs.Coverage.{EachSlot, cell_of}
 use Rattle.mark_world.specs.Soundness.{HasCells, HasLists, HasSizes, HasViewLists}
 use Rattle.mark_laws.proofs.Alike.{page_cells, same_index}
 use Rattle.mark_laws.proofs.Joins.{of_slot}

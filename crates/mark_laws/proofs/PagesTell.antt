@@ -4,22 +4,18 @@ use Rattle.std.proofs.lemmas.List.Elements.{All-contains}
 use Rattle.mark_laws.proofs.Joins.{all_from}
 use Rattle.std.proofs.Common.{get_or, min, slice_get, Option, Some, None, IsSome, IfSome, sym, ap}
 use Rattle.std.proofs.Common.{subst, arith}
-use Rattle.tagged_word.specs.declared.reading.Reading.{Reading}
+use Rattle.mark_laws.specs.Types.{Reading, Note, Laid, Snap, World}
 use Rattle.tagged_word.specs.Cells.{length_offset, marks_by_length}
 use Rattle.tagged_word.proofs.Cells.{some_same}
 use Rattle.tagged_word.proofs.CellReadings.{cell_from}
-use Rattle.seat_steps.specs.declared.note.Note.{Note}
-use Rattle.mark_world.specs.declared.laid.Laid.{Laid}
-use Rattle.mark_world.specs.declared.snap.Snap.{Snap}
-use Rattle.mark_world.specs.declared.world.World.{World}
 use Rattle.mark_world.specs.Pages.{is_inside, page_end}
 use Rattle.mark_world.specs.Safety.{IsSafe, laid_in}
 use Rattle.mark_world.specs.Steps.{grey}
-use Rattle.mark_world.specs.Moments.{IsReached}
-use Rattle.mark_world.specs.Covering.{EachSlot, HasCovered, cell_of, colour_of}
+use Rattle.mark_world.specs.AfterEvents.{IsReached}
+use Rattle.mark_world.specs.Coverage.{EachSlot, HasCovered, cell_of, colour_of}
 use Rattle.mark_world.specs.Soundness.{HasSnaps, HasSure, IsFreshSlot, IsTrueSnap, Sound, header_slots}
-use Rattle.mark_world.specs.Lineage.{Born, HasBorn}
-use Rattle.mark_world.specs.Resting.{HasSureTarget, Settled}
+use Rattle.mark_world.specs.BornCells.{Born, HasBorn}
+use Rattle.mark_world.specs.BetweenCommands.{HasSureTarget, Settled}
 use Rattle.mark_laws.specs.PageWords.{AgreesOnPages, HasMainSound, KnowsOf}
 use Rattle.mark_laws.proofs.Alike.{same_get, same_index}
 use Rattle.mark_laws.proofs.Laid.{laid_of}

@@ -2,7 +2,7 @@
 use Rattle.std.proofs.Common.{ℕ, zero, suc, ◌≡◌, ◌⊎◌, inl, inr, List, [], ◌∷◌, ◌++◌, slice_get, slice_set}
 use Rattle.std.proofs.Common.{Some, refl, ap}
 use Rattle.tagged_word.proofs.Cells.{some_same}
-use Rattle.mark_world.specs.declared.views.HelperView.{HelperView}
+use Rattle.mark_laws.specs.Types.{HelperView}
 
 -- a view that is there once one was put is that one, or was there
 pub put_cases : (views : List HelperView) (number : ℕ) (put : HelperView) (k : ℕ) (view : HelperView)

@@ -4,9 +4,8 @@ use Rattle.std.proofs.Common.{◌∷◌, zero, suc}
 use Rattle.std.proofs.Common.{slice_set, slice_get, Option, Some, refl, sym, ap, arith}
 use Rattle.std.proofs.lemmas.Bool.Decides.{nat_tests}
 use Rattle.std.proofs.lemmas.List.{length-set}
-use Rattle.tagged_word.specs.declared.layout.Kind.{Kind}
+use Rattle.mark_laws.specs.Types.{Kind, Reading}
 use Rattle.tagged_word.specs.declared.layout.Kind.TheVariants as kind
-use Rattle.tagged_word.specs.declared.reading.Reading.{Reading}
 use Rattle.tagged_word.specs.Cells.{has_length, length_by, length_offset, words_least, words_of}
 use Rattle.tagged_word.specs.Readings.{read_cell}
 use Rattle.tagged_word.proofs.Cells.{size_bounds, size_is}

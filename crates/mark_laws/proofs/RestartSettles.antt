@@ -4,14 +4,12 @@ use Rattle.std.proofs.Common.{length, min, slice_index, Option, Some, sym, subst
 use Rattle.std.proofs.lemmas.Bool.Decides.{nat_tests}
 use Rattle.std.proofs.lemmas.List.Elements.{All-contains, All-head, All-tail}
 use Rattle.std.proofs.lemmas.List.Elements.{Contains-append_left, Contains-append_right}
-use Rattle.tagged_word.specs.declared.reading.Reading.{Reading}
+use Rattle.mark_laws.specs.Types.{Reading, MainView, World}
 use Rattle.tagged_word.specs.Cells.{has_length, length_offset}
 use Rattle.tagged_word.proofs.CellReadings.{cell_from}
-use Rattle.mark_world.specs.declared.views.MainView.{MainView}
-use Rattle.mark_world.specs.declared.world.World.{World}
 use Rattle.mark_world.specs.Pages.{OfTarget, is_head_of, page_end, target}
-use Rattle.mark_world.specs.Covering.{cell_of}
-use Rattle.mark_world.specs.Resting.{HasSureTarget}
+use Rattle.mark_world.specs.Coverage.{cell_of}
+use Rattle.mark_world.specs.BetweenCommands.{HasSureTarget}
 use Rattle.mark_world.specs.Unfinished.{ReadsSlots, SettledBut}
 use Rattle.mark_laws.specs.Restarts.{IsRestarted, KeepsCell, KeepsDone, RestartsStaySettled}
 use Rattle.mark_laws.specs.Settling.{AllDoneLeave}

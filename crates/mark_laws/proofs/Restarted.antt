@@ -4,21 +4,17 @@ use Rattle.std.proofs.Common.{get_or, slice_index, Option, Some, IsSome, sym, su
 use Rattle.std.proofs.Common.{arith}
 use Rattle.std.proofs.lemmas.Grind.{get_or_default_zero}
 use Rattle.std.proofs.lemmas.List.Elements.{All-contains}
-use Rattle.tagged_word.specs.declared.reading.Reading.{Reading}
+use Rattle.mark_laws.specs.Types.{Reading, Snap, HelperView, MainView, World}
 use Rattle.tagged_word.specs.Readings.{reference_in}
 use Rattle.tagged_word.proofs.Cells.{some_same}
 use Rattle.seat_steps.specs.Lists.{is_in}
 use Rattle.seat_steps.proofs.Joining.{decided, in_found, out_not_found}
-use Rattle.mark_world.specs.declared.snap.Snap.{Snap}
-use Rattle.mark_world.specs.declared.views.HelperView.{HelperView}
-use Rattle.mark_world.specs.declared.views.MainView.{MainView}
-use Rattle.mark_world.specs.declared.world.World.{World}
 use Rattle.mark_world.specs.Pages.{OfTarget, is_free, is_inside, slots_of}
 use Rattle.mark_world.specs.Steps.{black, white}
-use Rattle.mark_world.specs.Moments.{IsReached}
-use Rattle.mark_world.specs.Covering.{EachSlot, IsCovered, cell_of, colour_of}
+use Rattle.mark_world.specs.AfterEvents.{IsReached}
+use Rattle.mark_world.specs.Coverage.{EachSlot, IsCovered, cell_of, colour_of}
 use Rattle.mark_world.specs.Soundness.{AreIn, HasCells, HasLists, HasSizes, HasViewLists, Sound}
-use Rattle.mark_world.specs.Lineage.{Born}
+use Rattle.mark_world.specs.BornCells.{Born}
 use Rattle.mark_laws.specs.Restarts.{HasJoined, IsRestarted}
 use Rattle.mark_laws.specs.Runs.{HasNoneOut}
 use Rattle.mark_laws.proofs.Colours.{each_colour}

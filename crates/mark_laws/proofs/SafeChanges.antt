@@ -5,9 +5,7 @@ use Rattle.std.specs.Option.{option_and_then}
 use Rattle.std.proofs.lemmas.Bool.Decides.{nat_tests}
 use Rattle.std.proofs.lemmas.List.{get_or-set_same, length-set}
 use Rattle.std.proofs.lemmas.Option.{slice_get-get_or, slice_get_within}
-use Rattle.tagged_word.specs.declared.layout.Kind.{Kind}
-use Rattle.tagged_word.specs.declared.layout.LayoutWord.{LayoutWord}
-use Rattle.tagged_word.specs.declared.reading.Reading.{Reading}
+use Rattle.mark_laws.specs.Types.{Kind, LayoutWord, Reading, Laid, World}
 use Rattle.tagged_word.specs.Cells.{ReadsAs, cell_size, has_length, length_by, length_offset, size_within}
 use Rattle.tagged_word.specs.Cells.{tagged_offsets, words_least, words_of}
 use Rattle.tagged_word.specs.Headers.{header_bits}
@@ -16,10 +14,8 @@ use Rattle.tagged_word.specs.Readings.{shape_layout, sized_cell}
 use Rattle.tagged_word.proofs.Cells.{made, some_same}
 use Rattle.tagged_word.proofs.CellReadings.{cell_from}
 use Rattle.tagged_word.proofs.Readings.{given_some}
-use Rattle.mark_world.specs.declared.laid.Laid.{Laid}
-use Rattle.mark_world.specs.declared.world.World.{World}
 use Rattle.mark_world.specs.Pages.{page_end}
-use Rattle.mark_world.specs.Covering.{cell_of}
+use Rattle.mark_world.specs.Coverage.{cell_of}
 use Rattle.mark_world.specs.Safety.{Includes, IsSafe, IsSafeChange, laid_in}
 use Rattle.mark_laws.specs.Cells.{Widens}
 use Rattle.mark_laws.proofs.Laid.{cell_laid, laid_from, laid_of, safe_from}

@@ -1,11 +1,9 @@
 -- A helper's step, and a seat that is lent or taken back, leave the words of the heap and the layout words.
 use Rattle.std.proofs.Common.{subst, sym, ℕ, ◌≡◌, ◌∙◌, Option, Some, None, refl, ap}
-use Rattle.mark_world.specs.declared.event.Event.{Event}
-use Rattle.mark_world.specs.declared.views.HelperView.{HelperView}
-use Rattle.mark_world.specs.declared.world.World.{World}
+use Rattle.mark_laws.specs.Types.{Event, HelperView, World}
 use Rattle.mark_world.specs.Pages.{cell_at}
-use Rattle.mark_world.specs.Moments.{after_helper, after_return}
-use Rattle.mark_world.specs.Covering.{cell_of}
+use Rattle.mark_world.specs.AfterEvents.{after_helper, after_return}
+use Rattle.mark_world.specs.Coverage.{cell_of}
 use Rattle.mark_laws.proofs.Helped.{helper_helped}
 
 -- two worlds have as many old words, the same words and the same layout words

@@ -6,15 +6,11 @@ use Rattle.std.proofs.lemmas.Option.{slice_get-get_or, slice_get_within}
 use Rattle.std.proofs.lemmas.List.Elements.{All-head, All-tail}
 use Rattle.std.specs.List.{count_by}
 use Rattle.tagged_word.proofs.Cells.{some_same}
-use Rattle.mark_world.specs.declared.event.Event.{Event}
+use Rattle.mark_laws.specs.Types.{Event, Actor, Snap, HelperView, World}
 use Rattle.mark_world.specs.declared.event.Event.TheVariants as event
-use Rattle.mark_world.specs.declared.step.Actor.{Actor}
-use Rattle.mark_world.specs.declared.snap.Snap.{Snap}
-use Rattle.mark_world.specs.declared.views.HelperView.{HelperView}
-use Rattle.mark_world.specs.declared.world.World.{World}
 use Rattle.mark_world.specs.Steps.{actor, becomes, helper_learns, helper_spot, lent, main_spot, returned, snap_settled}
-use Rattle.mark_world.specs.Moments.{after, after_helper, after_main, after_return, after_step, word_at}
-use Rattle.mark_world.specs.Moments.{seats_out, Possible}
+use Rattle.mark_world.specs.AfterEvents.{after, after_helper, after_main, after_return, after_step, word_at}
+use Rattle.mark_world.specs.AfterEvents.{seats_out, Possible}
 use Rattle.mark_laws.specs.Growing.{MovesSeat}
 use Rattle.mark_laws.specs.Runs.{HasNoneOut}
 use Rattle.mark_laws.proofs.Coverage.{with_word_views}

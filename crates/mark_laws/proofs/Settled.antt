@@ -6,17 +6,14 @@ use Rattle.std.proofs.lemmas.List.Elements.{All-contains}
 use Rattle.tagged_word.proofs.Members.{first_in, in_cases}
 use Rattle.seat_steps.specs.Lists.{left}
 use Rattle.seat_steps.proofs.Leaving.{left_from, left_out}
-use Rattle.mark_world.specs.declared.event.Event.{Event}
+use Rattle.mark_laws.specs.Types.{Event, Actor, MainView, World}
 use Rattle.mark_world.specs.declared.event.Event.TheVariants as event
-use Rattle.mark_world.specs.declared.step.Actor.{Actor}
-use Rattle.mark_world.specs.declared.views.MainView.{MainView}
-use Rattle.mark_world.specs.declared.world.World.{World}
 use Rattle.mark_world.specs.Pages.{target}
 use Rattle.mark_world.specs.Steps.{actor}
-use Rattle.mark_world.specs.Moments.{after, after_all, after_main, after_step, Possible}
-use Rattle.mark_world.specs.Covering.{EachSlot, cell_of}
+use Rattle.mark_world.specs.AfterEvents.{after, after_all, after_main, after_step, Possible}
+use Rattle.mark_world.specs.Coverage.{EachSlot, cell_of}
 use Rattle.mark_world.specs.Soundness.{AreIn, HasCells}
-use Rattle.mark_world.specs.Resting.{HasSureTarget, Settled}
+use Rattle.mark_world.specs.BetweenCommands.{HasSureTarget, Settled}
 use Rattle.mark_world.specs.Unfinished.{HasSureOrOwed, IsSureOrOwed, MayOwe, MineAreRead, ReadsSlots, SettledBut}
 use Rattle.mark_world.specs.Unfinished.{SettlingBut, Spares, made_after, shades}
 use Rattle.mark_laws.proofs.Joins.{all_from, of_slot}

@@ -5,21 +5,15 @@ use Rattle.std.proofs.Common.{arith, if◌then◌else◌, eq-eqb}
 use Rattle.std.specs.Option.{option_map}
 use Rattle.std.proofs.lemmas.List.{get_or-set_same, length-set}
 use Rattle.std.proofs.lemmas.Option.{slice_get_within}
-use Rattle.tagged_word.specs.declared.reading.Reading.{Reading}
+use Rattle.mark_laws.specs.Types.{Reading, Event, Spot, Snap, SnapSlot, HelperView, World}
 use Rattle.tagged_word.proofs.Members.{in_map}
-use Rattle.mark_world.specs.declared.event.Event.{Event}
 use Rattle.mark_world.specs.declared.event.Event.TheVariants as event
-use Rattle.mark_world.specs.declared.step.Spot.{Spot}
-use Rattle.mark_world.specs.declared.snap.Snap.{Snap}
-use Rattle.mark_world.specs.declared.snap.SnapSlot.{SnapSlot}
-use Rattle.mark_world.specs.declared.views.HelperView.{HelperView}
-use Rattle.mark_world.specs.declared.world.World.{World}
 use Rattle.mark_world.specs.Pages.{OfTarget, slots_of, target}
 use Rattle.mark_world.specs.Naming.{IsReadOut, named, read_offsets, read_words}
 use Rattle.mark_world.specs.Steps.{grey, helper_learns, snap_settled, snap_targets}
 use Rattle.mark_world.specs.Conditions.{MayHelper}
-use Rattle.mark_world.specs.Moments.{after_helper, word_at}
-use Rattle.mark_world.specs.Covering.{HasCovered, IsCovered, cell_of, colour_of}
+use Rattle.mark_world.specs.AfterEvents.{after_helper, word_at}
+use Rattle.mark_world.specs.Coverage.{HasCovered, IsCovered, cell_of, colour_of}
 use Rattle.mark_world.specs.Soundness.{HasSnaps, IsFreshSlot, IsTrueSnap}
 use Rattle.mark_laws.proofs.Blacks.{Settles}
 use Rattle.mark_laws.proofs.Joins.{of_get, targets_there, some_and}

@@ -5,13 +5,11 @@ use Rattle.std.proofs.Common.{Contains, refl, sym, ap, subst, arith}
 use Rattle.std.proofs.lemmas.Bool.Decides.{nat_tests}
 use Rattle.std.proofs.lemmas.List.{get_or-set_other, get_or-set_same}
 use Rattle.std.proofs.lemmas.List.Elements.{All-contains}
-use Rattle.tagged_word.specs.declared.header.Header.{Header}
-use Rattle.tagged_word.specs.declared.reading.Reading.{Reading}
+use Rattle.mark_laws.specs.Types.{Header, Reading, World}
 use Rattle.tagged_word.specs.Readings.{header_in}
 use Rattle.tagged_word.proofs.Cells.{some_same}
-use Rattle.mark_world.specs.declared.world.World.{World}
 use Rattle.mark_world.specs.Pages.{OfTarget, cell_at, is_head_of, page_end, slots_of, target}
-use Rattle.mark_world.specs.Covering.{cell_of}
+use Rattle.mark_world.specs.Coverage.{cell_of}
 use Rattle.mark_world.specs.Unfinished.{HasSureOrOwed, IsSureOrOwed, ReadsSlots, SettlingBut}
 use Rattle.mark_laws.proofs.Joins.{all_from, of_slot}
 use Rattle.mark_laws.proofs.Listing.{some_weaker}

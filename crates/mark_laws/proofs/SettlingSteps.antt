@@ -3,22 +3,18 @@ use Rattle.std.proofs.Common.{ℕ, ◌+◌, ◌≡◌, ◌≢◌, ◌==◌, ◌�
 use Rattle.std.proofs.Common.{◌∷◌, min, if◌then◌else◌, slice_index, Option, Some, None}
 use Rattle.std.proofs.Common.{Contains, IfSome, slice_get, refl, sym, ap, subst}
 use Rattle.std.proofs.lemmas.List.Elements.{All-contains}
-use Rattle.tagged_word.specs.declared.reading.Reading.{Reading}
+use Rattle.mark_laws.specs.Types.{Reading, Event, Actor, HelperView, MainView, World}
 use Rattle.tagged_word.proofs.Members.{first_in, in_map, rest_in}
 use Rattle.seat_steps.specs.Lists.{joined}
 use Rattle.seat_steps.proofs.Joining.{joined_in, joined_keeps}
 use Rattle.seat_steps.proofs.Leaving.{left_keeps}
-use Rattle.mark_world.specs.declared.event.Event.{Event}
 use Rattle.mark_world.specs.declared.event.Event.TheVariants as event
-use Rattle.mark_world.specs.declared.step.Actor.{Actor}
-use Rattle.mark_world.specs.declared.views.HelperView.{HelperView}
-use Rattle.mark_world.specs.declared.views.MainView.{MainView}
-use Rattle.mark_world.specs.declared.world.World.{World}
 use Rattle.mark_world.specs.Pages.{is_free, is_head_of, page_end, slots_of, target}
 use Rattle.mark_world.specs.Steps.{actor, black, free_slot_words, words_in_slots}
 use Rattle.mark_world.specs.Conditions.{AreSureAfter, MayAddLayout, MayMain, MayStoreHeader}
-use Rattle.mark_world.specs.Moments.{after, after_helper, after_main, after_return, after_step, Possible, PossibleStep}
-use Rattle.mark_world.specs.Covering.{EachSlot, cell_of}
+use Rattle.mark_world.specs.AfterEvents.{after, after_helper, after_main, after_return, after_step, Possible}
+use Rattle.mark_world.specs.AfterEvents.{PossibleStep}
+use Rattle.mark_world.specs.Coverage.{EachSlot, cell_of}
 use Rattle.mark_world.specs.Soundness.{HasCells}
 use Rattle.mark_world.specs.Unfinished.{HasSureOrOwed, IsNoHead, IsSureOrOwed, ReadsSlots, SettlingBut}
 use Rattle.mark_world.specs.Unfinished.{Spares, SparesHeader, SparesOwned, made_after}

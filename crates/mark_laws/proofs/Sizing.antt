@@ -7,26 +7,19 @@ use Rattle.std.proofs.lemmas.Bool.Decides.{nat_tests}
 use Rattle.std.proofs.lemmas.List.{get_or_past, length-set}
 use Rattle.std.proofs.lemmas.List.Elements.{All-contains, All-set}
 use Rattle.std.specs.Option.{option_and_then, option_map}
-use Rattle.tagged_word.specs.declared.header.Header.{Header}
+use Rattle.mark_laws.specs.Types.{Header, Event, Actor, Spot, Snap, HelperView, MainView, World}
 use Rattle.tagged_word.specs.Cells.{length_offset}
 use Rattle.tagged_word.specs.Readings.{header_in}
 use Rattle.page_space.specs.Extents.{board_words}
 use Rattle.seat_steps.specs.Boards.{IsBoardWord}
 use Rattle.seat_steps.proofs.Handing.{board_with, given_is_board_word}
-use Rattle.mark_world.specs.declared.event.Event.{Event}
 use Rattle.mark_world.specs.declared.event.Event.TheVariants as event
-use Rattle.mark_world.specs.declared.step.Actor.{Actor}
-use Rattle.mark_world.specs.declared.step.Spot.{Spot}
-use Rattle.mark_world.specs.declared.snap.Snap.{Snap}
-use Rattle.mark_world.specs.declared.views.HelperView.{HelperView}
-use Rattle.mark_world.specs.declared.views.MainView.{MainView}
-use Rattle.mark_world.specs.declared.world.World.{World}
 use Rattle.mark_world.specs.Steps.{actor, becomes, black, helper_learns, helper_spot, layout_spot, main_learns}
 use Rattle.mark_world.specs.Steps.{main_spot}
 use Rattle.mark_world.specs.Steps.{settled, shaded}
 use Rattle.mark_world.specs.Conditions.{MayHelper, MayMain}
-use Rattle.mark_world.specs.Moments.{after, after_helper, after_return, after_step, IsReached, MayStep, Possible}
-use Rattle.mark_world.specs.Moments.{PossibleStep, with_word, word_at}
+use Rattle.mark_world.specs.AfterEvents.{after, after_helper, after_return, after_step, IsReached, MayStep, Possible}
+use Rattle.mark_world.specs.AfterEvents.{PossibleStep, with_word, word_at}
 use Rattle.mark_world.specs.Soundness.{HasLists, HasSizes, HasViewLists}
 use Rattle.mark_laws.proofs.Colours.{each_colour}
 use Rattle.mark_laws.proofs.Joins.{of_get, some_and}

@@ -4,14 +4,13 @@ use Rattle.std.proofs.Common.{IsTrue, List, slice_index, slice_set, Option, Some
 use Rattle.std.proofs.Common.{Contains, ◌≢◌, length, min, refl, subst, arith}
 use Rattle.std.proofs.lemmas.List.{get_or-set_same}
 use Rattle.std.proofs.lemmas.List.Elements.{All-contains}
-use Rattle.tagged_word.specs.declared.reading.Reading.{Reading}
+use Rattle.mark_laws.specs.Types.{Reading, World}
 use Rattle.tagged_word.proofs.Cells.{slot_within, tagged_is_scavenged}
 use Rattle.tagged_word.proofs.CellReadings.{cell_from}
-use Rattle.mark_world.specs.declared.world.World.{World}
 use Rattle.mark_world.specs.Pages.{is_free, is_head, is_head_of, is_inside, offset_in, page_end, slots_of}
 use Rattle.mark_world.specs.Steps.{black, grey, white}
-use Rattle.mark_world.specs.Moments.{IsReached}
-use Rattle.mark_world.specs.Covering.{EachSlot, cell_of, colour_of}
+use Rattle.mark_world.specs.AfterEvents.{IsReached}
+use Rattle.mark_world.specs.Coverage.{EachSlot, cell_of, colour_of}
 use Rattle.mark_world.specs.Soundness.{HasCells}
 use Rattle.mark_laws.proofs.Starts.{free_or_mine, value_of}
 use Rattle.mark_laws.proofs.Joins.{all_from}

@@ -4,23 +4,18 @@ use Rattle.std.proofs.Common.{nat_lt, get_or, refl, sym, ap, subst, arith, lengt
 use Rattle.std.proofs.lemmas.Bool.Decides.{nat_tests}
 use Rattle.std.proofs.lemmas.List.Elements.{All-set}
 use Rattle.std.specs.Option.{option_and_then, option_map}
-use Rattle.tagged_word.specs.declared.header.Header.{Header}
+use Rattle.mark_laws.specs.Types.{Header, Event, Snap, Spot, HelperView, World}
 use Rattle.tagged_word.specs.Cells.{length_offset}
 use Rattle.tagged_word.specs.Readings.{header_in}
 use Rattle.tagged_word.specs.Shapes.{shapes_most}
 use Rattle.tagged_word.proofs.Cells.{some_same}
-use Rattle.mark_world.specs.declared.event.Event.{Event}
 use Rattle.mark_world.specs.declared.event.Event.TheVariants as event
-use Rattle.mark_world.specs.declared.snap.Snap.{Snap}
-use Rattle.mark_world.specs.declared.step.Spot.{Spot}
-use Rattle.mark_world.specs.declared.views.HelperView.{HelperView}
-use Rattle.mark_world.specs.declared.world.World.{World}
 use Rattle.mark_world.specs.Naming.{IsToRead, is_shape, named, read_offsets}
 use Rattle.mark_world.specs.Steps.{helper_learns, helper_spot, layout_spot, snap_settled, with_layout, with_length}
 use Rattle.mark_world.specs.Steps.{with_slot}
 use Rattle.mark_world.specs.Conditions.{AwaitsLayout, AwaitsLength, MayHelper}
-use Rattle.mark_world.specs.Moments.{after_helper, IsReached, word_at}
-use Rattle.mark_world.specs.Covering.{colour_of}
+use Rattle.mark_world.specs.AfterEvents.{after_helper, IsReached, word_at}
+use Rattle.mark_world.specs.Coverage.{colour_of}
 use Rattle.mark_world.specs.Soundness.{HasCells, HasLists, HasSizes, HasSnaps, HasViewLists}
 use Rattle.mark_laws.proofs.Helped.{helped, helper_helped, views_after}
 use Rattle.mark_laws.proofs.Slots.{WereGrey, free_cell, grey_before, grey_free, some_at, some_from}

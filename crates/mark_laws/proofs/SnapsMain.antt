@@ -2,20 +2,15 @@
 use Rattle.std.proofs.Common.{ℕ, ◌≡◌, ◌≢◌, ◌==◌, inl, inr, false, IsTrue, List, Option, Some}
 use Rattle.std.proofs.Common.{All, Contains, get_or, sym, subst, eqb-true}
 use Rattle.std.proofs.lemmas.Bool.{eqb-false}
-use Rattle.tagged_word.specs.declared.reading.Reading.{Reading}
+use Rattle.mark_laws.specs.Types.{Reading, Event, Snap, Actor, HelperView, World}
 use Rattle.seat_steps.specs.Boards.{joined_by}
 use Rattle.seat_steps.proofs.Joining.{decided}
-use Rattle.mark_world.specs.declared.event.Event.{Event}
 use Rattle.mark_world.specs.declared.event.Event.TheVariants as event
-use Rattle.mark_world.specs.declared.snap.Snap.{Snap}
-use Rattle.mark_world.specs.declared.step.Actor.{Actor}
-use Rattle.mark_world.specs.declared.views.HelperView.{HelperView}
-use Rattle.mark_world.specs.declared.world.World.{World}
 use Rattle.mark_world.specs.Pages.{is_free, is_head_of, target}
 use Rattle.mark_world.specs.Steps.{becomes, main_spot}
 use Rattle.mark_world.specs.Conditions.{MayMain, MayStoreHeader, MayStoreOwned, MayStoreSlot}
-use Rattle.mark_world.specs.Moments.{after_main, IsReached, word_at}
-use Rattle.mark_world.specs.Covering.{HasCovered, IsCovered, cell_of, colour_of}
+use Rattle.mark_world.specs.AfterEvents.{after_main, IsReached, word_at}
+use Rattle.mark_world.specs.Coverage.{HasCovered, IsCovered, cell_of, colour_of}
 use Rattle.mark_world.specs.Soundness.{HasCells, HasLists, HasSizes, HasSnaps, HasSure, HasViewLists, IsTrueSnap}
 use Rattle.mark_laws.proofs.Cells.{owned_no_head}
 use Rattle.mark_laws.proofs.Colours.{step_rises}

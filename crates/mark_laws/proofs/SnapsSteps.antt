@@ -1,14 +1,11 @@
 -- Snaps of grey cells stay true through every step.
 use Rattle.std.proofs.Common.{ℕ, [], ◌∷◌, slice_get, Option, Some, None, IsSomeAnd, sym, subst}
 use Rattle.std.proofs.lemmas.List.Elements.{All-append, All-set}
-use Rattle.mark_world.specs.declared.event.Event.{Event}
-use Rattle.mark_world.specs.declared.step.Actor.{Actor}
-use Rattle.mark_world.specs.declared.views.HelperView.{HelperView}
-use Rattle.mark_world.specs.declared.world.World.{World}
+use Rattle.mark_laws.specs.Types.{Event, Actor, HelperView, World}
 use Rattle.mark_world.specs.Steps.{actor, lent, returned}
-use Rattle.mark_world.specs.Moments.{after, after_helper, after_return, after_step, MayStep, Possible, PossibleStep}
+use Rattle.mark_world.specs.AfterEvents.{after, after_helper, after_return, after_step, MayStep, Possible, PossibleStep}
 use Rattle.mark_world.specs.Soundness.{HasCells, HasLists, HasSizes, HasSnaps, HasSure, HasViewLists}
-use Rattle.mark_world.specs.Lineage.{Born}
+use Rattle.mark_world.specs.BornCells.{Born}
 use Rattle.mark_laws.proofs.Colours.{helper_rises}
 use Rattle.mark_laws.proofs.Coverage.{step_covers}
 use Rattle.mark_laws.proofs.Joins.{of_get, some_and}

@@ -1,9 +1,8 @@
 -- A sound world stays sound: its parts stay, each by its own law.
-use Rattle.mark_world.specs.declared.event.Event.{Event}
-use Rattle.mark_world.specs.declared.world.World.{World}
-use Rattle.mark_world.specs.Moments.{after, Possible}
+use Rattle.mark_laws.specs.Types.{Event, World}
+use Rattle.mark_world.specs.AfterEvents.{after, Possible}
 use Rattle.mark_world.specs.Soundness.{Sound}
-use Rattle.mark_world.specs.Lineage.{Born}
+use Rattle.mark_world.specs.BornCells.{Born}
 use Rattle.mark_laws.proofs.Blackness.{black_stays}
 use Rattle.mark_laws.proofs.BornSteps.{born_stays}
 use Rattle.mark_laws.proofs.GreysWait.{greys_wait}

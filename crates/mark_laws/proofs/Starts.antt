@@ -5,15 +5,14 @@ use Rattle.std.proofs.Common.{IsSome, Contains, refl, arith}
 use Rattle.std.proofs.lemmas.Bool.{cases_lt}
 use Rattle.std.proofs.lemmas.List.{get_or_past}
 use Rattle.std.proofs.lemmas.List.Elements.{All-contains}
-use Rattle.tagged_word.specs.declared.reading.Reading.{Reading}
+use Rattle.mark_laws.specs.Types.{Reading, World}
 use Rattle.tagged_word.proofs.Cells.{size_bounds}
 use Rattle.tagged_word.proofs.CellReadings.{cell_from}
 use Rattle.seat_steps.specs.Lists.{is_in}
 use Rattle.seat_steps.proofs.Joining.{decided, found_in, in_found}
-use Rattle.mark_world.specs.declared.world.World.{World}
 use Rattle.mark_world.specs.Pages.{is_free, page_end}
 use Rattle.mark_world.specs.Steps.{black}
-use Rattle.mark_world.specs.Covering.{cell_of, colour_of}
+use Rattle.mark_world.specs.Coverage.{cell_of, colour_of}
 use Rattle.mark_world.specs.Soundness.{HasCells, HasSizes}
 
 -- a published cell is a free start, or the mutator made it black

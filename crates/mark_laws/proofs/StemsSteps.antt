@@ -1,15 +1,11 @@
 -- Each snap stems from the load of a header, at each moment of events that were possible.
 use Rattle.std.proofs.Common.{ℕ, ◌+◌, ◌≤◌, ◌≡◌, inl, inr, false, List, length, slice_get, Option, Some, None}
 use Rattle.std.proofs.Common.{IsSomeAnd, IsTrue, refl, sym, subst}
-use Rattle.mark_world.specs.declared.event.Event.{Event}
-use Rattle.mark_world.specs.declared.snap.Snap.{Snap}
-use Rattle.mark_world.specs.declared.step.Actor.{Actor}
-use Rattle.mark_world.specs.declared.views.HelperView.{HelperView}
-use Rattle.mark_world.specs.declared.world.World.{World}
+use Rattle.mark_laws.specs.Types.{Event, Snap, Actor, HelperView, World}
 use Rattle.mark_world.specs.Steps.{actor, becomes, helper_learns, helper_spot, lent, main_spot, returned}
 use Rattle.mark_world.specs.Conditions.{MayHelper}
-use Rattle.mark_world.specs.Moments.{MayStep, PossibleStep, WerePossible, after_helper, after_return, after_step}
-use Rattle.mark_world.specs.Moments.{moment, word_at}
+use Rattle.mark_world.specs.AfterEvents.{MayStep, PossibleStep, WerePossible, after_helper, after_return, after_step}
+use Rattle.mark_world.specs.AfterEvents.{moment, word_at}
 use Rattle.mark_world.specs.Soundness.{HasViewLists, Sound}
 use Rattle.mark_laws.specs.Runs.{HasNoneOut}
 use Rattle.mark_laws.proofs.Coverage.{with_word_views}
@@ -17,7 +13,7 @@ use Rattle.mark_laws.proofs.Joins.{of_get, some_and}
 use Rattle.mark_laws.proofs.Moments.{at_each, next_moment}
 use Rattle.mark_laws.proofs.PutViews.{behind_cases, put_cases}
 use Rattle.mark_laws.proofs.Slots.{and_some}
-use Rattle.mark_laws.proofs.Stems.{Stems, own_stems, stays_stemming}
+use Rattle.mark_laws.proofs.SnapOrigins.{Stems, own_stems, stays_stemming}
 
 -- a helper has a snap
 abbrev pub HasSnap : World → ℕ → Snap → Type 0

@@ -4,17 +4,15 @@ use Rattle.std.proofs.Common.{ℕ, ◌+◌, ◌<◌, ◌≡◌, ◌∙◌, inl, 
 use Rattle.std.proofs.Common.{IfSome, Contains, slice_index, slice_set, refl, sym, ap, subst}
 use Rattle.std.proofs.lemmas.List.{get_or-set_other, get_or-set_same}
 use Rattle.std.proofs.lemmas.List.Elements.{All-contains}
-use Rattle.tagged_word.specs.declared.reading.Reading.{Reading}
+use Rattle.mark_laws.specs.Types.{Reading, Event, World}
 use Rattle.tagged_word.proofs.Cells.{some_same}
 use Rattle.seat_steps.specs.Boards.{joined_by}
 use Rattle.seat_steps.proofs.Joining.{joined_in}
-use Rattle.mark_world.specs.declared.event.Event.{Event}
 use Rattle.mark_world.specs.declared.event.Event.TheVariants as event
-use Rattle.mark_world.specs.declared.world.World.{World}
 use Rattle.mark_world.specs.Pages.{OfTarget, is_free, slots_of, target}
 use Rattle.mark_world.specs.Conditions.{MayMain, MayStoreHeader}
-use Rattle.mark_world.specs.Moments.{after_main}
-use Rattle.mark_world.specs.Covering.{EachSlot, HasCovered, IsCovered, cell_of}
+use Rattle.mark_world.specs.AfterEvents.{after_main}
+use Rattle.mark_world.specs.Coverage.{EachSlot, HasCovered, IsCovered, cell_of}
 use Rattle.mark_world.specs.Soundness.{HasCells, HasSure}
 use Rattle.mark_laws.proofs.Joins.{of_slot}
 use Rattle.mark_laws.proofs.Cells.{main_cells}

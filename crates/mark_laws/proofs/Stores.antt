@@ -5,19 +5,16 @@ use Rattle.std.proofs.Common.{Option, Some, Contains, refl, sym, ap, subst, arit
 use Rattle.std.proofs.lemmas.Bool.Decides.{nat_tests}
 use Rattle.std.proofs.lemmas.List.Elements.{All-contains}
 use Rattle.tagged_word.specs.declared.layout.Kind.TheVariants as kind
-use Rattle.tagged_word.specs.declared.reading.Reading.{Reading}
+use Rattle.mark_laws.specs.Types.{Reading, Laid, MainView, World}
 use Rattle.tagged_word.proofs.Cells.{size_bounds, some_same}
 use Rattle.tagged_word.proofs.CellReadings.{cell_from}
 use Rattle.seat_steps.specs.Lists.{is_in}
 use Rattle.seat_steps.proofs.Joining.{found_in, in_found, not_found, out_not_found}
-use Rattle.mark_world.specs.declared.laid.Laid.{Laid}
-use Rattle.mark_world.specs.declared.views.MainView.{MainView}
-use Rattle.mark_world.specs.declared.world.World.{World}
 use Rattle.mark_world.specs.Pages.{EachFree, OfTarget, cell_at, is_free, is_head, is_inside, leaves_alone}
 use Rattle.mark_world.specs.Pages.{offset_in, page_end, slots_of}
 use Rattle.mark_world.specs.Safety.{IsSafe, laid_in, slots_by}
 use Rattle.mark_world.specs.Conditions.{AreSureAfter, MayStoreHeader}
-use Rattle.mark_world.specs.Covering.{cell_of}
+use Rattle.mark_world.specs.Coverage.{cell_of}
 use Rattle.mark_world.specs.Soundness.{HasCells}
 use Rattle.mark_laws.proofs.Laid.{cell_laid, laid_of, plain_any, safe_from}
 use Rattle.mark_laws.proofs.Slots.{put_there, slot_inside}

@@ -4,26 +4,21 @@ use Rattle.std.proofs.Common.{slice_index, slice_get, Option, Some, None, All, C
 use Rattle.std.proofs.Common.{subst, arith}
 use Rattle.std.proofs.Common.{if◌then◌else◌, eqb-true}
 use Rattle.std.proofs.lemmas.List.Elements.{All-contains}
-use Rattle.tagged_word.specs.declared.reading.Reading.{Reading}
+use Rattle.mark_laws.specs.Types.{Reading, Event, Actor, HelperView, MainView, World}
 use Rattle.tagged_word.proofs.Members.{map_from}
 use Rattle.seat_steps.specs.Lists.{joined, left}
 use Rattle.seat_steps.specs.Boards.{joined_by}
 use Rattle.seat_steps.proofs.Joining.{joined_keeps}
 use Rattle.seat_steps.proofs.Leaving.{left_from}
-use Rattle.mark_world.specs.declared.event.Event.{Event}
 use Rattle.mark_world.specs.declared.event.Event.TheVariants as event
-use Rattle.mark_world.specs.declared.step.Actor.{Actor}
-use Rattle.mark_world.specs.declared.views.HelperView.{HelperView}
-use Rattle.mark_world.specs.declared.views.MainView.{MainView}
-use Rattle.mark_world.specs.declared.world.World.{World}
 use Rattle.mark_world.specs.Pages.{is_free, slots_of, target, targets_joined}
 use Rattle.mark_world.specs.Steps.{actor, all_joined, becomes, black, free_slot_words, helper_spot, words_in_slots}
 use Rattle.mark_world.specs.Conditions.{MayMain}
-use Rattle.mark_world.specs.Moments.{after, after_helper, after_main, after_return, after_step, Possible}
-use Rattle.mark_world.specs.Moments.{PossibleStep, word_at}
-use Rattle.mark_world.specs.Covering.{HasCovered, IsCovered, cell_of, colour_of}
+use Rattle.mark_world.specs.AfterEvents.{after, after_helper, after_main, after_return, after_step, Possible}
+use Rattle.mark_world.specs.AfterEvents.{PossibleStep, word_at}
+use Rattle.mark_world.specs.Coverage.{HasCovered, IsCovered, cell_of, colour_of}
 use Rattle.mark_world.specs.Soundness.{AreIn, HasBlack, HasCells, HasLists, HasSizes, HasSure}
-use Rattle.mark_world.specs.Lineage.{Born, HasBorn}
+use Rattle.mark_world.specs.BornCells.{Born, HasBorn}
 use Rattle.mark_laws.proofs.Starts.{start_old}
 use Rattle.mark_laws.proofs.Joins.{all_from, joins, of_get, of_slot, of_target, targets_from, targets_there}
 use Rattle.mark_laws.proofs.Coverage.{shaded_coloured, step_covers, with_word_main}

@@ -5,22 +5,17 @@ use Rattle.std.proofs.Common.{refl, sym, ap, subst, arith, eqb-true}
 use Rattle.std.proofs.lemmas.Bool.{eqb-false}
 use Rattle.std.proofs.lemmas.List.Elements.{Contains-append_left, Contains-push, Contains-push_cases}
 use Rattle.std.proofs.lemmas.Option.{get_or_from_slice_get, slice_get-get_or}
-use Rattle.tagged_word.specs.declared.header.Header.{Header}
-use Rattle.tagged_word.specs.declared.reading.Reading.{Reading}
+use Rattle.mark_laws.specs.Types.{Header, Reading, Laid, Snap, SnapSlot, World}
 use Rattle.tagged_word.specs.Cells.{length_offset, marks_by_length}
 use Rattle.tagged_word.specs.Readings.{header_in}
 use Rattle.tagged_word.specs.Shapes.{shapes_most}
 use Rattle.tagged_word.proofs.Cells.{some_same}
 use Rattle.tagged_word.proofs.Members.{in_map, map_from}
 use Rattle.seat_steps.proofs.Joining.{decided}
-use Rattle.mark_world.specs.declared.laid.Laid.{Laid}
-use Rattle.mark_world.specs.declared.snap.Snap.{Snap}
-use Rattle.mark_world.specs.declared.snap.SnapSlot.{SnapSlot}
-use Rattle.mark_world.specs.declared.world.World.{World}
 use Rattle.mark_world.specs.Safety.{laid_in, slots_by}
 use Rattle.mark_world.specs.Naming.{read_offsets}
 use Rattle.mark_world.specs.Steps.{snap_begun, with_layout, with_length, with_slot}
-use Rattle.mark_world.specs.Covering.{cell_of}
+use Rattle.mark_world.specs.Coverage.{cell_of}
 use Rattle.mark_world.specs.Soundness.{IsFreshSlot, IsTrueSnap}
 use Rattle.mark_laws.proofs.Laid.{cell_laid, laid_of}
 use Rattle.mark_laws.proofs.Names.{safe_unmarked, second_is, was_header}

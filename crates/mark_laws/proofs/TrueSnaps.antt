@@ -1,18 +1,13 @@
 -- Snaps of grey cells stay true through stores, and where words stay.
 use Rattle.std.proofs.Common.{ℕ, ◌+◌, ◌≡◌, ◌∙◌, ◌⊎◌, inl, inr, true, IsTrue, List}
 use Rattle.std.proofs.Common.{slice_index, slice_get, Some, IfSome, Contains, subst}
-use Rattle.tagged_word.specs.declared.reading.Reading.{Reading}
+use Rattle.mark_laws.specs.Types.{Reading, Laid, Snap, HelperView, MainView, World}
 use Rattle.tagged_word.specs.Cells.{length_offset, marks_by_length}
 use Rattle.tagged_word.proofs.Cells.{some_same}
-use Rattle.mark_world.specs.declared.laid.Laid.{Laid}
-use Rattle.mark_world.specs.declared.snap.Snap.{Snap}
-use Rattle.mark_world.specs.declared.views.HelperView.{HelperView}
-use Rattle.mark_world.specs.declared.views.MainView.{MainView}
-use Rattle.mark_world.specs.declared.world.World.{World}
 use Rattle.mark_world.specs.Pages.{slots_of, target}
 use Rattle.mark_world.specs.Safety.{laid_in}
 use Rattle.mark_world.specs.Steps.{grey}
-use Rattle.mark_world.specs.Covering.{EachSlot, HasCovered, IsCovered, cell_of, colour_of}
+use Rattle.mark_world.specs.Coverage.{EachSlot, HasCovered, IsCovered, cell_of, colour_of}
 use Rattle.mark_world.specs.Soundness.{IsFreshSlot, IsTrueSnap, header_slots}
 use Rattle.mark_laws.proofs.Joins.{of_slot}
 use Rattle.mark_laws.proofs.Laid.{laid_of}

@@ -3,21 +3,17 @@ use Rattle.std.proofs.Common.{ℕ, ◌+◌, ◌≡◌, ◌≢◌, ◌∙◌, ◌
 use Rattle.std.proofs.Common.{slice_index, slice_set, slice_get, Option, Some, IfSome, Contains, refl, sym, ap, subst}
 use Rattle.std.proofs.Common.{arith}
 use Rattle.std.proofs.lemmas.List.Elements.{All-contains}
-use Rattle.tagged_word.specs.declared.header.Header.{Header}
+use Rattle.mark_laws.specs.Types.{Header, Reading, Laid, Snap, World}
 use Rattle.tagged_word.specs.declared.layout.Kind.TheVariants as kind
-use Rattle.tagged_word.specs.declared.reading.Reading.{Reading}
 use Rattle.tagged_word.specs.Cells.{length_offset, marks_by_length}
 use Rattle.tagged_word.specs.Readings.{header_in}
 use Rattle.tagged_word.proofs.Cells.{some_same}
 use Rattle.mark_world.specs.declared.event.Event.TheVariants as event
-use Rattle.mark_world.specs.declared.laid.Laid.{Laid}
-use Rattle.mark_world.specs.declared.snap.Snap.{Snap}
-use Rattle.mark_world.specs.declared.world.World.{World}
 use Rattle.mark_world.specs.Pages.{is_free, is_head_of, page_end, slots_of, target}
 use Rattle.mark_world.specs.Safety.{IsSafe, laid_in, slots_by}
 use Rattle.mark_world.specs.Conditions.{MayAddLayout, MayStoreHeader}
-use Rattle.mark_world.specs.Moments.{after_main}
-use Rattle.mark_world.specs.Covering.{HasCovered, IsCovered, cell_of}
+use Rattle.mark_world.specs.AfterEvents.{after_main}
+use Rattle.mark_world.specs.Coverage.{HasCovered, IsCovered, cell_of}
 use Rattle.mark_world.specs.Soundness.{HasSure, IsTrueSnap, header_slots}
 use Rattle.mark_laws.proofs.Cells.{layout_keeps}
 use Rattle.mark_laws.proofs.Laid.{cell_laid, laid_from, laid_stays, plain_any, safe_again, safe_from}

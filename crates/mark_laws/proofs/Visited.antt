@@ -4,15 +4,13 @@ use Rattle.std.proofs.Common.{slice_get, slice_index, sym, subst, arith}
 use Rattle.std.proofs.lemmas.Bool.Decides.{nat_tests}
 use Rattle.std.proofs.lemmas.List.Elements.{All-contains}
 use Rattle.mark_world.specs.declared.event.Event.TheVariants as event
-use Rattle.mark_world.specs.declared.snap.Snap.{Snap}
-use Rattle.mark_world.specs.declared.views.HelperView.{HelperView}
-use Rattle.mark_world.specs.declared.world.World.{World}
+use Rattle.mark_laws.specs.Types.{Snap, HelperView, World}
 use Rattle.mark_world.specs.Naming.{read_words}
 use Rattle.mark_world.specs.Steps.{grey, shaded, snap_settled, white}
-use Rattle.mark_world.specs.Moments.{MayStep, Possible, after, after_helper}
-use Rattle.mark_world.specs.Covering.{colour_of}
+use Rattle.mark_world.specs.AfterEvents.{MayStep, Possible, after, after_helper}
+use Rattle.mark_world.specs.Coverage.{colour_of}
 use Rattle.mark_world.specs.Soundness.{Sound}
-use Rattle.mark_world.specs.Lineage.{Born}
+use Rattle.mark_world.specs.BornCells.{Born}
 use Rattle.mark_laws.specs.Visits.{VisitsTargets}
 use Rattle.mark_laws.proofs.Joins.{of_get, some_and, targets_from, targets_there}
 use Rattle.mark_laws.proofs.Slots.{put_there}

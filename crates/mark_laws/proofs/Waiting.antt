@@ -12,10 +12,9 @@ use Rattle.seat_steps.specs.Lists.{joined, left}
 use Rattle.seat_steps.specs.Boards.{given_word, giver_left, joined_by, taker_joined}
 use Rattle.seat_steps.proofs.Joining.{decided, joined_in, joined_keeps}
 use Rattle.seat_steps.proofs.Leaving.{left_keeps}
-use Rattle.mark_world.specs.declared.views.HelperView.{HelperView}
-use Rattle.mark_world.specs.declared.world.World.{World}
+use Rattle.mark_laws.specs.Types.{HelperView, World}
 use Rattle.mark_world.specs.Steps.{black, grey, white}
-use Rattle.mark_world.specs.Covering.{colour_of}
+use Rattle.mark_world.specs.Coverage.{colour_of}
 use Rattle.mark_world.specs.Soundness.{HasGrey, HasLists, Reads, Waits}
 
 -- a word of the board refers to the cell

@@ -2,16 +2,14 @@
 use Rattle.std.proofs.Common.{ℕ, ◌≡◌, ◌≢◌, ◌∙◌, inl, inr, List, All, Contains, get_or}
 use Rattle.std.proofs.Common.{slice_index, Option, IfSome, sym, subst, arith}
 use Rattle.std.proofs.lemmas.List.Elements.{All-contains}
-use Rattle.mark_world.specs.declared.snap.Snap.{Snap}
-use Rattle.mark_world.specs.declared.views.MainView.{MainView}
-use Rattle.mark_world.specs.declared.world.World.{World}
+use Rattle.mark_laws.specs.Types.{Snap, MainView, World}
 use Rattle.mark_world.specs.Pages.{target}
 use Rattle.mark_world.specs.Steps.{black, grey, white}
-use Rattle.mark_world.specs.Covering.{HasCovered, IsCovered, colour_of}
+use Rattle.mark_world.specs.Coverage.{HasCovered, IsCovered, colour_of}
 use Rattle.mark_world.specs.Soundness.{HasBlack, HasGrey, HasSnaps, HasSure, IsEmptyView, IsTrueSnap, Waits}
-use Rattle.mark_world.specs.Lineage.{Born, HasBorn}
+use Rattle.mark_world.specs.BornCells.{Born, HasBorn}
 use Rattle.mark_laws.specs.Restarts.{IsRestarted}
-use Rattle.mark_laws.specs.Runs.{HasNoneOut, IsWhole}
+use Rattle.mark_laws.specs.Runs.{HasNoneOut, IsSoundAndBorn}
 use Rattle.mark_laws.proofs.Joins.{all_from}
 use Rattle.mark_laws.proofs.Listing.{some_weaker}
 use Rattle.mark_laws.proofs.Restarted.{Restart, cells_on, colour_cases, covered_on, each_joined, each_slot_on}
@@ -117,7 +115,7 @@ born_on world promoted words colours main r =
 
 -- the world is whole
 whole_on : (world : World) (promoted words colours : List ℕ) (main : MainView)
-    → Restart world promoted words colours main → IsWhole (renewed world words colours main)
+    → Restart world promoted words colours main → IsSoundAndBorn (renewed world words colours main)
 whole_on world promoted words colours main r = (
   record {
     sizes = sizes_on world promoted words colours main r;
@@ -132,10 +130,10 @@ whole_on world promoted words colours main r = (
 )
 
 -- so it is whole after a scavenge
-pub restarts_stay_whole : (world : World) (promoted : List ℕ) (later : World) → IsWhole world → HasNoneOut world
-    → IsRestarted world promoted later → IsWhole later
+pub restarts_stay_whole : (world : World) (promoted : List ℕ) (later : World) → IsSoundAndBorn world → HasNoneOut world
+    → IsRestarted world promoted later → IsSoundAndBorn later
 restarts_stay_whole world promoted later whole none is =
-    subst IsWhole (sym is.rest) (whole_on world promoted later.words later.colours later.main record {
+    subst IsSoundAndBorn (sym is.rest) (whole_on world promoted later.words later.colours later.main record {
       sound = whole.0;
       born = whole.1;
       none_out = none;

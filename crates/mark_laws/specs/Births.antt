@@ -1,9 +1,8 @@
 -- Marking reaches only cells that are born.
-use Rattle.mark_world.specs.declared.event.Event.{Event}
-use Rattle.mark_world.specs.declared.world.World.{World}
-use Rattle.mark_world.specs.Moments.{after, Possible}
+use Rattle.mark_laws.specs.Types.{Event, World}
+use Rattle.mark_world.specs.AfterEvents.{after, Possible}
 use Rattle.mark_world.specs.Soundness.{HasCells, HasLists, HasSizes, HasSnaps, HasSure}
-use Rattle.mark_world.specs.Lineage.{Born}
+use Rattle.mark_world.specs.BornCells.{Born}
 
 -- What is reached, what slots of born cells and of snaps refer to, and what is to be visited is born after each
 -- possible event.

@@ -1,14 +1,12 @@
 -- Cells stay what they are when words of them change.
 use Rattle.std.specs.Prelude.{◌≡◌, ℕ, IsTrue, false, List, slice_set, Some, IsSomeAnd}
-use Rattle.tagged_word.specs.declared.reading.Reading.{Reading}
+use Rattle.mark_laws.specs.Types.{Reading, Event, World}
 use Rattle.tagged_word.specs.Readings.{read_cell}
-use Rattle.mark_world.specs.declared.event.Event.{Event}
 use Rattle.mark_world.specs.declared.event.Event.TheVariants as event
-use Rattle.mark_world.specs.declared.world.World.{World}
 use Rattle.mark_world.specs.Pages.{is_free, is_head_of, slots_of}
 use Rattle.mark_world.specs.Safety.{Includes}
-use Rattle.mark_world.specs.Moments.{after, Possible}
-use Rattle.mark_world.specs.Covering.{cell_of}
+use Rattle.mark_world.specs.AfterEvents.{after, Possible}
+use Rattle.mark_world.specs.Coverage.{cell_of}
 use Rattle.mark_world.specs.Soundness.{HasCells}
 
 -- a store into a word that is neither the header of a cell, nor a length that its size is read from, leaves the cell
@@ -25,8 +23,8 @@ StoresHeader (event.StoreHeader at word) start = at ≡ start
 StoresHeader _ start = ⊥
 
 -- each free start reads its cell as before through each possible event but a store of its own header
-abbrev pub CellsStay : Type 0
-CellsStay =
+abbrev pub FreeStartsKeepCells : Type 0
+FreeStartsKeepCells =
     (world : World) (of : Event) → HasCells world → Possible world of → (start : ℕ) → (StoresHeader of start → ⊥)
     → IsTrue (is_free world.main start) → (cell : Reading) → cell_of world start ≡ Some cell
     → cell_of (after world of) start ≡ Some cell

@@ -2,15 +2,14 @@
 use Rattle.std.specs.Prelude.{◌≡◌, ℕ, ◌⊎◌, Bool, true, false, List, [], ◌∷◌, All, Contains, length, slice_set}
 use Rattle.std.specs.Prelude.{Some, IsSomeAnd}
 use Rattle.std.specs.List.{filter}
-use Rattle.mark_world.specs.declared.event.Event.{Event}
+use Rattle.mark_laws.specs.Types.{Event, World}
 use Rattle.mark_world.specs.declared.event.Event.TheVariants as event
-use Rattle.mark_world.specs.declared.world.World.{World}
 use Rattle.mark_world.specs.Pages.{is_inside}
-use Rattle.mark_world.specs.Moments.{WerePossible, after_all}
-use Rattle.mark_world.specs.Covering.{cell_of}
-use Rattle.mark_world.specs.Resting.{HasSureTarget}
+use Rattle.mark_world.specs.AfterEvents.{WerePossible, after_all}
+use Rattle.mark_world.specs.Coverage.{cell_of}
+use Rattle.mark_world.specs.BetweenCommands.{HasSureTarget}
 use Rattle.mark_world.specs.Unfinished.{EachSpares, ReadsSlots, SettledBut, SettlingBut, made_after_all}
-use Rattle.mark_laws.specs.Runs.{IsWhole}
+use Rattle.mark_laws.specs.Runs.{IsSoundAndBorn}
 
 -- whether an event is a step of a change: it stores a word, puts a layout word in its place, or makes a cell black
 abbrev pub is_step : Event → Bool
@@ -69,7 +68,7 @@ ApartIsSpared =
 -- the others alone
 abbrev pub ChangesKeep : Type 0
 ChangesKeep =
-    (world : World) (made : List ℕ) (events : List Event) → IsWhole world → SettlingBut world made
+    (world : World) (made : List ℕ) (events : List Event) → IsSoundAndBorn world → SettlingBut world made
     → WerePossible world events (length events) → All (LeavesDone world made) (steps_of events)
     → SettlingBut (after_all world events) (made_after_all made (steps_of events))
 
@@ -81,7 +80,7 @@ pub record HasEnded (world : World) (made : List ℕ) : Type 0 where
 -- the mutator's part is done behind such a list of events once its changes have ended, if it was so before
 abbrev pub ChangesSettle : Type 0
 ChangesSettle =
-    (world : World) (made : List ℕ) (events : List Event) → IsWhole world → SettledBut world []
+    (world : World) (made : List ℕ) (events : List Event) → IsSoundAndBorn world → SettledBut world []
     → WerePossible world events (length events) → All (LeavesDone world made) (steps_of events)
     → HasEnded (after_all world events) (made_after_all made (steps_of events)) → SettledBut (after_all world events) []
 

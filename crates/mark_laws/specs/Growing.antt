@@ -1,10 +1,8 @@
 -- What only grows from event to event, and how many seats are out.
 use Rattle.std.specs.Prelude.{◌≡◌, ◌↔◌, ℕ, ◌+◌, ◌≤◌, List, length}
-use Rattle.mark_world.specs.declared.event.Event.{Event}
+use Rattle.mark_laws.specs.Types.{Event, MainView, World}
 use Rattle.mark_world.specs.declared.event.Event.TheVariants as event
-use Rattle.mark_world.specs.declared.views.MainView.{MainView}
-use Rattle.mark_world.specs.declared.world.World.{World}
-use Rattle.mark_world.specs.Moments.{after, after_all, moment, seats_out, Possible}
+use Rattle.mark_world.specs.AfterEvents.{after, after_all, moment, seats_out, Possible}
 use Rattle.mark_world.specs.Soundness.{AreIn}
 use Rattle.mark_laws.specs.Runs.{HasNoneOut}
 

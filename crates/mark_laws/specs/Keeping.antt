@@ -1,11 +1,10 @@
 -- What is covered stays covered, and so do the tagged slots of black cells, and what the mutator is sure of.
 use Rattle.std.specs.Prelude.{ℕ}
-use Rattle.mark_world.specs.declared.event.Event.{Event}
-use Rattle.mark_world.specs.declared.world.World.{World}
-use Rattle.mark_world.specs.Moments.{after, Possible}
-use Rattle.mark_world.specs.Covering.{IsCovered}
+use Rattle.mark_laws.specs.Types.{Event, World}
+use Rattle.mark_world.specs.AfterEvents.{after, Possible}
+use Rattle.mark_world.specs.Coverage.{IsCovered}
 use Rattle.mark_world.specs.Soundness.{HasBlack, HasCells, HasLists, HasSizes, HasSnaps, HasSure}
-use Rattle.mark_world.specs.Lineage.{Born}
+use Rattle.mark_world.specs.BornCells.{Born}
 
 -- a cell that is covered is covered after each possible event
 abbrev pub CoveredStays : Type 0

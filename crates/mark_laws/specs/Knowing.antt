@@ -1,10 +1,9 @@
 -- What is known, but of the cells that the mutator is making or changing, from step to step of a command.
 use Rattle.std.specs.Prelude.{◌↔◌, ℕ, List, [], ◌∷◌, All}
-use Rattle.mark_world.specs.declared.event.Event.{Event}
-use Rattle.mark_world.specs.declared.world.World.{World}
-use Rattle.mark_world.specs.Moments.{after, after_all, Possible}
-use Rattle.mark_world.specs.Lineage.{HasBorn}
-use Rattle.mark_world.specs.Resting.{Known}
+use Rattle.mark_laws.specs.Types.{Event, World}
+use Rattle.mark_world.specs.AfterEvents.{after, after_all, Possible}
+use Rattle.mark_world.specs.BornCells.{HasBorn}
+use Rattle.mark_world.specs.BetweenCommands.{Known}
 use Rattle.mark_world.specs.Soundness.{AreIn}
 use Rattle.mark_world.specs.Unfinished.{made_after, made_after_all}
 use Rattle.mark_world.specs.Knowing.{EachSparesKnown, IsKnownCell, KeptAreRead, KnownBut, SparesKnown, SparesTables}

@@ -3,12 +3,11 @@ use Rattle.std.specs.Prelude.{◌≡◌, ℕ, ◌+◌, List, [], ◌∷◌, ◌+
 use Rattle.tagged_word.specs.declared.word.Class.TheVariants.{Ref}
 use Rattle.tagged_word.specs.Words.{bits_of}
 use Rattle.tagged_word.specs.Cells.{length_offset, store_head}
-use Rattle.mark_world.specs.declared.event.Event.{Event}
+use Rattle.mark_laws.specs.Types.{Event, World}
 use Rattle.mark_world.specs.declared.event.Event.TheVariants as event
-use Rattle.mark_world.specs.declared.world.World.{World}
-use Rattle.mark_world.specs.Moments.{WerePossible, after_all}
+use Rattle.mark_world.specs.AfterEvents.{WerePossible, after_all}
 use Rattle.mark_world.specs.Unfinished.{SettledBut, made_after_all}
-use Rattle.mark_laws.specs.Runs.{IsWhole}
+use Rattle.mark_laws.specs.Runs.{IsSoundAndBorn}
 use Rattle.mark_laws.specs.Changes.{HasEnded, LeavesDone, steps_of}
 
 -- a word, and the address where it goes
@@ -91,7 +90,7 @@ touched change = made_after_all (changed change) (steps change)
 -- ended, if its steps are possible and leave all other cells alone that the mutator is done with.
 abbrev pub LayoutChangesSettle : Type 0
 LayoutChangesSettle =
-    (world : World) (change : Change) (events : List Event) → steps_of events ≡ steps change → IsWhole world
+    (world : World) (change : Change) (events : List Event) → steps_of events ≡ steps change → IsSoundAndBorn world
     → SettledBut world [] → WerePossible world events (length events)
     → All (LeavesDone world (changed change)) (steps change)
     → HasEnded (after_all world events) (touched change) → SettledBut (after_all world events) []

@@ -1,12 +1,11 @@
 -- The old cells to which words lead, and what they are at the end of a cycle.
 use Rattle.std.specs.Prelude.{◌≡◌, ◌≢◌, ℕ, ◌+◌, List, All, Contains, slice_index, Some}
-use Rattle.tagged_word.specs.declared.reading.Reading.{Reading}
-use Rattle.mark_world.specs.declared.world.World.{World}
+use Rattle.mark_laws.specs.Types.{Reading, World}
 use Rattle.mark_world.specs.Pages.{OfTarget, slots_of, target}
 use Rattle.mark_world.specs.Steps.{white, black}
-use Rattle.mark_world.specs.Covering.{cell_of, colour_of}
+use Rattle.mark_world.specs.Coverage.{cell_of, colour_of}
 use Rattle.mark_world.specs.Soundness.{Sound}
-use Rattle.mark_world.specs.Resting.{IsDrained, Settled}
+use Rattle.mark_world.specs.BetweenCommands.{IsDrained, Settled}
 
 -- words lead to an old cell: one of them refers to it, or a tagged slot of a cell that they lead to
 pub data LedTo (world : World) (words : List ℕ) : ℕ → Type 0 where

@@ -1,3 +1,4 @@
+pub mod Types
 pub mod Ends
 pub mod Steadiness
 pub mod Keeping

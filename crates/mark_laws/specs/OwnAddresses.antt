@@ -4,11 +4,8 @@ use Rattle.tagged_word.specs.Readings.{reference_in}
 use Rattle.tagged_word.specs.Shapes.{shapes_most}
 use Rattle.page_space.specs.Extents.{board_words}
 use Rattle.page_space.specs.Sizes.{page_words}
-use Rattle.mark_world.specs.declared.event.Event.{Event}
+use Rattle.mark_laws.specs.Types.{Event, Snap, Spot, HelperView}
 use Rattle.mark_world.specs.declared.event.Event.TheVariants as event
-use Rattle.mark_world.specs.declared.snap.Snap.{Snap}
-use Rattle.mark_world.specs.declared.step.Spot.{Spot}
-use Rattle.mark_world.specs.declared.views.HelperView.{HelperView}
 use Rattle.mark_world.specs.Pages.{page_end, target}
 use Rattle.mark_world.specs.Naming.{named}
 use Rattle.mark_world.specs.Steps.{helper_learns, helper_spot, lent, returned}

@@ -1,22 +1,16 @@
 -- What a helper may conclude from its own view.
 use Rattle.std.specs.Prelude.{◌≡◌, ◌≢◌, ℕ, ◌<◌, ◌⊎◌, ◌↔◌, IsTrue, All, Contains, slice_get}
 use Rattle.std.specs.Prelude.{Some, IfSome, IsSomeAnd}
-use Rattle.tagged_word.specs.declared.header.Header.{Header}
-use Rattle.tagged_word.specs.declared.layout.LayoutWord.{LayoutWord}
+use Rattle.mark_laws.specs.Types.{Header, LayoutWord, Event, Snap, Actor, HelperView, World}
 use Rattle.tagged_word.specs.Cells.{marks_by_length, tagged_offsets}
 use Rattle.tagged_word.specs.Readings.{header_in, layout_in, reference_in}
 use Rattle.seat_steps.specs.Lists.{HasNoRepeats}
-use Rattle.mark_world.specs.declared.event.Event.{Event}
 use Rattle.mark_world.specs.declared.event.Event.TheVariants as event
-use Rattle.mark_world.specs.declared.snap.Snap.{Snap}
-use Rattle.mark_world.specs.declared.step.Actor.{Actor}
-use Rattle.mark_world.specs.declared.views.HelperView.{HelperView}
-use Rattle.mark_world.specs.declared.world.World.{World}
 use Rattle.mark_world.specs.Naming.{IsReadOut, Named, named, read_offsets}
 use Rattle.mark_world.specs.Steps.{actor, black, grey, helper_learns, lent, returned}
 use Rattle.mark_world.specs.Conditions.{MayHelper}
-use Rattle.mark_world.specs.Moments.{IsReached, Possible}
-use Rattle.mark_world.specs.Covering.{colour_of}
+use Rattle.mark_world.specs.AfterEvents.{IsReached, Possible}
+use Rattle.mark_world.specs.Coverage.{colour_of}
 use Rattle.mark_world.specs.Soundness.{Sound}
 
 -- a slot is one of those that are named

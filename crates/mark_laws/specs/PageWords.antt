@@ -3,16 +3,13 @@ use Rattle.std.specs.Prelude.{◌≡◌, ◌≢◌, ℕ, ◌+◌, ◌%◌, ◌^�
 use Rattle.std.specs.Prelude.{length, take, slice_index, IsSome, IfSome}
 use Rattle.tagged_word.specs.Shapes.{shapes_most}
 use Rattle.page_space.specs.Sizes.{page_words}
-use Rattle.mark_world.specs.declared.event.Event.{Event}
-use Rattle.mark_world.specs.declared.step.Actor.{Actor}
-use Rattle.mark_world.specs.declared.views.MainView.{MainView}
-use Rattle.mark_world.specs.declared.world.World.{World}
+use Rattle.mark_laws.specs.Types.{Event, Actor, MainView, World}
 use Rattle.mark_world.specs.Pages.{EachFree, OfTarget, cell_at, is_inside, slots_of}
 use Rattle.mark_world.specs.Steps.{actor}
-use Rattle.mark_world.specs.Moments.{Possible, after}
+use Rattle.mark_world.specs.AfterEvents.{Possible, after}
 use Rattle.mark_world.specs.Soundness.{AreIn, Sound}
-use Rattle.mark_world.specs.Lineage.{Born}
-use Rattle.mark_world.specs.Resting.{Settled}
+use Rattle.mark_world.specs.BornCells.{Born}
+use Rattle.mark_world.specs.BetweenCommands.{Settled}
 
 -- What soundness and births say of the mutator's view, the pages and the layout words, without colours, board or
 -- helpers: the sizes are right, each free start reads a cell and none begins in another's, the mutator's lists are

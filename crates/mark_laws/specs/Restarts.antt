@@ -1,12 +1,11 @@
 -- How an open cycle goes on after a scavenge.
 use Rattle.std.specs.Prelude.{◌≡◌, ℕ, ◌+◌, ◌<◌, ◌⊎◌, true, List, ◌++◌, All, Contains, length, slice_index, Some, IsTrue}
-use Rattle.tagged_word.specs.declared.reading.Reading.{Reading}
-use Rattle.mark_world.specs.declared.world.World.{World}
+use Rattle.mark_laws.specs.Types.{Reading, World}
 use Rattle.mark_world.specs.Pages.{EachFree, OfTarget, is_free, is_head_of, leaves_alone, slots_of}
 use Rattle.mark_world.specs.Steps.{black}
-use Rattle.mark_world.specs.Covering.{EachSlot, cell_of, colour_of}
+use Rattle.mark_world.specs.Coverage.{EachSlot, cell_of, colour_of}
 use Rattle.mark_world.specs.Unfinished.{SettledBut}
-use Rattle.mark_laws.specs.Runs.{HasNoneOut, IsWhole}
+use Rattle.mark_laws.specs.Runs.{HasNoneOut, IsSoundAndBorn}
 
 -- a list is what it was, with others joined
 pub record HasJoined (list others now : List ℕ) : Type 0 where
@@ -53,8 +52,8 @@ pub record IsRestarted (world : World) (promoted : List ℕ) (later : World) : T
 -- a whole world where no seat is out is whole after a scavenge
 abbrev pub RestartsStayWhole : Type 0
 RestartsStayWhole =
-    (world : World) (promoted : List ℕ) (later : World) → IsWhole world → HasNoneOut world
-    → IsRestarted world promoted later → IsWhole later
+    (world : World) (promoted : List ℕ) (later : World) → IsSoundAndBorn world → HasNoneOut world
+    → IsRestarted world promoted later → IsSoundAndBorn later
 
 -- A scavenge keeps a cell that the mutator made black: each word that the cell is read by is as before, and each of its
 -- tagged slots is, or has no target, or that of a promoted cell.

@@ -1,13 +1,12 @@
 -- The mutator's part, done but for the cells that it is making or changing, from step to step of a command.
 use Rattle.std.specs.Prelude.{◌≡◌, ◌↔◌, ℕ, List, [], ◌∷◌, ◌++◌, All}
-use Rattle.mark_world.specs.declared.event.Event.{Event}
-use Rattle.mark_world.specs.declared.world.World.{World}
-use Rattle.mark_world.specs.Moments.{after, after_all, Possible}
-use Rattle.mark_world.specs.Resting.{HasSureTarget, Settled}
+use Rattle.mark_laws.specs.Types.{Event, World}
+use Rattle.mark_world.specs.AfterEvents.{after, after_all, Possible}
+use Rattle.mark_world.specs.BetweenCommands.{HasSureTarget, Settled}
 use Rattle.mark_world.specs.Soundness.{AreIn, HasCells}
 use Rattle.mark_world.specs.Unfinished.{HasSureOrOwed, MayOwe, MineAreRead, ReadsSlots, SettledBut, SettlingBut}
 use Rattle.mark_world.specs.Unfinished.{EachSpares, Spares, made_after, made_after_all, shades}
-use Rattle.mark_laws.specs.Runs.{IsWhole}
+use Rattle.mark_laws.specs.Runs.{IsSoundAndBorn}
 
 -- with no cell to make the mutator's part is done, and each cell that it made black is read; and the other way round
 abbrev pub NoneMadeIsSettled : Type 0
@@ -68,5 +67,5 @@ StepsSettle =
 -- so it goes on from a whole world along a list of events
 abbrev pub SettlingAlong : Type 0
 SettlingAlong =
-    (world : World) (made : List ℕ) (events : List Event) → IsWhole world → SettlingBut world made
+    (world : World) (made : List ℕ) (events : List Event) → IsSoundAndBorn world → SettlingBut world made
     → EachSpares world made events → SettlingBut (after_all world events) (made_after_all made events)

@@ -1,9 +1,8 @@
 -- What helpers have read of grey cells stays true to them.
-use Rattle.mark_world.specs.declared.event.Event.{Event}
-use Rattle.mark_world.specs.declared.world.World.{World}
-use Rattle.mark_world.specs.Moments.{after, Possible}
+use Rattle.mark_laws.specs.Types.{Event, World}
+use Rattle.mark_world.specs.AfterEvents.{after, Possible}
 use Rattle.mark_world.specs.Soundness.{HasCells, HasLists, HasSizes, HasSnaps, HasSure}
-use Rattle.mark_world.specs.Lineage.{Born}
+use Rattle.mark_world.specs.BornCells.{Born}
 
 -- each snap of a grey cell is true to it after each possible event
 abbrev pub SnapsStay : Type 0

@@ -1,9 +1,8 @@
 -- A sound world stays sound.
-use Rattle.mark_world.specs.declared.event.Event.{Event}
-use Rattle.mark_world.specs.declared.world.World.{World}
-use Rattle.mark_world.specs.Moments.{after, Possible}
+use Rattle.mark_laws.specs.Types.{Event, World}
+use Rattle.mark_world.specs.AfterEvents.{after, Possible}
 use Rattle.mark_world.specs.Soundness.{Sound}
-use Rattle.mark_world.specs.Lineage.{Born}
+use Rattle.mark_world.specs.BornCells.{Born}
 
 -- a world that is sound, and where marking reaches only born cells, is so after each possible event
 abbrev pub SoundStays : Type 0

@@ -1,11 +1,10 @@
 -- What stays through every event, and what only rises.
 use Rattle.std.specs.Prelude.{◌≤◌, ℕ}
-use Rattle.mark_world.specs.declared.event.Event.{Event}
-use Rattle.mark_world.specs.declared.world.World.{World}
-use Rattle.mark_world.specs.Moments.{after, Possible}
-use Rattle.mark_world.specs.Covering.{colour_of}
+use Rattle.mark_laws.specs.Types.{Event, World}
+use Rattle.mark_world.specs.AfterEvents.{after, Possible}
+use Rattle.mark_world.specs.Coverage.{colour_of}
 use Rattle.mark_world.specs.Soundness.{HasCells, HasGrey, HasLists, HasSizes}
-use Rattle.mark_world.specs.Lineage.{Born}
+use Rattle.mark_world.specs.BornCells.{Born}
 
 -- no event makes a cell's colour lighter
 abbrev pub ColoursRise : Type 0

@@ -1,16 +1,14 @@
 -- What a helper is to visit once it has settled a snap, and what a cell is that it has visited.
 use Rattle.std.specs.Prelude.{◌≡◌, ◌≢◌, ℕ, Contains, Some}
 use Rattle.mark_world.specs.declared.event.Event.TheVariants as event
-use Rattle.mark_world.specs.declared.snap.Snap.{Snap}
-use Rattle.mark_world.specs.declared.views.HelperView.{HelperView}
-use Rattle.mark_world.specs.declared.world.World.{World}
+use Rattle.mark_laws.specs.Types.{Snap, HelperView, World}
 use Rattle.mark_world.specs.Pages.{target}
 use Rattle.mark_world.specs.Naming.{read_words}
 use Rattle.mark_world.specs.Steps.{grey, helper_learns, white}
-use Rattle.mark_world.specs.Moments.{Possible, after}
-use Rattle.mark_world.specs.Covering.{colour_of}
+use Rattle.mark_world.specs.AfterEvents.{Possible, after}
+use Rattle.mark_world.specs.Coverage.{colour_of}
 use Rattle.mark_world.specs.Soundness.{Sound}
-use Rattle.mark_world.specs.Lineage.{Born}
+use Rattle.mark_world.specs.BornCells.{Born}
 
 -- a word that was read in a slot of a snap has the target
 abbrev pub HasReadTarget : ℕ → Snap → ℕ → Type 0

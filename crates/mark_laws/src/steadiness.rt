@@ -1,5 +1,5 @@
 //! What stays through every event, and what only rises.
-ghost use Rattle.mark_laws.specs.Cells.{StoresKeepCells, CellsStay, HeadersKeepSizes, NoStartTurnsFree};
+ghost use Rattle.mark_laws.specs.Cells.{StoresKeepCells, FreeStartsKeepCells, HeadersKeepSizes, NoStartTurnsFree};
 ghost use Rattle.mark_laws.specs.Steadiness.{ColoursRise, SizesStay, CellsHold, ListsStay, GreysWait};
 
 /// What every event leaves, and where it goes one way.
@@ -14,7 +14,7 @@ pub fn laws_of_steadiness()
 /// Cells stay what they are when words of them change.
 pub fn laws_of_cells()
     ensures store { StoresKeepCells }
-    ensures stay { CellsStay }
+    ensures stay { FreeStartsKeepCells }
     ensures headers { HeadersKeepSizes }
     ensures free { NoStartTurnsFree }
 {}

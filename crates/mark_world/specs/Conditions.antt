@@ -9,7 +9,7 @@ use Rattle.mark_world.specs.declared.snap.Snap.{Snap}
 use Rattle.mark_world.specs.declared.views.MainView.{MainView}
 use Rattle.mark_world.specs.declared.views.HelperView.{HelperView}
 use Rattle.mark_world.specs.Pages.{EachFree, IsOutside, OfTarget, cell_at, is_free, is_head_of, leaves_alone}
-use Rattle.mark_world.specs.Safety.{IsSafe, IsSlotWord, laid_in, slots_by}
+use Rattle.mark_world.specs.Safety.{IsSafe, FitsTaggedSlot, laid_in, slots_by}
 use Rattle.mark_world.specs.Naming.{Named, IsReadOut, IsToRead, is_shape, named, read_offsets}
 
 -- A word goes into a slot: the place is no header and no length of a free start's cell, a tagged slot may hold the
@@ -17,7 +17,7 @@ use Rattle.mark_world.specs.Naming.{Named, IsReadOut, IsToRead, is_shape, named,
 pub record MayStoreSlot (old : ℕ) (words layouts : List ℕ) (main : MainView) (at word : ℕ) : Type 0 where
   pub place : at < length words
   pub no_head : EachFree main (λ start. is_head_of start (cell_at old words layouts start) at ≡ false)
-  pub slot_word : IsSlotWord word
+  pub slot_word : FitsTaggedSlot word
   pub born : OfTarget old word (λ to. Contains main.born to)
 
 -- A word goes where no helper visits: the place is no page's, or lies in no free start's cell, or is a quiet word of
@@ -73,7 +73,7 @@ MayMain old words layouts main (event.GiveMain place at) = MayGive main.grey pla
 MayMain old words layouts main (event.TakeMain place) = place < board_words
 MayMain old words layouts main _ = ⊥
 
--- the snap has no layout word yet, and its header has a shape that there may be
+-- the snap has no layout word, and its header has a shape that there may be
 pub record AwaitsLayout (snap : Snap) : Type 0 where
   pub unread : snap.layout ≡ None
   pub shape : IsSomeAnd (header_in snap.header) (λ header. IsTrue (is_shape header))

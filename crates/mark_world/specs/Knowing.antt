@@ -10,10 +10,11 @@ use Rattle.mark_world.specs.declared.event.Event.TheVariants as event
 use Rattle.mark_world.specs.declared.world.World.{World}
 use Rattle.mark_world.specs.Pages.{is_head_of, slots_of}
 use Rattle.mark_world.specs.Conditions.{AreSureAfter}
-use Rattle.mark_world.specs.Moments.{after, Possible}
-use Rattle.mark_world.specs.Lineage.{HasBorn}
+use Rattle.mark_world.specs.AfterEvents.{after, Possible}
+use Rattle.mark_world.specs.BornCells.{HasBorn}
 use Rattle.mark_world.specs.Unfinished.{made_after}
-use Rattle.mark_world.specs.Resting.{HasBornValues, HasSureTarget, IsBornObject, IsKept, any_cell, key_word, value_word}
+use Rattle.mark_world.specs.BetweenCommands.{HasBornValues, HasSureTarget, IsBornObject, IsYoungOrBorn, any_cell}
+use Rattle.mark_world.specs.BetweenCommands.{key_word, value_word}
 
 -- A kept cell is known, by the young cells, the numbers of the objects that were reached when the cycle began, and the
 -- number of objects then. It is read. If it is young the mutator is sure of each target of its tagged slots. If it is a
@@ -30,11 +31,11 @@ pub record IsKnownCell (world : World) (young reached : List ℕ) (count at : �
 -- Known but for the cells of a list: each target of a root word is born, and each other kept cell is known.
 pub record KnownBut (world : World) (made roots young reached : List ℕ) (count : ℕ) : Type 0 where
   pub from_roots : All (HasBorn world) roots
-  pub cells : (at : ℕ) → IsKept world young at → Contains made at ⊎ IsKnownCell world young reached count at
+  pub cells : (at : ℕ) → IsYoungOrBorn world young at → Contains made at ⊎ IsKnownCell world young reached count at
 
 -- each kept cell is read
 abbrev pub KeptAreRead : World → List ℕ → Type 0
-KeptAreRead world young = (at : ℕ) → IsKept world young at → IsSome (any_cell world at)
+KeptAreRead world young = (at : ℕ) → IsYoungOrBorn world young at → IsSome (any_cell world at)
 
 -- where a pair's key stands, by its number in the table at an address
 abbrev pub key_place : ℕ → ℕ → ℕ
@@ -48,16 +49,16 @@ pub record SparesCell (world : World) (young : List ℕ) (at word start : ℕ) :
   pub slot : Contains young start → (cell : Reading) → any_cell world start ≡ Some cell → (offset : ℕ)
       → Contains (slots_of cell) offset → start + offset ≡ at → HasSureTarget world word
   pub key : (table : Reading) (pair key : ℕ) → any_cell world start ≡ Some table → table.layout.kind ≡ kind.Table
-      → pair < table.length → key_place start pair ≡ at → reference_in word ≡ Some key → IsKept world young key
+      → pair < table.length → key_place start pair ≡ at → reference_in word ≡ Some key → IsYoungOrBorn world young key
       → HasBorn world (value_word world start pair)
   pub value : (table : Reading) (pair key : ℕ) → any_cell world start ≡ Some table → table.layout.kind ≡ kind.Table
       → pair < table.length → key_place start pair + 1 ≡ at → reference_in (key_word world start pair) ≡ Some key
-      → IsKept world young key → HasBorn world word
+      → IsYoungOrBorn world young key → HasBorn world word
 
 -- A word that is stored spares each kept cell but those that the mutator is making or changing.
 abbrev pub SparesKept : World → List ℕ → List ℕ → ℕ → ℕ → Type 0
 SparesKept world made young at word =
-    (start : ℕ) → IsKept world young start → Contains made start ⊎ SparesCell world young at word start
+    (start : ℕ) → IsYoungOrBorn world young start → Contains made start ⊎ SparesCell world young at word start
 
 -- A header that changes is that of a cell, whose new tagged slots have sure targets if it is young, or goes into no
 -- head of it.
@@ -74,14 +75,14 @@ SparesPairs world new at =
 
 -- so does each pair of a kept table but those that the mutator is making or changing
 abbrev pub SparesTables : World → List ℕ → List ℕ → ℕ → Type 0
-SparesTables world made young new = (at : ℕ) → IsKept world young at → Contains made at ⊎ SparesPairs world new at
+SparesTables world made young new = (at : ℕ) → IsYoungOrBorn world young at → Contains made at ⊎ SparesPairs world new at
 
 -- an event spares what is known but of these cells
 abbrev pub SparesKnown : World → List ℕ → List ℕ → Event → Type 0
 SparesKnown world made young (event.StoreSlot at word) = SparesKept world made young at word
 SparesKnown world made young (event.StoreOwned at word) = SparesKept world made young at word
 SparesKnown world made young (event.StoreHeader at word) =
-    (start : ℕ) → IsKept world young start → Contains made start ⊎ SparesHead world young at word start
+    (start : ℕ) → IsYoungOrBorn world young start → Contains made start ⊎ SparesHead world young at word start
 SparesKnown world made young (event.NewBlack at) = SparesTables world made young at
 SparesKnown world made young _ = Unit {0}
 

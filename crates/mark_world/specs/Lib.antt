@@ -3,11 +3,11 @@ pub mod Safety
 pub mod Naming
 pub mod Steps
 pub mod Conditions
-pub mod Moments
-pub mod Covering
+pub mod AfterEvents
+pub mod Coverage
 pub mod Soundness
-pub mod Lineage
-pub mod Resting
+pub mod BornCells
+pub mod BetweenCommands
 pub mod OneLayouts
 pub mod Unfinished
 pub mod Knowing

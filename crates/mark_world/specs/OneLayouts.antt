@@ -11,8 +11,8 @@ use Rattle.mark_world.specs.declared.world.World.{World}
 use Rattle.mark_world.specs.Pages.{slots_of}
 use Rattle.mark_world.specs.Naming.{Named, named, read_offsets}
 use Rattle.mark_world.specs.Steps.{grey}
-use Rattle.mark_world.specs.Moments.{moment}
-use Rattle.mark_world.specs.Covering.{EachSlot, HasCovered, cell_of, colour_of}
+use Rattle.mark_world.specs.AfterEvents.{moment}
+use Rattle.mark_world.specs.Coverage.{EachSlot, HasCovered, cell_of, colour_of}
 
 -- the cell has the size of the one that was read, and each of its tagged slots
 pub record KeepsSlots (read now : Reading) : Type 0 where

@@ -20,7 +20,7 @@ is_slot_class (Ref address) = true
 is_slot_class (Odd code) = code == undefined_code || code == hole_code
 
 -- a tagged slot may hold the word
-pub record IsSlotWord (word : ℕ) : Type 0 where
+pub record FitsTaggedSlot (word : ℕ) : Type 0 where
   pub class : Class
   pub fits : IsClass class
   pub bits : word ≡ bits_of class

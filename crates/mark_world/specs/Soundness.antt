@@ -14,8 +14,8 @@ use Rattle.mark_world.specs.Pages.{EachFree, is_inside}
 use Rattle.mark_world.specs.Safety.{IsSafe, laid_in, slots_by}
 use Rattle.mark_world.specs.Naming.{read_offsets}
 use Rattle.mark_world.specs.Steps.{white, grey, black}
-use Rattle.mark_world.specs.Moments.{IsReached}
-use Rattle.mark_world.specs.Covering.{EachSlot, HasCovered, IsCovered, cell_of, colour_of}
+use Rattle.mark_world.specs.AfterEvents.{IsReached}
+use Rattle.mark_world.specs.Coverage.{EachSlot, HasCovered, IsCovered, cell_of, colour_of}
 
 -- each address of a list is in the other
 abbrev pub AreIn : List ℕ → List ℕ → Type 0

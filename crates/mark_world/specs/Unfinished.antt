@@ -5,9 +5,9 @@ use Rattle.mark_world.specs.declared.event.Event.TheVariants as event
 use Rattle.mark_world.specs.declared.world.World.{World}
 use Rattle.mark_world.specs.Pages.{OfTarget, is_head_of}
 use Rattle.mark_world.specs.Conditions.{AreSureAfter}
-use Rattle.mark_world.specs.Moments.{after, Possible}
-use Rattle.mark_world.specs.Covering.{EachSlot, cell_of}
-use Rattle.mark_world.specs.Resting.{HasSureTarget}
+use Rattle.mark_world.specs.AfterEvents.{after, Possible}
+use Rattle.mark_world.specs.Coverage.{EachSlot, cell_of}
+use Rattle.mark_world.specs.BetweenCommands.{HasSureTarget}
 
 -- the mutator is sure of a cell, or owes it
 abbrev pub IsSureOrOwed : World → ℕ → Type 0

@@ -3,9 +3,9 @@
 //!
 //! Model: a `World` is the table's words with a view for each seat; an `Event` is one step of one
 //! seat. `specs/Steps.antt` says what an event does, by four functions of what its seat knows and of
-//! the one word that it touches; `specs/Conditions.antt` where it is possible; `specs/Moments.antt`
+//! the one word that it touches; `specs/Conditions.antt` where it is possible; `specs/AfterEvents.antt`
 //! makes the world after it of these alone. `Sound` of `specs/Soundness.antt` is the tri-colour
-//! invariant, `Born` of `specs/Lineage.antt` bounds what marking may reach, `specs/Resting.antt` says
+//! invariant, `Born` of `specs/BornCells.antt` bounds what marking may reach, `specs/BetweenCommands.antt` says
 //! what holds between two commands, and `OneLayout` of `specs/OneLayouts.antt` speaks of whole runs.
 //! Invariant: none of its own. A world may be any.
 #![tactic(auto)]

@@ -106,7 +106,7 @@ impl HelperView {
     }
 }
 
-// The same snap, if there is one, in memory of its own.
+/// The same snap, if there is one, in memory of its own.
 fn copied_snap(snap: &Option<Snap>, alloc: Global) -> Result<Option<Snap>, NoMemory>
     ensures { IfOk result (λ copy. copy ≡ snap.now) }
 {

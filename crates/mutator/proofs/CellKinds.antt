@@ -4,16 +4,13 @@ use Rattle.std.proofs.Common.{refl, sym, ◌∙◌, ap, arith, inl, inr, length-
 use Rattle.std.proofs.lemmas.List.{length-map}
 use Rattle.std.proofs.lemmas.Bool.{cases_lt}
 use Rattle.std.proofs.lemmas.Option.{slice_get_past, same_Some}
-use Rattle.tagged_word.specs.declared.layout.Kind.{Kind}
+use Rattle.heap_model.specs.Types.{Kind, LayoutWord, Path, Cell}
 use Rattle.tagged_word.specs.declared.layout.Kind.TheVariants as kind
-use Rattle.tagged_word.specs.declared.layout.LayoutWord.{LayoutWord}
 use Rattle.tagged_word.specs.Layouts.{layout_bits, kind_number}
 use Rattle.tagged_word.specs.Shapes.{first_path_shape, fixed_layout_words}
 use Rattle.tagged_word.proofs.Layouts.{parts}
-use Rattle.object_graph.specs.declared.path.Path.{Path}
 use Rattle.shape_tree.specs.Shapes.{IsPathShape}
 use Rattle.shape_tree.specs.ShapeLayouts.{layout_of, layout_word, layout_words}
-use Rattle.cell_layout.specs.declared.cell.Cell.{Cell}
 use Rattle.cell_layout.proofs.CellsThere.{slice_get-layouts_in}
 use Rattle.heap_model.specs.Heaps.{Heap, HasCell}
 use Rattle.heap_model.specs.Wholeness.{HasSizes}

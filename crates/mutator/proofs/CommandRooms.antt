@@ -2,13 +2,9 @@
 use Rattle.std.proofs.Common.{◌≡◌, ◌≢◌, ℕ, suc, ◌-◌, List, length, ℤ, Option, Some, None}
 use Rattle.std.proofs.Common.{refl, sym, ◌∙◌, ap, subst, arith}
 use Rattle.std.specs.Prelude.{option_and_then, slice_set}
-use Rattle.heap_command.specs.declared.command.Operand.{Operand}
-use Rattle.heap_command.specs.declared.command.Command.{Command}
+use Rattle.heap_model.specs.Types.{Operand, Command, Value, Field, Entry}
 use Rattle.heap_command.specs.declared.command.Command.TheVariants as command
-use Rattle.object_graph.specs.declared.value.Value.{Value}
 use Rattle.object_graph.specs.declared.value.Value.TheVariants.{Ref}
-use Rattle.object_graph.specs.declared.object.Field.{Field}
-use Rattle.object_graph.specs.declared.object.Entry.{Entry}
 use Rattle.object_graph.specs.declared.object.Object.TheVariants.{Plain, Weak, List as ListOf}
 use Rattle.object_graph.specs.Graphs.{Graph, PlainObject, ListObject, WeakObject, value_of, integer_in, object_in}
 use Rattle.object_graph.specs.Graphs.{plain_at, list_at, weak_at}
@@ -20,7 +16,7 @@ use Rattle.heap_model.specs.Rooms.{Room, HasRooms, on_found, plain_of, list_of, 
 use Rattle.heap_model.specs.Rooms.{set_need, push_need, put_need, wput_need, need_of, with_room, with_capacity}
 use Rattle.heap_model.specs.Rooms.{changed, set_capacity, push_capacity, truncated_capacity, room_put, room_without}
 use Rattle.heap_model.specs.Rooms.{rooms_after}
-use Rattle.write_barrier.specs.Mains.{Mutator, heap_of}
+use Rattle.write_barrier.specs.MutatorState.{Mutator, heap_of}
 use Rattle.object_cells.specs.Capacities.{ChangesObject}
 use Rattle.object_cells.specs.PlainObjects.{IsPlainAt}
 use Rattle.object_cells.specs.ListObjects.{IsListAt}

@@ -3,16 +3,14 @@ use Rattle.std.proofs.Common.{◌≡◌, ℕ, ◌<◌, List, [], ◌∷◌, ◌+
 use Rattle.std.proofs.Common.{subst, ℤ}
 use Rattle.std.specs.Prelude.{slice_set}
 use Rattle.std.specs.FinMap.{get}
-use Rattle.heap_command.specs.declared.command.Operand.{Operand}
+use Rattle.heap_model.specs.Types.{Operand, Value, Held}
 use Rattle.heap_command.specs.declared.command.Command.TheVariants.{Push, Put}
 use Rattle.heap_command.specs.Commands.{NamesBelow}
-use Rattle.object_graph.specs.declared.value.Value.{Value}
 use Rattle.object_graph.specs.declared.value.Value.TheVariants.{Ref}
 use Rattle.object_graph.specs.Graphs.{Graph, ListObject, value_of, list_at}
 use Rattle.object_graph.specs.Meaning.{relist}
 use Rattle.nursery.specs.Young.{HasRoom}
-use Rattle.handle_roots.specs.declared.held.Held.{Held}
-use Rattle.write_barrier.specs.Mains.{Mutator, heap_of, MainShows}
+use Rattle.write_barrier.specs.MutatorState.{Mutator, heap_of, MainShows}
 use Rattle.object_cells.specs.ListObjects.{IsListAt}
 use Rattle.object_cells.specs.HeldValues.{IsValueHeld}
 use Rattle.object_cells.specs.Uses.{UsesMore}
@@ -22,7 +20,7 @@ use Rattle.list_store.specs.declared.stop.PushStop.TheVariants as push
 use Rattle.list_store.specs.declared.stop.PutStop.{PutStop}
 use Rattle.list_store.specs.declared.stop.PutStop.TheVariants as put
 use Rattle.mutator.specs.Stops.{stop_of_push, stop_of_put}
-use Rattle.mutator.specs.Carries.{Carries}
+use Rattle.mutator.specs.CarriesOut.{Carries}
 use Rattle.mutator.specs.Reading.{StandsFor, StandForBoth, IsFoundList}
 use Rattle.mutator.proofs.GivenValues.{IsGiven}
 use Rattle.mutator.proofs.IndexedLists.{IsIndexedList}

@@ -1,17 +1,17 @@
 -- `shift` and `trunc` are carried out as the calls that trim lists say.
 use Rattle.std.proofs.Common.{◌≡◌, ℕ, List, [], Ok, Err, refl, subst, ℤ}
 use Rattle.std.specs.Prelude.{take, drop}
-use Rattle.heap_command.specs.declared.command.Operand.{Operand}
+use Rattle.heap_model.specs.Types.{Operand}
 use Rattle.heap_command.specs.declared.command.Command.TheVariants.{Shift, Trunc}
 use Rattle.heap_command.specs.declared.command.FaultWord.TheVariants as word
 use Rattle.object_graph.specs.declared.value.Value.TheVariants.{Ref}
 use Rattle.object_graph.specs.Graphs.{Graph}
 use Rattle.object_graph.specs.Meaning.{relist}
-use Rattle.write_barrier.specs.Mains.{Mutator}
+use Rattle.write_barrier.specs.MutatorState.{Mutator}
 use Rattle.object_cells.specs.declared.lists.Range.{Range}
 use Rattle.array_trim.specs.Trims.{ShiftsElements, TruncatesElements}
 use Rattle.mutator.specs.declared.stop.Stop.TheVariants.{Fault}
-use Rattle.mutator.specs.Carries.{Carries}
+use Rattle.mutator.specs.CarriesOut.{Carries}
 use Rattle.mutator.proofs.CommandRooms.{keeps_shift, keeps_trunc}
 use Rattle.mutator.proofs.IndexedLists.{IsIndexedList}
 use Rattle.mutator.proofs.Rebinding.{reaches_no_more, room_for_none}

@@ -5,24 +5,21 @@ use Rattle.std.proofs.Math.Seq.{take-nil}
 use Rattle.std.proofs.lemmas.List.{append-nil, length-replicate}
 use Rattle.std.proofs.lemmas.Option.{none-some, same_Some}
 use Rattle.std.proofs.lemmas.Bool.Decides.{nat_tests}
-use Rattle.tagged_word.specs.declared.header.Header.{Header}
+use Rattle.heap_model.specs.Types.{Header, LayoutWord, Path, PathField}
 use Rattle.tagged_word.specs.declared.layout.Kind.TheVariants as kind
-use Rattle.tagged_word.specs.declared.layout.LayoutWord.{LayoutWord}
 use Rattle.tagged_word.specs.Headers.{IsHeader}
 use Rattle.tagged_word.specs.Layouts.{layout_bits}
 use Rattle.tagged_word.specs.Cells.{cell_size}
-use Rattle.object_graph.specs.declared.path.Path.{Path}
-use Rattle.object_graph.specs.declared.path.PathField.{PathField}
 use Rattle.shape_tree.specs.Shapes.{IsShapeOf}
 use Rattle.object_graph.specs.Invariants.{cap_most}
 use Rattle.shape_tree.specs.ShapeLayouts.{raw_mask, layout_of, layout_word}
 use Rattle.shape_tree.proofs.PathLayouts.{layout_word-path}
 use Rattle.heap_model.specs.Heaps.{Heap, words_of_cell}
-use Rattle.heap_model.specs.Slots.{undefined_word, hole_word, IsBeside}
+use Rattle.heap_model.specs.Slots.{undefined_word, hole_word, HoldsStore}
 use Rattle.heap_model.specs.Kinds.{HasSlots, HoldFields, IsPlainCell}
 use Rattle.heap_model.specs.Showing.{ShowsPlain}
 use Rattle.mutator.specs.Making.{empty_plain}
-use Rattle.mutator.proofs.NewCells.{NewCell, cell_of, IsFresh}
+use Rattle.mutator.proofs.NewCells.{NewCell, cell_of, RefersNowhere}
 
 -- the path of no field
 abbrev pub no_fields : ℕ → Path
@@ -72,7 +69,7 @@ empty_slots {heap} {cap = cap} is =
       store = undefined_word;
       slot = refl;
       beside = [];
-      stands = IsBeside.none;
+      stands = HoldsStore.none;
       are = sym (append-nil (replicate cap hole_word));
     })
 
@@ -109,7 +106,7 @@ size_is : (cap : ℕ) → cap ≤ cap_most → cell_size (empty_layout cap) 0 �
 size_is cap few = grind (arith, nat_tests)
 
 -- it is that of an object without a store
-pub plain_fresh : (header : Header) (cap : ℕ) → IsHeader header → cap ≤ cap_most → IsFresh (plain_cell header cap)
+pub plain_fresh : (header : Header) (cap : ℕ) → IsHeader header → cap ≤ cap_most → RefersNowhere (plain_cell header cap)
 plain_fresh header cap is_header few = record {
   long = length-empty_plain header cap;
   is_header = is_header;

@@ -1,7 +1,6 @@
 -- The cell of a list without elements, or of a weak map without entries, that was just made: its words.
 use Rattle.std.proofs.Common.{◌≡◌, ℕ, ◌+◌, ◌≤◌, ◌<◌, false, [], ◌∷◌, Some, refl, sym, ◌∙◌, ap, subst}
-use Rattle.tagged_word.specs.declared.header.Header.{Header}
-use Rattle.tagged_word.specs.declared.layout.Kind.{Kind}
+use Rattle.heap_model.specs.Types.{Header, Kind}
 use Rattle.tagged_word.specs.declared.layout.Kind.TheVariants as kind
 use Rattle.tagged_word.specs.Headers.{IsHeader}
 use Rattle.tagged_word.specs.Layouts.{IsLayout, layout_bits}
@@ -12,7 +11,7 @@ use Rattle.heap_model.specs.Heaps.{Heap}
 use Rattle.heap_model.specs.Wholeness.{HasSizes}
 use Rattle.object_cells.proofs.EdenCells.{bare_layout}
 use Rattle.mutator.specs.Making.{empty_counted}
-use Rattle.mutator.proofs.NewCells.{NewCell, IsFresh}
+use Rattle.mutator.proofs.NewCells.{NewCell, RefersNowhere}
 use Rattle.mutator.proofs.PutCells.{HasRoomFor}
 
 -- what such a cell is made of
@@ -38,7 +37,7 @@ weak_is_counted =
     record { is_layout = record { cap = refl; used = refl; raw = refl }; no_length = refl; sized = refl; offsets = refl }
 
 -- then it is the cell of an object without a store or a table
-counted_fresh : {k : Kind} (header : Header) → IsCountedKind k → IsHeader header → IsFresh (counted_cell k header)
+counted_fresh : {k : Kind} (header : Header) → IsCountedKind k → IsHeader header → RefersNowhere (counted_cell k header)
 counted_fresh header is is_header = record {
   long = refl;
   is_header = is_header;

@@ -1,10 +1,10 @@
 -- The cell of a list that was just made: what it is.
 use Rattle.std.proofs.Common.{◌≡◌, ℕ, [], refl, sym, subst, arith}
 use Rattle.std.proofs.lemmas.Option.{none-some}
-use Rattle.tagged_word.specs.declared.header.Header.{Header}
+use Rattle.heap_model.specs.Types.{Header}
 use Rattle.tagged_word.specs.declared.layout.Kind.TheVariants as kind
 use Rattle.heap_model.specs.Heaps.{Heap, words_of_cell}
-use Rattle.heap_model.specs.Slots.{undefined_word, IsBeside}
+use Rattle.heap_model.specs.Slots.{undefined_word, HoldsStore}
 use Rattle.heap_model.specs.Kinds.{IsListCell}
 use Rattle.heap_model.specs.Showing.{ShowsList}
 use Rattle.mutator.specs.Making.{empty_counted}
@@ -19,7 +19,7 @@ list_is_sound {heap} at header are = subst (IsListCell heap) (sym are) (record {
   store = undefined_word;
   slot = refl;
   beside = [];
-  stands = IsBeside.none;
+  stands = HoldsStore.none;
   count = 0;
   counted = refl;
   few = omega arith;
@@ -42,6 +42,6 @@ list_shows {heap} at header are =
       store = undefined_word;
       slot = refl;
       slots = [];
-      has = IsBeside.none;
+      has = HoldsStore.none;
       each = λ place value word there stands. absurd (none-some value there);
     })

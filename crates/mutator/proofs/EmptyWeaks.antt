@@ -1,7 +1,7 @@
 -- The cell of a weak map that was just made: what it is.
 use Rattle.std.proofs.Common.{◌≡◌, ℕ, Bool, List, [], refl, sym, subst}
 use Rattle.std.proofs.lemmas.Option.{none-some}
-use Rattle.tagged_word.specs.declared.header.Header.{Header}
+use Rattle.heap_model.specs.Types.{Header}
 use Rattle.tagged_word.specs.declared.layout.Kind.TheVariants as kind
 use Rattle.heap_model.specs.Heaps.{Heap, words_of_cell}
 use Rattle.heap_model.specs.Slots.{undefined_word}

@@ -1,24 +1,22 @@
 -- `wput` and `wdel` are carried out as the calls on entries say.
 use Rattle.std.proofs.Common.{◌≡◌, ℕ, ◌<◌, List, [], Ok, Err, Some, refl, sym, ◌∙◌, ap, subst}
 use Rattle.std.specs.FinMap.{get}
-use Rattle.heap_command.specs.declared.command.Operand.{Operand}
+use Rattle.heap_model.specs.Types.{Operand, Value, Held}
 use Rattle.heap_command.specs.declared.command.Command.TheVariants.{WPut, WDel}
 use Rattle.heap_command.specs.Commands.{NamesBelow}
-use Rattle.object_graph.specs.declared.value.Value.{Value}
 use Rattle.object_graph.specs.declared.value.Value.TheVariants.{Ref}
 use Rattle.object_graph.specs.Objects.{with_entry, without_entry}
 use Rattle.object_graph.specs.Graphs.{Graph, WeakObject, value_of, weak_at}
 use Rattle.object_graph.specs.Meaning.{reweave}
 use Rattle.nursery.specs.Young.{HasRoom}
-use Rattle.handle_roots.specs.declared.held.Held.{Held}
-use Rattle.write_barrier.specs.Mains.{Mutator, MainShows}
+use Rattle.write_barrier.specs.MutatorState.{Mutator, MainShows}
 use Rattle.object_cells.specs.Uses.{UsesMore}
 use Rattle.ephemeron_table.specs.WeakObjects.{IsWeakAt, IsKeyAt, IsShownKey, IsShownPutting}
 use Rattle.ephemeron_table.specs.EntryChanges.{HasPutEntry, PutsEntry, DeletesEntry}
 use Rattle.ephemeron_table.specs.declared.stop.TableStop.{TableStop}
 use Rattle.ephemeron_table.specs.declared.stop.TableStop.TheVariants as table
 use Rattle.mutator.specs.Stops.{stop_of_table}
-use Rattle.mutator.specs.Carries.{Carries}
+use Rattle.mutator.specs.CarriesOut.{Carries}
 use Rattle.mutator.specs.Reading.{StandsFor, StandForBoth, IsFoundWeak, IsFoundKey}
 use Rattle.mutator.proofs.GivenValues.{IsGiven}
 use Rattle.mutator.proofs.Rebinding.{reaches_no_more, room_for_none}

@@ -6,12 +6,9 @@ use Rattle.std.specs.Prelude.{is_none}
 use Rattle.std.specs.FinMap.{get}
 use Rattle.std.proofs.lemmas.Bool.{cases_lt}
 use Rattle.std.proofs.lemmas.Bool.Decides.{nat_tests}
-use Rattle.heap_command.specs.declared.command.Operand.{Operand}
+use Rattle.heap_model.specs.Types.{Operand, Value, Field, Path}
 use Rattle.heap_command.specs.declared.command.Command.TheVariants.{Set, Del}
 use Rattle.heap_command.specs.declared.command.FaultWord.TheVariants.{FieldsFull, ShapesFull}
-use Rattle.object_graph.specs.declared.value.Value.{Value}
-use Rattle.object_graph.specs.declared.object.Field.{Field}
-use Rattle.object_graph.specs.declared.path.Path.{Path}
 use Rattle.object_graph.specs.Objects.{field_value, with_field, without_field}
 use Rattle.object_graph.specs.Paths.{path_of, with_path}
 use Rattle.object_graph.specs.Graphs.{Graph, PlainObject, value_of, plain_at}

@@ -1,10 +1,9 @@
 -- `set` is carried out as the call on fields says.
 use Rattle.std.proofs.Common.{◌≡◌, refl, ℕ, ◌<◌, List, [], Ok, Err, Some, sym, ◌∙◌, ap, subst}
 use Rattle.std.specs.FinMap.{get}
-use Rattle.heap_command.specs.declared.command.Operand.{Operand}
+use Rattle.heap_model.specs.Types.{Operand, Value, Held}
 use Rattle.heap_command.specs.declared.command.Command.TheVariants.{Set}
 use Rattle.heap_command.specs.Commands.{NamesBelow}
-use Rattle.object_graph.specs.declared.value.Value.{Value}
 use Rattle.object_graph.specs.declared.value.Value.TheVariants.{Ref}
 use Rattle.object_graph.specs.Objects.{with_field}
 use Rattle.object_graph.specs.Paths.{path_of, with_path}
@@ -12,8 +11,7 @@ use Rattle.object_graph.specs.Graphs.{Graph, PlainObject, value_of, plain_at}
 use Rattle.object_graph.specs.Meaning.{refill}
 use Rattle.object_graph.specs.Limits.{paths_most}
 use Rattle.nursery.specs.Young.{HasRoom}
-use Rattle.handle_roots.specs.declared.held.Held.{Held}
-use Rattle.write_barrier.specs.Mains.{Mutator, MainShows}
+use Rattle.write_barrier.specs.MutatorState.{Mutator, MainShows}
 use Rattle.object_cells.specs.PlainObjects.{IsPlainAt}
 use Rattle.object_cells.specs.HeldValues.{IsValueHeld}
 use Rattle.object_cells.specs.Uses.{UsesMore}
@@ -22,8 +20,8 @@ use Rattle.shape_change.specs.FieldChanges.{SetsField}
 use Rattle.shape_change.specs.declared.stop.FieldStop.{FieldStop}
 use Rattle.shape_change.specs.declared.stop.FieldStop.TheVariants.{FieldsFull, ShapesFull, Full}
 use Rattle.mutator.specs.Stops.{stop_of}
-use Rattle.mutator.specs.declared.reading.Found.{Found}
-use Rattle.mutator.specs.Carries.{Carries}
+use Rattle.mutator.specs.declared.lookups.Found.{Found}
+use Rattle.mutator.specs.CarriesOut.{Carries}
 use Rattle.mutator.specs.Reading.{StandForBoth, IsFound}
 use Rattle.mutator.proofs.FieldMeanings.{IsKnown, reshape_done, reshape_full, paths_there, set_room, set_full}
 use Rattle.mutator.proofs.CommandRooms.{keeps_set, set_need_is}

@@ -7,11 +7,9 @@ use Rattle.std.specs.FinMap.{get}
 use Rattle.std.proofs.lemmas.Option.{none-some}
 use Rattle.heap_command.specs.declared.command.Command.TheVariants.{Del}
 use Rattle.heap_command.specs.declared.command.FaultWord.TheVariants as word
-use Rattle.object_graph.specs.declared.value.Value.{Value}
+use Rattle.heap_model.specs.Types.{Value, Field, Path}
 use Rattle.object_graph.specs.declared.value.Value.TheVariants.{Ref}
-use Rattle.object_graph.specs.declared.object.Field.{Field}
 use Rattle.object_graph.specs.declared.object.Object.TheVariants.{Plain}
-use Rattle.object_graph.specs.declared.path.Path.{Path}
 use Rattle.object_graph.specs.Objects.{field_value, without_field}
 use Rattle.object_graph.specs.Paths.{path_of, missing}
 use Rattle.object_graph.specs.Graphs.{Graph, PlainObject, plain_at}
@@ -21,12 +19,12 @@ use Rattle.object_graph.specs.Limits.{ideal_limits}
 use Rattle.shape_tree.proofs.GrownPaths.{missing-there}
 use Rattle.shape_tree.proofs.LedPaths.{with_path-added}
 use Rattle.heap_model.proofs.SlotWords.{All-slice_get}
-use Rattle.write_barrier.specs.Mains.{Mutator, heap_of, MainShows}
+use Rattle.write_barrier.specs.MutatorState.{Mutator, heap_of, MainShows}
 use Rattle.object_cells.specs.PlainObjects.{IsPlainAt, LacksPaths}
 use Rattle.shape_change.specs.FieldChanges.{HasDeletedField}
 use Rattle.mutator.specs.declared.stop.Stop.TheVariants.{Fault}
-use Rattle.mutator.specs.declared.reading.Found.{Found}
-use Rattle.mutator.specs.Carries.{Carries}
+use Rattle.mutator.specs.declared.lookups.Found.{Found}
+use Rattle.mutator.specs.CarriesOut.{Carries}
 use Rattle.mutator.specs.Reading.{IsFound}
 use Rattle.mutator.proofs.FieldMeanings.{IsKnown, reshape_done, reshape_full, del_known}
 use Rattle.mutator.proofs.KeptStores.{keeps_still}

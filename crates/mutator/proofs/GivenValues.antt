@@ -1,11 +1,9 @@
 -- The values that commands put: what is held of them.
 use Rattle.std.proofs.Common.{◌≡◌, Some, ◌∙◌, subst, sym}
-use Rattle.heap_command.specs.declared.command.Operand.{Operand}
+use Rattle.heap_model.specs.Types.{Operand, Value, Held}
 use Rattle.heap_command.specs.Commands.{NamesBelow}
-use Rattle.object_graph.specs.declared.value.Value.{Value}
 use Rattle.object_graph.specs.Graphs.{Graph, value_of}
-use Rattle.handle_roots.specs.declared.held.Held.{Held}
-use Rattle.write_barrier.specs.Mains.{Mutator}
+use Rattle.write_barrier.specs.MutatorState.{Mutator}
 use Rattle.object_cells.specs.HeldValues.{IsValueHeld}
 use Rattle.mutator.specs.Reading.{StandsFor}
 use Rattle.mutator.proofs.StillShown.{stands_still}

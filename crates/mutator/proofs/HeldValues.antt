@@ -4,14 +4,12 @@ use Rattle.std.specs.Prelude.{Option, length, ℤ, FitsSigned}
 use Rattle.std.specs.Int.{w64}
 use Rattle.std.proofs.lemmas.Option.{none-some}
 use Rattle.std.specs.FinMap.{get}
-use Rattle.heap_command.specs.declared.command.Operand.{Operand}
+use Rattle.heap_model.specs.Types.{Operand, Value, Held}
 use Rattle.heap_command.specs.declared.command.Operand.TheVariants as operand
-use Rattle.object_graph.specs.declared.value.Value.{Value}
 use Rattle.object_graph.specs.declared.value.Value.TheVariants.{Int, Undefined, Ref}
 use Rattle.object_graph.specs.Graphs.{Graph, value_of}
 use Rattle.graph_laws.specs.GraphLaws.{FitsOperand}
 use Rattle.graph_laws.proofs.Reaches.{reach_has_bound}
-use Rattle.handle_roots.specs.declared.held.Held.{Held}
 use Rattle.handle_roots.specs.declared.held.Held.TheVariants as held
 use Rattle.handle_roots.specs.Roots.{FitsHeld, Holds, IsRoot}
 use Rattle.handle_roots.proofs.RootsHeld.{holds_one}
@@ -19,7 +17,7 @@ use Rattle.heap_table.specs.Seats.{heap_words}
 use Rattle.heap_model.specs.Heaps.{Heap}
 use Rattle.heap_model.specs.Slots.{IsPlace}
 use Rattle.heap_model.specs.Showing.{ShowsHeld}
-use Rattle.write_barrier.specs.Mains.{Mutator, heap_of, MainShows}
+use Rattle.write_barrier.specs.MutatorState.{Mutator, heap_of, MainShows}
 use Rattle.object_cells.specs.HeldValues.{IsReachedValue}
 use Rattle.mutator.specs.Reading.{StandsFor}
 

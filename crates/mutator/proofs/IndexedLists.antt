@@ -1,13 +1,11 @@
 -- Lists that commands name together with an integer: an index, or a number of elements.
 use Rattle.std.proofs.Common.{◌≡◌, ℕ, ◌<◌, Some, ◌∙◌, ap, subst, ℤ, sym}
 use Rattle.std.specs.FinMap.{get}
-use Rattle.heap_command.specs.declared.command.Operand.{Operand}
+use Rattle.heap_model.specs.Types.{Operand, Value, Held}
 use Rattle.heap_command.specs.Commands.{NamesBelow}
-use Rattle.object_graph.specs.declared.value.Value.{Value}
 use Rattle.object_graph.specs.declared.value.Value.TheVariants.{Ref}
 use Rattle.object_graph.specs.Graphs.{Graph, ListObject, value_of, integer_in, list_at}
-use Rattle.handle_roots.specs.declared.held.Held.{Held}
-use Rattle.write_barrier.specs.Mains.{Mutator, MainShows}
+use Rattle.write_barrier.specs.MutatorState.{Mutator, MainShows}
 use Rattle.object_cells.specs.ListObjects.{IsListAt, IsShownList}
 use Rattle.mutator.specs.Reading.{StandsFor, StandForBoth, IsFoundList}
 use Rattle.mutator.proofs.ListMeanings.{IsKnownList, IsIndex}

@@ -6,14 +6,11 @@ use Rattle.std.proofs.lemmas.Bool.{cases_eq, ne_eqb}
 use Rattle.std.proofs.lemmas.Option.{slice_get_within, same_Some}
 use Rattle.tagged_word.specs.Cells.{store_slot}
 use Rattle.tagged_word.proofs.Members.{one_in, first_in}
-use Rattle.heap_command.specs.declared.command.Command.{Command}
-use Rattle.object_graph.specs.declared.object.Object.{Object}
+use Rattle.heap_model.specs.Types.{Command, Object, Cell, Held}
 use Rattle.object_graph.specs.declared.object.Object.TheVariants.{Plain, Weak, List as ListOf}
 use Rattle.object_graph.specs.Graphs.{Graph}
 use Rattle.object_graph.specs.Reach.{is_marked, reach}
 use Rattle.object_graph.proofs.Lists.{slice_get-set_same, slice_get-set_other}
-use Rattle.cell_layout.specs.declared.cell.Cell.{Cell}
-use Rattle.handle_roots.specs.declared.held.Held.{Held}
 use Rattle.heap_model.specs.Heaps.{Heap, words_of_cell}
 use Rattle.heap_model.specs.Slots.{undefined_word, IsPlace}
 use Rattle.heap_model.specs.Kinds.{HasWord}
@@ -24,16 +21,16 @@ use Rattle.heap_model.specs.Laws.{ReachesNoMore, bound}
 use Rattle.heap_model.proofs.BoundHeaps.{none_in, bound_moves}
 use Rattle.heap_model.proofs.CellWords.{slice_get-append_left, slice_get-append_right}
 use Rattle.heap_model.proofs.CountsStay.{place_of}
-use Rattle.heap_model.proofs.Fates.{CellsMove, cells_move, places_stay}
+use Rattle.heap_model.proofs.CellOutcomes.{CellsMove, cells_move, places_stay}
 use Rattle.heap_model.proofs.PlacesBefore.{place_before}
 use Rattle.heap_model.proofs.ReachedStays.{reach_below}
 use Rattle.heap_model.proofs.ShownObjects.{object_of_shown}
-use Rattle.write_barrier.specs.Mains.{Mutator, heap_of, MainShows}
+use Rattle.write_barrier.specs.MutatorState.{Mutator, heap_of, MainShows}
 use Rattle.object_cells.specs.Capacities.{ChangesObject}
 use Rattle.object_cells.proofs.CellsRead.{word_stands}
 use Rattle.object_cells.proofs.KeptCapacities.{kept_where_none_went, capacity_of_none}
 use Rattle.mutator.specs.Capacities.{KeepsStores}
-use Rattle.mutator.proofs.NewCells.{NewCell, cell_of, IsFresh}
+use Rattle.mutator.proofs.NewCells.{NewCell, cell_of, RefersNowhere}
 use Rattle.mutator.proofs.PutCells.{next_at, IsPutCell}
 use Rattle.mutator.proofs.SameHeld.{one_address, one_number}
 
@@ -222,7 +219,7 @@ keeps_bound {old} command x one below is shows shown has fewer objects rooms_sta
     (λ number at place. stood_before x one below whole (subst (λ heap. IsPlace heap number at) is place))
 
 -- a cell that was put has no store
-put_has_none : {heap now : Heap} {one : NewCell} → IsFresh one → IsPutCell heap now one
+put_has_none : {heap now : Heap} {one : NewCell} → RefersNowhere one → IsPutCell heap now one
     → capacity_at now (next_at heap) ≡ 0
 put_has_none {heap} {now} {one} fresh put =
     let cell : Cell = cell_of (next_at heap) one in
@@ -256,7 +253,7 @@ pub record MakesOne (old new : Heap) : Type 0 where
   pub made : (number at : ℕ) → IsPlace new number at → (IsPlace old number at → ⊥) → capacity_at new at ≡ 0
 
 -- so it is
-pub makes_one : {heap now : Heap} {one : NewCell} (x : ℕ) (held : Held) → Whole heap → IsFresh one
+pub makes_one : {heap now : Heap} {one : NewCell} (x : ℕ) (held : Held) → Whole heap → RefersNowhere one
     → IsPutCell heap now one → x < now.space.variables → MakesOne heap (bound now x held)
 makes_one {heap} {now} x held whole fresh put below =
     let moves = bound_moves now x held below put.whole in

@@ -4,14 +4,13 @@ use Rattle.std.proofs.Common.{ℤ, ◌∙◌, ap, arith, nat_le}
 use Rattle.std.specs.Prelude.{slice_set}
 use Rattle.std.specs.FinMap.{get}
 use Rattle.std.proofs.lemmas.Bool.Decides.{nat_tests}
-use Rattle.heap_command.specs.declared.command.Operand.{Operand}
+use Rattle.heap_model.specs.Types.{Operand, Value}
 use Rattle.heap_command.specs.declared.command.Command.TheVariants.{Push, Put, At}
 use Rattle.heap_command.specs.declared.command.FaultWord.TheVariants.{ListFull, Range}
-use Rattle.object_graph.specs.declared.value.Value.{Value}
 use Rattle.object_graph.specs.Graphs.{Graph, ListObject, bind, value_of, integer_in, list_at}
 use Rattle.object_graph.specs.Meaning.{done, fault, unless, list_most, relist, does}
 use Rattle.object_graph.specs.Limits.{ideal_limits}
-use Rattle.list_store.specs.ListChanges.{IsPlaceIn, IsOutside, IsElementAt}
+use Rattle.list_store.specs.ListChanges.{IsPlaceIn, IsIndexOutside, IsElementAt}
 
 -- what the variable of a command on a list and the list are
 pub record IsKnownList (graph : Graph) (x : ℕ) (target : Value) (list : ListObject) : Type 0 where
@@ -42,7 +41,7 @@ put_done names x i v target list n place value known index is names_place =
 -- and one that is not, as the index names none
 pub put_outside : {graph : Graph} (names : List (List ℕ)) (x : ℕ) (i v : Operand) (target : Value) (list : ListObject)
     (n : ℤ) (value : Value) → IsKnownList graph x target list → IsIndex graph i n → value_of graph v ≡ Some value
-    → IsOutside list n → does ideal_limits names graph (Put x i v) ≡ fault Range
+    → IsIndexOutside list n → does ideal_limits names graph (Put x i v) ≡ fault Range
 put_outside names x i v target list n value known index is outside =
     rw (known.bound, index.value_is, is, known.refers, index.integer, outside)
 

@@ -4,16 +4,15 @@ use Rattle.std.specs.Prelude.{IsTrue, option_and_then}
 use Rattle.tagged_word.specs.declared.layout.Kind.TheVariants as kind
 use Rattle.tagged_word.specs.Shapes.{list_shape}
 use Rattle.object_graph.specs.declared.value.Value.TheVariants.{Ref}
-use Rattle.object_graph.specs.declared.object.Object.{Object}
+use Rattle.heap_model.specs.Types.{Object, Cell}
 use Rattle.object_graph.specs.declared.object.Object.TheVariants as graph_object
 use Rattle.object_graph.specs.Graphs.{Graph, ListObject, as_list, list_at}
 use Rattle.object_graph.specs.Reach.{is_marked, reach}
-use Rattle.cell_layout.specs.declared.cell.Cell.{Cell}
 use Rattle.heap_model.specs.Heaps.{Heap, HasCell}
 use Rattle.heap_model.specs.Slots.{IsPlace}
 use Rattle.heap_model.specs.Wholeness.{HasSizes}
 use Rattle.heap_model.specs.Showing.{ShowsObject}
-use Rattle.write_barrier.specs.Mains.{Mutator, heap_of, MainShows}
+use Rattle.write_barrier.specs.MutatorState.{Mutator, heap_of, MainShows}
 use Rattle.mutator.specs.Reading.{IsFoundList}
 use Rattle.mutator.proofs.CellKinds.{plain_has_path, other_has_fixed}
 use Rattle.mutator.proofs.ObjectsAt.{ObjectAt}

@@ -2,13 +2,11 @@
 use Rattle.std.proofs.Common.{◌≡◌, ℕ, ◌+◌, ◌<◌, ◌≤◌, ◌^◌, List, [], length, Ok, slice_get, sym}
 use Rattle.std.proofs.Common.{refl, ◌∙◌, ap, subst}
 use Rattle.std.proofs.Common.{arith, inl, inr}
-use Rattle.heap_command.specs.declared.command.Command.{Command}
+use Rattle.heap_model.specs.Types.{Command, Header, Object, Cell}
 use Rattle.tagged_word.specs.declared.layout.Kind.TheVariants as kind
-use Rattle.tagged_word.specs.declared.header.Header.{Header}
 use Rattle.tagged_word.specs.Headers.{IsHeader}
 use Rattle.tagged_word.specs.Shapes.{list_shape, weak_shape}
 use Rattle.tagged_word.proofs.Members.{first_in}
-use Rattle.object_graph.specs.declared.object.Object.{Object}
 use Rattle.object_graph.specs.declared.object.Object.TheVariants.{Plain, Weak, List as ListOf}
 use Rattle.object_graph.specs.Graphs.{Graph, make}
 use Rattle.object_graph.specs.Meaning.{done, does}
@@ -23,10 +21,9 @@ use Rattle.page_space.specs.Extents.{Space, eden_start, marks_start}
 use Rattle.nursery.specs.Young.{HasRoom}
 use Rattle.handle_roots.specs.declared.held.Held.TheVariants as held
 use Rattle.heap_table.specs.declared.phase.Phase.TheVariants.{Quiet}
-use Rattle.heap_table.specs.Seats.{heap_words, StaysBeside}
-use Rattle.heap_table.specs.Staying.{stays_beside_again}
+use Rattle.heap_table.specs.Seats.{heap_words, RestStays}
+use Rattle.heap_table.specs.Staying.{rest_stays_again}
 use Rattle.shape_tree.specs.Shapes.{IsShapeOf}
-use Rattle.cell_layout.specs.declared.cell.Cell.{Cell}
 use Rattle.heap_model.specs.Heaps.{Heap, HasCell, words_of_cell}
 use Rattle.heap_model.specs.Counting.{CountsEntries}
 use Rattle.heap_model.specs.Kinds.{count_offset}
@@ -39,12 +36,12 @@ use Rattle.heap_model.proofs.ShownObjects.{object_of_shown}
 use Rattle.heap_model.proofs.CountsStay.{HasCountOf, counts_made}
 use Rattle.heap_model.proofs.BoundHeaps.{none_in, bound_moves}
 use Rattle.heap_model.proofs.NewObjects.{new_objects_show}
-use Rattle.write_barrier.specs.Mains.{Mutator, heap_of, IsTied, MainShows, reserved, with_table, with_variable}
+use Rattle.write_barrier.specs.MutatorState.{Mutator, heap_of, IsTied, MainShows, reserved, with_table, with_variable}
 use Rattle.write_barrier.specs.Values.{with_range}
 use Rattle.object_cells.specs.Uses.{UsesMore}
 use Rattle.object_cells.proofs.UnusedWords.{run_before_marks}
-use Rattle.object_cells.proofs.WordsBeside.{range_beside, variable_beside}
-use Rattle.mutator.specs.Carries.{Carries}
+use Rattle.object_cells.proofs.RestOfWords.{range_beside, variable_beside}
+use Rattle.mutator.specs.CarriesOut.{Carries}
 use Rattle.mutator.proofs.NewCells.{NewCell, cell_of}
 use Rattle.mutator.proofs.EmptyCells.{no_fields, plain_cell, plain_fresh, plain_laid, IsEmptyCell, empty_is_sound}
 use Rattle.mutator.proofs.EmptyCells.{empty_shows}
@@ -132,7 +129,7 @@ bound_heap {old} {x = x} {at} {one} tied makes =
     ∙ ap (λ a. bound (with_cell (heap_of old) one) x (held.Ref a)) (run_is_next old tied makes.run)
 
 -- what the cell is in the heap in which it was put: sound, and one that shows the object
-pub record IsMade (heap : Heap) (graph : Graph) (x : ℕ) (one : NewCell) (what : Object) : Type 0 where
+pub record IsSoundNewCell (heap : Heap) (graph : Graph) (x : ℕ) (one : NewCell) (what : Object) : Type 0 where
   pub fits : HasRoomFor heap one
   pub sound : IsSoundThere heap one
   pub shows : let cell = cell_of (next_at heap) one in
@@ -144,7 +141,7 @@ pub record IsMade (heap : Heap) (graph : Graph) (x : ℕ) (one : NewCell) (what 
 made_shows : {old mid filled new : Mutator} {graph : Graph} {command : Command} {x at : ℕ} {one : NewCell}
     {what : Object}
     → MainShows old graph → IsMaking graph command x one.size what
-    → MakesObject old mid filled new x at one → IsMade (heap_of old) graph x one what → at < 2 ^ 32
+    → MakesObject old mid filled new x at one → IsSoundNewCell (heap_of old) graph x one what → at < 2 ^ 32
     → x < old.seat.space.variables → Shows (heap_of new) (make graph x what)
 made_shows {old} {mid} {filled} {new} {graph} {command} {x} {at} {one} {what} shows making makes made small below =
     let heap : Heap = heap_of old in
@@ -161,7 +158,8 @@ made_shows {old} {mid} {filled} {new} {graph} {command} {x} {at} {one} {what} sh
 -- and weak maps count their entries: a cell that stood stands
 made_counts : {old mid filled new : Mutator} {graph : Graph} {command : Command} {x at : ℕ} {one : NewCell}
     {what : Object} → MainShows old graph → IsMaking graph command x one.size what
-    → MakesObject old mid filled new x at one → IsMade (heap_of old) graph x one what → x < old.seat.space.variables
+    → MakesObject old mid filled new x at one → IsSoundNewCell (heap_of old) graph x one what
+    → x < old.seat.space.variables
     → Shows (heap_of new) (make graph x what) → CountsEntries (heap_of new) (make graph x what)
 made_counts {old} {new = new} {graph} {x = x} {one = one} {what} shows making makes made below shown =
     let heap : Heap = heap_of old in
@@ -181,7 +179,8 @@ made_counts {old} {new = new} {graph} {x = x} {one = one} {what} shows making ma
 pub making_carried : {old mid filled new : Mutator} {graph : Graph} {command : Command} {x at : ℕ} {one : NewCell}
     {what : Object} (names : List (List ℕ)) → MainShows old graph
     → IsMaking graph command x one.size what → MakesObject old mid filled new x at one
-    → IsMade (heap_of old) graph x one what → at < 2 ^ 32 → x < old.seat.space.variables → HasRoom old.young one.size
+    → IsSoundNewCell (heap_of old) graph x one what → at < 2 ^ 32 → x < old.seat.space.variables
+    → HasRoom old.young one.size
     → Carries names old new graph command [] (Ok tt)
 making_carried {old} {new = new} {graph} {command} {x} {at} {one} {what} names shows making makes made small below
     room =
@@ -203,12 +202,12 @@ making_carried {old} {new = new} {graph} {command} {x} {at} {one} {what} names s
       run_before_marks old one.size at old.seat.space shows.tied room (run_is_next old shows.tied makes.run) refl,
       made.fits.fresh.long,
     ) in
-    let beside : StaysBeside old.seat (with_variable filled_one x (held.Ref at)).seat =
-    stays_beside_again old.seat filled_one.seat (with_variable filled_one x (held.Ref at)).seat
+    let beside : RestStays old.seat (with_variable filled_one x (held.Ref at)).seat =
+    rest_stays_again old.seat filled_one.seat (with_variable filled_one x (held.Ref at)).seat
     (range_beside (reserved old one.size) at one.words shows.shows.whole.sized.words within)
     (variable_beside filled_one x (held.Ref at) below) in
     let uses : UsesMore old new one.size = record {
-      beside = subst (λ (now : Mutator). StaysBeside old.seat now.seat) (sym whole) beside;
+      beside = subst (λ (now : Mutator). RestStays old.seat now.seat) (sym whole) beside;
       young = ap (λ (now : Mutator). now.young) whole;
     } in
     let put = with_cell_put shows.shows.whole made.fits made.sound in
@@ -234,7 +233,7 @@ making_carried {old} {new = new} {graph} {command} {x} {at} {one} {what} names s
 pub plain_made : {heap : Heap} {graph : Graph} {header : Header} {cap : ℕ} (x : ℕ) → HasSizes heap → IsHeader header
     → cap ≤ cap_most → IsShapeOf heap.paths (no_fields cap) header.shape
     → heap.survivors + heap.used + (2 + cap) ≤ heap.space.sizes.young → header.object ≡ length graph.objects
-    → IsMade heap graph x (plain_cell header cap) (Plain cap [])
+    → IsSoundNewCell heap graph x (plain_cell header cap) (Plain cap [])
 plain_made {heap} {header = header} {cap} x sized is_header few shaped room carries =
     let fits : HasRoomFor heap (plain_cell header cap) = record {
       sized = sized;
@@ -250,7 +249,7 @@ plain_made {heap} {header = header} {cap} x sized is_header few shaped room carr
 -- and so is that of a list without elements
 pub list_made : {heap : Heap} {graph : Graph} {header : Header} (x : ℕ) → HasSizes heap → IsHeader header
     → header.shape ≡ list_shape → heap.survivors + heap.used + 3 ≤ heap.space.sizes.young
-    → header.object ≡ length graph.objects → IsMade heap graph x (counted_cell kind.List header) (ListOf [])
+    → header.object ≡ length graph.objects → IsSoundNewCell heap graph x (counted_cell kind.List header) (ListOf [])
 list_made {heap} {header = header} x sized is_header shape room carries =
     let fits : HasRoomFor heap (counted_cell kind.List header) =
     counted_fits list_shape list_is_counted sized is_header shape (omega arith) refl room in
@@ -266,7 +265,7 @@ list_made {heap} {header = header} x sized is_header shape room carries =
 -- and that of a weak map without entries
 pub weak_made : {heap : Heap} {graph : Graph} {header : Header} (x : ℕ) → HasSizes heap → IsHeader header
     → header.shape ≡ weak_shape → heap.survivors + heap.used + 3 ≤ heap.space.sizes.young
-    → header.object ≡ length graph.objects → IsMade heap graph x (counted_cell kind.Weak header) (Weak [])
+    → header.object ≡ length graph.objects → IsSoundNewCell heap graph x (counted_cell kind.Weak header) (Weak [])
 weak_made {heap} {graph} {header} x sized is_header shape room carries =
     let fits : HasRoomFor heap (counted_cell kind.Weak header) =
     counted_fits weak_shape weak_is_counted sized is_header shape (omega arith) refl room in

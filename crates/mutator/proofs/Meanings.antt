@@ -2,9 +2,8 @@
 use Rattle.std.proofs.Common.{◌≡◌, ℕ, false, List, [], Some, unwrap_or, arith, ℤ, ◌+ℤ◌, SFits, w64}
 use Rattle.std.specs.FinMap.{get}
 use Rattle.std.proofs.lemmas.Int.{ints}
-use Rattle.object_graph.specs.declared.value.Value.{Value}
+use Rattle.heap_model.specs.Types.{Value, Operand}
 use Rattle.object_graph.specs.declared.value.Value.TheVariants.{Int, Undefined}
-use Rattle.heap_command.specs.declared.command.Operand.{Operand}
 use Rattle.heap_command.specs.declared.command.Command.TheVariants.{Add, Get}
 use Rattle.object_graph.specs.Graphs.{Graph, PlainObject, bind, value_of, integer_in, plain_at}
 use Rattle.object_graph.specs.Meaning.{done, is_outside, does}

@@ -2,13 +2,11 @@
 use Rattle.std.proofs.Common.{◌≡◌, ℕ, false, List, [], ◌∷◌, length, Some, slice_get, sym, ◌∙◌, ap, subst}
 use Rattle.std.specs.Prelude.{Contains}
 use Rattle.std.proofs.lemmas.Option.{same_Some}
-use Rattle.tagged_word.specs.declared.header.Header.{Header}
-use Rattle.tagged_word.specs.declared.layout.LayoutWord.{LayoutWord}
+use Rattle.heap_model.specs.Types.{Header, LayoutWord, Cell}
 use Rattle.tagged_word.specs.Headers.{IsHeader, header_bits}
 use Rattle.tagged_word.specs.Layouts.{IsLayout}
 use Rattle.tagged_word.specs.Cells.{cell_size, has_length, scavenge_offsets, store_slot}
 use Rattle.tagged_word.proofs.Members.{one_in}
-use Rattle.cell_layout.specs.declared.cell.Cell.{Cell}
 use Rattle.heap_model.specs.Heaps.{Heap, words_of_cell}
 use Rattle.heap_model.specs.Slots.{undefined_word}
 use Rattle.heap_model.specs.Kinds.{HasWord}
@@ -27,7 +25,7 @@ abbrev pub cell_of : ℕ → NewCell → Cell
 cell_of at one = record { at = at; header = one.header; layout = one.layout; length = 0; size = one.size }
 
 -- it is one of an object without a store: the slot for that alone may refer to a cell, and is `undefined`
-pub record IsFresh (one : NewCell) : Type 0 where
+pub record RefersNowhere (one : NewCell) : Type 0 where
   pub long : length one.words ≡ one.size
   pub is_header : IsHeader one.header
   pub first : HasWord one.words 0 (header_bits one.header)
@@ -38,7 +36,7 @@ pub record IsFresh (one : NewCell) : Type 0 where
   pub slot : HasWord one.words store_slot undefined_word
 
 -- so it refers to nothing
-pub fresh_refers_not : (heap : Heap) (at : ℕ) {one : NewCell} → IsFresh one
+pub fresh_refers_not : (heap : Heap) (at : ℕ) {one : NewCell} → RefersNowhere one
     → words_of_cell heap (cell_of at one) ≡ one.words
     → RefersToNothing (cell_of at one) (words_of_cell heap (cell_of at one))
 fresh_refers_not heap at fresh are offset word to there stands refers =

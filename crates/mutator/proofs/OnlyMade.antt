@@ -2,7 +2,7 @@
 use Rattle.std.proofs.Common.{◌≡◌, ℕ, ◌+◌, List, length, sym, ◌∙◌, ap}
 use Rattle.page_space.specs.Extents.{eden_start}
 use Rattle.handle_roots.specs.declared.held.Held.TheVariants.{Ref}
-use Rattle.write_barrier.specs.Mains.{Mutator, reserved, with_table, with_variable}
+use Rattle.write_barrier.specs.MutatorState.{Mutator, reserved, with_table, with_variable}
 use Rattle.write_barrier.specs.Values.{with_range}
 use Rattle.mutator.specs.Binding.{BindsMade}
 

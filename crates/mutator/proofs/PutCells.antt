@@ -18,7 +18,7 @@ use Rattle.shape_tree.specs.ShapeLayouts.{layout_word}
 use Rattle.cell_layout.specs.Cells.{IsCell, IsRow}
 use Rattle.cell_layout.proofs.CellsThere.{slice_get-layouts_in}
 use Rattle.heap_model.specs.Heaps.{Heap, words_of_cell}
-use Rattle.heap_model.specs.Kinds.{IsSound}
+use Rattle.heap_model.specs.Kinds.{IsSoundCell}
 use Rattle.heap_model.specs.Wholeness.{Whole, HasSizes}
 use Rattle.heap_model.specs.Changes.{IsChange, CellsChange, IsOwnChange}
 use Rattle.heap_model.proofs.BoundHeaps.{none_in}
@@ -26,7 +26,7 @@ use Rattle.heap_model.proofs.MadeCells.{made_cells_are_own}
 use Rattle.heap_model.proofs.WholeStays.{own_changes_keep_whole}
 use Rattle.heap_model.proofs.WordChanges.{changes_keep_cells}
 use Rattle.write_barrier.specs.Values.{with_range}
-use Rattle.mutator.proofs.NewCells.{NewCell, cell_of, IsFresh, fresh_refers_not}
+use Rattle.mutator.proofs.NewCells.{NewCell, cell_of, RefersNowhere, fresh_refers_not}
 use Rattle.mutator.proofs.PutWords.{length-with_range, with_range_before, with_range_inside, with_range_behind}
 use Rattle.mutator.proofs.PutWords.{slice_range-with_range}
 
@@ -44,7 +44,7 @@ with_cell heap one = record heap {
 -- the heap has room for the cell, and gives its shape the layout that it has
 pub record HasRoomFor (heap : Heap) (one : NewCell) : Type 0 where
   pub sized : HasSizes heap
-  pub fresh : IsFresh one
+  pub fresh : RefersNowhere one
   pub known : one.header.shape < shapes_most
   pub laid : layout_word heap.paths one.header.shape ≡ layout_bits one.layout
   pub room : heap.survivors + heap.used + one.size ≤ heap.space.sizes.young
@@ -182,7 +182,7 @@ pub record IsPutCell (heap new : Heap) (one : NewCell) : Type 0 where
 abbrev pub IsSoundThere : Heap → NewCell → Type 0
 IsSoundThere heap one =
     let new = with_cell heap one in
-    IsSound new (cell_of (next_at heap) one) (words_of_cell new (cell_of (next_at heap) one))
+    IsSoundCell new (cell_of (next_at heap) one) (words_of_cell new (cell_of (next_at heap) one))
 
 -- so it is of a whole heap that has room, where it is sound there
 pub with_cell_put : {heap : Heap} {one : NewCell} → Whole heap → HasRoomFor heap one → IsSoundThere heap one

@@ -3,7 +3,7 @@ use Rattle.std.proofs.Common.{◌≡◌, ℕ, ◌<◌, List, [], None, Ok, inl, 
 use Rattle.std.specs.Prelude.{Option, IsTrue, is_some}
 use Rattle.std.specs.FinMap.{get}
 use Rattle.std.proofs.lemmas.Bool.{false≢true}
-use Rattle.heap_command.specs.declared.command.Command.{Command}
+use Rattle.heap_model.specs.Types.{Command, Held, Cell}
 use Rattle.object_graph.specs.Graphs.{Graph}
 use Rattle.object_graph.specs.Meaning.{done, does}
 use Rattle.object_graph.specs.Limits.{ideal_limits}
@@ -14,11 +14,9 @@ use Rattle.graph_laws.proofs.GraphsStay.{graphs_stay}
 use Rattle.graph_laws.proofs.NothingNew.{only_made_is_new}
 use Rattle.page_space.specs.Extents.{Space}
 use Rattle.nursery.specs.Young.{HasRoom}
-use Rattle.handle_roots.specs.declared.held.Held.{Held}
 use Rattle.handle_roots.specs.Roots.{FitsHeld, with_root}
 use Rattle.heap_table.specs.declared.phase.Phase.TheVariants.{Quiet}
-use Rattle.heap_table.specs.Seats.{heap_words, StaysBeside}
-use Rattle.cell_layout.specs.declared.cell.Cell.{Cell}
+use Rattle.heap_table.specs.Seats.{heap_words, RestStays}
 use Rattle.heap_model.specs.Heaps.{Heap, HasCell}
 use Rattle.heap_model.specs.Counting.{CountsEntries}
 use Rattle.heap_model.specs.Rooms.{Room, need_of, rooms_after}
@@ -27,11 +25,11 @@ use Rattle.heap_model.specs.Laws.{ReachesNoMore, BindsAnew, bound}
 use Rattle.heap_model.proofs.BoundHeaps.{none_in, bound_moves}
 use Rattle.heap_model.proofs.BoundGraphs.{bindings_show}
 use Rattle.heap_model.proofs.CountsStay.{counts_stay}
-use Rattle.write_barrier.specs.Mains.{Mutator, heap_of, IsTied, MainShows, with_variable}
+use Rattle.write_barrier.specs.MutatorState.{Mutator, heap_of, IsTied, MainShows, with_variable}
 use Rattle.object_cells.specs.Uses.{UsesMore}
-use Rattle.object_cells.proofs.WordsBeside.{variable_beside}
+use Rattle.object_cells.proofs.RestOfWords.{variable_beside}
 use Rattle.mutator.specs.Binding.{Binds}
-use Rattle.mutator.specs.Carries.{Carries}
+use Rattle.mutator.specs.CarriesOut.{Carries}
 use Rattle.mutator.proofs.KeptStores.{keeps_bound}
 
 -- a variable was made to hold a value, and only its root words changed
@@ -79,7 +77,7 @@ room_for_none shows =
 pub uses_none : {old new : Mutator} (x : ℕ) (one : Held) → HoldsAnew old new x one → x < old.seat.space.variables
     → UsesMore old new 0
 uses_none {old} {new} x one holds below = record {
-  beside = subst (λ (main : Mutator). StaysBeside old.seat main.seat) (sym holds.held)
+  beside = subst (λ (main : Mutator). RestStays old.seat main.seat) (sym holds.held)
       (variable_beside old x one below);
   young = ap (λ (main : Mutator). main.young) holds.held
       ∙ ap (λ (used : ℕ). record old.young { used = used }) (sym (add-zero old.young.used));

@@ -1,15 +1,14 @@
 -- Two plain objects are alike exactly where their shapes agree.
 use Rattle.std.proofs.Common.{◌≡◌, ℕ, ◌==◌, sym, ◌∙◌, ap}
 use Rattle.std.proofs.lemmas.Bool.Decides.{Decides-eqb, Decides-like, same_from_decides}
-use Rattle.object_graph.specs.declared.path.Path.{Path}
+use Rattle.heap_model.specs.Types.{Path, Value}
 use Rattle.object_graph.specs.Paths.{path_of, same_path}
 use Rattle.object_graph.specs.Graphs.{Graph}
 use Rattle.object_graph.proofs.EqualPaths.{Decides-same_path}
-use Rattle.object_graph.specs.declared.value.Value.{Value}
 use Rattle.shape_tree.specs.Shapes.{IsShapeOf, shape_path}
 use Rattle.shape_tree.proofs.ShapePaths.{one_shape}
-use Rattle.write_barrier.specs.Mains.{Mutator, MainShows}
-use Rattle.mutator.specs.declared.reading.Found.{Found}
+use Rattle.write_barrier.specs.MutatorState.{Mutator, MainShows}
+use Rattle.mutator.specs.declared.lookups.Found.{Found}
 use Rattle.mutator.specs.Reading.{IsFound}
 
 -- the test of two shapes is that of their paths

@@ -7,9 +7,7 @@ use Rattle.std.specs.Prelude.{decimal, codes, flat_map}
 use Rattle.std.proofs.lemmas.List.{take_more, take_all, flat_map_more}
 use Rattle.std.proofs.lemmas.List.Folds.{flat_map-map}
 use Rattle.std.proofs.lemmas.Option.{slice_get_within, slice_get-get_or, same_Some}
-use Rattle.object_graph.specs.declared.object.Field.{Field}
-use Rattle.object_graph.specs.declared.path.Path.{Path}
-use Rattle.object_graph.specs.declared.path.PathField.{PathField}
+use Rattle.heap_model.specs.Types.{Field, Path, PathField}
 use Rattle.object_graph.specs.Paths.{path_of}
 use Rattle.object_graph.specs.Texts.{field_text, shape_text}
 use Rattle.mutator.specs.Written.{path_field_text}

@@ -1,10 +1,8 @@
 -- A heap that is the same as before shows the same.
 use Rattle.std.proofs.Common.{◌≡◌, sym, subst}
-use Rattle.heap_command.specs.declared.command.Operand.{Operand}
+use Rattle.heap_model.specs.Types.{Operand, Value, Held}
 use Rattle.object_graph.specs.Graphs.{Graph, value_of}
-use Rattle.object_graph.specs.declared.value.Value.{Value}
-use Rattle.handle_roots.specs.declared.held.Held.{Held}
-use Rattle.write_barrier.specs.Mains.{Mutator, MainShows}
+use Rattle.write_barrier.specs.MutatorState.{Mutator, MainShows}
 use Rattle.mutator.specs.Reading.{StandsFor, StandForBoth, IsShownValue}
 
 -- it shows a graph where it showed one

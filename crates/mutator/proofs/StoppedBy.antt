@@ -1,11 +1,11 @@
 -- What a command stops with, where a call stopped.
 use Rattle.std.proofs.Common.{◌≡◌, ℕ, List, [], Result, Ok, Err, ap, subst, sym}
 use Rattle.std.specs.Result.{IsErrAnd}
-use Rattle.heap_command.specs.declared.command.Command.{Command}
+use Rattle.heap_model.specs.Types.{Command}
 use Rattle.object_graph.specs.Graphs.{Graph}
-use Rattle.write_barrier.specs.Mains.{Mutator}
+use Rattle.write_barrier.specs.MutatorState.{Mutator}
 use Rattle.mutator.specs.declared.stop.Stop.{Stop}
-use Rattle.mutator.specs.Carries.{Carries}
+use Rattle.mutator.specs.CarriesOut.{Carries}
 
 -- an answer that is an error, and this one, is that
 stopped_by : (answer : Result Unit Stop) (stop : Stop) → IsErrAnd answer (λ one. one ≡ stop) → answer ≡ Err stop

@@ -1,10 +1,9 @@
 -- What `shift` and `trunc` mean, where their variables and their list are known.
 use Rattle.std.proofs.Common.{◌≡◌, ℕ, List, [], ℤ}
 use Rattle.std.specs.Prelude.{take, drop}
-use Rattle.heap_command.specs.declared.command.Operand.{Operand}
+use Rattle.heap_model.specs.Types.{Operand, Value}
 use Rattle.heap_command.specs.declared.command.Command.TheVariants.{Shift, Trunc}
 use Rattle.heap_command.specs.declared.command.FaultWord.TheVariants.{Range}
-use Rattle.object_graph.specs.declared.value.Value.{Value}
 use Rattle.object_graph.specs.Graphs.{Graph, ListObject}
 use Rattle.object_graph.specs.Meaning.{done, fault, relist, does}
 use Rattle.object_graph.specs.Limits.{ideal_limits}

@@ -1,11 +1,10 @@
 -- The texts of values, and lines of them.
 use Rattle.std.proofs.Common.{◌≡◌, ℕ, List, [], ◌∷◌, ◌++◌, sym, ◌∙◌, ap, append_assoc}
 use Rattle.std.specs.Prelude.{decimal}
-use Rattle.tagged_word.specs.declared.header.Header.{Header}
-use Rattle.object_graph.specs.declared.value.Value.{Value}
+use Rattle.heap_model.specs.Types.{Header, Value}
 use Rattle.object_graph.specs.Graphs.{Graph}
 use Rattle.object_graph.specs.Texts.{line, object_text, value_text}
-use Rattle.write_barrier.specs.Mains.{Mutator, MainShows}
+use Rattle.write_barrier.specs.MutatorState.{Mutator, MainShows}
 use Rattle.mutator.specs.Kinds.{noun_by_shape}
 use Rattle.mutator.proofs.ObjectsAt.{HeldObject, noun_told}
 

@@ -6,10 +6,9 @@ use Rattle.std.specs.Prelude.{unwrap_or}
 use Rattle.std.specs.FinMap.{get}
 use Rattle.std.proofs.lemmas.Bool.{cases_lt}
 use Rattle.std.proofs.lemmas.Bool.Decides.{nat_tests}
-use Rattle.heap_command.specs.declared.command.Operand.{Operand}
+use Rattle.heap_model.specs.Types.{Operand, Value}
 use Rattle.heap_command.specs.declared.command.Command.TheVariants.{WPut, WGet, WDel}
 use Rattle.heap_command.specs.declared.command.FaultWord.TheVariants.{WeakFull}
-use Rattle.object_graph.specs.declared.value.Value.{Value}
 use Rattle.object_graph.specs.declared.value.Value.TheVariants.{Undefined, Ref}
 use Rattle.object_graph.specs.Objects.{entry_value, with_entry, without_entry}
 use Rattle.object_graph.specs.Graphs.{Graph, WeakObject, bind, value_of, weak_at}
@@ -17,7 +16,7 @@ use Rattle.object_graph.specs.Meaning.{done, fault, unless, weak_most, no_entry_
 use Rattle.object_graph.specs.Reach.{reach}
 use Rattle.object_graph.proofs.WeakMost.{no_entry_for-is}
 use Rattle.object_graph.specs.Limits.{ideal_limits}
-use Rattle.ephemeron_table.specs.EntryChanges.{IsFullFor}
+use Rattle.ephemeron_table.specs.EntryChanges.{IsMapFull}
 
 -- what the variable of a command on a weak map and the weak map are
 pub record IsKnownWeak (graph : Graph) (m : ℕ) (target : Value) (weak : WeakObject) : Type 0 where
@@ -42,7 +41,7 @@ full_test : (count : ℕ) → weak_most ≤ count → nat_le weak_most count ≡
 full_test count full = grind (arith, nat_tests)
 
 -- so a map that is full for a key is one that takes no entry for it
-lacks_test : (marks : List Bool) (weak : WeakObject) (number : ℕ) → IsFullFor weak number
+lacks_test : (marks : List Bool) (weak : WeakObject) (number : ℕ) → IsMapFull weak number
     → no_entry_for ideal_limits marks weak.entries number ≡ true
 lacks_test marks weak number lacks =
     no_entry_for-is marks weak.entries number
@@ -59,7 +58,7 @@ has_room None count apart = elim (cases_lt count weak_most) [
 ]
 
 -- so a map that is not full for a key takes an entry for it
-has_test : (marks : List Bool) (weak : WeakObject) (number : ℕ) → (IsFullFor weak number → ⊥)
+has_test : (marks : List Bool) (weak : WeakObject) (number : ℕ) → (IsMapFull weak number → ⊥)
     → no_entry_for ideal_limits marks weak.entries number ≡ false
 has_test marks weak number few =
     no_entry_for-is marks weak.entries number
@@ -78,7 +77,7 @@ wput_known names m k v target weak number value known key is = rw (known.bound, 
 -- where the map does not lack entries, the key's has the value
 pub wput_done : {graph : Graph} (names : List (List ℕ)) (m : ℕ) (k v : Operand) (target : Value) (weak : WeakObject)
     (number : ℕ) (value : Value) → IsKnownWeak graph m target weak → value_of graph k ≡ Some (Ref number)
-    → value_of graph v ≡ Some value → (IsFullFor weak number → ⊥)
+    → value_of graph v ≡ Some value → (IsMapFull weak number → ⊥)
     → does ideal_limits names graph (WPut m k v)
     ≡ done (reweave graph weak (with_entry weak.entries number value)) []
 wput_done {graph} names m k v target weak number value known key is few =
@@ -89,7 +88,7 @@ wput_done {graph} names m k v target weak number value known key is few =
 -- and where it does, it is full
 pub wput_full : {graph : Graph} (names : List (List ℕ)) (m : ℕ) (k v : Operand) (target : Value) (weak : WeakObject)
     (number : ℕ) (value : Value) → IsKnownWeak graph m target weak → value_of graph k ≡ Some (Ref number)
-    → value_of graph v ≡ Some value → IsFullFor weak number
+    → value_of graph v ≡ Some value → IsMapFull weak number
     → does ideal_limits names graph (WPut m k v) ≡ fault WeakFull
 wput_full {graph} names m k v target weak number value known key is lacks =
     wput_known names m k v target weak number value known key is

@@ -1,14 +1,14 @@
 -- A command that writes a text and leaves the heap as it is.
 use Rattle.std.proofs.Common.{◌≡◌, refl, ℕ, List, Ok, sym, ◌∙◌, ap, subst, add-zero}
-use Rattle.heap_command.specs.declared.command.Command.{Command}
+use Rattle.heap_model.specs.Types.{Command}
 use Rattle.object_graph.specs.Graphs.{Graph}
 use Rattle.object_graph.specs.Meaning.{done, does}
 use Rattle.object_graph.specs.Limits.{ideal_limits}
 use Rattle.nursery.specs.Young.{HasRoom}
-use Rattle.write_barrier.specs.Mains.{Mutator, MainShows}
+use Rattle.write_barrier.specs.MutatorState.{Mutator, MainShows}
 use Rattle.object_cells.specs.Uses.{UsesMore}
-use Rattle.object_cells.proofs.WordsBeside.{same_beside}
-use Rattle.mutator.specs.Carries.{Carries}
+use Rattle.object_cells.proofs.RestOfWords.{same_rest}
+use Rattle.mutator.specs.CarriesOut.{Carries}
 use Rattle.mutator.proofs.KeptStores.{keeps_still}
 use Rattle.mutator.proofs.Rebinding.{NeedsNone, room_for_none}
 use Rattle.mutator.proofs.StillShown.{shows_still}
@@ -16,7 +16,7 @@ use Rattle.mutator.proofs.StillShown.{shows_still}
 -- a heap that is the same uses no word more
 pub uses_none_still : {old new : Mutator} → new ≡ old → UsesMore old new 0
 uses_none_still {old} same = record {
-  beside = same_beside same;
+  beside = same_rest same;
   young = ap (λ (main : Mutator). main.young) same
       ∙ ap (λ (used : ℕ). record old.young { used = used }) (sym (add-zero old.young.used));
 }

@@ -1,9 +1,9 @@
 -- What a command that only binds a variable leaves as it was, or one that makes an object and binds it.
 use Rattle.std.specs.Prelude.{◌≡◌, ℕ, ◌+◌, List, length}
 use Rattle.page_space.specs.Extents.{eden_start}
-use Rattle.handle_roots.specs.declared.held.Held.{Held}
+use Rattle.heap_model.specs.Types.{Held}
 use Rattle.handle_roots.specs.declared.held.Held.TheVariants.{Ref}
-use Rattle.write_barrier.specs.Mains.{Mutator, reserved, with_table, with_variable}
+use Rattle.write_barrier.specs.MutatorState.{Mutator, reserved, with_table, with_variable}
 use Rattle.write_barrier.specs.Values.{with_range}
 
 -- Only the two root words of the variable have changed: it holds something, or nothing.

@@ -1,6 +1,6 @@
 -- What rooms objects have after a command.
 use Rattle.std.specs.Prelude.{◌≡◌, ℕ}
-use Rattle.heap_command.specs.declared.command.Command.{Command}
+use Rattle.heap_model.specs.Types.{Command}
 use Rattle.object_graph.specs.Graphs.{Graph}
 use Rattle.heap_model.specs.Heaps.{Heap}
 use Rattle.heap_model.specs.Slots.{IsPlace}

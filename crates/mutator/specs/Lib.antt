@@ -1,4 +1,4 @@
-pub mod Carries
+pub mod CarriesOut
 pub mod Reading
 pub mod Kinds
 pub mod Written

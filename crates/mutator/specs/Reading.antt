@@ -1,23 +1,21 @@
 -- What is read from a heap that shows a graph: what is held of the values that are sought, and the objects that it
 -- refers to.
 use Rattle.std.specs.Prelude.{◌≡◌, ℕ, ℤ, ◌⊎◌, Option, Some, None, Result, Ok, Err}
-use Rattle.heap_command.specs.declared.command.FaultWord.{FaultWord}
+use Rattle.heap_model.specs.Types.{FaultWord, Value, Held}
 use Rattle.heap_command.specs.declared.command.FaultWord.TheVariants.{Unbound, NotObject, NotList}
 use Rattle.heap_command.specs.declared.command.FaultWord.TheVariants.{NotWeak, NotInt, BadKey}
-use Rattle.object_graph.specs.declared.value.Value.{Value}
 use Rattle.object_graph.specs.declared.value.Value.TheVariants.{Ref}
 use Rattle.object_graph.specs.Paths.{path_of}
 use Rattle.object_graph.specs.Graphs.{Graph, PlainObject, ListObject, WeakObject, integer_in, object_in}
 use Rattle.object_graph.specs.Graphs.{plain_at, list_at, weak_at}
 use Rattle.shape_tree.specs.Shapes.{IsShapeOf}
-use Rattle.handle_roots.specs.declared.held.Held.{Held}
 use Rattle.handle_roots.specs.Roots.{FitsHeld}
-use Rattle.write_barrier.specs.Mains.{Mutator, MainShows}
+use Rattle.write_barrier.specs.MutatorState.{Mutator, MainShows}
 use Rattle.object_cells.specs.PlainObjects.{IsPlainAt}
 use Rattle.object_cells.specs.ListObjects.{IsListAt}
 use Rattle.object_cells.specs.HeldValues.{IsValueHeld}
 use Rattle.ephemeron_table.specs.WeakObjects.{IsWeakAt, IsKeyAt}
-use Rattle.mutator.specs.declared.reading.Found.{Found}
+use Rattle.mutator.specs.declared.lookups.Found.{Found}
 
 -- what is held stands for the value: it shows it, and a variable may hold it
 pub record StandsFor (main : Mutator) (graph : Graph) (value : Value) (held : Held) : Type 0 where

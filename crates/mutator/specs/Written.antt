@@ -1,6 +1,6 @@
 -- What is written of a shape, field by field.
 use Rattle.std.specs.Prelude.{ℕ, List, [], ◌++◌, slice_get, unwrap_or, codes}
-use Rattle.object_graph.specs.declared.path.PathField.{PathField}
+use Rattle.heap_model.specs.Types.{PathField}
 use Rattle.object_graph.specs.Texts.{rep_text}
 
 -- the name of this number; nothing where there is none

@@ -3,11 +3,11 @@
 ghost use Rattle.std.specs.Prelude.{ℕ, List, [], OnOk};
 ghost use Rattle.heap_command.specs.Commands.{IsWithin};
 ghost use Rattle.object_graph.specs.Graphs.{Graph};
-ghost use Rattle.write_barrier.specs.Mains.{MainShows};
+ghost use Rattle.write_barrier.specs.MutatorState.{MainShows};
 ghost use Rattle.mutator.specs.Binding.{Binds};
-ghost use Rattle.mutator.specs.Carries.{Carries, field_numbers};
+ghost use Rattle.mutator.specs.CarriesOut.{Carries, field_numbers};
 
-use crate::reading::{bound, operands, plain};
+use crate::lookups::{bound, operands, plain};
 use crate::stop::Stop;
 use heap_command::{Command, Operand};
 use write_barrier::Main;

@@ -3,19 +3,19 @@
 ghost use Rattle.std.specs.Prelude.{◌≡◌, ℕ, List, [], length, OnOk};
 ghost use Rattle.heap_command.specs.Commands.{IsWithin};
 ghost use Rattle.object_graph.specs.Graphs.{Graph};
-ghost use Rattle.write_barrier.specs.Mains.{MainShows};
+ghost use Rattle.write_barrier.specs.MutatorState.{MainShows};
 ghost use Rattle.mutator.specs.Binding.{Binds, BindsMade};
-ghost use Rattle.mutator.specs.Carries.{Carries, field_numbers};
+ghost use Rattle.mutator.specs.CarriesOut.{Carries, field_numbers};
 
+use crate::lookups::{find_list, integer, operand, operands};
 use crate::making::{COUNTED_WORDS, fill_counted};
-use crate::reading::{integer, list_found, operand, operands};
 use crate::stop::Stop;
 use handle_roots::Held;
 use heap_command::{Command, Operand};
 use tagged_word::{Header, shape};
 use write_barrier::Main;
 
-/// Binds `x` to a new list without elements. `object` is the number of objects made so far, and
+/// Binds `x` to a new list without elements. `object` is the number of objects that were made, and
 /// becomes the new one's number.
 ///
 /// Stops with `NoRoom` where eden has not the cell's three words.
@@ -55,7 +55,7 @@ pub fn push(main: &mut Main, x: u32, v: Operand) -> Result<(), Stop>
 {
     // The value is read before the list is judged: `unbound` comes before `notlist`.
     let (target, value) = operands(main, Operand::Var(x), v)?;
-    let found = list_found(main, target)?;
+    let found = find_list(main, target)?;
     list_store::push(main, found, value)?;
     Ok(())
 }
@@ -74,7 +74,7 @@ pub fn put(main: &mut Main, x: u32, i: Operand, v: Operand) -> Result<(), Stop>
     // All three are read before any is judged: `unbound` comes before all other faults.
     let (target, index) = operands(main, Operand::Var(x), i)?;
     let value = operand(main, v)?;
-    let found = list_found(main, target)?;
+    let found = find_list(main, target)?;
     let place = integer(index)?;
     list_store::put(main, found, place, value)?;
     Ok(())
@@ -93,7 +93,7 @@ pub fn at(main: &mut Main, y: u32, x: u32, i: Operand) -> Result<(), Stop>
     ensures binds { OnOk result (Binds main.old main.new y) }
 {
     let (target, index) = operands(main, Operand::Var(x), i)?;
-    let from = list_found(main, target)?;
+    let from = find_list(main, target)?;
     let which = integer(index)?;
     let value = list_store::at(main, from, which)?;
     main.hold(y, value);

@@ -6,10 +6,10 @@ ghost use Rattle.heap_command.specs.Commands.{IsWithin};
 ghost use Rattle.object_graph.specs.Graphs.{Graph};
 ghost use Rattle.heap_table.specs.declared.phase.Phase.TheVariants.{Quiet};
 ghost use Rattle.heap_table.specs.Seats.{heap_words};
-ghost use Rattle.write_barrier.specs.Mains.{MainShows, with_table};
+ghost use Rattle.write_barrier.specs.MutatorState.{MainShows, with_table};
 ghost use Rattle.write_barrier.specs.Values.{with_range};
 ghost use Rattle.mutator.specs.Binding.{BindsMade};
-ghost use Rattle.mutator.specs.Carries.{Carries, field_numbers};
+ghost use Rattle.mutator.specs.CarriesOut.{Carries, field_numbers};
 ghost use Rattle.mutator.specs.Making.{empty_counted, empty_plain};
 
 use crate::stop::Stop;
@@ -25,7 +25,7 @@ use write_barrier::Main;
 pub(crate) const COUNTED_WORDS: u32 = 3;
 
 /// Binds `x` to a new plain object with `cap` slots of its own and no field. `object` is the number
-/// of objects made so far, and becomes the new one's number.
+/// of objects that were made, and becomes the new one's number.
 ///
 /// Stops with `NoRoom` where eden has not the cell's words: two and one for each slot.
 #[inline(always)]
@@ -48,7 +48,7 @@ pub fn new_plain(main: &mut Main, x: u32, object: u32, cap: u32) -> Result<(), S
     }
 }
 
-// Makes the words at an address the cell of a plain object without fields.
+/// Makes the words at an address the cell of a plain object without fields.
 fn fill_plain(main: &mut Main, at: u32, header: Header, cap: u32)
     requires quiet { main.old.seat.phase ≡ Quiet }
     requires is { IsHeader header }

@@ -8,15 +8,15 @@ ghost use Rattle.object_graph.specs.Graphs.{Graph};
 ghost use Rattle.object_graph.specs.Texts.{line, rep_text, shape_text};
 ghost use Rattle.shape_tree.specs.Shapes.{IsPathShape, shape_path};
 ghost use Rattle.script_text.specs.Limits.{name_bytes_most};
-ghost use Rattle.write_barrier.specs.Mains.{MainShows};
-ghost use Rattle.mutator.specs.Carries.{Carries, field_numbers};
+ghost use Rattle.write_barrier.specs.MutatorState.{MainShows};
+ghost use Rattle.mutator.specs.CarriesOut.{Carries, field_numbers};
 ghost use Rattle.mutator.specs.Written.{name_of, path_field_text};
 ghost use Rattle.script_text.specs.Sound.{AreShort};
 
+use crate::lookups::{bound, operands, plain};
 use crate::output::{OUTPUT_BYTES, Output, ROOM};
-use crate::reading::{bound, operands, plain};
+use crate::printing::put_truth;
 use crate::stop::Stop;
-use crate::writing::put_truth;
 use heap_command::{Command, Operand};
 use itoa::Buffer;
 use script_text::Script;
@@ -69,7 +69,7 @@ pub fn shape(main: &mut Main, script: &Script<'_>, x: u32, out: &mut Output) -> 
     Ok(())
 }
 
-// Writes the cap and the fields of the path of a shape, and a line feed.
+/// Writes the cap and the fields of the path of a shape, and a line feed.
 fn put_shape(shapes: &ShapeTree, script: &Script<'_>, shape: u32, out: &mut Output)
     requires path { IsPathShape shapes.now shape }
     requires short { AreShort script.now.fields }
@@ -86,7 +86,7 @@ fn put_shape(shapes: &ShapeTree, script: &Script<'_>, shape: u32, out: &mut Outp
     out.put(b"\n");
 }
 
-// Writes a field: a space, its name, a colon and its representation.
+/// Writes a field: a space, its name, a colon and its representation.
 fn put_field(script: &Script<'_>, field: PathField, out: &mut Output)
     requires short { AreShort script.now.fields }
     requires room { length out.old + 40 ≤ OUTPUT_BYTES }
@@ -99,7 +99,7 @@ fn put_field(script: &Script<'_>, field: PathField, out: &mut Output)
     out.put(word(field.rep));
 }
 
-// The name of a field, by its number; nothing where the script has none of this number.
+/// The name of a field, by its number; nothing where the script has none of this number.
 fn name<'s>(script: &Script<'s>, number: u32) -> &'s [u8]
     requires { AreShort script.now.fields }
     ensures name { result.now ≡ name_of script.now.fields number }
@@ -112,7 +112,7 @@ fn name<'s>(script: &Script<'s>, number: u32) -> &'s [u8]
     }
 }
 
-// The word of a representation.
+/// The word of a representation.
 fn word(rep: Rep) -> &'static [u8]
     ensures word { result.now ≡ rep_text rep }
     ensures short { length result.now ≤ 6 }

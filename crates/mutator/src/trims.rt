@@ -3,10 +3,10 @@
 ghost use Rattle.std.specs.Prelude.{ℕ, List, []};
 ghost use Rattle.heap_command.specs.Commands.{IsWithin};
 ghost use Rattle.object_graph.specs.Graphs.{Graph};
-ghost use Rattle.write_barrier.specs.Mains.{MainShows};
-ghost use Rattle.mutator.specs.Carries.{Carries, field_numbers};
+ghost use Rattle.write_barrier.specs.MutatorState.{MainShows};
+ghost use Rattle.mutator.specs.CarriesOut.{Carries, field_numbers};
 
-use crate::reading::{integer, list_found, operands};
+use crate::lookups::{find_list, integer, operands};
 use crate::stop::Stop;
 use heap_command::{Command, Operand};
 use write_barrier::Main;
@@ -23,7 +23,7 @@ pub fn shift(main: &mut Main, x: u32, n: Operand) -> Result<(), Stop>
         Carries names main.old main.new graph (Command.Shift x n) [] result }
 {
     let (target, count) = operands(main, Operand::Var(x), n)?;
-    let from = list_found(main, target)?;
+    let from = find_list(main, target)?;
     let gone = integer(count)?;
     array_trim::shift(main, from, gone)?;
     Ok(())
@@ -41,7 +41,7 @@ pub fn trunc(main: &mut Main, x: u32, n: Operand) -> Result<(), Stop>
         Carries names main.old main.new graph (Command.Trunc x n) [] result }
 {
     let (target, count) = operands(main, Operand::Var(x), n)?;
-    let found = list_found(main, target)?;
+    let found = find_list(main, target)?;
     let kept = integer(count)?;
     array_trim::truncate(main, found, kept)?;
     Ok(())

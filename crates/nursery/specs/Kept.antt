@@ -11,7 +11,7 @@ young_of nursery =
     record { space = nursery.regions; used = nursery.used; survivors = nursery.survivors; half = nursery.half }
 
 -- the words fit, the sizes are within their limits, and eden begins where it does
-pub record IsKept (nursery : Inside) : Type 0 where
+pub record IsValid (nursery : Inside) : Type 0 where
   pub is_young : IsYoung (young_of nursery)
   pub within : AreWithin nursery.regions.sizes nursery.regions.variables
   pub eden : nursery.eden ≡ eden_start nursery.regions

@@ -29,11 +29,11 @@ impl Model for Nursery {
 
     ghost Value = { Young };
 
-    ghost use Rattle.nursery.specs.Kept.{young_of, IsKept};
+    ghost use Rattle.nursery.specs.Kept.{young_of, IsValid};
 
     ghost view = { young_of };
 
-    ghost invariant = { IsKept };
+    ghost invariant = { IsValid };
 }
 
 impl Nursery {

@@ -4,14 +4,13 @@ use Rattle.std.proofs.Common.{inl, inr, sym, subst}
 use Rattle.std.proofs.lemmas.Bool.{false≢true}
 use Rattle.std.proofs.lemmas.List.Elements.{Contains-append_cases, All-from_get_or}
 use Rattle.std.proofs.lemmas.Option.{slice_get-get_or}
-use Rattle.tagged_word.specs.declared.layout.Kind.{Kind}
+use Rattle.heap_model.specs.Types.{Kind, Cell}
 use Rattle.tagged_word.specs.declared.layout.Kind.TheVariants as kind
 use Rattle.tagged_word.specs.Cells.{store_head, has_length}
 use Rattle.tagged_word.proofs.Members.{in_cases}
-use Rattle.cell_layout.specs.declared.cell.Cell.{Cell}
 use Rattle.heap_model.specs.Heaps.{Heap, words_of_cell}
 use Rattle.heap_model.specs.Slots.{IsSlotWord}
-use Rattle.heap_model.specs.Kinds.{HasWord, HasNoNumber, IsStoreCell, IsBoxCell, IsSoundOf, IsSound}
+use Rattle.heap_model.specs.Kinds.{HasWord, HasNoNumber, IsStoreCell, IsBoxCell, IsSoundOf, IsSoundCell}
 use Rattle.heap_model.specs.Wholeness.{IsOwnedKind}
 use Rattle.object_cells.specs.CellWrites.{IsWrittenOfKind, Owns}
 
@@ -40,7 +39,7 @@ pub beside_sound : {owner owned : Kind} {old new : Heap} (others made : List Cel
     → IsStoreCell new other (words_of_cell new other))
     → ((other : Cell) → Contains (others ++ made) other → other.layout.kind ≡ kind.Boxed
     → IsBoxCell other (words_of_cell new other))
-    → (one : Cell) → Contains (others ++ made) one → IsSound new one (words_of_cell new one)
+    → (one : Cell) → Contains (others ++ made) one → IsSoundCell new one (words_of_cell new one)
 beside_sound {owned = owned} {new = new} others made owns beside kinds stores boxes one there =
     let words : List ℕ = words_of_cell new one in
     let is : (one.layout.kind ≡ owned) ⊎ (one.layout.kind ≡ kind.Boxed) =
@@ -55,11 +54,11 @@ beside_sound {owned = owned} {new = new} others made owns beside kinds stores bo
     ]
 
 -- each cell that came or was made is sound, where what the object's became is, and each beside it
-pub came_sound : {new : Heap} {came : Cell} (others made : List Cell) → IsSound new came (words_of_cell new came)
-    → ((other : Cell) → Contains (others ++ made) other → IsSound new other (words_of_cell new other))
-    → (one : Cell) → Contains (came ∷ (others ++ made)) one → IsSound new one (words_of_cell new one)
+pub came_sound : {new : Heap} {came : Cell} (others made : List Cell) → IsSoundCell new came (words_of_cell new came)
+    → ((other : Cell) → Contains (others ++ made) other → IsSoundCell new other (words_of_cell new other))
+    → (one : Cell) → Contains (came ∷ (others ++ made)) one → IsSoundCell new one (words_of_cell new one)
 came_sound {new} {came} others made own sound one there =
     elim (in_cases came (others ++ made) one there) [
-      | inl same ↦ subst (λ (c : Cell). IsSound new c (words_of_cell new c)) same own
+      | inl same ↦ subst (λ (c : Cell). IsSoundCell new c (words_of_cell new c)) same own
       | inr beside ↦ sound one beside
     ]

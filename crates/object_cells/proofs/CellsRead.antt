@@ -6,12 +6,11 @@ use Rattle.std.proofs.lemmas.List.{length-map}
 use Rattle.std.proofs.lemmas.Bool.{cases_lt}
 use Rattle.std.proofs.lemmas.Option.{slice_get_within, slice_get_past, same_Some}
 use Rattle.tagged_word.specs.declared.layout.Kind.TheVariants as kind
-use Rattle.tagged_word.specs.declared.layout.LayoutWord.{LayoutWord}
+use Rattle.heap_model.specs.Types.{LayoutWord, Path, Cell}
 use Rattle.tagged_word.specs.Headers.{header_bits}
 use Rattle.tagged_word.specs.Layouts.{layout_bits, kind_number}
 use Rattle.tagged_word.specs.Shapes.{box_shape, first_path_shape, fixed_layout_words}
 use Rattle.tagged_word.proofs.Layouts.{parts, same_kind}
-use Rattle.object_graph.specs.declared.path.Path.{Path}
 use Rattle.page_space.specs.Sizes.{AreWithin}
 use Rattle.page_space.specs.Extents.{Space, marks_start}
 use Rattle.page_space.proofs.Limits.{words_count_most}
@@ -19,7 +18,6 @@ use Rattle.page_space.proofs.Starts.{marks_start_is, board_start_is, words_count
 use Rattle.std.proofs.Common.{Fits, w32}
 use Rattle.shape_tree.specs.Shapes.{IsPathShape}
 use Rattle.shape_tree.specs.ShapeLayouts.{layout_of, layout_word, layout_words}
-use Rattle.cell_layout.specs.declared.cell.Cell.{Cell}
 use Rattle.cell_layout.proofs.CellsThere.{slice_get-layouts_in}
 use Rattle.heap_model.specs.Heaps.{Heap, HasCell}
 use Rattle.heap_model.specs.Slots.{IsPlace}

@@ -4,17 +4,15 @@ use Rattle.std.specs.Prelude.{ℤ}
 use Rattle.std.proofs.lemmas.Bool.{false≢true}
 use Rattle.tagged_word.specs.declared.layout.Kind.TheVariants as kind
 use Rattle.tagged_word.specs.Words.{small}
-use Rattle.object_graph.specs.declared.value.Value.{Value}
-use Rattle.object_graph.specs.declared.value.Rep.{Rep}
+use Rattle.heap_model.specs.Types.{Value, Rep, Cell}
 use Rattle.object_graph.specs.declared.value.Rep.TheVariants as rep
-use Rattle.cell_layout.specs.declared.cell.Cell.{Cell}
 use Rattle.heap_model.specs.Heaps.{Heap}
 use Rattle.heap_model.specs.Slots.{reference_word, RefersToBox}
 use Rattle.heap_model.specs.Showing.{ShowsValue}
 use Rattle.heap_model.proofs.WordsStay.{PlacesStay}
 use Rattle.object_cells.specs.OwnSlots.{ComesFrom}
-use Rattle.object_cells.specs.declared.content.Content.{Content}
-use Rattle.object_cells.specs.declared.content.Content.TheVariants as content
+use Rattle.object_cells.specs.declared.content.SlotContent.{SlotContent}
+use Rattle.object_cells.specs.declared.content.SlotContent.TheVariants as content
 use Rattle.object_cells.specs.Made.{content_word}
 use Rattle.object_cells.proofs.HeldContents.{HoldsValue}
 use Rattle.object_cells.proofs.NewBoxes.{box_cell}
@@ -28,7 +26,7 @@ not_small true wide =
 not_small false wide = refl
 
 -- the word of the slot shows the value
-pub content_shows : {old new : Heap} {one : Rep} {what : Value} {holds : Content} (box : ℕ)
+pub content_shows : {old new : Heap} {one : Rep} {what : Value} {holds : SlotContent} (box : ℕ)
     → HoldsValue old false rep.Small one what holds → PlacesStay old new
     → ((v : ℤ) → holds ≡ content.Boxed v → RefersToBox new (reference_word box) v)
     → ShowsValue new (content_word holds box) what
@@ -42,7 +40,7 @@ content_shows box (HoldsValue.object at number place) places boxed =
     ShowsValue.object number (record { at = at; refers = refl; place = places number at place })
 
 -- so does a word that refers to a box with the integer
-pub box_shows : {old new : Heap} {one : Rep} {what : Value} {holds : Content} (word : ℕ) (v : ℤ)
+pub box_shows : {old new : Heap} {one : Rep} {what : Value} {holds : SlotContent} (word : ℕ) (v : ℤ)
     → HoldsValue old false rep.Small one what holds → holds ≡ content.Boxed v → RefersToBox new word v
     → ShowsValue new word what
 box_shows word v (HoldsValue.small_integer one w is apart) boxed refers = cc
@@ -68,7 +66,7 @@ pub is_made_box : {made : List Cell} (box : ℕ) → Contains made (box_cell box
 is_made_box box among = record { cell = box_cell box; among = among; of_kind = refl; stands = refl }
 
 -- where the slot is not raw, its word names nothing, or the box that was made for it
-pub content_comes : {old new : Heap} {own : Bool} {one : Rep} {what : Value} {holds : Content}
+pub content_comes : {old new : Heap} {own : Bool} {one : Rep} {what : Value} {holds : SlotContent}
     (was : ℕ → ℕ → Type 0) (made : List Cell) (origin slot box : ℕ) → HoldsValue old own rep.Small one what holds
     → PlacesStay old new → (own ≡ true → one ≡ rep.Wide → ⊥)
     → ((v : ℤ) → holds ≡ content.Boxed v → IsMadeBox made box)

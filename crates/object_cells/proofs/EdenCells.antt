@@ -2,8 +2,7 @@
 use Rattle.std.proofs.Common.{◌≡◌, ℕ, ◌+◌, ◌≤◌, ◌<◌, Some, None, true, nat_le, cond, ◌&&◌, slice_get, refl}
 use Rattle.std.proofs.Common.{◌∙◌, ap, arith}
 use Rattle.std.proofs.lemmas.Bool.Decides.{nat_tests}
-use Rattle.tagged_word.specs.declared.layout.Kind.{Kind}
-use Rattle.tagged_word.specs.declared.layout.LayoutWord.{LayoutWord}
+use Rattle.heap_model.specs.Types.{Kind, LayoutWord, Cell}
 use Rattle.tagged_word.specs.Headers.{IsHeader, header_bits}
 use Rattle.tagged_word.specs.Layouts.{IsLayout, layout_bits}
 use Rattle.tagged_word.specs.Shapes.{shapes_most}
@@ -13,7 +12,6 @@ use Rattle.page_space.specs.Extents.{eden_start, segments_start}
 use Rattle.page_space.proofs.Starts.{roots_start_is, layouts_start_is, marks_start_is}
 use Rattle.page_space.proofs.CellAddresses.{cells_end}
 use Rattle.shape_tree.specs.ShapeLayouts.{layout_word}
-use Rattle.cell_layout.specs.declared.cell.Cell.{Cell}
 use Rattle.cell_layout.specs.Cells.{IsCell}
 use Rattle.cell_layout.proofs.CellsThere.{slice_get-layouts_in}
 use Rattle.heap_model.specs.Heaps.{Heap}

@@ -8,9 +8,9 @@ use Rattle.std.proofs.lemmas.Option.{slice_get-get_or, cond_some, none-some}
 use Rattle.tagged_word.specs.declared.layout.Kind.TheVariants as kind
 use Rattle.tagged_word.specs.Cells.{store_head, store_slot}
 use Rattle.object_graph.specs.Meaning.{below}
-use Rattle.cell_layout.specs.declared.cell.Cell.{Cell}
+use Rattle.heap_model.specs.Types.{Cell}
 use Rattle.heap_model.specs.Heaps.{Heap, HasCell}
-use Rattle.heap_model.specs.Slots.{IsSlotWord, IsBeside}
+use Rattle.heap_model.specs.Slots.{IsSlotWord, HoldsStore}
 use Rattle.heap_model.specs.Kinds.{HasWord, IsSoundOf}
 use Rattle.heap_model.specs.Wholeness.{Whole}
 use Rattle.heap_model.proofs.CellWords.{behind_head}
@@ -38,7 +38,7 @@ pub record SlotRead (heap : Heap) (slots : List ℕ) (at place word : ℕ) : Typ
 -- so it is read at its address
 pub slot_read : {heap : Heap} {cell : Cell} {words : List ℕ} (at word place : ℕ) (slots : List ℕ) (store : Store)
     → Whole heap → IsStoreAt heap at store → HasCell heap cell words → cell.at ≡ at → HasWord words store_slot word
-    → IsBeside heap kind.Store word slots → place < store.capacity
+    → HoldsStore heap kind.Store word slots → place < store.capacity
     → SlotRead heap slots store.at place (get_or slots place 0)
 slot_read {heap} {cell} {words} at word place slots store whole is has stands slot are below =
     let there = stored_at at word slots store is has stands slot are (omega (arith, below)) in

@@ -8,24 +8,22 @@ use Rattle.std.proofs.lemmas.List.{set-get_or}
 use Rattle.std.proofs.lemmas.Option.{get_or_from_slice_get}
 use Rattle.tagged_word.specs.Words.{small}
 use Rattle.tagged_word.specs.Headers.{header_bits}
-use Rattle.object_graph.specs.declared.value.Value.{Value}
-use Rattle.object_graph.specs.declared.value.Rep.{Rep}
+use Rattle.heap_model.specs.Types.{Value, Rep, Held}
 use Rattle.object_graph.specs.declared.value.Rep.TheVariants as rep
 use Rattle.page_space.specs.Extents.{marks_start}
 use Rattle.nursery.specs.Young.{Young, HasRoom}
-use Rattle.handle_roots.specs.declared.held.Held.{Held}
 use Rattle.handle_roots.specs.declared.held.Held.TheVariants as held
-use Rattle.heap_table.specs.Seats.{heap_words, StaysBeside}
+use Rattle.heap_table.specs.Seats.{heap_words, RestStays}
 use Rattle.heap_model.specs.Heaps.{Heap}
 use Rattle.heap_model.specs.Slots.{raw_word, reference_word, IsSlotWord}
 use Rattle.heap_model.specs.Needs.{box_need, box_words, is_box_word, word_at}
-use Rattle.write_barrier.specs.Mains.{Mutator, heap_of, reserved, with_word, IsTied}
+use Rattle.write_barrier.specs.MutatorState.{Mutator, heap_of, reserved, with_word, IsTied}
 use Rattle.object_cells.specs.Formats.{box_header}
-use Rattle.object_cells.specs.declared.content.Content.{Content}
-use Rattle.object_cells.specs.declared.content.Content.TheVariants as content
-use Rattle.object_cells.specs.Contents.{next_at, filling_of, filled, Allocates, box_in, filling_need, with_box}
+use Rattle.object_cells.specs.declared.content.SlotContent.{SlotContent}
+use Rattle.object_cells.specs.declared.content.SlotContent.TheVariants as content
+use Rattle.object_cells.specs.Contents.{next_at, filling_of, filled, AllocatesBox, box_in, filling_need, with_box}
 use Rattle.object_cells.specs.Contents.{FillsSlot, HoldsSlotWord}
-use Rattle.object_cells.specs.Made.{PutsWords, with_content, content_need, content_word, beside_content, is_wide_held}
+use Rattle.object_cells.specs.Made.{PutsWords, with_content, content_need, content_word, store_content, is_wide_held}
 use Rattle.object_cells.proofs.HeldContents.{HoldsValue}
 use Rattle.object_cells.proofs.SlotBoxes.{boxed_need}
 use Rattle.object_cells.proofs.WordsPut.{heap_with_word}
@@ -37,7 +35,7 @@ set_there xs i x there =
     ap (λ y. set xs i y) (sym (get_or_from_slice_get xs i x x there)) ∙ set-get_or xs i x
 
 -- How a slot came to hold what is held: the words of the slot and of a box that is made, or the integer of a box.
-pub data FilledBy (old new : Mutator) (at word : ℕ) (holds : Content) : Type 0 where
+pub data FilledBy (old new : Mutator) (at word : ℕ) (holds : SlotContent) : Type 0 where
   slot : HasRoom old.young (content_need holds)
       → PutsWords (reserved old (content_need holds)) new
       (slice_set (with_content (heap_words old.seat) holds (next_at old)) at (content_word holds (next_at old)))
@@ -54,11 +52,11 @@ reserved_none old =
     ap (λ (y : Young). record old { young = y }) none
 
 -- so it is by what it holds, and by the box that stood there
-filled_by : (old between new : Mutator) (at word : ℕ) (holds : Content) (found : Option ℕ) → IsTied old
+filled_by : (old between new : Mutator) (at word : ℕ) (holds : SlotContent) (found : Option ℕ) → IsTied old
     → at < marks_start old.seat.space → HasRoom old.young 0 → box_in (heap_of old) word ≡ found
     → ((w : ℕ) → holds ≡ content.Raw w → ⊥)
-    → Allocates old between (filling_of found (next_at old) holds)
-    → new ≡ filled between at (filling_of found (next_at old) holds) → StaysBeside old.seat new.seat
+    → AllocatesBox old between (filling_of found (next_at old) holds)
+    → new ≡ filled between at (filling_of found (next_at old) holds) → RestStays old.seat new.seat
     → FilledBy old new at word holds
 filled_by old between new at word (content.Raw w) found tied within room is not_raw allocates fills beside =
     absurd (not_raw w refl)
@@ -92,7 +90,7 @@ filled_by old between new at word (content.Boxed v) None tied within room is not
     }) (ap (λ found. filling_need (filling_of found next (content.Boxed v))) is)
 
 -- and so it is where it was filled
-pub slot_filled : {old new : Mutator} {at : ℕ} {holds : Content} → FillsSlot old new at holds → IsTied old
+pub slot_filled : {old new : Mutator} {at : ℕ} {holds : SlotContent} → FillsSlot old new at holds → IsTied old
     → at < marks_start old.seat.space → HasRoom old.young 0 → ((w : ℕ) → holds ≡ content.Raw w → ⊥)
     → FilledBy old new at (word_at (heap_of old) at) holds
 slot_filled {old} {new} {at} {holds} fills tied within room not_raw =
@@ -102,14 +100,14 @@ slot_filled {old} {new} {at} {holds} fills tied within room not_raw =
 
 -- how many words it takes that a slot comes to hold an integer
 integer_put : (heap : Heap) (word next : ℕ) (v : ℤ) (is_small : Bool) → small v ≡ is_small
-    → filling_need (filling_of (box_in heap word) next (beside_content (held.Int v)))
+    → filling_need (filling_of (box_in heap word) next (store_content (held.Int v)))
     ≡ box_need (not (small v) && not (is_box_word heap word))
 integer_put heap word next v true is = rw is (rw is refl)
 integer_put heap word next v false is = rw is (boxed_need heap word next v)
 
 -- and how many any value
 pub held_put : (heap : Heap) (word next : ℕ) (value : Held)
-    → filling_need (filling_of (box_in heap word) next (beside_content value))
+    → filling_need (filling_of (box_in heap word) next (store_content value))
     ≡ box_need (is_wide_held value && not (is_box_word heap word))
 held_put heap word next held.Unbound = refl
 held_put heap word next held.Undefined = refl
@@ -117,13 +115,13 @@ held_put heap word next (held.Int v) = integer_put heap word next v (small v) re
 held_put heap word next (held.Ref at) = refl
 
 -- a slot that holds a slot word may come to hold anything
-pub held_before : (heap : Heap) (word : ℕ) (holds : Content) → IsSlotWord heap word → HoldsSlotWord heap word holds
+pub held_before : (heap : Heap) (word : ℕ) (holds : SlotContent) → IsSlotWord heap word → HoldsSlotWord heap word holds
 held_before heap word (content.Tagged other) is = tt
 held_before heap word (content.Raw other) is = tt
 held_before heap word (content.Boxed v) is = is
 
 -- no slot of a store or of a table is raw
-pub no_raw : {heap : Heap} {one : Rep} {what : Value} {holds : Content} (word : ℕ)
+pub no_raw : {heap : Heap} {one : Rep} {what : Value} {holds : SlotContent} (word : ℕ)
     → HoldsValue heap false rep.Small one what holds → holds ≡ content.Raw word → ⊥
 no_raw word (HoldsValue.small_integer one v is apart) raw = cc
 no_raw word (HoldsValue.raw v own apart) raw = false≢true own

@@ -3,25 +3,23 @@ use Rattle.std.proofs.Common.{◌≡◌, ℕ, Bool, true, false, IsTrue, Some, r
 use Rattle.std.specs.Prelude.{ℤ, if◌then◌else◌}
 use Rattle.std.proofs.lemmas.Bool.{false≢true}
 use Rattle.tagged_word.specs.Words.{small}
-use Rattle.object_graph.specs.declared.value.Value.{Value}
+use Rattle.heap_model.specs.Types.{Value, Rep, Held}
 use Rattle.object_graph.specs.declared.value.Value.TheVariants as value
-use Rattle.object_graph.specs.declared.value.Rep.{Rep}
 use Rattle.object_graph.specs.declared.value.Rep.TheVariants as rep
 use Rattle.object_graph.specs.Values.{rep_of, join}
-use Rattle.handle_roots.specs.declared.held.Held.{Held}
 use Rattle.handle_roots.specs.declared.held.Held.TheVariants as held
 use Rattle.heap_model.specs.Heaps.{Heap}
 use Rattle.heap_model.specs.Slots.{small_word, undefined_word, reference_word, raw_word, IsPlace, IsFieldWord}
 use Rattle.heap_model.specs.Showing.{ShowsHeld}
 use Rattle.heap_model.proofs.SlotWords.{field_is_slot}
-use Rattle.object_cells.specs.declared.content.Content.{Content}
-use Rattle.object_cells.specs.declared.content.Content.TheVariants as content
+use Rattle.object_cells.specs.declared.content.SlotContent.{SlotContent}
+use Rattle.object_cells.specs.declared.content.SlotContent.TheVariants as content
 use Rattle.object_cells.specs.Contents.{held_rep, content_of, integer_content, small_content}
 use Rattle.object_cells.specs.Contents.{HoldsSlotWord}
 
 -- What a slot of a representation that was `was` and is now `one`, in the object itself or in its store,
 -- comes to hold for a value: a small integer's word, a raw one, a box, `undefined`, or a reference.
-pub data HoldsValue (heap : Heap) (own : Bool) (was : Rep) : Rep → Value → Content → Type 0 where
+pub data HoldsValue (heap : Heap) (own : Bool) (was : Rep) : Rep → Value → SlotContent → Type 0 where
   small_integer : (one : Rep) (v : ℤ) → IsTrue (small v) → (one ≡ rep.Wide → ⊥)
       → HoldsValue heap own was one (value.Int v) (content.Tagged (record { 0 = small_word v }))
   raw : (v : ℤ) → own ≡ true → (was ≡ rep.Tagged → ⊥)
@@ -113,7 +111,7 @@ value_held {heap} own was one known what (ShowsHeld.object at number place) join
     (HoldsValue.object at number place)
 
 -- a slot that comes to refer to a box held a slot word before
-pub held_slot_word : {heap : Heap} {own : Bool} {was one : Rep} {what : Value} {content : Content} (word : ℕ)
+pub held_slot_word : {heap : Heap} {own : Bool} {was one : Rep} {what : Value} {content : SlotContent} (word : ℕ)
     → HoldsValue heap own was one what content → IsFieldWord heap own was word → HoldsSlotWord heap word content
 held_slot_word word (HoldsValue.small_integer one v is apart) field = tt
 held_slot_word word (HoldsValue.raw v own apart) field = tt

@@ -1,32 +1,30 @@
 -- What a slot that is new comes to hold for a value, and how many words of a box that takes.
 use Rattle.std.proofs.Common.{◌≡◌, Bool, true, false, ℤ, not, length, Some, refl, sym, subst}
 use Rattle.tagged_word.specs.Words.{small}
-use Rattle.object_graph.specs.declared.value.Value.{Value}
-use Rattle.object_graph.specs.declared.value.Rep.{Rep}
+use Rattle.heap_model.specs.Types.{Value, Rep, Held}
 use Rattle.object_graph.specs.declared.value.Rep.TheVariants as rep
 use Rattle.object_graph.specs.Values.{rep_of, join}
 use Rattle.object_graph.specs.Graphs.{Graph}
 use Rattle.object_graph.specs.Invariants.{IsValue}
 use Rattle.handle_roots.specs.Roots.{FitsHeld}
-use Rattle.handle_roots.specs.declared.held.Held.{Held}
 use Rattle.handle_roots.specs.declared.held.Held.TheVariants as held
 use Rattle.heap_model.specs.Heaps.{Heap}
 use Rattle.heap_model.specs.Needs.{box_need}
 use Rattle.heap_model.specs.Showing.{ShowsHeld}
-use Rattle.write_barrier.specs.Mains.{Mutator, heap_of, MainShows}
+use Rattle.write_barrier.specs.MutatorState.{Mutator, heap_of, MainShows}
 use Rattle.heap_model.specs.Rooms.{is_wide}
 use Rattle.object_cells.specs.Contents.{held_rep, content_of}
-use Rattle.object_cells.specs.Made.{is_wide_held, content_need, beside_content}
+use Rattle.object_cells.specs.Made.{is_wide_held, content_need, store_content}
 use Rattle.object_cells.proofs.HeldContents.{HoldsValue, held_rep_is, value_held}
 
 -- an integer needs a box where it is not small
 integer_need : (v : ℤ) (is_small : Bool) → small v ≡ is_small
-    → content_need (beside_content (held.Int v)) ≡ box_need (not (small v))
+    → content_need (store_content (held.Int v)) ≡ box_need (not (small v))
 integer_need v true is = rw is (rw is refl)
 integer_need v false is = rw is refl
 
 -- the words of a box are those of the value
-pub content_need_is : (value : Held) → content_need (beside_content value) ≡ box_need (is_wide_held value)
+pub content_need_is : (value : Held) → content_need (store_content value) ≡ box_need (is_wide_held value)
 content_need_is held.Unbound = refl
 content_need_is held.Undefined = refl
 content_need_is (held.Int v) = integer_need v (small v) refl

@@ -2,14 +2,13 @@
 use Rattle.std.proofs.Common.{◌≡◌, ℕ, ◌+◌, inl, inr, List, [], Option, Some, None}
 use Rattle.std.proofs.Common.{IsTrue, slice_get, unwrap_or, refl, sym, ◌∙◌, ap, subst}
 use Rattle.std.proofs.lemmas.Bool.{false≢true}
-use Rattle.tagged_word.specs.declared.layout.Kind.{Kind}
+use Rattle.heap_model.specs.Types.{Kind, Cell}
 use Rattle.tagged_word.specs.declared.layout.Kind.TheVariants as kind
 use Rattle.tagged_word.specs.declared.word.Class.TheVariants.{Ref}
 use Rattle.tagged_word.specs.Words.{IsClass}
 use Rattle.tagged_word.specs.Cells.{store_slot, length_offset, has_length, length_by}
 use Rattle.tagged_word.specs.Readings.{reference_in}
 use Rattle.tagged_word.proofs.Readings.{reference_from, reference_to}
-use Rattle.cell_layout.specs.declared.cell.Cell.{Cell}
 use Rattle.heap_model.specs.Heaps.{Heap, HasCell, words_of_cell}
 use Rattle.heap_model.specs.Slots.{reference_word, undefined_word, is_object_kind, RefersTo, IsPlace}
 use Rattle.heap_model.specs.Kinds.{HasWord, IsSoundOf}
@@ -17,7 +16,7 @@ use Rattle.heap_model.specs.Wholeness.{Whole, NamesFrom}
 use Rattle.heap_model.specs.Needs.{word_at, capacity_at, capacity_by}
 use Rattle.heap_model.proofs.BoundHeaps.{none_in}
 use Rattle.heap_model.proofs.CellsApart.{has_is_cell}
-use Rattle.heap_model.proofs.Fates.{CellsMove}
+use Rattle.heap_model.proofs.CellOutcomes.{CellsMove}
 use Rattle.heap_model.proofs.OneOwner.{names_store}
 use Rattle.heap_model.proofs.SlotWords.{IsStoreKind, IsStoreWord, store_word}
 use Rattle.heap_model.proofs.WordClasses.{same_reference}

@@ -4,7 +4,7 @@ pub mod SlotTargets
 pub mod UnusedWords
 pub mod EdenCells
 pub mod NewBoxes
-pub mod WordsBeside
+pub mod RestOfWords
 pub mod WordsPut
 pub mod OneWord
 pub mod OwnCells

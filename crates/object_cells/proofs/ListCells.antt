@@ -5,15 +5,15 @@ use Rattle.std.proofs.lemmas.Option.{same_Some}
 use Rattle.page_space.specs.Extents.{marks_start}
 use Rattle.object_graph.specs.declared.object.Object.TheVariants.{List as ListOf}
 use Rattle.object_graph.specs.Graphs.{Graph, ListObject}
-use Rattle.cell_layout.specs.declared.cell.Cell.{Cell}
+use Rattle.heap_model.specs.Types.{Cell}
 use Rattle.heap_model.specs.Heaps.{Heap, HasCell, words_of_cell}
 use Rattle.heap_model.specs.Kinds.{HasWord, IsListCell, count_offset}
 use Rattle.heap_model.specs.Wholeness.{Whole}
 use Rattle.heap_model.specs.Showing.{ShowsList}
-use Rattle.write_barrier.specs.Mains.{Mutator, heap_of, MainShows}
+use Rattle.write_barrier.specs.MutatorState.{Mutator, heap_of, MainShows}
 use Rattle.object_cells.specs.declared.stores.Store.{Store}
 use Rattle.object_cells.specs.ListObjects.{IsListAt, IsListCellAt, IsListReady}
-use Rattle.object_cells.specs.Made.{HasBeside, IsStoreAt}
+use Rattle.object_cells.specs.Made.{HasStoreSlot, IsStoreAt}
 use Rattle.object_cells.proofs.CellsRead.{word_before_marks, word_stands}
 use Rattle.object_cells.proofs.ListSlots.{list_sound}
 use Rattle.object_cells.proofs.PlainFields.{shown_whole}
@@ -51,7 +51,7 @@ count_within whole there =
     word_before_marks 2 sound.count whole.sized there.has there.stands sound.counted
 
 -- it has a slot for a store
-pub list_beside : {heap : Heap} {at : ℕ} → Whole heap → IsListCellAt heap at → HasBeside heap at
+pub list_beside : {heap : Heap} {at : ℕ} → Whole heap → IsListCellAt heap at → HasStoreSlot heap at
 list_beside whole there =
     let sound = sound_at whole there in
     record {
@@ -113,7 +113,7 @@ shown_there {heap} shown = record {
 }
 
 -- and a slot for a store
-pub shown_beside : {heap : Heap} {at : ℕ} {list : ListObject} → ListShown heap at list → HasBeside heap at
+pub shown_beside : {heap : Heap} {at : ℕ} {list : ListObject} → ListShown heap at list → HasStoreSlot heap at
 shown_beside {heap} shown = record {
   cell = shown.cell;
   words = words_of_cell heap shown.cell;

@@ -5,9 +5,9 @@ use Rattle.tagged_word.specs.declared.layout.Kind.TheVariants as kind
 use Rattle.tagged_word.specs.Layouts.{HasNoInObjectSlots, IsLayoutOfKind}
 use Rattle.tagged_word.specs.Cells.{store_slot}
 use Rattle.tagged_word.proofs.Members.{one_in}
-use Rattle.cell_layout.specs.declared.cell.Cell.{Cell}
+use Rattle.heap_model.specs.Types.{Cell}
 use Rattle.heap_model.specs.Heaps.{Heap, HasCell}
-use Rattle.heap_model.specs.Slots.{IsBeside}
+use Rattle.heap_model.specs.Slots.{HoldsStore}
 use Rattle.heap_model.specs.Kinds.{HasWord, IsListCell, IsSoundOf}
 use Rattle.heap_model.specs.Wholeness.{Whole, HasSlotAt}
 use Rattle.heap_model.proofs.CellsApart.{has_is_cell}
@@ -47,8 +47,8 @@ element_slot {cell = cell} {words} has list are (HasSlotAt.own offset word there
 element_slot {heap} {cell} {words} {slots} has list are
     (HasSlotAt.beside store other others offset word slot refers there stands) =
     let same : are.store ≡ store = same_Some are.store store (sym are.slot ∙ slot) in
-    let slots_there : IsBeside heap kind.Store store slots =
-    subst (λ w. IsBeside heap kind.Store w slots) same are.stands in
+    let slots_there : HoldsStore heap kind.Store store slots =
+    subst (λ w. HoldsStore heap kind.Store w slots) same are.stands in
     let found = beside_slot {cell = cell} store offset word slot slots_there refers there stands in
     let number : cell.layout.cap + found.k ≡ found.k = omega (arith, list_cap has list) in
     IsSlotOf.of_number found.k found.there

@@ -3,16 +3,13 @@ use Rattle.std.proofs.Common.{◌≡◌, ℕ, ◌+◌, ◌≤◌, ◌<◌, lengt
 use Rattle.std.proofs.Common.{inl, inr, Contains, Some, slice_get, refl, sym, ◌∙◌, ap, subst, arith}
 use Rattle.std.specs.Prelude.{ℤ, FitsSigned, slice_set}
 use Rattle.std.specs.Int.{w64}
-use Rattle.tagged_word.specs.declared.layout.Kind.{Kind}
+use Rattle.heap_model.specs.Types.{Kind, Value, Rep, Cell}
 use Rattle.tagged_word.specs.declared.layout.Kind.TheVariants as kind
 use Rattle.tagged_word.specs.Headers.{header_bits}
 use Rattle.tagged_word.proofs.Members.{first_in, one_in, in_cases}
 use Rattle.page_space.specs.Extents.{eden_start, segments_start}
-use Rattle.object_graph.specs.declared.value.Value.{Value}
-use Rattle.object_graph.specs.declared.value.Rep.{Rep}
 use Rattle.object_graph.specs.Invariants.{IsValue}
 use Rattle.object_graph.proofs.Lists.{slice_get-set_same, slice_get-set_other}
-use Rattle.cell_layout.specs.declared.cell.Cell.{Cell}
 use Rattle.cell_layout.specs.Cells.{IsCell, IsRow, none, next}
 use Rattle.heap_model.specs.Heaps.{Heap, HasCell, words_of_cell}
 use Rattle.heap_model.specs.Slots.{raw_word, reference_word, RefersToBox}
@@ -20,21 +17,21 @@ use Rattle.heap_model.specs.Kinds.{HasWord, IsBoxCell}
 use Rattle.heap_model.specs.Wholeness.{HasSizes}
 use Rattle.heap_model.proofs.BoundHeaps.{none_in}
 use Rattle.object_cells.specs.Formats.{box_header}
-use Rattle.object_cells.specs.declared.content.Content.{Content}
-use Rattle.object_cells.specs.declared.content.Content.TheVariants as content
+use Rattle.object_cells.specs.declared.content.SlotContent.{SlotContent}
+use Rattle.object_cells.specs.declared.content.SlotContent.TheVariants as content
 use Rattle.object_cells.specs.Made.{content_need, with_content}
 use Rattle.object_cells.proofs.HeldContents.{HoldsValue}
 use Rattle.object_cells.proofs.NewBoxes.{box_cell, box_is_cell, row_of_box}
 use Rattle.object_cells.proofs.SlotsNow.{word_at_offset}
 
 -- the box that is made for it, at an address
-abbrev pub made_boxes : Content → ℕ → List Cell
+abbrev pub made_boxes : SlotContent → ℕ → List Cell
 made_boxes (content.Tagged word) at = []
 made_boxes (content.Raw word) at = []
 made_boxes (content.Boxed v) at = box_cell at ∷ []
 
 -- both words of the box stand in eden, if it needs one
-pub record BoxStands (heap : Heap) (holds : Content) (box : ℕ) : Type 0 where
+pub record BoxStands (heap : Heap) (holds : SlotContent) (box : ℕ) : Type 0 where
   pub header : (v : ℤ) → holds ≡ content.Boxed v → slice_get heap.words box ≡ Some (header_bits box_header)
   pub raw : (v : ℤ) → holds ≡ content.Boxed v → slice_get heap.words (box + 1) ≡ Some (raw_word v)
   pub from : (v : ℤ) → holds ≡ content.Boxed v → eden_start heap.space ≤ box
@@ -47,7 +44,7 @@ row_of_none heap at =
     subst (λ end. IsRow heap.space heap.words at end []) same (none at)
 
 -- then it is a row
-pub made_row : (heap : Heap) (holds : Content) (box : ℕ) → HasSizes heap → BoxStands heap holds box
+pub made_row : (heap : Heap) (holds : SlotContent) (box : ℕ) → HasSizes heap → BoxStands heap holds box
     → IsRow heap.space heap.words box (box + content_need holds) (made_boxes holds box)
 made_row heap (content.Tagged word) box sized stands = row_of_none heap box
 made_row heap (content.Raw word) box sized stands = row_of_none heap box
@@ -57,13 +54,13 @@ made_row heap (content.Boxed v) box sized stands =
     refl
 
 -- A slot comes to hold a box with this integer, and this cell is the box.
-pub record IsTheBox (holds : Content) (box : ℕ) (other : Cell) : Type 0 where
+pub record IsTheBox (holds : SlotContent) (box : ℕ) (other : Cell) : Type 0 where
   pub integer : ℤ
   pub boxed : holds ≡ content.Boxed integer
   pub same : box_cell box ≡ other
 
 -- each of them is that box
-pub the_box : (holds : Content) (box : ℕ) (other : Cell) → Contains (made_boxes holds box) other
+pub the_box : (holds : SlotContent) (box : ℕ) (other : Cell) → Contains (made_boxes holds box) other
     → IsTheBox holds box other
 the_box (content.Tagged word) box other there = absurd (none_in other there)
 the_box (content.Raw word) box other there = absurd (none_in other there)
@@ -71,13 +68,13 @@ the_box (content.Boxed v) box other there =
     record { integer = v; boxed = refl; same = one_in (box_cell box) other there }
 
 -- the box is one of them
-pub made_box : (holds : Content) (box : ℕ) (v : ℤ) → holds ≡ content.Boxed v
+pub made_box : (holds : SlotContent) (box : ℕ) (v : ℤ) → holds ≡ content.Boxed v
     → Contains (made_boxes holds box) (box_cell box)
 made_box holds box v boxed =
     subst (λ one. Contains (made_boxes one box) (box_cell box)) (sym boxed) (first_in (box_cell box) [])
 
 -- a slot that needs a box holds an integer
-pub boxed_integer : {heap : Heap} {own : Bool} {was one : Rep} {what : Value} {holds : Content} (count : ℕ) (v : ℤ)
+pub boxed_integer : {heap : Heap} {own : Bool} {was one : Rep} {what : Value} {holds : SlotContent} (count : ℕ) (v : ℤ)
     → HoldsValue heap own was one what holds → IsValue count what → holds ≡ content.Boxed v → FitsSigned w64 v
 boxed_integer count v (HoldsValue.small_integer one w is apart) fits boxed = cc
 boxed_integer count v (HoldsValue.raw w own apart) fits boxed = cc
@@ -91,20 +88,20 @@ boxed_integer count v HoldsValue.undefined fits boxed = cc
 boxed_integer count v (HoldsValue.object at number place) fits boxed = cc
 
 -- the integer of the box
-box_word : {heap : Heap} (holds : Content) (box : ℕ) (v : ℤ) → holds ≡ content.Boxed v → BoxStands heap holds box
+box_word : {heap : Heap} (holds : SlotContent) (box : ℕ) (v : ℤ) → holds ≡ content.Boxed v → BoxStands heap holds box
     → HasCell heap (box_cell box) (words_of_cell heap (box_cell box))
     → HasWord (words_of_cell heap (box_cell box)) 1 (raw_word v)
 box_word holds box v boxed stands has = word_at_offset 1 has (omega arith) ∙ stands.raw v boxed
 
 -- so it is a box
-pub made_is_box : {heap : Heap} (holds : Content) (box : ℕ) (v : ℤ) → holds ≡ content.Boxed v → FitsSigned w64 v
+pub made_is_box : {heap : Heap} (holds : SlotContent) (box : ℕ) (v : ℤ) → holds ≡ content.Boxed v → FitsSigned w64 v
     → BoxStands heap holds box → HasCell heap (box_cell box) (words_of_cell heap (box_cell box))
     → IsBoxCell (box_cell box) (words_of_cell heap (box_cell box))
 made_is_box holds box v boxed fits stands has =
     record { no_number = refl; integer = v; fits = fits; holds = box_word holds box v boxed stands has }
 
 -- to which its reference refers
-pub refers_to_made : {heap : Heap} (holds : Content) (box : ℕ) (v : ℤ) → holds ≡ content.Boxed v → FitsSigned w64 v
+pub refers_to_made : {heap : Heap} (holds : SlotContent) (box : ℕ) (v : ℤ) → holds ≡ content.Boxed v → FitsSigned w64 v
     → BoxStands heap holds box → HasCell heap (box_cell box) (words_of_cell heap (box_cell box))
     → RefersToBox heap (reference_word box) v
 refers_to_made {heap} holds box v boxed fits stands has = record {
@@ -117,14 +114,14 @@ refers_to_made {heap} holds box v boxed fits stands has = record {
 }
 
 -- the cells that are made are boxes
-pub made_boxed : (holds : Content) (box : ℕ) (other : Cell) → Contains (made_boxes holds box) other
+pub made_boxed : (holds : SlotContent) (box : ℕ) (other : Cell) → Contains (made_boxes holds box) other
     → other.layout.kind ≡ kind.Boxed
 made_boxed holds box other there =
     let one = the_box holds box other there in
     ap (λ (c : Cell). c.layout.kind) (sym one.same)
 
 -- and sound ones
-pub made_sound : {heap old : Heap} {own : Bool} {was one : Rep} {what : Value} {holds : Content} (count box : ℕ)
+pub made_sound : {heap old : Heap} {own : Bool} {was one : Rep} {what : Value} {holds : SlotContent} (count box : ℕ)
     (other : Cell) → HoldsValue old own was one what holds → IsValue count what → BoxStands heap holds box
     → HasCell heap other (words_of_cell heap other) → Contains (made_boxes holds box) other
     → IsBoxCell other (words_of_cell heap other)
@@ -135,7 +132,7 @@ made_sound {heap} {holds = holds} count box other value fits stands has there =
     (made_is_box holds box one.integer one.boxed (boxed_integer count one.integer value fits one.boxed) stands box_has)
 
 -- with a box made there are as many words
-pub length-with_content : (words : List ℕ) (holds : Content) (box : ℕ)
+pub length-with_content : (words : List ℕ) (holds : SlotContent) (box : ℕ)
     → length (with_content words holds box) ≡ length words
 length-with_content words (content.Tagged word) box = refl
 length-with_content words (content.Raw word) box = refl
@@ -144,7 +141,7 @@ length-with_content words (content.Boxed v) box =
     ∙ length-set words box (header_bits box_header)
 
 -- and but for those of the box they are as before
-pub with_content_stays : (words : List ℕ) (holds : Content) (box a : ℕ)
+pub with_content_stays : (words : List ℕ) (holds : SlotContent) (box a : ℕ)
     → (box ≤ a → a < box + content_need holds → ⊥) → slice_get (with_content words holds box) a ≡ slice_get words a
 with_content_stays words (content.Tagged word) box a beside = refl
 with_content_stays words (content.Raw word) box a beside = refl
@@ -160,7 +157,7 @@ pub record BoxWords (words : List ℕ) (box : ℕ) (v : ℤ) : Type 0 where
   pub raw : slice_get words (box + 1) ≡ Some (raw_word v)
 
 -- and those are the words of the box
-pub with_content_box : (words : List ℕ) (holds : Content) (box : ℕ) (v : ℤ) → holds ≡ content.Boxed v
+pub with_content_box : (words : List ℕ) (holds : SlotContent) (box : ℕ) (v : ℤ) → holds ≡ content.Boxed v
     → box + 1 < length words → BoxWords (with_content words holds box) box v
 with_content_box words (content.Tagged word) box v boxed within = cc
 with_content_box words (content.Raw word) box v boxed within = cc
@@ -176,7 +173,7 @@ with_content_box words (content.Boxed w) box v boxed within =
     }
 
 -- A box that a slot comes to hold stands at an address of eden, where the words from there on were put for it.
-pub put_box : (heap : Heap) (words : List ℕ) (holds : Content) (box : ℕ) → box + content_need holds ≤ length words
+pub put_box : (heap : Heap) (words : List ℕ) (holds : SlotContent) (box : ℕ) → box + content_need holds ≤ length words
     → eden_start heap.space ≤ box → box + content_need holds ≤ segments_start heap.space
     → ((b : ℕ) → box ≤ b → b < box + content_need holds
     → slice_get heap.words b ≡ slice_get (with_content words holds box) b) → BoxStands heap holds box
@@ -191,7 +188,7 @@ put_box heap words holds box within from ends stands =
     }
 
 -- where the box stands behind another cell that was made, both are the row of their words
-pub row_with_box : (heap : Heap) (first : Cell) (holds : Content) (end : ℕ) → IsCell heap.space heap.words first
+pub row_with_box : (heap : Heap) (first : Cell) (holds : SlotContent) (end : ℕ) → IsCell heap.space heap.words first
     → HasSizes heap → BoxStands heap holds (first.at + first.size)
     → first.at + first.size + content_need holds ≡ end
     → IsRow heap.space heap.words first.at end (first ∷ made_boxes holds (first.at + first.size))
@@ -201,7 +198,7 @@ row_with_box heap first holds end is sized stands ends =
     (next first (behind + content_need holds) (made_boxes holds behind) is (made_row heap holds behind sized stands))
 
 -- of a cell and the boxes beside it that were made only the cell is of a kind that boxes are not
-pub only_first : (holds : Content) (box : ℕ) (k : Kind) {first : Cell} → (k ≡ kind.Boxed → ⊥) → (one : Cell)
+pub only_first : (holds : SlotContent) (box : ℕ) (k : Kind) {first : Cell} → (k ≡ kind.Boxed → ⊥) → (one : Cell)
     → Contains (first ∷ made_boxes holds box) one → one.layout.kind ≡ k → first ≡ one
 only_first holds box k {first} no_box one among is = elim (in_cases first (made_boxes holds box) one among) [
   | inl same ↦ same
@@ -209,7 +206,7 @@ only_first holds box k {first} no_box one among is = elim (in_cases first (made_
 ]
 
 -- and where the cell is no box, each that is one is sound
-pub boxes_sound : {heap old : Heap} {own : Bool} {was one : Rep} {what : Value} {holds : Content} (count box : ℕ)
+pub boxes_sound : {heap old : Heap} {own : Bool} {was one : Rep} {what : Value} {holds : SlotContent} (count box : ℕ)
     {first : Cell} → (first.layout.kind ≡ kind.Boxed → ⊥) → HoldsValue old own was one what holds → IsValue count what
     → BoxStands heap holds box
     → ((other : Cell) → Contains (made_boxes holds box) other → HasCell heap other (words_of_cell heap other))

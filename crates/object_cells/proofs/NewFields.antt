@@ -6,10 +6,9 @@ use Rattle.std.specs.Prelude.{All, Contains, is_none, IsTrue}
 use Rattle.std.proofs.lemmas.Bool.{cases_lt}
 use Rattle.std.proofs.lemmas.Bool.Decides.{nat_tests}
 use Rattle.std.proofs.lemmas.List.Elements.{All-contains, All-contains_itself, All-weaker}
-use Rattle.object_graph.specs.declared.value.Value.{Value}
+use Rattle.heap_model.specs.Types.{Value, Field}
 use Rattle.object_graph.specs.declared.value.Value.TheVariants.{Int, Undefined, Ref}
 use Rattle.object_graph.specs.declared.object.Object.TheVariants.{Plain}
-use Rattle.object_graph.specs.declared.object.Field.{Field}
 use Rattle.object_graph.specs.Objects.{field_value}
 use Rattle.object_graph.specs.Graphs.{Graph, PlainObject}
 use Rattle.object_graph.specs.Meaning.{Limits}

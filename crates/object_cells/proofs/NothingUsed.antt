@@ -2,11 +2,11 @@
 use Rattle.std.proofs.Common.{◌≡◌, ℕ, ◌+◌, refl, sym, ◌∙◌, ap, arith, add-zero}
 use Rattle.page_space.specs.Extents.{Space}
 use Rattle.nursery.specs.Young.{Young, HasRoom}
-use Rattle.heap_table.specs.Seats.{StaysBeside}
+use Rattle.heap_table.specs.Seats.{RestStays}
 use Rattle.heap_model.specs.Heaps.{Heap}
 use Rattle.heap_model.specs.Needs.{capacity_at}
 use Rattle.heap_model.specs.Wholeness.{Whole}
-use Rattle.write_barrier.specs.Mains.{Mutator, heap_of, IsTied}
+use Rattle.write_barrier.specs.MutatorState.{Mutator, heap_of, IsTied}
 use Rattle.object_cells.specs.Capacities.{ChangesObject}
 use Rattle.object_cells.specs.Uses.{UsesMore}
 
@@ -21,7 +21,7 @@ pub used_and_none : (young : Young) → young ≡ record young { used = young.us
 used_and_none young = ap (λ n. record young { used = n }) (sym (add-zero young.used))
 
 -- so none more is, where the young generation is as it was
-pub uses_none : {old new : Mutator} → StaysBeside old.seat new.seat → new.young ≡ old.young → UsesMore old new 0
+pub uses_none : {old new : Mutator} → RestStays old.seat new.seat → new.young ≡ old.young → UsesMore old new 0
 uses_none {old} beside young = record { beside = beside; young = young ∙ used_and_none old.young }
 
 -- where nothing has changed, each object has the capacity that it had

@@ -8,9 +8,9 @@ use Rattle.tagged_word.specs.Layouts.{HasInObjectSlots, IsLayoutOfKind}
 use Rattle.tagged_word.specs.Cells.{scavenge_offsets, in_object_offsets, store_head, store_slot, plain_head}
 use Rattle.tagged_word.proofs.Members.{in_cases, in_range, range_bounds}
 use Rattle.tagged_word.proofs.Offsets.{in_object_is}
-use Rattle.cell_layout.specs.declared.cell.Cell.{Cell}
+use Rattle.heap_model.specs.Types.{Cell}
 use Rattle.heap_model.specs.Heaps.{Heap, HasCell, words_of_cell}
-use Rattle.heap_model.specs.Slots.{is_object_kind, RefersTo, IsBeside}
+use Rattle.heap_model.specs.Slots.{is_object_kind, RefersTo, HoldsStore}
 use Rattle.heap_model.specs.Kinds.{HasWord, HasSlots}
 use Rattle.heap_model.specs.Wholeness.{HasRows, HasSlotAt}
 use Rattle.heap_model.proofs.WordClasses.{undefined_refers_not}
@@ -59,10 +59,10 @@ SlotOfNumber heap cell words number word = HasAddress heap cell words (IsNumbere
 
 -- a slot that stands beside the object has one
 pub beside_number : {heap : Heap} {cell : Cell} {words : List ℕ} (store : ℕ) (slots : List ℕ) (k number word : ℕ)
-    → HasWord words store_slot store → IsBeside heap kind.Store store slots → HasWord slots k word
+    → HasWord words store_slot store → HoldsStore heap kind.Store store slots → HasWord slots k word
     → number ≡ cell.layout.cap + k → SlotOfNumber heap cell words number word
-beside_number store slots k number word slot IsBeside.none there is = absurd (none-some word there)
-beside_number store slots k number word slot (IsBeside.store to other others refers of_kind) there is =
+beside_number store slots k number word slot HoldsStore.none there is = absurd (none-some word there)
+beside_number store slots k number word slot (HoldsStore.store to other others refers of_kind) there is =
     let long = words_by_kind kind.Store refers.has of_kind in
     let few : k < other.length = behind_head_few others k other.length word long there in
     let offset : ℕ = store_head + k in
@@ -148,9 +148,9 @@ pub record IsStoreOf (slots : List ℕ) (other : Cell) (others : List ℕ) : Typ
 
 -- what stands beside an object are the slots of the store to which its word refers
 pub is_store_of : {heap : Heap} {other : Cell} {others : List ℕ} (store : ℕ) (slots : List ℕ)
-    → IsBeside heap kind.Store store slots → RefersTo heap store other others → IsStoreOf slots other others
-is_store_of {other = other} store slots IsBeside.none refers = absurd (undefined_refers_not other.at refers.refers)
-is_store_of {heap} {other} {others} store slots (IsBeside.store to cell words target of_kind) refers =
+    → HoldsStore heap kind.Store store slots → RefersTo heap store other others → IsStoreOf slots other others
+is_store_of {other = other} store slots HoldsStore.none refers = absurd (undefined_refers_not other.at refers.refers)
+is_store_of {heap} {other} {others} store slots (HoldsStore.store to cell words target of_kind) refers =
     let same : cell ≡ other = same_target target refers in
     let has : HasCell heap other words = subst (λ (one : Cell). HasCell heap one words) same target.has in
     record {
@@ -163,7 +163,7 @@ pub store_of : {heap : Heap} {other : Cell} {words slots others : List ℕ} (sto
     → HasWord words store_slot store → RefersTo heap store other others → IsStoreOf are.beside other others
 store_of {heap} {words = words} store are slot refers =
     let same : are.store ≡ store = same_Some are.store store (sym are.slot ∙ slot) in
-    is_store_of store are.beside (subst (λ w. IsBeside heap kind.Store w are.beside) same are.stands) refers
+    is_store_of store are.beside (subst (λ w. HoldsStore heap kind.Store w are.beside) same are.stands) refers
 
 -- a slot of the store beside an object, by its number among these slots
 pub record BesideSlot (heap : Heap) (cell : Cell) (words slots : List ℕ) (at word : ℕ) : Type 0 where
@@ -173,7 +173,7 @@ pub record BesideSlot (heap : Heap) (cell : Cell) (words slots : List ℕ) (at w
 
 -- each slot of the store has a number
 pub beside_slot : {heap : Heap} {cell other : Cell} {words slots others : List ℕ} (store offset word : ℕ)
-    → HasWord words store_slot store → IsBeside heap kind.Store store slots → RefersTo heap store other others
+    → HasWord words store_slot store → HoldsStore heap kind.Store store slots → RefersTo heap store other others
     → Contains (scavenge_offsets other.layout other.length) offset → HasWord others offset word
     → BesideSlot heap cell words slots (other.at + offset) word
 beside_slot {other = other} {slots = slots} {others} store offset word slot own_slots refers there stands =
@@ -199,7 +199,7 @@ beside_kind : {heap : Heap} {cell other : Cell} {words slots others : List ℕ} 
 beside_kind {heap} {cell} store offset word has plain are slot refers there stands =
     let cap : ℕ = cell.layout.cap in
     let same : are.store ≡ store = same_Some are.store store (sym are.slot ∙ slot) in
-    let slots_there = subst (λ w. IsBeside heap kind.Store w are.beside) same are.stands in
+    let slots_there = subst (λ w. HoldsStore heap kind.Store w are.beside) same are.stands in
     let found = beside_slot {cell = cell} store offset word slot slots_there refers there stands in
     let number : ℕ = cap + found.k in
     let from : cap ≤ number = omega arith in

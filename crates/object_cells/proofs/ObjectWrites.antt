@@ -8,14 +8,12 @@ use Rattle.std.proofs.lemmas.List.Folds.{flat_map-map}
 use Rattle.std.proofs.lemmas.List.Elements.{All-cons, All-contains, All-map, All-weaker, All-contains_itself}
 use Rattle.std.proofs.lemmas.List.{map-id}
 use Rattle.std.proofs.lemmas.Simd.{map-map}
-use Rattle.tagged_word.specs.declared.layout.Kind.{Kind}
+use Rattle.heap_model.specs.Types.{Kind, Path, Cell}
 use Rattle.tagged_word.specs.declared.layout.Kind.TheVariants as kind
 use Rattle.tagged_word.specs.Cells.{has_length, length_offset}
 use Rattle.tagged_word.proofs.Members.{in_map, first_in, rest_in}
-use Rattle.object_graph.specs.declared.path.Path.{Path}
 use Rattle.page_space.specs.Extents.{Space, eden_start, roots_start, layouts_start, marks_start}
 use Rattle.page_space.proofs.Starts.{roots_start_is, layouts_start_is}
-use Rattle.cell_layout.specs.declared.cell.Cell.{Cell}
 use Rattle.cell_layout.specs.Cells.{IsCell, IsRow}
 use Rattle.cell_layout.specs.CellLaws.{ReadsAlike}
 use Rattle.cell_layout.proofs.OneCell.{cells_stay}

@@ -5,10 +5,9 @@ use Rattle.std.proofs.Common.{arith}
 use Rattle.std.proofs.lemmas.Bool.{cases_eq, cases_lt}
 use Rattle.std.proofs.lemmas.Option.{same_Some, slice_get_within, slice_get_past}
 use Rattle.tagged_word.specs.declared.layout.Kind.TheVariants as kind
-use Rattle.object_graph.specs.declared.value.Value.{Value}
+use Rattle.heap_model.specs.Types.{Value, Cell}
 use Rattle.object_graph.specs.Meaning.{list_most}
 use Rattle.object_graph.proofs.Lists.{slice_get-set_same, slice_get-set_other}
-use Rattle.cell_layout.specs.declared.cell.Cell.{Cell}
 use Rattle.heap_model.specs.Heaps.{Heap, words_of_cell}
 use Rattle.heap_model.specs.Slots.{hole_word, reference_word}
 use Rattle.heap_model.specs.Kinds.{HasWord, HasNoNumber, IsBoxCell, count_offset}
@@ -18,7 +17,7 @@ use Rattle.heap_model.proofs.CellWords.{slice_get-append_left, slice_get-append_
 use Rattle.object_cells.specs.OwnSlots.{IsNoBoxOf, ComesFrom, StoreComes}
 use Rattle.object_cells.specs.ElementChanges.{WritesList, HasElements, ShowsElement, RefillsElements}
 use Rattle.object_cells.proofs.ListSlots.{list_sound}
-use Rattle.object_cells.proofs.SlotPlaces.{one_beside}
+use Rattle.object_cells.proofs.SlotPlaces.{one_store_slots}
 use Rattle.object_cells.proofs.WrittenPlaces.{hole_names_none}
 
 -- At a place stands this element now, and each other place has what it had.
@@ -91,7 +90,7 @@ module _ {old new : Heap} {cell : Cell} {others made : List Cell} {before after 
       let shown = puts.shown in
       let sound = list_sound puts.whole puts.writes.stood puts.writes.of_kind in
       let store : sound.store ≡ shown.store = same_Some sound.store shown.store (sym sound.slot ∙ shown.slot) in
-      let slots = one_beside sound.store shown.store sound.beside shown.slots store sound.stands shown.has in
+      let slots = one_store_slots sound.store shown.store sound.beside shown.slots store sound.stands shown.has in
       let count : sound.count ≡ length before =
       same_Some sound.count (length before) (sym sound.counted ∙ shown.counted) in
       sound.hold.rest k word (omega (arith, count, behind)) (ap (λ all. slice_get all k) slots ∙ stood)

@@ -3,16 +3,15 @@
 use Rattle.std.proofs.Common.{◌≡◌, ◌≢◌, ℕ, ◌+◌, ◌<◌, ◌≤◌, List, ◌++◌, Some, slice_get}
 use Rattle.std.proofs.Common.{sym, ◌∙◌, ap, subst, arith}
 use Rattle.tagged_word.specs.Headers.{header_bits}
-use Rattle.object_graph.specs.declared.path.Path.{Path}
+use Rattle.heap_model.specs.Types.{Path, Cell}
 use Rattle.page_space.specs.Extents.{Space, eden_start, layouts_start}
 use Rattle.nursery.specs.Young.{Young, HasRoom}
-use Rattle.cell_layout.specs.declared.cell.Cell.{Cell}
 use Rattle.cell_layout.specs.Cells.{IsRow}
 use Rattle.heap_table.specs.Seats.{heap_words}
 use Rattle.heap_model.specs.Heaps.{Heap}
 use Rattle.heap_model.specs.Wholeness.{HasSizes}
 use Rattle.heap_model.specs.Changes.{IsNewlyUsed}
-use Rattle.write_barrier.specs.Mains.{Mutator, heap_of, IsTied}
+use Rattle.write_barrier.specs.MutatorState.{Mutator, heap_of, IsTied}
 use Rattle.object_cells.specs.Contents.{next_at}
 use Rattle.object_cells.proofs.WordsPut.{PutsTwo, sizes_put}
 

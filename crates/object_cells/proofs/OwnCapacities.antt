@@ -3,14 +3,13 @@ use Rattle.std.proofs.Common.{◌≡◌, ℕ, ◌+◌, ◌<◌, inl, inr, List, 
 use Rattle.std.proofs.Common.{IsTrue, slice_get, refl, sym, ◌∙◌, ap, subst, arith}
 use Rattle.std.proofs.lemmas.Bool.{false≢true}
 use Rattle.std.proofs.lemmas.List.Elements.{Contains-append_right}
-use Rattle.tagged_word.specs.declared.layout.Kind.{Kind}
+use Rattle.heap_model.specs.Types.{Kind, Cell}
 use Rattle.tagged_word.specs.declared.layout.Kind.TheVariants as kind
 use Rattle.tagged_word.specs.declared.word.Class.TheVariants.{Ref}
 use Rattle.tagged_word.specs.Words.{IsClass}
 use Rattle.tagged_word.specs.Cells.{store_slot, has_length}
 use Rattle.tagged_word.proofs.Members.{first_in, rest_in, in_cases}
 use Rattle.page_space.specs.Extents.{layouts_start}
-use Rattle.cell_layout.specs.declared.cell.Cell.{Cell}
 use Rattle.heap_model.specs.Heaps.{Heap, words_of_cell}
 use Rattle.heap_model.specs.Slots.{reference_word, IsPlace}
 use Rattle.heap_model.specs.Wholeness.{NamesFrom, IsOwnedKind}
@@ -26,7 +25,7 @@ use Rattle.object_cells.proofs.KeptCapacities.{capacity_of_store, slot_keeps, pl
 use Rattle.object_cells.proofs.OwnerWrites.{plain_owns}
 use Rattle.object_cells.proofs.OwnSteps.{OwnWriting, own_writing, stood, went_object, came_object, own_places_stay}
 use Rattle.object_cells.proofs.OwnCells.{word_stays}
-use Rattle.object_cells.proofs.WrittenPlaces.{IsBesideKind}
+use Rattle.object_cells.proofs.WrittenPlaces.{IsStoreOrBox}
 use Rattle.object_cells.proofs.SlotsNow.{PutsOwn, store_is_no_object, beside_stands, plain_cell_size}
 
 -- a cell that is owned and has a length is a store or a table
@@ -153,7 +152,7 @@ capacities_grow owner owned old new cell came others made store writing among of
 pub one_keeps : {old new : Heap} {cell : Cell} {shape at word : ℕ} {others made : List Cell}
     → PutsOwn old new cell shape at word others made
     → ((other : Cell) → Contains others other → (slot : ℕ) × NamesFrom old cell slot other.at)
-    → ((other : Cell) → Contains made other → IsBesideKind other.layout.kind)
+    → ((other : Cell) → Contains made other → IsStoreOrBox other.layout.kind)
     → ChangesObject old new cell.at (capacity_at old cell.at)
 one_keeps {cell = cell} puts belong kinds =
     let within : store_slot < cell.size = omega (arith, plain_cell_size puts.has puts.plain) in

@@ -7,7 +7,7 @@ use Rattle.tagged_word.specs.Cells.{length_offset}
 use Rattle.page_space.specs.Extents.{Space, layouts_start}
 use Rattle.page_space.proofs.Starts.{layouts_start_is}
 use Rattle.shape_tree.specs.Shapes.{IsPathShape, shape_path}
-use Rattle.cell_layout.specs.declared.cell.Cell.{Cell}
+use Rattle.heap_model.specs.Types.{Cell}
 use Rattle.heap_model.specs.Heaps.{Heap, HasCell, words_of_cell}
 use Rattle.heap_model.specs.Slots.{is_object_kind}
 use Rattle.heap_model.specs.Wholeness.{Whole}
@@ -17,7 +17,7 @@ use Rattle.heap_model.proofs.CellWords.{words_by_kind, words_are_size}
 use Rattle.heap_model.proofs.WordsAlike.{cell_below_roots}
 use Rattle.object_cells.specs.CellWrites.{IsInCell, IsWrittenOfKind, Becomes}
 use Rattle.object_cells.specs.SlotChanges.{WritesFields}
-use Rattle.object_cells.proofs.WrittenPlaces.{IsBesideKind, beside_is_no_object}
+use Rattle.object_cells.proofs.WrittenPlaces.{IsStoreOrBox, beside_is_no_object}
 use Rattle.object_cells.proofs.UnusedWords.{cell_is_used}
 use Rattle.object_cells.proofs.OneWord.{WritesOne, WritesTwo, two_of_one}
 
@@ -27,15 +27,15 @@ pub list_size : {heap : Heap} {cell : Cell} {words : List ℕ} → HasCell heap 
 list_size has list = sym (words_are_size has) ∙ words_by_kind kind.List has list
 
 -- a store or a box stands in the heap, and the address is neither that of its header nor that of its length
-pub record IsPutBeside (heap : Heap) (at : ℕ) (other : Cell) : Type 0 where
+pub record IsPutOwned (heap : Heap) (at : ℕ) (other : Cell) : Type 0 where
   pub stood : HasCell heap other (words_of_cell heap other)
-  pub of_kind : IsBesideKind other.layout.kind
+  pub of_kind : IsStoreOrBox other.layout.kind
   pub header : other.at ≢ at
   pub length : other.layout.kind ≡ kind.Store → other.at + length_offset ≢ at
 
 -- the address is in the cell, or in one of the stores and boxes
 pub record IsOwnWord (heap : Heap) (cell : Cell) (others : List Cell) (at : ℕ) : Type 0 where
-  pub each : (other : Cell) → Contains others other → IsPutBeside heap at other
+  pub each : (other : Cell) → Contains others other → IsPutOwned heap at other
   pub inside : IsInCell at cell ⊎ ((other : Cell) × Contains others other × IsInCell at other)
 
 -- a word of a cell is not among those that are newly used
@@ -72,7 +72,7 @@ word_stays a whole writes has of_cell not_cell not_at =
 -- no address of a store or box is one of an object's cell
 pub beside_not_own : {heap : Heap} {cell other : Cell} {words others : List ℕ} (a first : ℕ) → Whole heap
     → HasCell heap cell words → IsTrue (is_object_kind cell.layout.kind) → IsOfCell cell first
-    → HasCell heap other others → IsBesideKind other.layout.kind → IsOfCell other a → a ≢ first
+    → HasCell heap other others → IsStoreOrBox other.layout.kind → IsOfCell other a → a ≢ first
 beside_not_own {cell = cell} {other} a first whole has object of_own has_other is of_other same =
     let one = cells_apart a whole.rows has has_other (subst (IsOfCell cell) (sym same) of_own) of_other in
     let is_object = ap (λ (c : Cell). is_object_kind c.layout.kind) (sym one) ∙ object in
@@ -81,7 +81,7 @@ beside_not_own {cell = cell} {other} a first whole has object of_own has_other i
 -- so none is that of its header
 pub beside_not_header : {heap : Heap} {cell other : Cell} {words others : List ℕ} (a : ℕ) → Whole heap
     → HasCell heap cell words → cell.layout.kind ≡ kind.Plain → HasCell heap other others
-    → IsBesideKind other.layout.kind
+    → IsStoreOrBox other.layout.kind
     → IsOfCell other a → a ≢ cell.at
 beside_not_header {cell = cell} a whole has plain has_other is of_cell =
     beside_not_own a cell.at whole has (ap is_object_kind plain) (first_of_cell has) has_other is of_cell
@@ -96,7 +96,7 @@ store_second has store =
 -- the other neither of these.
 pub written_beside : {old new : Heap} {cell other : Cell} {words : List ℕ} {first head at word : ℕ} {made : List Cell}
     → Whole old → HasCell old cell words → IsTrue (is_object_kind cell.layout.kind) → IsOfCell cell first
-    → WritesTwo old new first head at word made → IsPutBeside old at other
+    → WritesTwo old new first head at word made → IsPutOwned old at other
     → IsWrittenOfKind kind.Store old new other
 written_beside {other = other} {first = first} whole has object of_own writes put =
     let start = first_of_cell put.stood in

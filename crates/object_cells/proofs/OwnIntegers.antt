@@ -4,33 +4,32 @@ use Rattle.std.proofs.Common.{slice_get, sym, ◌∙◌, ap, subst, arith, lengt
 use Rattle.std.specs.Int.{w64}
 use Rattle.std.specs.Prelude.{ℤ, FitsSigned, slice_set}
 use Rattle.std.proofs.lemmas.Bool.{false≢true}
-use Rattle.tagged_word.specs.declared.layout.Kind.{Kind}
+use Rattle.heap_model.specs.Types.{Kind, Cell}
 use Rattle.tagged_word.specs.declared.layout.Kind.TheVariants as kind
 use Rattle.tagged_word.specs.Cells.{has_length}
 use Rattle.tagged_word.proofs.Members.{first_in, rest_in, one_in, in_cases}
 use Rattle.page_space.specs.Extents.{marks_start}
 use Rattle.object_graph.proofs.Lists.{slice_get-set_same, slice_get-set_other}
-use Rattle.cell_layout.specs.declared.cell.Cell.{Cell}
-use Rattle.heap_table.specs.Seats.{heap_words, StaysBeside}
-use Rattle.heap_table.specs.Staying.{stays_beside_itself}
+use Rattle.heap_table.specs.Seats.{heap_words, RestStays}
+use Rattle.heap_table.specs.Staying.{rest_stays_itself}
 use Rattle.heap_model.specs.Changes.{CellsChange}
 use Rattle.heap_model.specs.Heaps.{HasCell, words_of_cell}
 use Rattle.heap_model.specs.Kinds.{HasWord, IsBoxCell, IsSoundOf}
 use Rattle.heap_model.specs.Slots.{is_object_kind, raw_word, RefersToBox}
 use Rattle.heap_model.specs.Wholeness.{Whole}
 use Rattle.heap_model.proofs.CellsApart.{IsOfCell, first_of_cell, cells_apart}
-use Rattle.write_barrier.specs.Mains.{Mutator, heap_of, IsTied, with_word}
+use Rattle.write_barrier.specs.MutatorState.{Mutator, heap_of, IsTied, with_word}
 use Rattle.object_cells.specs.CellWrites.{Owns, IsWrittenOfKind, WritesOwnCells}
 use Rattle.object_cells.specs.Contents.{next_at}
 use Rattle.object_cells.proofs.CellsRead.{cell_before_marks, word_stands}
 use Rattle.object_cells.proofs.MadeBoxes.{row_of_none}
 use Rattle.object_cells.proofs.OwnPlaces.{has_own_words, box_size}
 use Rattle.object_cells.proofs.NothingUsed.{room_for_none, used_and_none}
-use Rattle.object_cells.proofs.OwnPuts.{PutsOwn, own_writes, one_beside}
+use Rattle.object_cells.proofs.OwnPuts.{PutsOwn, own_writes, one_owned}
 use Rattle.object_cells.proofs.OwnerWrites.{written_own_keeps_cells}
 use Rattle.object_cells.proofs.SlotBoxes.{IsBoxOf}
 use Rattle.object_cells.proofs.SlotsNow.{word_at_offset}
-use Rattle.object_cells.proofs.WordsBeside.{put_beside}
+use Rattle.object_cells.proofs.RestOfWords.{put_rest}
 use Rattle.object_cells.proofs.WordsPut.{heap_with_word}
 
 -- The integer is put into the box to which the word refers, where an object's cell stands, and the other that it has.
@@ -102,8 +101,8 @@ module _ {owner owned : Kind} {old new : Mutator} {cell other : Cell} {word box 
       )
 
   -- all words from the marks on stay
-  pub rest_stays : StaysBeside old.seat new.seat
-  rest_stays = put_beside (box + 1) (raw_word v) (stays_beside_itself old.seat) writing.puts_it within
+  pub rest_stays : RestStays old.seat new.seat
+  rest_stays = put_rest (box + 1) (raw_word v) (rest_stays_itself old.seat) writing.puts_it within
 
   -- these are the words that came to be
   pub put_heap : heap_words new.seat ≡ put
@@ -164,7 +163,7 @@ module _ {owner owned : Kind} {old new : Mutator} {cell other : Cell} {word box 
       header = kept one_box.at (λ is. omega (arith, is, writing.box_of.stands));
       length = λ is. absurd (other_no_box (writing.other_kind ∙ sym is ∙ writing.box_of.box));
     })
-    | inr rest ↦ one_beside writing.other_has writing.other_kind head_stays one rest
+    | inr rest ↦ one_owned writing.other_has writing.other_kind head_stays one rest
   ]
 
   -- so cells were written, and none was made

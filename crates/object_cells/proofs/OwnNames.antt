@@ -2,16 +2,15 @@
 -- began; and no two name one. So the change of cells is the object's own.
 use Rattle.std.proofs.Common.{◌≡◌, ℕ, ◌+◌, List, ◌∷◌, ◌++◌, Contains, ◌⊎◌, inl, inr, refl, sym, ◌∙◌, ap, subst}
 use Rattle.tagged_word.specs.declared.layout.Kind.TheVariants as kind
-use Rattle.tagged_word.specs.declared.layout.Kind.{Kind}
+use Rattle.heap_model.specs.Types.{Kind, Cell}
 use Rattle.tagged_word.specs.Cells.{store_slot, has_length}
 use Rattle.std.proofs.lemmas.Bool.{false≢true}
 use Rattle.std.proofs.lemmas.Option.{same_Some}
 use Rattle.tagged_word.proofs.Members.{first_in, rest_in}
 use Rattle.std.proofs.lemmas.List.Elements.{Contains-append_right}
-use Rattle.cell_layout.specs.declared.cell.Cell.{Cell}
 use Rattle.heap_model.specs.Heaps.{Heap, HasCell, words_of_cell}
 use Rattle.heap_model.specs.Slots.{RefersTo}
-use Rattle.heap_model.specs.Kinds.{HasWord, IsSound}
+use Rattle.heap_model.specs.Kinds.{HasWord, IsSoundCell}
 use Rattle.heap_model.specs.Wholeness.{Whole, HasSlotAt, NamesFrom, IsOwnedKind}
 use Rattle.heap_model.specs.Changes.{IsNewPlace, IsOwnChange}
 use Rattle.heap_model.proofs.WordClasses.{same_reference}
@@ -185,7 +184,7 @@ module _ {old new : Heap} {cell came : Cell} {others beside made : List Cell} {w
   one_source slot other at (Source.fresh names_new) (Source.fresh names_new') = to_one slot other at names_new names_new'
 
   -- so the change of cells is the object's own, where what came or was made is sound
-  pub renamed_own : ((one : Cell) → Contains (came ∷ (beside ++ made)) one → IsSound new one (words_of_cell new one))
+  pub renamed_own : ((one : Cell) → Contains (came ∷ (beside ++ made)) one → IsSoundCell new one (words_of_cell new one))
       → IsOwnChange old new (cell ∷ others) (came ∷ beside) made
   renamed_own sound = record {
     own = λ one there. went_own renames.writing one there;

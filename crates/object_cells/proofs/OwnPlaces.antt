@@ -2,11 +2,10 @@
 use Rattle.std.proofs.Common.{◌≡◌, ◌≢◌, ℕ, ◌+◌, inl, inr, List, [], ◌∷◌, Contains}
 use Rattle.std.proofs.Common.{refl, sym, ◌∙◌, ap, subst, arith, IsTrue}
 use Rattle.std.proofs.lemmas.Option.{same_Some}
-use Rattle.tagged_word.specs.declared.layout.Kind.{Kind}
+use Rattle.heap_model.specs.Types.{Kind, Cell}
 use Rattle.tagged_word.specs.declared.layout.Kind.TheVariants as kind
 use Rattle.tagged_word.specs.Cells.{store_slot}
 use Rattle.tagged_word.proofs.Members.{one_in}
-use Rattle.cell_layout.specs.declared.cell.Cell.{Cell}
 use Rattle.heap_model.specs.Heaps.{Heap, HasCell, words_of_cell}
 use Rattle.heap_model.specs.Slots.{is_object_kind, reference_word, RefersTo}
 use Rattle.heap_model.specs.Kinds.{HasWord, HasSlots, HasNoNumber, IsSoundOf}
@@ -18,7 +17,7 @@ use Rattle.heap_model.proofs.OneOwner.{names_store}
 use Rattle.object_cells.specs.OwnSlots.{IsNoBoxOf}
 use Rattle.object_cells.specs.SlotChanges.{IsTaggedSlot}
 use Rattle.object_cells.proofs.NumberedSlots.{IsNumbered, SlotOfNumber, slot_of_number, one_number}
-use Rattle.object_cells.proofs.OwnCells.{IsPutBeside, IsOwnWord, beside_not_own}
+use Rattle.object_cells.proofs.OwnCells.{IsPutOwned, IsOwnWord, beside_not_own}
 
 -- a plain object's cell is an object's
 pub plain_is_object : {k : Kind} → k ≡ kind.Plain → IsTrue (is_object_kind k)
@@ -64,7 +63,7 @@ numbered_place {heap} {cell} slot at store whole has object stored (IsNumbered.o
 numbered_place {heap} {cell} slot at store whole has object stored
     (IsNumbered.beside word j other others refers_there refers of_kind counts is of_cell) =
     let same : store ≡ word = same_Some store word (sym stored ∙ refers_there) in
-    let put : IsPutBeside heap at other = record {
+    let put : IsPutOwned heap at other = record {
       stood = has_own_words refers.has;
       of_kind = inl of_kind;
       header = λ is_header. omega (arith, is, is_header);
@@ -79,7 +78,7 @@ numbered_place {heap} {cell} slot at store whole has object stored
       other ∷ [],
       record {
         own = record {
-          each = λ one there. subst (IsPutBeside heap at) (one_in other one there) put;
+          each = λ one there. subst (IsPutOwned heap at) (one_in other one there) put;
           inside = inr (other, (0, omega arith, refl), record { from = of_cell.from; below = of_cell.below });
         };
         stores = λ one there. subst (IsOwnStore heap cell store) (one_in other one there) own;
@@ -102,7 +101,7 @@ box_size has box = sym (words_are_size has) ∙ words_by_kind kind.Boxed has box
 pub box_place : {heap : Heap} {cell box : Cell} {words : List ℕ} → HasCell heap box words → box.layout.kind ≡ kind.Boxed
     → IsOwnWord heap cell (box ∷ []) (box.at + 1)
 box_place {heap} {box = box} has of_kind =
-    let put : IsPutBeside heap (box.at + 1) box = record {
+    let put : IsPutOwned heap (box.at + 1) box = record {
       stood = has_own_words has;
       of_kind = inr of_kind;
       header = λ same. omega (arith, same);
@@ -111,7 +110,7 @@ box_place {heap} {box = box} has of_kind =
           cc;
     } in
     record {
-      each = λ one there. subst (IsPutBeside heap (box.at + 1)) (one_in box one there) put;
+      each = λ one there. subst (IsPutOwned heap (box.at + 1)) (one_in box one there) put;
       inside = inr (
         box,
         (0, omega arith, refl),

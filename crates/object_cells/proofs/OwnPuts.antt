@@ -2,7 +2,7 @@
 use Rattle.std.proofs.Common.{◌≡◌, ℕ, ◌+◌, ◌≤◌, ◌<◌, inl, List, [], ◌∷◌, length, Contains}
 use Rattle.std.proofs.lemmas.List.{append-nil}
 use Rattle.std.proofs.Common.{Some, slice_get, refl, sym, ◌∙◌, ap, subst, arith, add-zero}
-use Rattle.tagged_word.specs.declared.layout.Kind.{Kind}
+use Rattle.heap_model.specs.Types.{Kind, Cell}
 use Rattle.tagged_word.specs.Cells.{length_offset}
 use Rattle.tagged_word.proofs.Members.{one_in}
 use Rattle.page_space.specs.Extents.{Space, eden_start, segments_start, layouts_start, marks_start}
@@ -10,15 +10,14 @@ use Rattle.page_space.proofs.Starts.{roots_start_is, layouts_start_is, marks_sta
 use Rattle.nursery.specs.Young.{Young, HasRoom}
 use Rattle.shape_tree.specs.Shapes.{AreShapes}
 use Rattle.shape_tree.specs.ShapeLayouts.{layout_word}
-use Rattle.cell_layout.specs.declared.cell.Cell.{Cell}
 use Rattle.cell_layout.specs.Cells.{IsRow}
 use Rattle.heap_table.specs.Seats.{heap_words}
 use Rattle.heap_model.specs.Heaps.{Heap, HasCell, words_of_cell}
 use Rattle.heap_model.specs.Wholeness.{Whole, HasSizes}
 use Rattle.heap_model.proofs.CellsApart.{IsOfCell}
-use Rattle.write_barrier.specs.Mains.{Mutator, heap_of, IsTied, reserved}
+use Rattle.write_barrier.specs.MutatorState.{Mutator, heap_of, IsTied, reserved}
 use Rattle.object_cells.specs.CellWrites.{IsInCell, IsWrittenOfKind, Becomes, WritesOwnCells}
-use Rattle.object_cells.specs.declared.content.Content.{Content}
+use Rattle.object_cells.specs.declared.content.SlotContent.{SlotContent}
 use Rattle.object_cells.specs.Contents.{next_at}
 use Rattle.object_cells.specs.Made.{PutsWords, content_need, with_content}
 use Rattle.object_cells.proofs.MadeBoxes.{BoxStands, put_box}
@@ -116,7 +115,7 @@ own_writes {old = old} {new} {need = need} made puts header beside row =
 
 -- A box among what was reserved stands there, where the words from its address on were put for it.
 pub box_put : {owner : Kind} {old new : Mutator} {cell : Cell} {others : List Cell} {need : ℕ} {words : List ℕ}
-    (before : List ℕ) (holds : Content) (box : ℕ) → PutsOwn owner old new cell others need words
+    (before : List ℕ) (holds : SlotContent) (box : ℕ) → PutsOwn owner old new cell others need words
     → length before ≡ length (heap_words old.seat) → next_at old ≤ box → box + content_need holds ≤ next_at old + need
     → ((b : ℕ) → box ≤ b → b < box + content_need holds
     → slice_get (heap_words new.seat) b ≡ slice_get (with_content before holds box) b) → BoxStands (heap_of new) holds box
@@ -139,11 +138,11 @@ box_put {old = old} {new} {need = need} before holds box puts long from below st
 
 -- Of a cell of which the first two words stay neither the header nor the length changed; so it is of the one cell that
 -- was written.
-pub one_beside : {owned : Kind} {old new : Heap} {other : Cell} → HasCell old other (words_of_cell old other)
+pub one_owned : {owned : Kind} {old new : Heap} {other : Cell} → HasCell old other (words_of_cell old other)
     → other.layout.kind ≡ owned
     → ((k : ℕ) → k < 2 → slice_get new.words (other.at + k) ≡ slice_get old.words (other.at + k)) → (one : Cell)
     → Contains (other ∷ []) one → IsWrittenOfKind owned old new one
-one_beside {owned} {old} {new} {other} has is stays one among =
+one_owned {owned} {old} {new} {other} has is stays one among =
     subst (IsWrittenOfKind owned old new) (one_in other one among) (record {
       stood = has;
       of_kind = inl is;

@@ -3,15 +3,14 @@
 use Rattle.std.proofs.Common.{◌≡◌, ℕ, ◌⊎◌, false, List, ◌∷◌, ◌++◌, Contains, IsTrue, inl, inr, refl, sym, ◌∙◌, ap}
 use Rattle.std.proofs.lemmas.Bool.{false≢true}
 use Rattle.std.proofs.lemmas.List.Elements.{Contains-append_left, Contains-append_cases}
-use Rattle.tagged_word.specs.declared.layout.Kind.{Kind}
+use Rattle.heap_model.specs.Types.{Kind, Cell}
 use Rattle.tagged_word.specs.declared.layout.Kind.TheVariants as kind
 use Rattle.tagged_word.proofs.Members.{first_in, rest_in, in_cases}
-use Rattle.cell_layout.specs.declared.cell.Cell.{Cell}
 use Rattle.heap_model.specs.Heaps.{Heap, HasCell, words_of_cell}
 use Rattle.heap_model.specs.Slots.{is_object_kind}
 use Rattle.heap_model.specs.Wholeness.{Whole, NamesFrom, IsOwnedKind}
 use Rattle.heap_model.specs.Changes.{CellsChange, IsOwnOf, IsStill, IsStillBox}
-use Rattle.heap_model.proofs.Fates.{cells_move, ObjectsStay, places_stay, box_not_gone}
+use Rattle.heap_model.proofs.CellOutcomes.{cells_move, ObjectsStay, places_stay, box_not_gone}
 use Rattle.heap_model.proofs.WordsStay.{PlacesStay, BoxStays}
 use Rattle.object_cells.specs.CellWrites.{Owns, WritesOwnCells}
 use Rattle.object_cells.specs.OwnSlots.{IsNoBoxOf}

@@ -4,19 +4,16 @@ use Rattle.std.proofs.Common.{◌≡◌, ℕ, ◌+◌, ◌<◌, ◌≤◌, ◌�
 use Rattle.std.proofs.lemmas.Bool.{false≢true}
 use Rattle.std.proofs.Common.{Option, Some, slice_get}
 use Rattle.std.proofs.Common.{refl, sym, ◌∙◌, ap, subst, arith}
-use Rattle.tagged_word.specs.declared.layout.Kind.{Kind}
+use Rattle.heap_model.specs.Types.{Kind, LayoutWord, Path, Cell}
 use Rattle.tagged_word.specs.declared.layout.Kind.TheVariants as kind
-use Rattle.tagged_word.specs.declared.layout.LayoutWord.{LayoutWord}
 use Rattle.tagged_word.specs.Headers.{header_bits}
 use Rattle.tagged_word.specs.Layouts.{IsLayoutOfKind, in_object_most}
 use Rattle.tagged_word.specs.Shapes.{shapes_most}
 use Rattle.tagged_word.specs.Cells.{has_length, length_by, cell_size, size_within, words_least, words_of}
-use Rattle.object_graph.specs.declared.path.Path.{Path}
 use Rattle.page_space.specs.Extents.{Space, CellsEndAt}
 use Rattle.shape_tree.specs.Shapes.{IsPathShape, shape_path}
 use Rattle.shape_tree.specs.ShapeLayouts.{layout_of}
 use Rattle.shape_tree.proofs.PathLayouts.{IsLayout-path, layout_word-path}
-use Rattle.cell_layout.specs.declared.cell.Cell.{Cell}
 use Rattle.cell_layout.specs.Cells.{IsCell}
 use Rattle.cell_layout.proofs.CellsThere.{slice_get-layouts_in}
 use Rattle.heap_model.specs.Heaps.{Heap}

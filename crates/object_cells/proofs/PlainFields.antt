@@ -3,14 +3,11 @@ use Rattle.std.proofs.Common.{◌≡◌, ℕ, Bool, List, length, Some, slice_ge
 use Rattle.std.specs.List.{IsDistinct}
 use Rattle.std.specs.Prelude.{map, ◌==◌}
 use Rattle.tagged_word.specs.declared.layout.Kind.TheVariants as kind
-use Rattle.tagged_word.specs.declared.layout.LayoutWord.{LayoutWord}
-use Rattle.object_graph.specs.declared.path.PathField.{PathField}
-use Rattle.object_graph.specs.declared.object.Field.{Field}
+use Rattle.heap_model.specs.Types.{LayoutWord, PathField, Field, Cell}
 use Rattle.object_graph.specs.declared.object.Object.TheVariants.{Plain}
 use Rattle.object_graph.specs.Graphs.{Graph, PlainObject}
 use Rattle.object_graph.specs.Invariants.{IsObject}
 use Rattle.shape_tree.specs.Shapes.{shape_path}
-use Rattle.cell_layout.specs.declared.cell.Cell.{Cell}
 use Rattle.heap_model.specs.Heaps.{Heap, HasCell}
 use Rattle.heap_model.specs.Slots.{IsFieldWord}
 use Rattle.heap_model.specs.Kinds.{HasWord, IsPlainCell, IsSoundOf}
@@ -19,9 +16,9 @@ use Rattle.heap_model.specs.Showing.{ShowsPlain}
 use Rattle.heap_model.proofs.CellsApart.{one_at}
 use Rattle.heap_model.proofs.PathLayouts.{layout_is}
 use Rattle.heap_model.proofs.SlotWords.{All-slice_get}
-use Rattle.write_barrier.specs.Mains.{Mutator, heap_of, MainShows}
+use Rattle.write_barrier.specs.MutatorState.{Mutator, heap_of, MainShows}
 use Rattle.object_cells.specs.PlainObjects.{IsPlainAt}
-use Rattle.object_cells.specs.CellsAt.{IsWhole, HasPlainSlot, HasField, IsCapAt}
+use Rattle.object_cells.specs.CellsAt.{IsQuietWhole, HasPlainSlot, HasField, IsCapAt}
 
 -- a plain cell of a whole heap is sound
 pub plain_sound : {heap : Heap} {cell : Cell} {words : List ℕ} → Whole heap → HasCell heap cell words
@@ -110,5 +107,5 @@ names_distinct {graph = graph} {plain = plain} shows is =
     shows.is_graph.made is.object).1.distinct
 
 -- the heap is whole
-pub shown_whole : {main : Mutator} {graph : Graph} → MainShows main graph → IsWhole main
+pub shown_whole : {main : Mutator} {graph : Graph} → MainShows main graph → IsQuietWhole main
 shown_whole shows = record { quiet = shows.quiet; whole = shows.shows.whole }

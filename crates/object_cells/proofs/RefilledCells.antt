@@ -6,18 +6,15 @@ use Rattle.std.proofs.lemmas.List.{length-map}
 use Rattle.std.proofs.lemmas.Option.{slice_get_cases}
 use Rattle.tagged_word.specs.Cells.{store_head}
 use Rattle.tagged_word.proofs.Members.{rest_in}
-use Rattle.object_graph.specs.declared.object.Field.{Field}
-use Rattle.object_graph.specs.declared.path.PathField.{PathField}
+use Rattle.heap_model.specs.Types.{Field, PathField, Cell, Path}
 use Rattle.object_graph.specs.Paths.{path_of}
-use Rattle.cell_layout.specs.declared.cell.Cell.{Cell}
 use Rattle.heap_model.specs.Heaps.{Heap, HasCell, words_of_cell}
 use Rattle.heap_model.specs.Slots.{RefersTo, IsFieldWord, IsSlotWord}
-use Rattle.heap_model.specs.Kinds.{HasWord, HoldFields, IsPlainCell, IsSound}
+use Rattle.heap_model.specs.Kinds.{HasWord, HoldFields, IsPlainCell, IsSoundCell}
 use Rattle.heap_model.proofs.SlotWords.{field_is_slot}
 use Rattle.heap_model.specs.Wholeness.{Whole}
 use Rattle.heap_model.specs.Showing.{ShowsPlain}
 use Rattle.shape_tree.specs.Shapes.{IsPathShape}
-use Rattle.object_graph.specs.declared.path.Path.{Path}
 use Rattle.object_cells.specs.CellWrites.{reshaped}
 use Rattle.object_cells.specs.SlotChanges.{WritesFields, RefillsSlots}
 use Rattle.object_cells.proofs.SlotPlaces.{behind_cap}
@@ -102,7 +99,7 @@ module _ {old new : Heap} {cell : Cell} {shape : ℕ} {others made : List Cell} 
       slot_word number word here (not_below cap k)
 
   -- each cell that came or was made is sound
-  pub fields_sound : (one : Cell) → Contains (came ∷ (others ++ made)) one → IsSound new one (words_of_cell new one)
+  pub fields_sound : (one : Cell) → Contains (came ∷ (others ++ made)) one → IsSoundCell new one (words_of_cell new one)
   fields_sound =
       came_sound others made object_sound (beside_sound others made plain_owns writes.beside slots.refills.kinds
       (λ other there is.

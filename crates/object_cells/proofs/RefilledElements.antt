@@ -3,11 +3,10 @@
 use Rattle.std.proofs.Common.{◌≡◌, ℕ, List, ◌∷◌, ◌++◌, Contains, Some, slice_get, sym, ◌∙◌, ap, subst}
 use Rattle.std.proofs.lemmas.Option.{same_Some}
 use Rattle.tagged_word.proofs.Members.{rest_in}
-use Rattle.object_graph.specs.declared.value.Value.{Value}
-use Rattle.cell_layout.specs.declared.cell.Cell.{Cell}
+use Rattle.heap_model.specs.Types.{Value, Cell}
 use Rattle.heap_model.specs.Heaps.{Heap, words_of_cell}
 use Rattle.heap_model.specs.Slots.{RefersTo}
-use Rattle.heap_model.specs.Kinds.{HasWord, IsSoundOf, IsSound}
+use Rattle.heap_model.specs.Kinds.{HasWord, IsSoundOf, IsSoundCell}
 use Rattle.heap_model.specs.Wholeness.{Whole}
 use Rattle.heap_model.specs.Showing.{ShowsValue, ShowsList}
 use Rattle.heap_model.specs.Changes.{IsOwnChange}
@@ -18,7 +17,7 @@ use Rattle.object_cells.proofs.OwnerWrites.{list_owns}
 use Rattle.object_cells.proofs.OwnSteps.{OwnStep, own_step, stands, own_places_stay, own_box_stays}
 use Rattle.object_cells.proofs.OwnNames.{Renames, refills_rename, renamed_own}
 use Rattle.object_cells.proofs.NumberedSlots.{IsNumbered, has_numbers}
-use Rattle.object_cells.proofs.SlotPlaces.{one_beside}
+use Rattle.object_cells.proofs.SlotPlaces.{one_store_slots}
 use Rattle.object_cells.proofs.ShownLists.{shown_list_is_sound, list_store_sound}
 use Rattle.object_cells.proofs.BesideSound.{beside_sound, came_sound}
 
@@ -42,7 +41,7 @@ module _ {old new : Heap} {cell : Cell} {others made : List Cell} {before after 
   one_elements =
       let were = slots.were in
       let same : were.store ≡ shown.store = same_Some were.store shown.store (sym were.slot ∙ shown.slot) in
-      one_beside were.store shown.store slots.slots shown.slots same were.stands shown.has
+      one_store_slots were.store shown.store slots.slots shown.slots same were.stands shown.has
 
   -- each slot shows its element
   element_shown : (slot word : ℕ) (value : Value) → slice_get after slot ≡ Some value → HasWord slots.now slot word
@@ -72,7 +71,7 @@ module _ {old new : Heap} {cell : Cell} {others made : List Cell} {before after 
   one_store = same_Some slots.are.store slots.refills.store (sym slots.are.slot ∙ slots.refills.has_store)
 
   -- each cell that came or was made is sound
-  elements_sound : (one : Cell) → Contains (cell ∷ (others ++ made)) one → IsSound new one (words_of_cell new one)
+  elements_sound : (one : Cell) → Contains (cell ∷ (others ++ made)) one → IsSoundCell new one (words_of_cell new one)
   unfolding list_shows
   elements_sound =
       let list = shown_list_is_sound list_shows slots.few slots.enough slots.rest in

@@ -2,9 +2,7 @@
 -- where they may, and its cell shows its new fields.
 use Rattle.std.proofs.Common.{◌≡◌, ℕ, true, List, Some, slice_get, nat_lt, refl, sym, ◌∙◌, ap, subst}
 use Rattle.object_graph.specs.declared.value.Rep.TheVariants as rep
-use Rattle.object_graph.specs.declared.object.Field.{Field}
-use Rattle.object_graph.specs.declared.path.Path.{Path}
-use Rattle.cell_layout.specs.declared.cell.Cell.{Cell}
+use Rattle.heap_model.specs.Types.{Field, Path, Cell}
 use Rattle.heap_model.specs.Heaps.{Heap, words_of_cell}
 use Rattle.heap_model.specs.Kinds.{HasWord}
 use Rattle.heap_model.specs.Wholeness.{Whole}

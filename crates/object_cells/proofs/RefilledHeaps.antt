@@ -2,10 +2,10 @@
 -- own, and the heap shows the graph in which the object has these fields.
 use Rattle.std.proofs.Common.{List, ◌∷◌, sym, ◌∙◌, ap, subst}
 use Rattle.tagged_word.proofs.Members.{first_in}
-use Rattle.cell_layout.specs.declared.cell.Cell.{Cell}
+use Rattle.heap_model.specs.Types.{Cell}
 use Rattle.heap_model.specs.Heaps.{words_of_cell}
 use Rattle.heap_model.specs.Showing.{ShowsPlain}
-use Rattle.write_barrier.specs.Mains.{heap_of}
+use Rattle.write_barrier.specs.MutatorState.{heap_of}
 use Rattle.object_cells.specs.CellWrites.{reshaped}
 use Rattle.object_cells.specs.Refills.{IsAtRest}
 use Rattle.object_cells.specs.SlotChanges.{SlotsRefill, WrittenFieldsShow}

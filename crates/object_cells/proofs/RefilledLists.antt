@@ -3,14 +3,13 @@
 use Rattle.std.proofs.Common.{List, ◌∷◌, sym, ◌∙◌, ap}
 use Rattle.std.proofs.lemmas.List.Elements.{All-contains}
 use Rattle.tagged_word.proofs.Members.{first_in}
-use Rattle.object_graph.specs.declared.value.Value.{Value}
+use Rattle.heap_model.specs.Types.{Value, Cell}
 use Rattle.object_graph.specs.declared.value.Value.TheVariants.{Ref}
 use Rattle.object_graph.specs.declared.object.Object.TheVariants.{List as ListOf}
 use Rattle.object_graph.specs.Graphs.{Graph}
 use Rattle.graph_laws.proofs.MadeGraphs.{relists}
-use Rattle.cell_layout.specs.declared.cell.Cell.{Cell}
 use Rattle.heap_model.specs.Heaps.{Heap}
-use Rattle.write_barrier.specs.Mains.{heap_of}
+use Rattle.write_barrier.specs.MutatorState.{heap_of}
 use Rattle.object_cells.specs.HeldValues.{IsReachedValue}
 use Rattle.object_cells.specs.Refills.{IsAtRest}
 use Rattle.object_cells.specs.ElementChanges.{AreNewElements, WrittenElementsShow}

@@ -5,8 +5,7 @@ use Rattle.std.proofs.Common.{Option, slice_get}
 use Rattle.std.specs.Prelude.{All}
 use Rattle.std.proofs.lemmas.List.Elements.{All-contains}
 use Rattle.object_graph.specs.declared.object.Object.TheVariants.{Plain}
-use Rattle.object_graph.specs.declared.object.Field.{Field}
-use Rattle.object_graph.specs.declared.path.Path.{Path}
+use Rattle.heap_model.specs.Types.{Field, Path}
 use Rattle.heap_command.specs.declared.command.FaultWord.TheVariants.{ShapesFull}
 use Rattle.object_graph.specs.Paths.{path_of, with_path}
 use Rattle.object_graph.specs.Graphs.{Graph, PlainObject}
@@ -16,7 +15,7 @@ use Rattle.object_graph.specs.Limits.{paths_most, ideal_limits}
 use Rattle.object_graph.proofs.Leads.{Leads}
 use Rattle.graph_laws.proofs.MadeGraphs.{reshapes}
 use Rattle.heap_model.proofs.SlotWords.{All-slice_get}
-use Rattle.write_barrier.specs.Mains.{heap_of}
+use Rattle.write_barrier.specs.MutatorState.{heap_of}
 use Rattle.object_cells.specs.HeldValues.{IsReachedValue}
 use Rattle.object_cells.specs.Refills.{AreNewFields, RefillsShow}
 use Rattle.object_cells.proofs.ReplacedObjects.{HasReachedLinks, ReplacesCells, replaced_shows}

@@ -5,24 +5,23 @@ use Rattle.std.specs.Prelude.{ℤ, option_map, if◌then◌else◌}
 use Rattle.std.specs.Option.{option_and_then}
 use Rattle.std.proofs.lemmas.Bool.{false≢true, eqb-true}
 use Rattle.std.proofs.lemmas.Option.{none-some}
-use Rattle.tagged_word.specs.declared.header.Header.{Header}
+use Rattle.heap_model.specs.Types.{Header, Cell}
 use Rattle.tagged_word.specs.declared.layout.Kind.TheVariants as kind
 use Rattle.tagged_word.specs.Headers.{header_bits}
 use Rattle.tagged_word.specs.Readings.{reference_in, header_in}
 use Rattle.tagged_word.specs.Shapes.{box_shape}
 use Rattle.tagged_word.proofs.Readings.{header_to, reference_from}
 use Rattle.nursery.specs.Young.{HasRoom}
-use Rattle.cell_layout.specs.declared.cell.Cell.{Cell}
 use Rattle.heap_model.specs.Heaps.{Heap, HasCell}
 use Rattle.heap_model.specs.Slots.{reference_word, IsSlotWord, RefersTo}
 use Rattle.heap_model.specs.Needs.{box_need, is_box_at, is_box_word, shape_at}
 use Rattle.heap_model.specs.Wholeness.{HasSizes}
 use Rattle.heap_model.proofs.CellsApart.{has_is_cell}
-use Rattle.write_barrier.specs.Mains.{Mutator}
+use Rattle.write_barrier.specs.MutatorState.{Mutator}
 use Rattle.write_barrier.specs.declared.room.NoRoom.{NoRoom}
-use Rattle.object_cells.specs.declared.content.Content.TheVariants as content
-use Rattle.object_cells.specs.declared.content.Filling.{Filling}
-use Rattle.object_cells.specs.declared.content.Filling.TheVariants as filling
+use Rattle.object_cells.specs.declared.content.SlotContent.TheVariants as content
+use Rattle.object_cells.specs.declared.content.SlotWrite.{SlotWrite}
+use Rattle.object_cells.specs.declared.content.SlotWrite.TheVariants as filling
 use Rattle.object_cells.specs.Contents.{box_in, filling_of, filling_need, LacksRoom}
 use Rattle.object_cells.proofs.CellsRead.{shape_is_box}
 use Rattle.object_cells.proofs.WordsTold.{slot_target}
@@ -83,7 +82,7 @@ box_of_word {heap} word at sized slot is =
     }
 
 -- where there is no room, so many words were needed
-pub lacks_need : (main : Mutator) (filling : Filling) (full : NoRoom) → LacksRoom main filling full
+pub lacks_need : (main : Mutator) (filling : SlotWrite) (full : NoRoom) → LacksRoom main filling full
     → (full.need ≡ filling_need filling) × (HasRoom main.young full.need → ⊥)
 lacks_need main (filling.Tagged word) full lacks = absurd lacks
 lacks_need main (filling.Raw word) full lacks = absurd lacks

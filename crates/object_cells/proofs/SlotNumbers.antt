@@ -1,7 +1,7 @@
 -- The slots of an object by numbers: which address the slot of a number has, and which slots there are besides.
 use Rattle.std.proofs.Common.{◌≡◌, ℕ, ◌+◌, List}
 use Rattle.tagged_word.specs.Cells.{store_slot}
-use Rattle.cell_layout.specs.declared.cell.Cell.{Cell}
+use Rattle.heap_model.specs.Types.{Cell}
 use Rattle.heap_model.specs.Heaps.{Heap, words_of_cell}
 use Rattle.heap_model.specs.Slots.{RefersTo}
 use Rattle.heap_model.specs.Kinds.{HasWord}

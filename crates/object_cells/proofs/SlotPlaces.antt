@@ -10,9 +10,9 @@ use Rattle.tagged_word.specs.Readings.{reference_in}
 use Rattle.tagged_word.proofs.Readings.{reference_from, reference_to}
 use Rattle.page_space.specs.Sizes.{AreWithin}
 use Rattle.page_space.specs.Extents.{marks_start}
-use Rattle.cell_layout.specs.declared.cell.Cell.{Cell}
+use Rattle.heap_model.specs.Types.{Cell}
 use Rattle.heap_model.specs.Heaps.{Heap, HasCell}
-use Rattle.heap_model.specs.Slots.{IsBeside}
+use Rattle.heap_model.specs.Slots.{HoldsStore}
 use Rattle.heap_model.specs.Kinds.{HasWord, HasSlots}
 use Rattle.heap_model.specs.Wholeness.{HasSizes}
 use Rattle.heap_model.proofs.CellWords.{slice_get-drop, slice_get-append_left, slice_get-append_right, words_by_kind}
@@ -59,10 +59,10 @@ pub record StandsAt (heap : Heap) (at word : ℕ) : Type 0 where
 
 -- a word of the store to which the word refers
 pub beside_word : {heap : Heap} (word : ℕ) (beside : List ℕ) (store k x : ℕ) → HasSizes heap
-    → IsBeside heap kind.Store word beside → reference_in word ≡ Some store → HasWord beside k x
+    → HoldsStore heap kind.Store word beside → reference_in word ≡ Some store → HasWord beside k x
     → StandsAt heap (store + (2 + k)) x
-beside_word word beside store k x sized IsBeside.none is there = absurd (none-some x there)
-beside_word {heap} word beside store k x sized (IsBeside.store to cell words refers of_kind) is there =
+beside_word word beside store k x sized HoldsStore.none is there = absurd (none-some x there)
+beside_word {heap} word beside store k x sized (HoldsStore.store to cell words refers of_kind) is there =
     let same : cell.at ≡ store = same_reference cell.at store (sym refers.refers ∙ (reference_from word store is).1) in
     let here : HasWord words (2 + k) x = sym (slice_get-drop store_head words k (2 + k) refl) ∙ there in
     record {
@@ -78,10 +78,10 @@ beside_word {heap} word beside store k x sized (IsBeside.store to cell words ref
 
 -- a word beside which there is something refers to a store
 pub beside_refers : {heap : Heap} (word : ℕ) (beside : List ℕ) (k : ℕ) → HasSizes heap
-    → AreWithin heap.space.sizes heap.space.variables → IsBeside heap kind.Store word beside → k < length beside
+    → AreWithin heap.space.sizes heap.space.variables → HoldsStore heap kind.Store word beside → k < length beside
     → reference_in word ≡ None → ⊥
-beside_refers word beside k sized within IsBeside.none below none = omega arith
-beside_refers word beside k sized within (IsBeside.store to cell words refers of_kind) below none =
+beside_refers word beside k sized within HoldsStore.none below none = omega arith
+beside_refers word beside k sized within (HoldsStore.store to cell words refers of_kind) below none =
     none-some cell.at (sym none ∙ reference_to word cell.at (cell_fits sized within refers.has) refers.refers)
 
 -- a slot from the cap on is one of the store
@@ -102,16 +102,16 @@ behind_cap_below {words = words} slot cap has plain are caps from below =
     omega (arith, plain_words has plain, length-drop plain_head words, ap length are.are, length-append own are.beside)
 
 -- one word has one list of slots beside it
-pub one_beside : {heap : Heap} (word other : ℕ) (beside others : List ℕ) → word ≡ other
-    → IsBeside heap kind.Store word beside
-    → IsBeside heap kind.Store other others → beside ≡ others
-one_beside word other beside others same IsBeside.none IsBeside.none = refl
-one_beside word other beside others same IsBeside.none (IsBeside.store to cell words refers of_kind) =
+pub one_store_slots : {heap : Heap} (word other : ℕ) (beside others : List ℕ) → word ≡ other
+    → HoldsStore heap kind.Store word beside
+    → HoldsStore heap kind.Store other others → beside ≡ others
+one_store_slots word other beside others same HoldsStore.none HoldsStore.none = refl
+one_store_slots word other beside others same HoldsStore.none (HoldsStore.store to cell words refers of_kind) =
     absurd (undefined_refers_not cell.at (same ∙ refers.refers))
-one_beside word other beside others same (IsBeside.store to cell words refers of_kind) IsBeside.none =
+one_store_slots word other beside others same (HoldsStore.store to cell words refers of_kind) HoldsStore.none =
     absurd (undefined_refers_not cell.at (sym same ∙ refers.refers))
-one_beside {heap} word other beside others same (IsBeside.store to cell words refers of_kind)
-    (IsBeside.store to' cell' words' refers' of_kind') =
+one_store_slots {heap} word other beside others same (HoldsStore.store to cell words refers of_kind)
+    (HoldsStore.store to' cell' words' refers' of_kind') =
     let one : cell ≡ cell' = one_at refers.has refers'.has
     (same_reference cell.at cell'.at (sym refers.refers ∙ same ∙ refers'.refers)) in
     let has = subst (λ (c : Cell). HasCell heap c words) one refers.has in
@@ -122,5 +122,5 @@ pub one_slots : {heap : Heap} {words slots others : List ℕ} → HasSlots heap 
     → slots ≡ others
 one_slots {words = words} a b =
     let store : a.store ≡ b.store = same_Some a.store b.store (sym a.slot ∙ b.slot) in
-    let beside = one_beside a.store b.store a.beside b.beside store a.stands b.stands in
+    let beside = one_store_slots a.store b.store a.beside b.beside store a.stands b.stands in
     a.are ∙ ap (λ all. drop plain_head words ++ all) beside ∙ sym b.are

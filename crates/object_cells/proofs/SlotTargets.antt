@@ -1,11 +1,10 @@
 -- What the words of slots refer to has two words before the marks.
 use Rattle.std.proofs.Common.{◌≡◌, ℕ, ◌+◌, ◌≤◌, List, sym, ◌∙◌, arith, IsTrue, refl}
 use Rattle.std.proofs.lemmas.Bool.{false≢true}
-use Rattle.tagged_word.specs.declared.layout.Kind.{Kind}
+use Rattle.heap_model.specs.Types.{Kind, Cell}
 use Rattle.tagged_word.specs.declared.layout.Kind.TheVariants as kind
 use Rattle.tagged_word.specs.Cells.{words_of}
 use Rattle.page_space.specs.Extents.{marks_start}
-use Rattle.cell_layout.specs.declared.cell.Cell.{Cell}
 use Rattle.heap_model.specs.Heaps.{Heap, HasCell}
 use Rattle.heap_model.specs.Slots.{is_object_kind, reference_word, IsSlotWord}
 use Rattle.heap_model.specs.Needs.{box_words}

@@ -7,15 +7,15 @@ use Rattle.std.proofs.lemmas.List.Elements.{Contains-append_left}
 use Rattle.tagged_word.specs.declared.layout.Kind.TheVariants as kind
 use Rattle.tagged_word.specs.Cells.{plain_head, store_head, store_slot}
 use Rattle.tagged_word.proofs.Members.{first_in, rest_in, in_cases}
-use Rattle.cell_layout.specs.declared.cell.Cell.{Cell}
+use Rattle.heap_model.specs.Types.{Cell}
 use Rattle.heap_model.specs.Heaps.{Heap, HasCell, words_of_cell}
-use Rattle.heap_model.specs.Slots.{is_object_kind, RefersTo, IsBeside}
+use Rattle.heap_model.specs.Slots.{is_object_kind, RefersTo, HoldsStore}
 use Rattle.heap_model.specs.Kinds.{HasWord, HasSlots}
 use Rattle.heap_model.specs.Wholeness.{Whole, HasSlotAt}
 use Rattle.heap_model.specs.Changes.{CellsChange}
 use Rattle.heap_model.proofs.CellsApart.{IsOfCell, one_at}
 use Rattle.heap_model.proofs.CellWords.{slice_get-drop, word_there, words_by_kind, words_are_size}
-use Rattle.heap_model.proofs.Fates.{cells_move, Fate, fate}
+use Rattle.heap_model.proofs.CellOutcomes.{cells_move, Fate, fate}
 use Rattle.heap_model.proofs.OneOwner.{object_is_not_owned}
 use Rattle.heap_model.proofs.SlotWords.{IsStoreKind, store_is_owned}
 use Rattle.heap_model.proofs.WordClasses.{same_reference, undefined_refers_not}
@@ -106,19 +106,19 @@ store_now {cell = cell} {store = store} puts slot =
 -- the slots that stand beside the object in the new heap
 pub record BesideNow (new : Heap) (store : ℕ) (before : List ℕ) : Type 0 where
   pub slots : List ℕ
-  pub stands : IsBeside new kind.Store store slots
+  pub stands : HoldsStore new kind.Store store slots
   pub long : length slots ≡ length before
 
 -- there are as many as before
 pub beside_now : {old new : Heap} (store : ℕ) (before : List ℕ) → StoresStand old new
-    → IsBeside old kind.Store store before → BesideNow new store before
-beside_now store before stand IsBeside.none = record { slots = []; stands = IsBeside.none; long = refl }
-beside_now {new = new} store before stand (IsBeside.store to other words refers of_kind) =
+    → HoldsStore old kind.Store store before → BesideNow new store before
+beside_now store before stand HoldsStore.none = record { slots = []; stands = HoldsStore.none; long = refl }
+beside_now {new = new} store before stand (HoldsStore.store to other words refers of_kind) =
     let now = stand other words refers.has (inl of_kind) in
     let all : List ℕ = words_of_cell new other in
     record {
       slots = drop store_head all;
-      stands = IsBeside.store store other all (record { refers = refers.refers; has = now }) of_kind;
+      stands = HoldsStore.store store other all (record { refers = refers.refers; has = now }) of_kind;
       long = omega (
         arith,
         length-drop store_head all,
@@ -130,11 +130,11 @@ beside_now {new = new} store before stand (IsBeside.store to other words refers 
 
 -- the store to which a word refers was there
 pub target_before : {old new : Heap} {other : Cell} {words : List ℕ} (store : ℕ) (before : List ℕ) → StoresStand old new
-    → IsBeside old kind.Store store before → RefersTo new store other words
+    → HoldsStore old kind.Store store before → RefersTo new store other words
     → (were : List ℕ) × RefersTo old store other were
-target_before {other = other} store before stand IsBeside.none refers =
+target_before {other = other} store before stand HoldsStore.none refers =
     absurd (undefined_refers_not other.at refers.refers)
-target_before {old} {other = other} store before stand (IsBeside.store to target words was of_kind) refers =
+target_before {old} {other = other} store before stand (HoldsStore.store to target words was of_kind) refers =
     let at : target.at ≡ other.at = same_reference target.at other.at (sym was.refers ∙ refers.refers) in
     let same : target ≡ other = one_at (stand target words was.has (inl of_kind)) refers.has at in
     (words, subst (λ (one : Cell). RefersTo old store one words) same was)
@@ -150,7 +150,7 @@ numbered_before puts are (IsNumbered.own below is of_cell) =
 numbered_before {old} puts are (IsNumbered.beside store j other others slot refers of_kind counts is of_cell) =
     let same : are.store ≡ store = same_Some are.store store (sym (store_now puts are.slot) ∙ slot) in
     let before = target_before store are.beside (stores_stand puts)
-    (subst (λ w. IsBeside old kind.Store w are.beside) same are.stands) refers in
+    (subst (λ w. HoldsStore old kind.Store w are.beside) same are.stands) refers in
     IsNumbered.beside store j other before.0 (are.slot ∙ ap Some same) before.1 of_kind
     (omega (arith, counts, becomes_cap puts.writes.becomes)) is of_cell
 
@@ -187,7 +187,7 @@ numbered_word {cell = cell} k word has plain are there = elim (cases_lt k cell.l
 
 -- what stands at the address of a slot of a store beside an object is its word
 pub beside_word_stands : {heap : Heap} {other : Cell} {slots others : List ℕ} (store j a : ℕ)
-    → IsBeside heap kind.Store store slots → RefersTo heap store other others → a ≡ other.at + (store_head + j)
+    → HoldsStore heap kind.Store store slots → RefersTo heap store other others → a ≡ other.at + (store_head + j)
     → IsOfCell other a → slice_get heap.words a ≡ slice_get slots j
 beside_word_stands {heap} {slots = slots} {others} store j a stands refers is of_cell =
     let of_store = is_store_of store slots stands refers in
@@ -207,7 +207,7 @@ numbered_stands {heap} {cell} k a has plain are
     let cap : ℕ = cell.layout.cap in
     let back : k - cap ≡ j = omega (arith, counts) in
     let same : are.store ≡ store = same_Some are.store store (sym are.slot ∙ slot) in
-    let stands = subst (λ w. IsBeside heap kind.Store w are.beside) same are.stands in
+    let stands = subst (λ w. HoldsStore heap kind.Store w are.beside) same are.stands in
     beside_word_stands store j a stands refers is of_cell ∙ ap (slice_get are.beside) (sym back)
     ∙ behind_cap k cap has plain are refl (omega (arith, counts))
 

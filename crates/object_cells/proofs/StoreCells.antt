@@ -6,26 +6,26 @@ use Rattle.std.proofs.lemmas.Bool.{cases_lt}
 use Rattle.tagged_word.specs.declared.layout.Kind.TheVariants as kind
 use Rattle.tagged_word.specs.Cells.{plain_head, store_head}
 use Rattle.tagged_word.proofs.Members.{first_in, one_in}
-use Rattle.cell_layout.specs.declared.cell.Cell.{Cell}
+use Rattle.heap_model.specs.Types.{Cell}
 use Rattle.heap_model.specs.Heaps.{Heap, HasCell, words_of_cell}
-use Rattle.heap_model.specs.Slots.{RefersTo, IsBeside}
+use Rattle.heap_model.specs.Slots.{RefersTo, HoldsStore}
 use Rattle.heap_model.specs.Kinds.{HasSlots}
 use Rattle.heap_model.specs.Wholeness.{HasRows}
 use Rattle.heap_model.proofs.CellsApart.{IsOfCell, first_of_cell, cells_apart}
 use Rattle.heap_model.proofs.CellWords.{words_by_kind, words_are_size}
 
 -- the store to which a word refers, if there is one
-abbrev pub store_cells : {heap : Heap} {word : ℕ} {beside : List ℕ} → IsBeside heap kind.Store word beside → List Cell
-store_cells IsBeside.none = []
-store_cells (IsBeside.store to cell words refers of_kind) = cell ∷ []
+abbrev pub store_cells : {heap : Heap} {word : ℕ} {beside : List ℕ} → HoldsStore heap kind.Store word beside → List Cell
+store_cells HoldsStore.none = []
+store_cells (HoldsStore.store to cell words refers of_kind) = cell ∷ []
 
 -- its address
-abbrev pub store_at : {heap : Heap} {word : ℕ} {beside : List ℕ} → IsBeside heap kind.Store word beside → ℕ
-store_at IsBeside.none = 0
-store_at (IsBeside.store to cell words refers of_kind) = cell.at
+abbrev pub store_at : {heap : Heap} {word : ℕ} {beside : List ℕ} → HoldsStore heap kind.Store word beside → ℕ
+store_at HoldsStore.none = 0
+store_at (HoldsStore.store to cell words refers of_kind) = cell.at
 
 -- the cell is the store to which the word refers, and has these slots
-pub record IsStoreBeside (heap : Heap) (word : ℕ) (beside : List ℕ) (store : ℕ) (cell : Cell) : Type 0 where
+pub record IsStoreOf (heap : Heap) (word : ℕ) (beside : List ℕ) (store : ℕ) (cell : Cell) : Type 0 where
   pub refers : RefersTo heap word cell (words_of_cell heap cell)
   pub of_kind : cell.layout.kind ≡ kind.Store
   pub at : cell.at ≡ store
@@ -49,12 +49,12 @@ with_own_words {heap} {word} {cell} refers =
     subst (RefersTo heap word cell) (sym refers.has.words_are) refers
 
 -- the store is one
-pub is_store_cell : {heap : Heap} {word : ℕ} {beside : List ℕ} (stands : IsBeside heap kind.Store word beside)
-    (cell : Cell) → Contains (store_cells stands) cell → IsStoreBeside heap word beside (store_at stands) cell
-is_store_cell IsBeside.none cell there = absurd (omega (arith, there.1))
-is_store_cell {heap} {word} {beside} (IsBeside.store to one words refers of_kind) cell there =
+pub is_store_cell : {heap : Heap} {word : ℕ} {beside : List ℕ} (stands : HoldsStore heap kind.Store word beside)
+    (cell : Cell) → Contains (store_cells stands) cell → IsStoreOf heap word beside (store_at stands) cell
+is_store_cell HoldsStore.none cell there = absurd (omega (arith, there.1))
+is_store_cell {heap} {word} {beside} (HoldsStore.store to one words refers of_kind) cell there =
     let same : one ≡ cell = one_in one cell there in
-    subst (λ (c : Cell). IsStoreBeside heap word (drop store_head words) one.at c) same (record {
+    subst (λ (c : Cell). IsStoreOf heap word (drop store_head words) one.at c) same (record {
       refers = with_own_words refers;
       of_kind = of_kind;
       at = refl;
@@ -62,10 +62,10 @@ is_store_cell {heap} {word} {beside} (IsBeside.store to one words refers of_kind
     })
 
 -- where there are slots beside the object, it has a store
-pub store_cell_there : {heap : Heap} {word : ℕ} {beside : List ℕ} (stands : IsBeside heap kind.Store word beside)
+pub store_cell_there : {heap : Heap} {word : ℕ} {beside : List ℕ} (stands : HoldsStore heap kind.Store word beside)
     → 0 < length beside → (cell : Cell) × Contains (store_cells stands) cell
-store_cell_there IsBeside.none some = absurd (omega arith)
-store_cell_there (IsBeside.store to cell words refers of_kind) some = (cell, first_in cell [])
+store_cell_there HoldsStore.none some = absurd (omega arith)
+store_cell_there (HoldsStore.store to cell words refers of_kind) some = (cell, first_in cell [])
 
 -- an object has as many slots as in-object slots and slots beside it
 pub slots_counted : {heap : Heap} {cell : Cell} {words slots : List ℕ} → HasCell heap cell words
@@ -101,7 +101,7 @@ cells_beside {cell = cell} {other} rows has has_other apart = elim (cases_lt oth
 
 -- the store of a plain object is another cell
 pub store_is_other : {heap : Heap} {word store : ℕ} {beside : List ℕ} {cell other : Cell}
-    → IsStoreBeside heap word beside store other → cell.layout.kind ≡ kind.Plain → cell ≡ other → ⊥
+    → IsStoreOf heap word beside store other → cell.layout.kind ≡ kind.Plain → cell ≡ other → ⊥
 store_is_other is plain same =
     let kinds : kind.Plain ≡ kind.Store = sym plain ∙ ap (λ (c : Cell). c.layout.kind) same ∙ is.of_kind in
     cc
@@ -109,7 +109,7 @@ store_is_other is plain same =
 -- the store of a plain object, where it has more slots than in-object ones
 pub more_slots : {heap : Heap} {cell : Cell} {words slots : List ℕ} → HasCell heap cell words
     → cell.layout.kind ≡ kind.Plain → (are : HasSlots heap words slots) → cell.layout.cap < length slots
-    → (other : Cell) × IsStoreBeside heap are.store are.beside (store_at are.stands) other
+    → (other : Cell) × IsStoreOf heap are.store are.beside (store_at are.stands) other
 more_slots has plain are some =
     let there = store_cell_there are.stands (omega (arith, slots_counted has plain are, some)) in
     (there.0, is_store_cell are.stands there.0 there.1)

@@ -10,10 +10,10 @@ use Rattle.tagged_word.proofs.Readings.{reference_from}
 use Rattle.page_space.specs.Sizes.{AreWithin}
 use Rattle.page_space.specs.Extents.{eden_start}
 use Rattle.page_space.proofs.Starts.{marks_start_is}
-use Rattle.cell_layout.specs.declared.cell.Cell.{Cell}
+use Rattle.heap_model.specs.Types.{Cell}
 use Rattle.cell_layout.proofs.OneCell.{cells_have_words}
 use Rattle.heap_model.specs.Heaps.{Heap, HasCell}
-use Rattle.heap_model.specs.Slots.{reference_word, RefersTo, IsBeside}
+use Rattle.heap_model.specs.Slots.{reference_word, RefersTo, HoldsStore}
 use Rattle.heap_model.specs.Kinds.{HasWord}
 use Rattle.heap_model.specs.Wholeness.{Whole}
 use Rattle.heap_model.specs.Needs.{capacity_by}
@@ -21,10 +21,10 @@ use Rattle.heap_model.proofs.CellsApart.{has_is_cell, one_at, one_words}
 use Rattle.heap_model.proofs.CellWords.{words_by_kind, words_are_size}
 use Rattle.heap_model.proofs.WordClasses.{same_reference, undefined_refers_not}
 use Rattle.object_cells.specs.declared.stores.Store.{Store}
-use Rattle.object_cells.specs.Made.{HasBeside, IsStoreAt}
+use Rattle.object_cells.specs.Made.{HasStoreSlot, IsStoreAt}
 use Rattle.object_cells.proofs.CellsRead.{cell_before_marks, word_is}
 use Rattle.object_cells.proofs.KeptCapacities.{capacity_read, length_stands}
-use Rattle.object_cells.proofs.SlotPlaces.{one_beside, beside_refers}
+use Rattle.object_cells.proofs.SlotPlaces.{one_store_slots, beside_refers}
 use Rattle.object_cells.proofs.UnusedWords.{cell_apart}
 
 -- a store stands at the address, to which the word refers, and these are its slots
@@ -40,10 +40,10 @@ pub record IsFoundStore (heap : Heap) (word : ℕ) (beside : List ℕ) (at : ℕ
   pub counted : slice_get heap.words (at + 1) ≡ Some cell.length
 
 -- a store to which the word refers is found
-pub found_store : {heap : Heap} (word : ℕ) (beside : List ℕ) (at : ℕ) → IsBeside heap kind.Store word beside
+pub found_store : {heap : Heap} (word : ℕ) (beside : List ℕ) (at : ℕ) → HoldsStore heap kind.Store word beside
     → word ≡ reference_word at → IsFoundStore heap word beside at
-found_store word beside at IsBeside.none is = absurd (undefined_refers_not at is)
-found_store {heap} word beside at (IsBeside.store to cell words refers of_kind) is =
+found_store word beside at HoldsStore.none is = absurd (undefined_refers_not at is)
+found_store {heap} word beside at (HoldsStore.store to cell words refers of_kind) is =
     let same : cell.at ≡ at = same_reference cell.at at (sym refers.refers ∙ is) in
     let long = words_by_kind kind.Store refers.has of_kind in
     record {
@@ -65,7 +65,7 @@ pub record ReadStore (heap : Heap) (at : ℕ) : Type 0 where
   pub found : IsFoundStore heap word beside at
 
 -- so is that to which an object's slot for a store refers
-pub read_store : {heap : Heap} (object word at : ℕ) → HasBeside heap object
+pub read_store : {heap : Heap} (object word at : ℕ) → HasStoreSlot heap object
     → slice_get heap.words (object + 1) ≡ Some word → reference_in word ≡ Some at → ReadStore heap at
 read_store object word at there stands refers =
     let read = word_is 1 there.word word object there.has there.stands there.slot stands in
@@ -85,7 +85,7 @@ same_store {heap} {cell} {other} {words} {others} a b has has_other same one two
     same_Some a b (sym one ∙ ap (λ all. slice_get all store_slot) words_are ∙ two)
 
 -- what is read of a store is what stands beside the object
-pub store_is : {heap : Heap} (object word at capacity : ℕ) → Whole heap → HasBeside heap object
+pub store_is : {heap : Heap} (object word at capacity : ℕ) → Whole heap → HasStoreSlot heap object
     → slice_get heap.words (object + 1) ≡ Some word → reference_in word ≡ Some at
     → slice_get heap.words (at + 1) ≡ Some capacity
     → IsStoreAt heap object (record { at = at; capacity = capacity })
@@ -107,7 +107,7 @@ store_is {heap} object word at capacity whole there stands refers counted =
       slots = λ other others more word_other has_other stands_other slot_other are_other.
           let same = same_store word_other there.word has_other there.has (stands_other ∙ sym there.stands) slot_other
           there.slot in
-          ap length (one_beside word_other there.word more there.beside same are_other there.are) ∙ beside_long;
+          ap length (one_store_slots word_other there.word more there.beside same are_other there.are) ∙ beside_long;
       refers = λ other others more word_other has_other stands_other slot_other are_other some.
           same_store word_other there.word has_other there.has (stands_other ∙ sym there.stands) slot_other there.slot
           ∙ sym is ∙ (reference_from word at refers).1;
@@ -115,7 +115,7 @@ store_is {heap} object word at capacity whole there stands refers counted =
 
 -- where nothing is read, nothing stands beside it
 pub store_is_none : {heap : Heap} (object word : ℕ) → Whole heap
-    → AreWithin heap.space.sizes heap.space.variables → HasBeside heap object
+    → AreWithin heap.space.sizes heap.space.variables → HasStoreSlot heap object
     → slice_get heap.words (object + 1) ≡ Some word
     → reference_in word ≡ None → IsStoreAt heap object (record { at = 0; capacity = 0 })
 store_is_none {heap} object word whole within there stands none =
@@ -135,7 +135,7 @@ store_is_none {heap} object word whole within there stands none =
       slots = λ other others more word_other has_other stands_other slot_other are_other.
           let same = same_store word_other there.word has_other there.has (stands_other ∙ sym there.stands) slot_other
           there.slot in
-          ap length (one_beside word_other there.word more there.beside same are_other there.are) ∙ short;
+          ap length (one_store_slots word_other there.word more there.beside same are_other there.are) ∙ short;
       refers = λ other others more word_other has_other stands_other slot_other are_other some.
           absurd (omega (arith, some));
     }
@@ -148,7 +148,7 @@ pub record StoredAt (heap : Heap) (word : ℕ) (beside : List ℕ) (store : Stor
 -- so it is where it has slots
 pub stored_at : {heap : Heap} {cell : Cell} {words : List ℕ} (object word : ℕ) (beside : List ℕ) (store : Store)
     → IsStoreAt heap object store → HasCell heap cell words → cell.at ≡ object → HasWord words store_slot word
-    → IsBeside heap kind.Store word beside → 0 < store.capacity → StoredAt heap word beside store
+    → HoldsStore heap kind.Store word beside → 0 < store.capacity → StoredAt heap word beside store
 stored_at {cell = cell} {words} object word beside store is has stands slot are some =
     let found = found_store word beside store.at are (is.refers cell words beside word has stands slot are some) in
     record {

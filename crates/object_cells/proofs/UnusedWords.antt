@@ -3,7 +3,7 @@ use Rattle.std.proofs.Common.{◌≡◌, ℕ, ◌+◌, ◌*◌, ◌/◌, ◌≤�
 use Rattle.std.proofs.Common.{subst, arith}
 use Rattle.std.proofs.lemmas.Bool.{cases_lt}
 use Rattle.page_space.specs.declared.region.Region.TheVariants.{Page, Eden}
-use Rattle.page_space.specs.Extents.{Extent, Space, Holds, eden_start, segments_start, marks_start}
+use Rattle.page_space.specs.Extents.{Extent, Space, ContainsAddress, eden_start, segments_start, marks_start}
 use Rattle.page_space.specs.Sizes.{AreWithin, page_words}
 use Rattle.page_space.proofs.CellAddresses.{in_page, page_ends, cells_end}
 use Rattle.page_space.proofs.CellEnds.{end_once}
@@ -12,14 +12,14 @@ use Rattle.page_space.proofs.Starts.{roots_start_is, layouts_start_is, marks_sta
 use Rattle.page_space.proofs.Covering.{disjoint}
 use Rattle.page_space.proofs.Standing.{extent_of, eden_stands}
 use Rattle.nursery.specs.Young.{HasRoom}
-use Rattle.cell_layout.specs.declared.cell.Cell.{Cell}
+use Rattle.heap_model.specs.Types.{Cell}
 use Rattle.cell_layout.proofs.Rows.{cell_within}
 use Rattle.heap_model.specs.Heaps.{Heap, Row, EndsUsed, IsUsedRow, HasCell}
 use Rattle.heap_model.specs.Wholeness.{HasRows}
 use Rattle.heap_model.proofs.CellsApart.{IsOfCell, has_is_cell, first_of_cell, cell_extent_stands}
 use Rattle.heap_model.proofs.Patches.{row_holds}
-use Rattle.write_barrier.specs.Mains.{Mutator, heap_of, IsTied}
-use Rattle.word_store.specs.Copies.{AreApart}
+use Rattle.write_barrier.specs.MutatorState.{Mutator, heap_of, IsTied}
+use Rattle.word_store.specs.Copies.{AreDisjoint}
 use Rattle.tagged_word.specs.Cells.{store_head}
 use Rattle.object_cells.specs.declared.stores.Store.{Store}
 use Rattle.object_cells.specs.Contents.{next_at}
@@ -54,7 +54,7 @@ run_before_marks main need at space tied room is same =
 pub run_apart : (main : Mutator) (object need at : ℕ) (store : Store) → IsTied main
     → IsStoreAt (heap_of main) object store → HasRoom main.young need → at ≡ next_at main
     → store_head + store.capacity ≤ need
-    → AreApart (store.at + store_head) (at + store_head) store.capacity
+    → AreDisjoint (store.at + store_head) (at + store_head) store.capacity
 run_apart main object need at store tied is room stands fits =
     let run = next_before_segments main need tied room in
     elim is.used [
@@ -78,7 +78,7 @@ ends_in_eden : {heap : Heap} {cell : Cell} {words : List ℕ} {at : ℕ} → Has
     → cell.at + cell.size ≤ eden_start heap.space + heap.used
 ends_in_eden {heap} {cell} {at = at} rows has of_cell from below =
     let row : Row = has.row in
-    let in_eden : Holds (extent_of heap.space Eden) at = record { from = from; below = below } in
+    let in_eden : ContainsAddress (extent_of heap.space Eden) at = record { from = from; below = below } in
     let same : row.extent ≡ extent_of heap.space Eden =
     disjoint heap.space row.extent (extent_of heap.space Eden) at
     (cell_extent_stands heap.space row.extent has.in_region)

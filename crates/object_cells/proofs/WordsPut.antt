@@ -7,11 +7,11 @@ use Rattle.page_space.specs.Extents.{Space, layouts_start, marks_start}
 use Rattle.shape_tree.specs.Shapes.{AreShapes}
 use Rattle.shape_tree.specs.ShapeLayouts.{layout_word}
 use Rattle.object_graph.proofs.Lists.{slice_get-set_same, slice_get-set_other}
-use Rattle.heap_table.specs.Seats.{heap_words, StaysBeside}
+use Rattle.heap_table.specs.Seats.{heap_words, RestStays}
 use Rattle.heap_table.proofs.HeapWords.{stays_beside-put}
 use Rattle.heap_model.specs.Wholeness.{HasSizes}
-use Rattle.write_barrier.specs.Mains.{Mutator, heap_of, with_word}
-use Rattle.object_cells.proofs.WordsBeside.{put_beside}
+use Rattle.write_barrier.specs.MutatorState.{Mutator, heap_of, with_word}
+use Rattle.object_cells.proofs.RestOfWords.{put_rest}
 
 -- a word that is put before the marks is one of the heap's
 pub heap_with_word : (main : Mutator) (a word : ℕ) → a < marks_start main.seat.space
@@ -20,7 +20,7 @@ heap_with_word main a word below = take-set-lt (marks_start main.seat.space) mai
 
 -- Of the old mutator only words at two addresses have changed: that of an object's header, and one other.
 pub record PutsTwo (old new : Mutator) (object head at word : ℕ) : Type 0 where
-  pub beside : StaysBeside old.seat new.seat
+  pub beside : RestStays old.seat new.seat
   pub paths : new.paths ≡ old.paths
   pub young : new.young ≡ old.young
   pub count : length (heap_words new.seat) ≡ length (heap_words old.seat)
@@ -65,7 +65,7 @@ puts_both old object head at word below within counted apart =
     ∙ ap (λ all. slice_set all object head) first in
     let long : length words ≡ length (heap_words old.seat) = length-set (heap_words old.seat) at word in
     record {
-      beside = put_beside {mid = with_word old at word} object head (stays_beside-put old.seat at word below) refl
+      beside = put_rest {mid = with_word old at word} object head (stays_beside-put old.seat at word below) refl
           within;
       paths = refl;
       young = refl;

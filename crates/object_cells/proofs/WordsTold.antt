@@ -5,19 +5,15 @@ use Rattle.std.proofs.Common.{Fits, rules}
 use Rattle.std.specs.Prelude.{ℤ}
 use Rattle.std.specs.Int.{w64, cast_signed, cast_unsigned}
 use Rattle.std.proofs.lemmas.Int.{to_z-of_z, of_z-to_z}
-use Rattle.tagged_word.specs.declared.word.Class.{Class}
+use Rattle.heap_model.specs.Types.{Class, Value, Rep, Cell, Held}
 use Rattle.tagged_word.specs.Words.{IsClass, bits_of}
 use Rattle.tagged_word.specs.Readings.{reference_in}
 use Rattle.tagged_word.proofs.Readings.{reference_from}
 use Rattle.page_space.specs.Extents.{marks_start}
 use Rattle.page_space.specs.RegionLaws.{IsSpace}
 use Rattle.page_space.specs.Sizes.{AreWithin}
-use Rattle.object_graph.specs.declared.value.Value.{Value}
 use Rattle.object_graph.specs.declared.value.Value.TheVariants as value
-use Rattle.object_graph.specs.declared.value.Rep.{Rep}
 use Rattle.object_graph.specs.declared.value.Rep.TheVariants as rep
-use Rattle.cell_layout.specs.declared.cell.Cell.{Cell}
-use Rattle.handle_roots.specs.declared.held.Held.{Held}
 use Rattle.handle_roots.specs.declared.held.Held.TheVariants as held
 use Rattle.heap_model.specs.Heaps.{Heap, HasCell}
 use Rattle.heap_model.specs.Slots.{reference_word, IsSlotWord}

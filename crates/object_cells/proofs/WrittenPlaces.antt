@@ -1,9 +1,8 @@
 -- Which kinds of cells stand beside an object, and which words name no store, table or box.
 use Rattle.std.proofs.Common.{◌≡◌, false, IsTrue, ◌⊎◌, inl, inr, ℤ, ℕ}
 use Rattle.std.proofs.Common.{refl, sym, ◌∙◌, ap, subst}
-use Rattle.tagged_word.specs.declared.layout.Kind.{Kind}
+use Rattle.heap_model.specs.Types.{Kind, Cell}
 use Rattle.tagged_word.specs.declared.layout.Kind.TheVariants as kind
-use Rattle.cell_layout.specs.declared.cell.Cell.{Cell}
 use Rattle.heap_model.specs.Heaps.{Heap}
 use Rattle.heap_model.specs.Slots.{is_object_kind, small_word, undefined_word, hole_word, RefersToPlace}
 use Rattle.heap_model.proofs.WordClasses.{same_reference, small_refers_not, undefined_refers_not, hole_refers_not}
@@ -12,8 +11,8 @@ use Rattle.heap_model.proofs.OneOwner.{object_is_not_owned}
 use Rattle.object_cells.specs.OwnSlots.{NamesNone}
 
 -- a kind of cell that stands beside an object
-abbrev pub IsBesideKind : Kind → Type 0
-IsBesideKind k = (k ≡ kind.Store) ⊎ (k ≡ kind.Boxed)
+abbrev pub IsStoreOrBox : Kind → Type 0
+IsStoreOrBox k = (k ≡ kind.Store) ⊎ (k ≡ kind.Boxed)
 
 -- a box, or a cell of a kind that no object has, is no object
 pub box_is_no_object : {owned : Kind} (k : Kind) → (k ≡ owned) ⊎ (k ≡ kind.Boxed) → is_object_kind owned ≡ false
@@ -22,7 +21,7 @@ box_is_no_object k (inl is) none = ap is_object_kind is ∙ none
 box_is_no_object k (inr is) none = ap is_object_kind is
 
 -- so a store or a box is none
-pub beside_is_no_object : (k : Kind) → IsBesideKind k → is_object_kind k ≡ false
+pub beside_is_no_object : (k : Kind) → IsStoreOrBox k → is_object_kind k ≡ false
 beside_is_no_object k is = box_is_no_object k is refl
 
 -- a small integer names nothing

@@ -1,22 +1,18 @@
 -- The cells that calls touch, by their addresses.
 use Rattle.std.specs.Prelude.{◌≡◌, ℕ, ◌<◌, List, length}
 use Rattle.std.specs.Prelude.{Some, slice_get, nat_lt}
-use Rattle.object_graph.specs.declared.path.PathField.{PathField}
-use Rattle.object_graph.specs.declared.value.Value.{Value}
+use Rattle.heap_model.specs.Types.{PathField, Value, Header, Cell, Held}
 use Rattle.shape_tree.specs.Shapes.{shape_path}
 use Rattle.heap_model.specs.Showing.{ShowsField, ShowsHeld}
-use Rattle.tagged_word.specs.declared.header.Header.{Header}
 use Rattle.tagged_word.specs.declared.layout.Kind.TheVariants as kind
-use Rattle.cell_layout.specs.declared.cell.Cell.{Cell}
-use Rattle.handle_roots.specs.declared.held.Held.{Held}
 use Rattle.heap_table.specs.declared.phase.Phase.TheVariants.{Quiet}
 use Rattle.heap_model.specs.Heaps.{Heap, HasCell}
 use Rattle.heap_model.specs.Kinds.{HasWord, HasSlots}
 use Rattle.heap_model.specs.Wholeness.{Whole}
-use Rattle.write_barrier.specs.Mains.{Mutator, heap_of}
+use Rattle.write_barrier.specs.MutatorState.{Mutator, heap_of}
 
 -- The heap is whole, and only the mutator runs.
-pub record IsWhole (main : Mutator) : Type 0 where
+pub record IsQuietWhole (main : Mutator) : Type 0 where
   pub quiet : main.seat.phase ≡ Quiet
   pub whole : Whole (heap_of main)
 

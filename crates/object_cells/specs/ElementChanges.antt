@@ -4,19 +4,18 @@ use Rattle.std.specs.Prelude.{◌≡◌, ℕ, ◌<◌, ◌≤◌, List, ◌∷�
 use Rattle.std.specs.Prelude.{Some, slice_get, All, [], slice_set, IsTrue}
 use Rattle.tagged_word.specs.declared.layout.Kind.TheVariants as kind
 use Rattle.tagged_word.specs.Cells.{store_slot}
-use Rattle.object_graph.specs.declared.value.Value.{Value}
+use Rattle.heap_model.specs.Types.{Value, Cell}
 use Rattle.object_graph.specs.declared.object.Object.TheVariants.{List as ListOf}
 use Rattle.object_graph.specs.Graphs.{Graph, ListObject}
 use Rattle.object_graph.specs.Meaning.{list_most, relist}
 use Rattle.object_graph.specs.Reach.{is_marked, reach}
 use Rattle.object_graph.specs.Invariants.{IsGraph, IsValue, AreElements}
-use Rattle.cell_layout.specs.declared.cell.Cell.{Cell}
 use Rattle.heap_table.specs.declared.phase.Phase.TheVariants.{Quiet}
 use Rattle.heap_model.specs.Heaps.{Heap, words_of_cell}
-use Rattle.heap_model.specs.Slots.{hole_word, IsBeside}
+use Rattle.heap_model.specs.Slots.{hole_word, HoldsStore}
 use Rattle.heap_model.specs.Kinds.{HasWord, count_offset}
 use Rattle.heap_model.specs.Showing.{ShowsValue, ShowsList}
-use Rattle.write_barrier.specs.Mains.{Mutator, heap_of, IsTied, MainShows}
+use Rattle.write_barrier.specs.MutatorState.{Mutator, heap_of, IsTied, MainShows}
 use Rattle.object_cells.specs.HeldValues.{IsReachedValue}
 use Rattle.object_cells.specs.CellWrites.{WritesOwnCells}
 use Rattle.object_cells.specs.OwnSlots.{IsNoBoxOf, Refills}
@@ -29,7 +28,7 @@ WritesList old new cell others made = WritesOwnCells kind.List kind.Store old ne
 pub record HasElements (heap : Heap) (words slots : List ℕ) : Type 0 where
   pub store : ℕ
   pub slot : HasWord words store_slot store
-  pub stands : IsBeside heap kind.Store store slots
+  pub stands : HoldsStore heap kind.Store store slots
 
 -- What a slot shows: the element that the slot of number `origin` showed before, or its element anew.
 pub data ShowsElement (new : Heap) (slots : List ℕ) (others : List Cell) (before : List Value) (origin word : ℕ)

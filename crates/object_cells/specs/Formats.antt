@@ -1,11 +1,11 @@
 -- The words of boxes, of stores, and of the free cells that trims leave.
 use Rattle.std.specs.Prelude.{ℕ, ◌+◌, ◌==◌, List, ◌∷◌, replicate, slice_set, if◌then◌else◌}
-use Rattle.tagged_word.specs.declared.header.Header.{Header}
+use Rattle.heap_model.specs.Types.{Header}
 use Rattle.tagged_word.specs.Headers.{header_bits}
 use Rattle.tagged_word.specs.Shapes.{box_shape, store_shape, filler_shape}
 use Rattle.tagged_word.specs.Cells.{length_offset}
 use Rattle.heap_model.specs.Slots.{hole_word}
-use Rattle.write_barrier.specs.Mains.{gap_header}
+use Rattle.write_barrier.specs.MutatorState.{gap_header}
 
 -- the header of a box
 abbrev pub box_header : Header

@@ -1,12 +1,11 @@
 -- What is held of the values of a graph.
 use Rattle.std.specs.Prelude.{Some, IsTrue}
-use Rattle.object_graph.specs.declared.value.Value.{Value}
+use Rattle.heap_model.specs.Types.{Value, Held}
 use Rattle.object_graph.specs.declared.value.Value.TheVariants.{Ref}
 use Rattle.object_graph.specs.Graphs.{Graph}
 use Rattle.object_graph.specs.Reach.{is_marked, reach}
-use Rattle.handle_roots.specs.declared.held.Held.{Held}
 use Rattle.heap_model.specs.Showing.{ShowsHeld}
-use Rattle.write_barrier.specs.Mains.{Mutator, heap_of}
+use Rattle.write_barrier.specs.MutatorState.{Mutator, heap_of}
 
 -- a value that refers to an object refers to one that can be reached
 abbrev pub IsReachedValue : Graph → Value → Type 0

@@ -6,28 +6,27 @@ use Rattle.tagged_word.specs.Headers.{header_bits}
 use Rattle.tagged_word.specs.Cells.{store_head, store_slot, cell_words_most}
 use Rattle.page_space.specs.Extents.{eden_start, segments_start, marks_start}
 use Rattle.nursery.specs.Young.{HasRoom}
-use Rattle.cell_layout.specs.declared.cell.Cell.{Cell}
-use Rattle.handle_roots.specs.declared.held.Held.{Held}
+use Rattle.heap_model.specs.Types.{Cell, Held}
 use Rattle.handle_roots.specs.declared.held.Held.TheVariants as held
 use Rattle.word_store.specs.Copies.{copied}
-use Rattle.heap_table.specs.Seats.{heap_words, StaysBeside}
+use Rattle.heap_table.specs.Seats.{heap_words, RestStays}
 use Rattle.heap_model.specs.Heaps.{Heap, HasCell}
-use Rattle.heap_model.specs.Slots.{reference_word, raw_word, IsBeside}
+use Rattle.heap_model.specs.Slots.{reference_word, raw_word, HoldsStore}
 use Rattle.heap_model.specs.Kinds.{HasWord}
 use Rattle.heap_model.specs.Needs.{box_words, capacity_at}
 use Rattle.write_barrier.specs.declared.room.NoRoom.{NoRoom}
-use Rattle.write_barrier.specs.Mains.{Mutator}
+use Rattle.write_barrier.specs.MutatorState.{Mutator}
 use Rattle.write_barrier.specs.Values.{with_range}
 use Rattle.object_cells.specs.Formats.{box_header, empty_store}
-use Rattle.object_cells.specs.declared.content.Content.{Content}
-use Rattle.object_cells.specs.declared.content.Content.TheVariants as content
+use Rattle.object_cells.specs.declared.content.SlotContent.{SlotContent}
+use Rattle.object_cells.specs.declared.content.SlotContent.TheVariants as content
 use Rattle.object_cells.specs.declared.stores.Store.{Store}
 use Rattle.object_cells.specs.Contents.{held_rep, content_of}
 
 -- Of all that the mutator has, only the words of the heap are others, and they are these; so the marks and the board
 -- are as they were.
 pub record PutsWords (old new : Mutator) (words : List ℕ) : Type 0 where
-  pub beside : StaysBeside old.seat new.seat
+  pub beside : RestStays old.seat new.seat
   pub paths : new.paths ≡ old.paths
   pub young : new.young ≡ old.young
   pub heap : heap_words new.seat ≡ words
@@ -39,7 +38,7 @@ pub record RefusesRoom (old new : Mutator) (need : ℕ) (no_room : NoRoom) : Typ
   pub same : new ≡ old
 
 -- a cell that has a slot for a store stands at the address
-pub record HasBeside (heap : Heap) (at : ℕ) : Type 0 where
+pub record HasStoreSlot (heap : Heap) (at : ℕ) : Type 0 where
   pub cell : Cell
   pub words : List ℕ
   pub has : HasCell heap cell words
@@ -47,7 +46,7 @@ pub record HasBeside (heap : Heap) (at : ℕ) : Type 0 where
   pub word : ℕ
   pub slot : HasWord words store_slot word
   pub beside : List ℕ
-  pub are : IsBeside heap kind.Store word beside
+  pub are : HoldsStore heap kind.Store word beside
 
 -- What stands beside the object at the address: a store of so many slots at its own address, or nothing, which is no
 -- slots. It ends before the marks, and is not among the words of eden that are not used.
@@ -58,9 +57,9 @@ pub record IsStoreAt (heap : Heap) (object : ℕ) (store : Store) : Type 0 where
   pub used : (store.at + (store_head + store.capacity) ≤ eden_start heap.space + heap.used)
       ⊎ (segments_start heap.space ≤ store.at)
   pub slots : (cell : Cell) (words beside : List ℕ) (word : ℕ) → HasCell heap cell words → cell.at ≡ object
-      → HasWord words store_slot word → IsBeside heap kind.Store word beside → length beside ≡ store.capacity
+      → HasWord words store_slot word → HoldsStore heap kind.Store word beside → length beside ≡ store.capacity
   pub refers : (cell : Cell) (words beside : List ℕ) (word : ℕ) → HasCell heap cell words → cell.at ≡ object
-      → HasWord words store_slot word → IsBeside heap kind.Store word beside → 0 < store.capacity
+      → HasWord words store_slot word → HoldsStore heap kind.Store word beside → 0 < store.capacity
       → word ≡ reference_word store.at
 
 -- the words with a store of so many slots made at an address: it has the slots of another and holes behind them
@@ -74,20 +73,20 @@ with_store words object store capacity at =
     slice_set (begun_store words store capacity at) (object + store_slot) (reference_word at)
 
 -- how many words are made for what a slot comes to hold: those of a box, or none
-abbrev pub content_need : Content → ℕ
+abbrev pub content_need : SlotContent → ℕ
 content_need (content.Tagged word) = 0
 content_need (content.Raw word) = 0
 content_need (content.Boxed v) = box_words
 
 -- the words with that box made at an address
-abbrev pub with_content : List ℕ → Content → ℕ → List ℕ
+abbrev pub with_content : List ℕ → SlotContent → ℕ → List ℕ
 with_content words (content.Tagged word) at = words
 with_content words (content.Raw word) at = words
 with_content words (content.Boxed v) at =
     slice_set (slice_set words at (header_bits box_header)) (at + 1) (raw_word v)
 
 -- the word that the slot holds, where its box stands at an address
-abbrev pub content_word : Content → ℕ → ℕ
+abbrev pub content_word : SlotContent → ℕ → ℕ
 content_word (content.Tagged word) at = word.0
 content_word (content.Raw word) at = word
 content_word (content.Boxed v) at = reference_word at
@@ -98,5 +97,5 @@ is_wide_held (held.Int v) = not (small v)
 is_wide_held _ = false
 
 -- what a slot of a store comes to hold for a value
-abbrev pub beside_content : Held → Content
-beside_content value = content_of false (held_rep value) value
+abbrev pub store_content : Held → SlotContent
+store_content value = content_of false (held_rep value) value

@@ -1,8 +1,7 @@
 -- The plain objects of a graph, by the addresses of their cells.
 use Rattle.std.specs.Prelude.{◌≡◌, ℕ, ◌≤◌, List, length, Some, None, slice_get, IsTrue}
 use Rattle.object_graph.specs.declared.object.Object.TheVariants.{Plain}
-use Rattle.object_graph.specs.declared.object.Field.{Field}
-use Rattle.object_graph.specs.declared.path.Path.{Path}
+use Rattle.heap_model.specs.Types.{Field, Path}
 use Rattle.object_graph.specs.Objects.{field_value}
 use Rattle.object_graph.specs.Paths.{path_of, with_path}
 use Rattle.object_graph.specs.Graphs.{Graph, PlainObject}
@@ -11,7 +10,7 @@ use Rattle.object_graph.specs.Reach.{is_marked, reach}
 use Rattle.object_graph.specs.Invariants.{fields_most}
 use Rattle.object_graph.specs.Limits.{paths_most}
 use Rattle.heap_model.specs.Slots.{IsPlace}
-use Rattle.write_barrier.specs.Mains.{Mutator, heap_of, MainShows}
+use Rattle.write_barrier.specs.MutatorState.{Mutator, heap_of, MainShows}
 
 -- The plain object of the graph has its place at the address, and can be reached.
 pub record IsPlainAt (main : Mutator) (graph : Graph) (at : ℕ) (plain : PlainObject) : Type 0 where

@@ -1,22 +1,20 @@
 -- What a change of the cells of one plain object owes, so that the heap shows the graph in which it has other fields.
 use Rattle.std.specs.Prelude.{◌≡◌, ℕ, ◌≤◌, false, List, length, All, Contains, Some, slice_get, IsTrue}
 use Rattle.object_graph.specs.declared.object.Object.TheVariants.{Plain}
-use Rattle.object_graph.specs.declared.object.Field.{Field}
+use Rattle.heap_model.specs.Types.{Field, Value, Cell}
 use Rattle.object_graph.specs.Paths.{path_of, with_path}
 use Rattle.object_graph.specs.Graphs.{Graph, PlainObject}
-use Rattle.object_graph.specs.declared.value.Value.{Value}
 use Rattle.object_graph.specs.Objects.{with_field, without_field}
 use Rattle.object_graph.specs.Reach.{is_marked, reach}
 use Rattle.object_graph.specs.Invariants.{IsGraph, IsValue, AreFields, fields_most}
 use Rattle.object_graph.specs.Limits.{paths_most}
-use Rattle.cell_layout.specs.declared.cell.Cell.{Cell}
 use Rattle.heap_table.specs.declared.phase.Phase.TheVariants.{Quiet}
 use Rattle.heap_model.specs.Heaps.{Heap, words_of_cell}
 use Rattle.heap_model.specs.Slots.{is_object_kind}
 use Rattle.heap_model.specs.Wholeness.{HasSizes, HasRows}
 use Rattle.heap_model.specs.Showing.{ShowsPlain}
 use Rattle.heap_model.specs.Changes.{CellsChange, IsOwnChange}
-use Rattle.write_barrier.specs.Mains.{Mutator, heap_of, IsTied, MainShows}
+use Rattle.write_barrier.specs.MutatorState.{Mutator, heap_of, IsTied, MainShows}
 use Rattle.object_cells.specs.PlainObjects.{LacksFields, ShowsRefilled}
 use Rattle.object_cells.specs.HeldValues.{IsReachedValue}
 

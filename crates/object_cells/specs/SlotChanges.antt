@@ -4,19 +4,18 @@ use Rattle.std.specs.Prelude.{length, Contains, Some, slice_get, nat_lt}
 use Rattle.tagged_word.specs.declared.layout.Kind.TheVariants as kind
 use Rattle.tagged_word.specs.Cells.{plain_head, scavenge_offsets}
 use Rattle.object_graph.specs.declared.object.Object.TheVariants.{Plain}
-use Rattle.object_graph.specs.declared.object.Field.{Field}
+use Rattle.heap_model.specs.Types.{Field, Cell}
 use Rattle.object_graph.specs.Paths.{path_of, with_path}
 use Rattle.object_graph.specs.Graphs.{Graph, PlainObject}
 use Rattle.object_graph.specs.Limits.{paths_most}
 use Rattle.shape_tree.specs.Shapes.{shape_path}
-use Rattle.cell_layout.specs.declared.cell.Cell.{Cell}
 use Rattle.heap_table.specs.declared.phase.Phase.TheVariants.{Quiet}
 use Rattle.heap_model.specs.Heaps.{Heap, words_of_cell}
 use Rattle.heap_model.specs.Slots.{hole_word}
 use Rattle.heap_model.specs.Kinds.{HasWord, HasSlots}
 use Rattle.heap_model.specs.Wholeness.{Whole}
 use Rattle.heap_model.specs.Showing.{ShowsField, ShowsPlain}
-use Rattle.write_barrier.specs.Mains.{Mutator, heap_of, IsTied, MainShows}
+use Rattle.write_barrier.specs.MutatorState.{Mutator, heap_of, IsTied, MainShows}
 use Rattle.object_cells.specs.CellWrites.{reshaped, WritesOwnCells}
 use Rattle.object_cells.specs.OwnSlots.{IsNoBoxOf, Refills}
 use Rattle.object_cells.specs.PlainObjects.{ShowsRefilled}

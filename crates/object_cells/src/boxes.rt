@@ -5,43 +5,43 @@ ghost use Rattle.page_space.specs.Extents.{marks_start};
 ghost use Rattle.heap_table.specs.declared.phase.Phase.TheVariants.{Quiet};
 ghost use Rattle.heap_table.specs.Seats.{heap_words};
 ghost use Rattle.heap_model.specs.Needs.{box_words, word_at};
-ghost use Rattle.write_barrier.specs.Mains.{heap_of, IsTied};
-ghost use Rattle.object_cells.specs.CellsAt.{IsWhole};
+ghost use Rattle.write_barrier.specs.MutatorState.{heap_of, IsTied};
+ghost use Rattle.object_cells.specs.CellsAt.{IsQuietWhole};
 ghost use Rattle.object_cells.specs.Contents as contents;
-ghost use Rattle.object_cells.specs.Contents.{next_at, Allocates, LacksRoom, IsBeforeMarks};
+ghost use Rattle.object_cells.specs.Contents.{next_at, AllocatesBox, LacksRoom, IsBeforeMarks};
 ghost use Rattle.object_cells.specs.Contents.{HoldsSlotWord};
 ghost use Rattle.object_cells.specs.Made.{PutsWords, content_need, content_word, with_content};
 
-use crate::content::{Content, Filling};
+use crate::content::{SlotContent, SlotWrite};
 use crate::formats::make_box;
 use heap_model::cells::BOX_WORDS;
 use tagged_word::Word;
 use write_barrier::{Main, NoRoom};
 
 /// How many words of a box that takes which a slot comes to hold.
-pub fn need_of(content: Content) -> u32
+pub fn need_of(content: SlotContent) -> u32
     ensures { result ≡ content_need content }
 {
     match content {
-        Content::Tagged(_) => 0,
-        Content::Raw(_) => 0,
-        Content::Boxed(_) => BOX_WORDS,
+        SlotContent::Tagged(_) => 0,
+        SlotContent::Raw(_) => 0,
+        SlotContent::Boxed(_) => BOX_WORDS,
     }
 }
 
 /// The word that a slot of a store comes to hold; a box that it needs is made at an address.
-pub fn boxed_word(main: &mut Main, content: Content, at: u32) -> Word
+pub fn boxed_word(main: &mut Main, content: SlotContent, at: u32) -> Word
     requires quiet { main.old.seat.phase ≡ Quiet }
-    requires within { (v : ℤ) → content ≡ Content.Boxed v
+    requires within { (v : ℤ) → content ≡ SlotContent.Boxed v
         → at + 1 < marks_start main.old.seat.space }
     ensures made { let words = heap_words main.old.seat in
         PutsWords main.old main.new (with_content words content at) }
     ensures word { result.0 ≡ content_word content at }
 {
     match content {
-        Content::Tagged(word) => word,
-        Content::Raw(word) => Word(word),
-        Content::Boxed(v) => {
+        SlotContent::Tagged(word) => word,
+        SlotContent::Raw(word) => Word(word),
+        SlotContent::Boxed(v) => {
             make_box(main, at, v);
             main.made(at);
             Word::reference(at)
@@ -49,7 +49,7 @@ pub fn boxed_word(main: &mut Main, content: Content, at: u32) -> Word
     }
 }
 
-// The box to which the word of a slot refers.
+/// The box to which the word of a slot refers.
 fn box_in(main: &Main, word: Word) -> Option<u32>
     requires quiet { main.now.seat.phase ≡ Quiet }
     requires within { (at : ℕ) → reference_in word.0 ≡ Some at
@@ -63,32 +63,32 @@ fn box_in(main: &Main, word: Word) -> Option<u32>
     }
 }
 
-// How a slot comes to hold a box of an integer: the one to which its word refers, or one that is
-// made of words that are used from now on.
-//
-// # Errors
-// There is no room for a box; nothing has changed.
+/// How a slot comes to hold a box of an integer: the one to which its word refers, or one that is
+/// made of words that are used from now on.
+///
+/// # Errors
+/// There is no room for a box; nothing has changed.
 #[inline(never)]
-fn box_filling(main: &mut Main, word: Word, v: i64) -> Result<Filling, NoRoom>
+fn box_filling(main: &mut Main, word: Word, v: i64) -> Result<SlotWrite, NoRoom>
     requires quiet { main.old.seat.phase ≡ Quiet }
     requires tied { IsTied main.old }
     requires within { (at : ℕ) → reference_in word.0 ≡ Some at
         → at + box_words ≤ marks_start main.old.seat.space }
     ensures filling { let box = contents.box_in (heap_of main.old) word.0 in
         IfOk result (λ filling.
-        filling ≡ contents.filling_of box (next_at main.old) (Content.Boxed v)) }
-    ensures allocates { IfOk result (λ filling. Allocates main.old main.new filling) }
+        filling ≡ contents.filling_of box (next_at main.old) (SlotContent.Boxed v)) }
+    ensures allocates { IfOk result (λ filling. AllocatesBox main.old main.new filling) }
     ensures before_marks { IfOk result (IsBeforeMarks main.old.seat.space) }
     ensures refused { let box = contents.box_in (heap_of main.old) word.0 in
         IfErr result (λ full.
-        LacksRoom main.old (contents.filling_of box (next_at main.old) (Content.Boxed v)) full) }
+        LacksRoom main.old (contents.filling_of box (next_at main.old) (SlotContent.Boxed v)) full) }
     ensures unchanged { OnErr result (main.new ≡ main.old) }
 {
     if let Some(at) = box_in(main, word) {
-        return Ok(Filling::OldBox { at, v });
+        return Ok(SlotWrite::OldBox { at, v });
     }
     let run = main.reserve(BOX_WORDS)?;
-    Ok(Filling::NewBox { at: run.at, v })
+    Ok(SlotWrite::NewBox { at: run.at, v })
 }
 
 /// How the slot at an address comes to hold this. The words of a box that is to be made are used
@@ -97,22 +97,22 @@ fn box_filling(main: &mut Main, word: Word, v: i64) -> Result<Filling, NoRoom>
 /// # Errors
 /// There is no room for a box; nothing has changed.
 #[inline(always)]
-pub fn filling_of(main: &mut Main, at: u32, content: Content) -> Result<Filling, NoRoom>
-    requires whole { IsWhole main.old }
+pub fn filling_of(main: &mut Main, at: u32, content: SlotContent) -> Result<SlotWrite, NoRoom>
+    requires whole { IsQuietWhole main.old }
     requires tied { IsTied main.old }
     requires within { at < marks_start main.old.seat.space }
     requires slot { HoldsSlotWord (heap_of main.old) (word_at (heap_of main.old) at) content }
     ensures filling { IfOk result (λ filling. filling ≡ contents.filling_at main.old at content) }
-    ensures allocates { IfOk result (λ filling. Allocates main.old main.new filling) }
+    ensures allocates { IfOk result (λ filling. AllocatesBox main.old main.new filling) }
     ensures before_marks { IfOk result (IsBeforeMarks main.old.seat.space) }
     ensures refused { IfErr result (λ full.
         LacksRoom main.old (contents.filling_at main.old at content) full) }
     ensures unchanged { OnErr result (main.new ≡ main.old) }
 {
     match content {
-        Content::Tagged(word) => Ok(Filling::Tagged(word)),
-        Content::Raw(word) => Ok(Filling::Raw(word)),
-        Content::Boxed(v) => {
+        SlotContent::Tagged(word) => Ok(SlotWrite::Tagged(word)),
+        SlotContent::Raw(word) => Ok(SlotWrite::Raw(word)),
+        SlotContent::Boxed(v) => {
             let word = main.word(at);
             box_filling(main, Word(word), v)
         }
@@ -121,20 +121,20 @@ pub fn filling_of(main: &mut Main, at: u32, content: Content) -> Result<Filling,
 
 /// Fills the slot at an offset of a cell.
 #[inline(always)]
-pub fn fill(main: &mut Main, cell: u32, offset: u32, filling: Filling)
+pub fn fill(main: &mut Main, cell: u32, offset: u32, filling: SlotWrite)
     requires quiet { main.old.seat.phase ≡ Quiet }
     requires within { cell + offset < marks_start main.old.seat.space }
     requires room { IsBeforeMarks main.old.seat.space filling }
     ensures { main.new ≡ contents.filled main.old (cell + offset) filling }
 {
     match filling {
-        Filling::Tagged(word) => main.store(cell, offset, word),
-        Filling::Raw(word) => main.write_slot(cell, offset, word),
-        Filling::NewBox { at, v } => {
+        SlotWrite::Tagged(word) => main.store(cell, offset, word),
+        SlotWrite::Raw(word) => main.write_slot(cell, offset, word),
+        SlotWrite::NewBox { at, v } => {
             make_box(main, at, v);
             main.made(at);
             main.store(cell, offset, Word::reference(at));
         }
-        Filling::OldBox { at, v } => main.write_slot(at, 1, v.cast_unsigned()),
+        SlotWrite::OldBox { at, v } => main.write_slot(at, 1, v.cast_unsigned()),
     }
 }

@@ -2,7 +2,7 @@
 ghost use Rattle.std.specs.Prelude.{◌≡◌};
 ghost use Rattle.tagged_word.specs.Words.{small};
 ghost use Rattle.object_cells.specs.Contents as contents;
-ghost use Rattle.object_cells.specs.Made.{beside_content};
+ghost use Rattle.object_cells.specs.Made.{store_content};
 
 use handle_roots::Held;
 use object_graph::Rep;
@@ -10,7 +10,7 @@ use tagged_word::{Word, is_small, odd};
 
 /// What the slot of a field holds for a value.
 #[derive(Clone, Copy)]
-pub enum Content {
+pub enum SlotContent {
     /// A tagged word.
     Tagged(Word),
     /// A raw word, in the object itself.
@@ -21,7 +21,7 @@ pub enum Content {
 
 /// How a slot comes to hold it.
 #[derive(Clone, Copy)]
-pub enum Filling {
+pub enum SlotWrite {
     /// A tagged word is put.
     Tagged(Word),
     /// A raw word is put.
@@ -44,25 +44,25 @@ pub fn rep_of(value: Held) -> Rep
     }
 }
 
-// What a slot that is not raw holds for an integer.
+/// What a slot that is not raw holds for an integer.
 #[inline(always)]
-fn small_content(v: i64) -> Content
+fn small_content(v: i64) -> SlotContent
     ensures { result ≡ contents.small_content v (small v) }
 {
     match Word::small(v) {
-        Some(word) => Content::Tagged(word),
-        None => Content::Boxed(v),
+        Some(word) => SlotContent::Tagged(word),
+        None => SlotContent::Boxed(v),
     }
 }
 
-// What the slot of a field of this representation holds for an integer.
+/// What the slot of a field of this representation holds for an integer.
 #[inline(always)]
-fn integer_content(own: bool, rep: Rep, v: i64) -> Content
+fn integer_content(own: bool, rep: Rep, v: i64) -> SlotContent
     ensures { result ≡ contents.integer_content own rep v }
 {
     match rep {
-        Rep::Wide if own => Content::Raw(v.cast_unsigned()),
-        Rep::Wide => Content::Boxed(v),
+        Rep::Wide if own => SlotContent::Raw(v.cast_unsigned()),
+        Rep::Wide => SlotContent::Boxed(v),
         Rep::Small | Rep::Tagged => small_content(v),
     }
 }
@@ -70,19 +70,19 @@ fn integer_content(own: bool, rep: Rep, v: i64) -> Content
 /// What the slot of a field holds for a value that its representation can hold: an own slot of the
 /// object, or one of its store.
 #[inline(always)]
-pub fn content_of(own: bool, rep: Rep, value: Held) -> Content
+pub fn content_of(own: bool, rep: Rep, value: Held) -> SlotContent
     ensures { result ≡ contents.content_of own rep value }
 {
     match value {
         Held::Int(v) => integer_content(own, rep, v),
-        Held::Ref(at) => Content::Tagged(Word::reference(at)),
-        Held::Unbound | Held::Undefined => Content::Tagged(Word::odd(odd::UNDEFINED)),
+        Held::Ref(at) => SlotContent::Tagged(Word::reference(at)),
+        Held::Unbound | Held::Undefined => SlotContent::Tagged(Word::odd(odd::UNDEFINED)),
     }
 }
 
 /// What a slot beside an object, of any value, holds for this one.
-pub fn content_for(value: Held) -> Content
-    ensures { result ≡ beside_content value }
+pub fn content_for(value: Held) -> SlotContent
+    ensures { result ≡ store_content value }
 {
     content_of(false, rep_of(value), value)
 }

@@ -5,7 +5,7 @@ ghost use Rattle.page_space.specs.Extents.{marks_start};
 ghost use Rattle.heap_table.specs.declared.phase.Phase.TheVariants.{Quiet};
 ghost use Rattle.heap_table.specs.Seats.{heap_words};
 ghost use Rattle.heap_model.specs.Slots.{raw_word};
-ghost use Rattle.write_barrier.specs.Mains.{with_word, with_table};
+ghost use Rattle.write_barrier.specs.MutatorState.{with_word, with_table};
 ghost use Rattle.write_barrier.specs.Values.{with_range};
 ghost use Rattle.object_cells.specs.Formats.{box_header, empty_store, with_filler};
 ghost use Rattle.object_cells.specs.Made.{PutsWords};

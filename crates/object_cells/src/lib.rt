@@ -21,10 +21,10 @@ mod lists;
 mod stores;
 
 pub use boxes::{boxed_word, fill, filling_of, need_of};
-pub use content::{Content, Filling, content_for, content_of, rep_of};
+pub use content::{SlotContent, SlotWrite, content_for, content_of, rep_of};
 pub use formats::{STORE, fill_store, make_box, put_filler};
 pub use laws::{
     laws_of_capacities, laws_of_elements, laws_of_refills, laws_of_slots, laws_of_writes,
 };
-pub use lists::{Range, count_of, place_of};
+pub use lists::{Range, checked_index, count_of};
 pub use stores::{Store, begin_store, make_store, room_for, store_of};

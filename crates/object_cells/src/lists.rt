@@ -1,9 +1,9 @@
 //! What is read of a list's own cell, and what an integer names among its elements.
 ghost use Rattle.std.specs.Prelude.{◌≡◌, ◌≤◌};
 ghost use Rattle.object_graph.specs.Meaning.{list_most, below};
-ghost use Rattle.write_barrier.specs.Mains.{heap_of};
+ghost use Rattle.write_barrier.specs.MutatorState.{heap_of};
 ghost use Rattle.heap_model.specs.Needs as needs;
-ghost use Rattle.object_cells.specs.CellsAt.{IsWhole};
+ghost use Rattle.object_cells.specs.CellsAt.{IsQuietWhole};
 ghost use Rattle.object_cells.specs.ListObjects.{IsListCellAt};
 
 use heap_model::cells::COUNT;
@@ -16,7 +16,7 @@ pub struct Range;
 
 /// How many elements the list at an address has: at most 1,000.
 pub fn count_of(main: &Main, list: u32) -> u32
-    requires whole { IsWhole main.now }
+    requires whole { IsQuietWhole main.now }
     requires there { IsListCellAt (heap_of main.now) list }
     ensures counted { result ≡ needs.count_at (heap_of main.now) list }
     ensures few { result ≤ list_most }
@@ -26,7 +26,7 @@ pub fn count_of(main: &Main, list: u32) -> u32
 
 /// The number that an integer is, if it is below a count: which of so many elements an index names.
 /// There is none where it is below 0, or not below the count.
-pub fn place_of(count: u32, index: i64) -> Option<u32>
+pub fn checked_index(count: u32, index: i64) -> Option<u32>
     ensures { result ≡ below count index }
 {
     let Ok(place) = u32::try_from(index) else {

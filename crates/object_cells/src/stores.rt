@@ -3,13 +3,13 @@ ghost use Rattle.std.specs.Prelude.{◌≡◌, ◌+◌, ◌<◌, ◌≤◌, OnOk
 ghost use Rattle.tagged_word.specs.Cells.{store_head, store_slot, cell_words_most};
 ghost use Rattle.page_space.specs.Extents.{marks_start};
 ghost use Rattle.nursery.specs.Young.{HasRoom};
-ghost use Rattle.word_store.specs.Copies.{AreApart};
+ghost use Rattle.word_store.specs.Copies.{AreDisjoint};
 ghost use Rattle.heap_table.specs.declared.phase.Phase.TheVariants.{Quiet};
 ghost use Rattle.heap_table.specs.Seats.{heap_words};
-ghost use Rattle.write_barrier.specs.Mains.{heap_of, IsTied, reserved};
-ghost use Rattle.object_cells.specs.CellsAt.{IsWhole};
+ghost use Rattle.write_barrier.specs.MutatorState.{heap_of, IsTied, reserved};
+ghost use Rattle.object_cells.specs.CellsAt.{IsQuietWhole};
 ghost use Rattle.object_cells.specs.Contents.{next_at};
-ghost use Rattle.object_cells.specs.Made.{HasBeside, IsStoreAt, PutsWords, RefusesRoom};
+ghost use Rattle.object_cells.specs.Made.{HasStoreSlot, IsStoreAt, PutsWords, RefusesRoom};
 ghost use Rattle.object_cells.specs.Made.{begun_store, with_store};
 
 use crate::formats::fill_store;
@@ -29,8 +29,8 @@ pub struct Store {
 
 /// The store beside the object at an address.
 pub fn store_of(main: &Main, object: u32) -> Store
-    requires whole { IsWhole main.now }
-    requires there { HasBeside (heap_of main.now) object }
+    requires whole { IsQuietWhole main.now }
+    requires there { HasStoreSlot (heap_of main.now) object }
     ensures { IsStoreAt (heap_of main.now) object result }
 {
     main.addresses_fit();
@@ -63,7 +63,7 @@ pub fn room_for(main: &mut Main, need: u32) -> Result<u32, NoRoom>
     Ok(run.at)
 }
 
-/// Makes the words at an address a store of so many slots, which is no object's so far. The slots of
+/// Makes the words at an address a store of so many slots, which is no object's. The slots of
 /// another one go to it, and holes stand behind them.
 pub fn begin_store(main: &mut Main, store: Store, capacity: u32, at: u32)
     requires quiet { main.old.seat.phase ≡ Quiet }
@@ -71,7 +71,7 @@ pub fn begin_store(main: &mut Main, store: Store, capacity: u32, at: u32)
     requires few { store_head + store.capacity ≤ cell_words_most }
     requires within { at + (store_head + capacity) ≤ marks_start main.old.seat.space }
     requires other { store.at + (store_head + store.capacity) ≤ marks_start main.old.seat.space }
-    requires apart { AreApart (store.at + store_head) (at + store_head) store.capacity }
+    requires apart { AreDisjoint (store.at + store_head) (at + store_head) store.capacity }
     ensures { let words = heap_words main.old.seat in
         PutsWords main.old main.new (begun_store words store capacity at) }
 {
@@ -89,7 +89,7 @@ pub fn make_store(main: &mut Main, object: u32, store: Store, capacity: u32, at:
     requires within { at + (store_head + capacity) ≤ marks_start main.old.seat.space }
     requires other { store.at + (store_head + store.capacity) ≤ marks_start main.old.seat.space }
     requires named { object + store_slot < marks_start main.old.seat.space }
-    requires apart { AreApart (store.at + store_head) (at + store_head) store.capacity }
+    requires apart { AreDisjoint (store.at + store_head) (at + store_head) store.capacity }
     ensures { let words = heap_words main.old.seat in
         PutsWords main.old main.new (with_store words object store capacity at) }
 {

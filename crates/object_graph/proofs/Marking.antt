@@ -75,7 +75,7 @@ MarksAlso-both old between new these those first second = record {
       ∙ or_assoc (is_marked old number) (these number) (those number);
 }
 
--- the next element of a list adds what the elements so far had left out
+-- the next element of a list adds what the elements before had left out
 pub MarksAlso-more : {X : Type 0} (test : ℕ → X → Bool) (xs : List X) (i : ℕ) (x : X) (old between new : List Bool)
     → i < length xs → x ≡ get_or xs i x → MarksAlso old between (λ number. list_any (test number) (take i xs))
     → MarksAlso between new (λ number. test number x)
@@ -88,7 +88,7 @@ MarksAlso-more test xs i x old between new within is first second =
     (λ number. ap (λ y. before number || test number y) is ∙ sym (list_any_more (test number) xs i x within))
     (MarksAlso-both old between new before here first second)
 
--- the elements so far are all elements where there are no more
+-- the elements before are all elements where there are no more
 pub MarksAlso-all : {X : Type 0} (test : ℕ → X → Bool) (xs : List X) (i : ℕ) (old new : List Bool) → length xs ≤ i
     → MarksAlso old new (λ number. list_any (test number) (take i xs))
     → MarksAlso old new (λ number. list_any (test number) xs)

@@ -5,7 +5,7 @@ use Rattle.heap_command.specs.Executed.{Executed}
 use Rattle.object_graph.specs.Meaning.{Limits}
 use Rattle.object_graph.specs.Run.{Told, untold, tell, told, told_from}
 
--- where some lines more go on from what was told so far, if anything was
+-- where some lines more go on from what was told, if anything was
 abbrev goes_on : Limits → List (List ℕ) → List Executed → Option Told → Option Told
 goes_on limits names lines so_far = option_and_then (λ later. told_from limits names later lines) so_far
 

@@ -14,7 +14,7 @@ use Rattle.object_graph.specs.declared.object.Entry.{Entry}
 use Rattle.object_graph.specs.declared.path.Path.{Path}
 use Rattle.object_graph.specs.Paths.{empty_paths}
 
--- all objects ever made, by their numbers; what the variables are bound to; the field paths so far
+-- all objects ever made, by their numbers; what the variables are bound to; the field paths
 pub record Graph : Type 0 where
   pub objects : List Object
   pub bindings : FinMap nat_cmp Value

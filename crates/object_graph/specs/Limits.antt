@@ -1,4 +1,4 @@
--- What the graphs of today may hold.
+-- What graphs may hold.
 use Rattle.std.specs.Prelude.{ℕ, true, Some}
 use Rattle.object_graph.specs.Meaning.{Limits}
 use Rattle.object_graph.specs.Invariants.{fields_most}

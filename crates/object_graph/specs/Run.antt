@@ -12,7 +12,7 @@ pub record Told : Type 0 where
   pub graph : Graph
   pub bytes : List ℕ
 
--- nothing was run so far
+-- nothing was run
 abbrev pub untold : Told
 untold = record { graph = start; bytes = [] }
 

@@ -7,13 +7,13 @@ use Rattle.page_space.proofs.Standing.{start_of, length_of, extent_of, stands}
 use Rattle.page_space.proofs.Placed.{IsPlaced, placed}
 
 -- the region is one of the heap's, and the address is one of its
-pub record IsWithin (space : Space) (region : Region) (a : ℕ) : Type 0 where
+pub record IsInRegion (space : Space) (region : Region) (a : ℕ) : Type 0 where
   pub is_region : IsRegion space region
   pub from : start_of space region ≤ a
   pub below : a < start_of space region + length_of space region
 
 -- such an address is in the region
-pub is_in : (space : Space) (region : Region) (a : ℕ) → IsWithin space region a → IsIn space a region
+pub is_in : (space : Space) (region : Region) (a : ℕ) → IsInRegion space region a → IsIn space a region
 is_in space region a within = record {
   extent = extent_of space region;
   stands = stands space region within.is_region;
@@ -22,10 +22,10 @@ is_in space region a within = record {
 }
 
 -- an address that is in a region is such an address
-pub within : (space : Space) (region : Region) (a : ℕ) → IsIn space a region → IsWithin space region a
+pub within : (space : Space) (region : Region) (a : ℕ) → IsIn space a region → IsInRegion space region a
 within space region a is =
     let place : IsPlaced space is.extent = placed space is.extent is.stands in
-    let P : Region → Type 0 = λ r. IsWithin space r a in
+    let P : Region → Type 0 = λ r. IsInRegion space r a in
     subst P is.of_region (record {
       is_region = place.is_region;
       from = omega (arith, is.holds.from, ap (λ (e : Extent). e.start) place.place);

@@ -10,20 +10,20 @@ use Rattle.page_space.specs.Extents.{Space, IsInOne, IsRegion, IsNumberOf, Cells
 use Rattle.page_space.specs.Extents.{is_cell_region, eden_start, segments_start, half_segments, roots_start}
 use Rattle.page_space.proofs.Starts.{half_words, roots_start_is}
 use Rattle.page_space.proofs.Standing.{start_of, length_of, extent_of, stands}
-use Rattle.page_space.proofs.Addresses.{IsWithin, is_in, within}
+use Rattle.page_space.proofs.Addresses.{IsInRegion, is_in, within}
 use Rattle.page_space.proofs.Segments.{segment_is, start_of-segment, number_of}
 
 -- an address before eden is in the page of its number
-pub in_page : (space : Space) (a : ℕ) → a < eden_start space → IsWithin space (Page (a / page_words)) a
+pub in_page : (space : Space) (a : ℕ) → a < eden_start space → IsInRegion space (Page (a / page_words)) a
 in_page space a below = record { is_region = omega arith; from = omega arith; below = omega arith }
 
 -- an address from eden to the segments is in eden
-pub in_eden : (space : Space) (a : ℕ) → eden_start space ≤ a → a < segments_start space → IsWithin space Eden a
+pub in_eden : (space : Space) (a : ℕ) → eden_start space ≤ a → a < segments_start space → IsInRegion space Eden a
 in_eden space a from below = record { is_region = tt; from = from; below = below }
 
 -- the address of a segment's number is in that segment
 pub in_segment : (space : Space) (a number : ℕ) → IsNumberOf space a number →
-    IsWithin space (Segment (number / half_segments space) (number % half_segments space)) a
+    IsInRegion space (Segment (number / half_segments space) (number % half_segments space)) a
 in_segment space a number is = record {
   is_region = segment_is space number is.among;
   from = omega (arith, is.from, start_of-segment space number);
@@ -46,7 +46,7 @@ segment_ends space half worker is_one =
     omega (arith, roots_start_is space)
 
 -- an address of a page is before eden
-of_page : (space : Space) (region : Region) (a : ℕ) → IsTrue (is_page_region region) → IsWithin space region a →
+of_page : (space : Space) (region : Region) (a : ℕ) → IsTrue (is_page_region region) → IsInRegion space region a →
     a < eden_start space
 of_page space (Page page) a is_page is = omega (arith, page_ends space page is.is_region, is.below)
 of_page space Eden a is_page is = absurd (false≢true is_page)
@@ -63,7 +63,7 @@ pub record IsFrom (start end a : ℕ) : Type 0 where
   pub below : a < end
 
 -- an address of the young generation is from eden on and before the roots
-of_young : (space : Space) (region : Region) (a : ℕ) → IsTrue (is_young_region region) → IsWithin space region a →
+of_young : (space : Space) (region : Region) (a : ℕ) → IsTrue (is_young_region region) → IsInRegion space region a →
     IsFrom (eden_start space) (roots_start space) a
 of_young space (Page page) a is_young is = absurd (false≢true is_young)
 of_young space Eden a is_young is = record { from = is.from; below = omega (arith, is.below, roots_start_is space) }
@@ -78,7 +78,7 @@ of_young space (Board place) a is_young is = absurd (false≢true is_young)
 of_young space Outside a is_young is = absurd (false≢true is_young)
 
 -- an address where cells stand is before the roots
-of_cells : (space : Space) (region : Region) (a : ℕ) → IsTrue (is_cell_region region) → IsWithin space region a →
+of_cells : (space : Space) (region : Region) (a : ℕ) → IsTrue (is_cell_region region) → IsInRegion space region a →
     a < roots_start space
 of_cells space (Page page) a is_cell is = omega (arith, of_page space (Page page) a refl is, roots_start_is space)
 of_cells space Eden a is_cell is = (of_young space Eden a refl is).below
@@ -158,7 +158,7 @@ cells_are space a limits = (
 
 -- the cells of a region end where the region does
 pub cells_end : (space : Space) (region : Region) (a end : ℕ) → IsTrue (is_cell_region region) →
-    IsWithin space region a → start_of space region + length_of space region ≡ end → CellsEndAt space a end
+    IsInRegion space region a → start_of space region + length_of space region ≡ end → CellsEndAt space a end
 cells_end space region a end is_cell is ends = record {
   extent = extent_of space region;
   stands = stands space region is.is_region;

@@ -2,7 +2,8 @@
 use Rattle.std.proofs.Common.{◌≡◌, ℕ, ◌+◌, ◌<◌, ◌≤◌, List, [], ◌∷◌, Contains, refl, sym, ◌∙◌}
 use Rattle.std.proofs.Common.{ap, ⊎_elim, arith}
 use Rattle.std.proofs.lemmas.Bool.{cases_lt}
-use Rattle.page_space.specs.Extents.{Space, Stretch, Extent, Holds, words_in, extents_from, extents, stretches}
+use Rattle.page_space.specs.Extents.{Space, Stretch, Extent, ContainsAddress, words_in, extents_from, extents}
+use Rattle.page_space.specs.Extents.{stretches}
 use Rattle.page_space.specs.Extents.{words_count}
 use Rattle.tagged_word.proofs.Members.{first_in, rest_in, in_cases}
 use Rattle.page_space.proofs.Lists.{contains_none}
@@ -30,7 +31,7 @@ between start (x ∷ xs) extent there =
 
 -- two extents that hold one address are the same
 disjoint_from : (start : ℕ) (xs : List Stretch) (one other : Extent) (a : ℕ) → Contains (extents_from start xs) one →
-    Contains (extents_from start xs) other → Holds one a → Holds other a → one ≡ other
+    Contains (extents_from start xs) other → ContainsAddress one a → ContainsAddress other a → one ≡ other
 disjoint_from start [] one other a there too holds_one holds_other = contains_none [] one refl there
 disjoint_from start (x ∷ xs) one other a there too holds_one holds_other =
     ⊎_elim
@@ -62,7 +63,7 @@ disjoint_from start (x ∷ xs) one other a there too holds_one holds_other =
 
 -- so it is of the extents of a heap
 pub disjoint : (space : Space) (one other : Extent) (a : ℕ) → Contains (extents space) one →
-    Contains (extents space) other → Holds one a → Holds other a → one ≡ other
+    Contains (extents space) other → ContainsAddress one a → ContainsAddress other a → one ≡ other
 unfolding extents
 disjoint space one other a there too holds_one holds_other =
     disjoint_from 0 (stretches space) one other a there too holds_one holds_other
@@ -71,7 +72,7 @@ disjoint space one other a there too holds_one holds_other =
 pub record IsHeld (all : List Extent) (a : ℕ) : Type 0 where
   pub extent : Extent
   pub stands : Contains all extent
-  pub holds : Holds extent a
+  pub holds : ContainsAddress extent a
 
 -- so it is of stretches from an address on
 held_from : (start : ℕ) (xs : List Stretch) (a : ℕ) → start ≤ a → a < start + words_in xs →

@@ -125,7 +125,7 @@ unfoldable pub extents : Space → List Extent
 extents space = extents_from 0 (stretches space)
 
 -- the address is one of the extent's
-pub record Holds (extent : Extent) (a : ℕ) : Type 0 where
+pub record ContainsAddress (extent : Extent) (a : ℕ) : Type 0 where
   pub from : extent.start ≤ a
   pub below : a < extent.start + extent.words
 
@@ -134,7 +134,7 @@ pub record IsIn (space : Space) (a : ℕ) (region : Region) : Type 0 where
   pub extent : Extent
   pub stands : Contains (extents space) extent
   pub of_region : extent.region ≡ region
-  pub holds : Holds extent a
+  pub holds : ContainsAddress extent a
 
 -- the region begins at the address
 pub record StartsAt (space : Space) (region : Region) (a : ℕ) : Type 0 where
@@ -183,7 +183,7 @@ pub record CellsEndAt (space : Space) (a end : ℕ) : Type 0 where
   pub extent : Extent
   pub stands : Contains (extents space) extent
   pub of_cells : IsTrue (is_cell_region extent.region)
-  pub holds : Holds extent a
+  pub holds : ContainsAddress extent a
   pub ends : extent.start + extent.words ≡ end
 
 -- the number of the segment that an address is in, counted through both halves

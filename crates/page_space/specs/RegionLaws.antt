@@ -4,7 +4,7 @@ use Rattle.tagged_word.specs.Shapes.{shapes_most}
 use Rattle.page_space.specs.declared.region.Region.{Region}
 use Rattle.page_space.specs.declared.region.Region.TheVariants.{Page, Eden, Segment, Root, Layout, Mark, Board}
 use Rattle.page_space.specs.Sizes.{page_words, AreWithin}
-use Rattle.page_space.specs.Extents.{Space, Extent, Holds, IsIn, StartsAt, IsRegion, root_words, board_words}
+use Rattle.page_space.specs.Extents.{Space, Extent, ContainsAddress, IsIn, StartsAt, IsRegion, root_words, board_words}
 use Rattle.page_space.specs.Extents.{mark_words, words_count, words_most, eden_start, segments_start, half_segments}
 use Rattle.page_space.specs.Extents.{roots_start, layouts_start, marks_start, board_start, extents}
 
@@ -16,7 +16,7 @@ IsSpace space = AreWithin space.sizes space.variables
 abbrev pub ExtentsAreDisjoint : Type 0
 ExtentsAreDisjoint =
     (space : Space) (one other : Extent) (a : ℕ) → Contains (extents space) one → Contains (extents space) other
-    → Holds one a → Holds other a → one ≡ other
+    → ContainsAddress one a → ContainsAddress other a → one ≡ other
 
 -- each region has one extent
 abbrev pub RegionsStandOnce : Type 0

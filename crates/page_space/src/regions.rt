@@ -225,7 +225,7 @@ impl Regions {
         }
     }
 
-    // The region of an address at which cells may stand.
+    /// The region of an address at which cells may stand.
     fn cell_region(&self, a: u32) -> Region
         requires { a < roots_start self.now }
         ensures is_in { IsIn self.now a result }
@@ -245,7 +245,7 @@ impl Regions {
         }
     }
 
-    // The number of the segment that an address is in, counted through both halves.
+    /// The number of the segment that an address is in, counted through both halves.
     fn segment_number(&self, a: u32) -> u32
         requires from { segments_start self.now ≤ a }
         requires below { a < roots_start self.now }
@@ -254,7 +254,7 @@ impl Regions {
         (a - self.segments) / self.sizes.young
     }
 
-    // The first address of a segment.
+    /// The first address of a segment.
     fn segment_start(&self, half: u32, worker: u32) -> u32
         requires { IsRegion self.now (Segment half worker) }
         ensures starts { StartsAt self.now (Segment half worker) result }

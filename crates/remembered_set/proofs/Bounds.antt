@@ -7,7 +7,7 @@ use Rattle.remembered_set.specs.declared.Remembered.TheInside.{Inside}
 use Rattle.page_space.specs.Sizes.{page_words, pages_most}
 use Rattle.remembered_set.specs.Bits.{flags_of}
 use Rattle.remembered_set.specs.Flags.{AreCounted}
-use Rattle.remembered_set.specs.Kept.{IsKept, recorded_of}
+use Rattle.remembered_set.specs.Kept.{IsValid, recorded_of}
 use Rattle.remembered_set.specs.Recorded.{Recorded}
 use Rattle.remembered_set.proofs.Counts.{set_count_agrees}
 use Rattle.remembered_set.proofs.Words.{length-flags_of}
@@ -23,7 +23,7 @@ pub bits_few : (bits : List ℕ) (counts : List ℕ) → length bits ≡ 32 * le
 bits_few bits counts pages within = omega (arith, length-flags_of bits, within)
 
 -- the bound is that of the pages
-pub bound_is : (inside : Inside) (recorded : Recorded) → recorded_of inside ≡ recorded → IsKept inside
+pub bound_is : (inside : Inside) (recorded : Recorded) → recorded_of inside ≡ recorded → IsValid inside
     → recorded.bound ≡ page_words * length inside.counts.items
 bound_is inside recorded view kept =
     sym (ap (λ (one : Recorded). one.bound) view) ∙ flags_long inside.bits.items inside.counts.items kept.pages

@@ -3,7 +3,7 @@ use Rattle.std.proofs.Common.{◌≡◌, ℕ, ◌+◌, ◌*◌, ◌/◌, ◌<◌
 use Rattle.std.proofs.lemmas.Bool.{cases_lt}
 use Rattle.std.proofs.lemmas.List.Elements.{All-contains}
 use Rattle.page_space.specs.Sizes.{page_words}
-use Rattle.remembered_set.specs.Recorded.{Recorded, IsRecorded, IsBetween, HasNoneFrom, IsLeastFrom, HasNoneBetween}
+use Rattle.remembered_set.specs.Recorded.{Recorded, IsRecorded, IsBetween, HasNoneFrom, IsNextRecorded, HasNoneBetween}
 use Rattle.remembered_set.specs.Recorded.{IsLeastBetween}
 
 -- one more page of a range is forgotten
@@ -58,7 +58,7 @@ none_more recorded from page so_far now = λ slot there between.
 -- the first slot of a page is the first from an address on, where none of the pages before it has one
 pub least_from : (recorded : Recorded) (from page slot : ℕ) → HasNoneBetween recorded from (page_words * page)
     → IsLeastBetween recorded (max from (page_words * page)) (page_words * page + page_words) slot
-    → IsLeastFrom recorded from slot
+    → IsNextRecorded recorded from slot
 least_from recorded from page slot so_far least =
     let begins = least.between.begins in
     record {

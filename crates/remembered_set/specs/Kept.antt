@@ -24,7 +24,7 @@ page_bits = 32
 
 -- the recorded slots ascend below their bound, the flags are those of the pages, and each page's count is that of its
 -- flags
-pub record IsKept (set : Inside) : Type 0 where
+pub record IsValid (set : Inside) : Type 0 where
   pub recorded : IsRecorded (recorded_of set)
   pub pages : length set.bits.items ≡ page_bits * length set.counts.items
   pub counted : AreCounted (flags_of set.bits.items) set.counts.items

@@ -28,7 +28,7 @@ abbrev pub HasNoneFrom : Recorded → ℕ → Type 0
 HasNoneFrom recorded from = (slot : ℕ) → Contains recorded.slots slot → slot < from
 
 -- the slot is recorded and not below the address, and no other such slot is below it
-pub record IsLeastFrom (recorded : Recorded) (from slot : ℕ) : Type 0 where
+pub record IsNextRecorded (recorded : Recorded) (from slot : ℕ) : Type 0 where
   pub stands : Contains recorded.slots slot
   pub not_below : from ≤ slot
   pub least : (other : ℕ) → Contains recorded.slots other → from ≤ other → slot ≤ other

@@ -4,12 +4,11 @@
 //! order, and the bound that all addresses of pages are below. It reads no word of the heap.
 //! Invariant: the slots ascend, and each is below the bound. Inside, there is a bit for each word of
 //! the pages, and a count for each page of its recorded slots.
-//! Below: `page_space`, for the words of a page. Above: no crate so far.
 #![tactic(auto)]
 
 ghost use Rattle.std.specs.Prelude.{◌≡◌, ◌+◌, ◌*◌, ◌<◌, ◌≤◌, ◌↔◌, ◌⊎◌, ℕ, min, max, [], Contains, IfOk, IfSome, MatchOption};
 ghost use Rattle.page_space.specs.Sizes.{page_words, pages_most};
-ghost use Rattle.remembered_set.specs.Recorded.{IsRecorded, IsAscending, IsBetween, HasNoneFrom, IsLeastFrom};
+ghost use Rattle.remembered_set.specs.Recorded.{IsRecorded, IsAscending, IsBetween, HasNoneFrom, IsNextRecorded};
 ghost use Rattle.remembered_set.specs.Recorded.{HasNoneBetween, IsLeastBetween, noted, forgotten};
 
 mod bits;
@@ -39,11 +38,11 @@ impl Model for Remembered {
 
     ghost Value = { Recorded };
 
-    ghost use Rattle.remembered_set.specs.Kept.{recorded_of, IsKept};
+    ghost use Rattle.remembered_set.specs.Kept.{recorded_of, IsValid};
 
     ghost view = { recorded_of };
 
-    ghost invariant = { IsKept };
+    ghost invariant = { IsValid };
 }
 
 impl Remembered {
@@ -88,7 +87,7 @@ impl Remembered {
     /// The first recorded slot that is not below `from`: none where each is below it.
     pub fn next(&self, from: u32) -> Option<u32>
         ensures next { MatchOption result
-            (HasNoneFrom self.now from) (λ slot. IsLeastFrom self.now from slot) }
+            (HasNoneFrom self.now from) (λ slot. IsNextRecorded self.now from slot) }
         ensures ascending { IsAscending self.now.slots }
         ensures below { IfSome result (λ slot. slot < self.now.bound) }
     {

@@ -3,9 +3,10 @@
 use crate::runs::{SURE, came};
 use std::test::Fail;
 
-// The words, the script, and executed lines, line and need, or nothing where no heap is kept. A list has 3 words, its stores 2 and their
-// slots: 4, twice as many whenever one is full, and 1,000 in the end. A weak map has 3, its tables 2 and
-// two for each pair: 4, and twice as many whenever twice the entries are more. A box has 2.
+/// The words, the script, and executed lines, line and need, or nothing where no heap is kept. A list has 3 words, its
+/// stores 2 and their
+/// slots: 4, twice as many whenever one is full, and 1,000 in the end. A weak map has 3, its tables 2 and
+/// two for each pair: 4, and twice as many whenever twice the entries are more. A box has 2.
 const COUNTS: &str = "\
 run |  | 0 0 0
 run | new x 2; set x a 5; get y x a; print y | 4 0 0

@@ -7,7 +7,7 @@ use std::process::Abort;
 use std::test::Fail;
 use std::thread::Threads;
 
-// It has 35 bytes: in pieces of 8 the fifth read gives the last ones, and the sixth finds the end.
+/// It has 35 bytes: in pieces of 8 the fifth read gives the last ones, and the sixth finds the end.
 const FIRST: &str = "new x 2; set x a 5; get y x a; print y";
 
 #[test]

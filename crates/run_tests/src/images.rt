@@ -7,9 +7,11 @@ use std::test::Fail;
 /// The first word of eden, with 64 pages.
 const EDEN: usize = 131_072;
 
-// The script, and the words of eden with the one behind them, which no cell uses. The second store of a list stands behind the first one, and the box
-// behind it; the box of an entry stands behind its table. A box is written again where its element is
-// the first one now, and a store without spare slots is followed by another one.
+/// The script, and the words of eden with the one behind them, which no cell uses. The second store of a list stands
+/// behind the first one, and the
+/// box
+/// behind it; the box of an entry stands behind its table. A box is written again where its element is
+/// the first one now, and a store without spare slots is followed by another one.
 const CELLS: &str = "\
 new x 2; set x a 1 | 70 3 2 7 0
 list l; push l 1; push l 2; push l 3; push l 4 | 6 524301 4 14 4 2 4 6 8 0
@@ -47,8 +49,8 @@ fn each_cell_has_the_words_of_its_description(rt: HostRuntime) -> Result<(), Fai
     Ok(())
 }
 
-// Free pages are gaps. With 8,192 young words and two helpers there are 6 segments, and behind them the
-// roots begin at 188,416. A variable has two root words, and a path its layout word.
+/// Free pages are gaps. With 8,192 young words and two helpers there are 6 segments, and behind them the
+/// roots begin at 188,416. A variable has two root words, and a path its layout word.
 #[test]
 fn a_kept_heap_has_its_regions_by_the_words(rt: HostRuntime) -> Result<(), Fail> {
     let seen = came(&rt, "run", "new x 2; set x a 1", SURE)?;

@@ -1,4 +1,4 @@
-//! The bytes that commands have written and that were not handed on yet.
+//! The bytes that commands have written and that were not handed on.
 
 use mutator::Output;
 use std::test::Fail;

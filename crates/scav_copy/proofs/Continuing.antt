@@ -5,7 +5,7 @@ use Rattle.tagged_word.specs.Readings.{reference_in}
 use Rattle.tagged_word.proofs.Readings.{reference_to}
 use Rattle.scav_copy.specs.declared.places.Home.{Home}
 use Rattle.scav_copy.specs.Places.{Fixed, IsLaidOut}
-use Rattle.scav_copy.specs.Renamings.{RefersTo, Reached}
+use Rattle.scav_copy.specs.Renamings.{RefersToAddress, IsReachable}
 use Rattle.scav_copy.specs.Copies.{HasHeader, Copying}
 use Rattle.scav_copy.specs.Going.{GoesOn, CopyingGoesOn, IsFollowed, SlotsAreFollowed}
 use Rattle.scav_copy.proofs.Ascending.{old_in}
@@ -48,11 +48,12 @@ copying_goes_on fixed words now homes all laid copying on =
 
 -- what is found at a cell to which a live slot refers
 followed_by : {fixed : Fixed} {words : List ℕ} {homes : List Home} (place cell : ℕ) → IsLaidOut fixed
-    → Copying fixed words homes → Contains fixed.cells cell → Reached fixed cell → RefersTo fixed.before place cell
+    → Copying fixed words homes → Contains fixed.cells cell → IsReachable fixed cell
+    → RefersToAddress fixed.before place cell
     → HasHeader fixed words homes cell → IsFollowed fixed words homes place cell
 followed_by {fixed} {words} place cell laid copying is reached refers (HasHeader.forwarded home there of word) =
     IsFollowed.has_home home there (reference_to (get_or words cell 0) home.to (home_fits home laid copying there) word)
-    (subst (RefersTo fixed.before place) (sym of) refers)
+    (subst (RefersToAddress fixed.before place) (sym of) refers)
 followed_by {fixed} {words} {homes} place cell laid copying is reached refers (HasHeader.unmoved none word) =
     IsFollowed.has_none none reached (ap reference_in word ∙ header_is_none fixed cell (laid.cells_are cell is))
     (unmoved_reads fixed words homes cell laid copying is word)

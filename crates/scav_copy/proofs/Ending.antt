@@ -10,7 +10,7 @@ use Rattle.tagged_word.proofs.Cells.{some_same}
 use Rattle.tagged_word.proofs.Readings.{reference_to}
 use Rattle.scav_copy.specs.declared.places.Home.{Home}
 use Rattle.scav_copy.specs.Places.{Fixed, offsets_of, IsInCopy, IsLaidOut, StoodAt}
-use Rattle.scav_copy.specs.Renamings.{RefersTo, Reached, IsRenamed, HasOneHomeEach}
+use Rattle.scav_copy.specs.Renamings.{RefersToAddress, IsReachable, IsRenamed, HasOneHomeEach}
 use Rattle.scav_copy.specs.Copies.{Copying, IsKeptOrRenamed}
 use Rattle.scav_copy.specs.CopyLaws.{EndIsRenaming}
 use Rattle.scav_copy.proofs.Spots.{cell_within, from_is, home_itself}
@@ -19,7 +19,8 @@ use Rattle.scav_copy.proofs.Spots.{cell_within, from_is, home_itself}
 record Ended (fixed : Fixed) (words : List ℕ) (homes : List Home) : Type 0 where
   laid : IsLaidOut fixed
   copying : Copying fixed words homes
-  none : (slot place cell : ℕ) → StoodAt fixed homes slot place → RefersTo words slot cell → Contains fixed.cells cell
+  none : (slot place cell : ℕ) → StoodAt fixed homes slot place → RefersToAddress words slot cell
+      → Contains fixed.cells cell
       → ⊥
 
 -- a cell with a home has an address that a reference may have
@@ -37,7 +38,7 @@ refers_home home word ended there e = reference_to word home.from (from_fits hom
 
 -- a cell that a live slot referred to before has a home
 has_home : {fixed : Fixed} {words : List ℕ} {homes : List Home} (slot place cell : ℕ) → Ended fixed words homes
-    → StoodAt fixed homes slot place → RefersTo fixed.before place cell → Contains fixed.cells cell
+    → StoodAt fixed homes slot place → RefersToAddress fixed.before place cell → Contains fixed.cells cell
     → IsKeptOrRenamed homes (get_or fixed.before place 0) (get_or words slot 0)
     → (home : Home) × Contains homes home × (home.from ≡ cell)
 has_home slot place cell ended stood refers is (IsKeptOrRenamed.kept same) =
@@ -49,7 +50,7 @@ has_home {fixed} slot place cell ended stood refers is (IsKeptOrRenamed.renamed 
 -- a cell that a slot of a cell with a home referred to has a home
 next_home : {fixed : Fixed} {words : List ℕ} {homes : List Home} (host offset cell : ℕ) (home : Home)
     → Ended fixed words homes → Contains homes home → home.from ≡ host → Contains (offsets_of fixed host) offset
-    → RefersTo fixed.before (host + offset) cell → Contains fixed.cells cell
+    → RefersToAddress fixed.before (host + offset) cell → Contains fixed.cells cell
     → (home : Home) × Contains homes home × (home.from ≡ cell)
 next_home {fixed} {words} {homes} host offset cell home ended there same is refers among =
     let stood : StoodAt fixed homes (home.to + offset) (host + offset) =
@@ -60,11 +61,11 @@ next_home {fixed} {words} {homes} host offset cell home ended there same is refe
 
 -- each cell that was reached has a home
 all_moved : {fixed : Fixed} {words : List ℕ} {homes : List Home} → Ended fixed words homes → (cell : ℕ)
-    → Reached fixed cell → (home : Home) × Contains homes home × (home.from ≡ cell)
-all_moved {fixed} {words} {homes} ended _ (Reached.by_slot slot cell there refers is) =
+    → IsReachable fixed cell → (home : Home) × Contains homes home × (home.from ≡ cell)
+all_moved {fixed} {words} {homes} ended _ (IsReachable.by_slot slot cell there refers is) =
     has_home slot slot cell ended (StoodAt.itself there refl) refers is
     (ended.copying.live slot slot (StoodAt.itself there refl))
-all_moved {fixed} {words} {homes} ended _ (Reached.by_cell host offset cell from there refers is) =
+all_moved {fixed} {words} {homes} ended _ (IsReachable.by_cell host offset cell from there refers is) =
     let found = all_moved ended host from in
     next_home host offset cell found.0 ended found.1 found.2 there refers is
 
@@ -102,7 +103,7 @@ end_is_renaming fixed words homes laid copying none =
       record {
         one_each = one_each laid copying;
         survivors = λ cell. (
-          λ found. subst (Reached fixed) found.2 (copying.reached found.0 found.1),
+          λ found. subst (IsReachable fixed) found.2 (copying.reached found.0 found.1),
           λ reached. all_moved ended cell reached,
         );
         copied = copying.copied;

@@ -4,7 +4,7 @@ use Rattle.std.specs.List.{Contains}
 use Rattle.std.proofs.lemmas.List.{length-set}
 use Rattle.scav_copy.specs.declared.places.Home.{Home}
 use Rattle.scav_copy.specs.Places.{Fixed, size_of, IsInRooms, IsInCopies, IsLaidOut}
-use Rattle.scav_copy.specs.Places.{StoodAt, IsWithin}
+use Rattle.scav_copy.specs.Places.{StoodAt, IsInRange}
 use Rattle.scav_copy.specs.Copies.{HasHeader, IsKeptOrRenamed}
 use Rattle.scav_copy.specs.CopyLaws.{StartIsCopying, RoomsMayBeFilled}
 use Rattle.scav_copy.proofs.Spots.{none_in, slot_in_cell, cell_itself, within_by, elsewhere, same_word}
@@ -70,7 +70,7 @@ rooms_may_be_filled fixed words homes at word laid copying in_room free = record
   headers = λ cell there.
       let other : cell ≢ at = λ same.
       laid.cell_in_no_room at
-      (cell, there, subst (IsWithin cell (size_of fixed cell)) same (cell_itself cell laid there))
+      (cell, there, subst (IsInRange cell (size_of fixed cell)) same (cell_itself cell laid there))
       in_room in
       same_header (elsewhere words at word cell other) (copying.headers cell there);
   bodies = λ cell offset there low high.

@@ -10,7 +10,7 @@ use Rattle.scav_copy.specs.declared.places.Home.{Home}
 use Rattle.scav_copy.specs.declared.places.Room.{Room}
 use Rattle.scav_copy.specs.Places.{Fixed, cell_before, size_of, offsets_of, IsOfCell, IsInCopy, IsInRooms}
 use Rattle.scav_copy.specs.Places.{IsLaidOut, StoodAt}
-use Rattle.scav_copy.specs.Renamings.{Reached}
+use Rattle.scav_copy.specs.Renamings.{IsReachable}
 use Rattle.scav_copy.specs.Copies.{with_home, HasNoHome, HasHeader, IsKeptOrRenamed, LiesInRoom, Copying, IsCopyAt}
 use Rattle.scav_copy.specs.CopyLaws.{CellsMayMove, LiveSlotsStayLive}
 use Rattle.scav_copy.proofs.Spots.{slot_in_cell, cell_within, cell_itself, reached_is, within_by, copy_in_room}
@@ -42,7 +42,7 @@ each_home P homes new is others home there =
 record Moving (fixed : Fixed) (words : List ℕ) (homes : List Home) (new : Home) : Type 0 where
   laid : IsLaidOut fixed
   copying : Copying fixed words homes
-  reached : Reached fixed new.from
+  reached : IsReachable fixed new.from
   none : HasNoHome homes new.from
   copy : IsCopyAt fixed words homes new.from new.to
 
@@ -189,7 +189,7 @@ cells_may_move fixed words homes cell to laid copying reached none copy =
     record {
       long = length-set words cell word ∙ copying.long;
       ascend = joined_ascends homes new copying.ascend none;
-      reached = each_home (λ home. Reached fixed home.from) homes new reached copying.reached;
+      reached = each_home (λ home. IsReachable fixed home.from) homes new reached copying.reached;
       housed = each_home (λ home. (room : Room) × LiesInRoom fixed room home.to (size_of fixed home.from)) homes new
           (copy.room, copy.lies) copying.housed;
       apart = copies_apart moving;

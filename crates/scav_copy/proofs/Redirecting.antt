@@ -11,7 +11,7 @@ use Rattle.tagged_word.specs.Readings.{reference_in}
 use Rattle.tagged_word.proofs.Readings.{reference_from}
 use Rattle.scav_copy.specs.declared.places.Home.{Home}
 use Rattle.scav_copy.specs.Places.{Fixed, size_of, offsets_of, IsInCopy, IsInCells, IsInRooms, IsLaidOut, StoodAt}
-use Rattle.scav_copy.specs.Renamings.{Reached, RefersTo}
+use Rattle.scav_copy.specs.Renamings.{IsReachable, RefersToAddress}
 use Rattle.scav_copy.specs.Copies.{Copying, IsKeptOrRenamed}
 use Rattle.scav_copy.specs.CopyLaws.{LiveSlotsHaveOneOrigin, LiveSlotsReferAsBefore, SlotsMayBeRenamed}
 use Rattle.scav_copy.proofs.Spots.{slot_in_cell, some_words, within_by, copy_in_room, live_in_no_cell}
@@ -57,12 +57,13 @@ one_origin fixed words homes slot one other laid copying
 -- a cell that stood in a live slot is reached
 pub origin_reached : {fixed : Fixed} {words : List ℕ} {homes : List Home} (slot place cell : ℕ)
     → Copying fixed words homes
-    → StoodAt fixed homes slot place → RefersTo fixed.before place cell → Contains fixed.cells cell → Reached fixed cell
+    → StoodAt fixed homes slot place → RefersToAddress fixed.before place cell → Contains fixed.cells cell
+    → IsReachable fixed cell
 origin_reached {fixed} slot place cell copying (StoodAt.itself there same) refers is =
-    Reached.by_slot slot cell there (subst (λ (at : ℕ). RefersTo fixed.before at cell) (sym same) refers) is
+    IsReachable.by_slot slot cell there (subst (λ (at : ℕ). RefersToAddress fixed.before at cell) (sym same) refers) is
 origin_reached {fixed} slot place cell copying (StoodAt.in_cell home offset there slot_is e f) refers is =
-    Reached.by_cell home.from offset cell (copying.reached home there) slot_is
-    (subst (λ (at : ℕ). RefersTo fixed.before at cell) (sym f) refers) is
+    IsReachable.by_cell home.from offset cell (copying.reached home there) slot_is
+    (subst (λ (at : ℕ). RefersToAddress fixed.before at cell) (sym f) refers) is
 
 -- a word that refers to one of the cells is as it was
 not_renamed : {fixed : Fixed} {words : List ℕ} {homes : List Home} {old new : ℕ} (cell : ℕ) → IsLaidOut fixed
@@ -101,7 +102,7 @@ plain_is_not_live {fixed} slot place home offset laid copying (StoodAt.in_cell o
 -- the slot that gets the reference is renamed, and every other is as it was
 redirected : {fixed : Fixed} {words : List ℕ} {homes : List Home} (slot place : ℕ) (home : Home) (other origin : ℕ)
     → IsLaidOut fixed → Copying fixed words homes → StoodAt fixed homes slot place → Contains homes home
-    → RefersTo fixed.before place home.from → StoodAt fixed homes other origin → (other ≡ slot) ⊎ (other ≢ slot)
+    → RefersToAddress fixed.before place home.from → StoodAt fixed homes other origin → (other ≡ slot) ⊎ (other ≢ slot)
     → IsKeptOrRenamed homes (get_or fixed.before origin 0) (get_or (set words slot (bits_of (Ref home.to))) other 0)
 redirected {fixed} {words} {homes} slot place home other origin laid copying stood among refers also (inl same) =
     let word : ℕ = bits_of (Ref home.to) in

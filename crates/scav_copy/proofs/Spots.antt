@@ -13,10 +13,10 @@ use Rattle.tagged_word.proofs.CellReadings.{cell_from}
 use Rattle.tagged_word.proofs.Readings.{reference_to}
 use Rattle.scav_copy.specs.declared.places.Home.{Home}
 use Rattle.scav_copy.specs.Places.{Fixed, last_address, cell_before, words_in, offsets_in, size_of, offsets_of}
-use Rattle.scav_copy.specs.Places.{IsWithin}
+use Rattle.scav_copy.specs.Places.{IsInRange}
 use Rattle.scav_copy.specs.Places.{IsOfCell}
 use Rattle.scav_copy.specs.Places.{IsInCopy, IsInCells, IsInRooms, IsLaidOut, StoodAt}
-use Rattle.scav_copy.specs.Renamings.{Reached}
+use Rattle.scav_copy.specs.Renamings.{IsReachable}
 use Rattle.scav_copy.specs.Copies.{Copying, IsKeptOrRenamed}
 
 -- no element is in an empty list
@@ -76,9 +76,9 @@ pub some_words : {fixed : Fixed} (cell : ℕ) → IsLaidOut fixed → Contains f
 some_words {fixed} cell laid there = words_least fixed cell (laid.cells_are cell there)
 
 -- a cell that was reached is one that is to be copied
-pub reached_is : (fixed : Fixed) (cell : ℕ) → Reached fixed cell → Contains fixed.cells cell
-reached_is fixed _ (Reached.by_slot slot cell there refers is) = is
-reached_is fixed _ (Reached.by_cell host offset cell from there refers is) = is
+pub reached_is : (fixed : Fixed) (cell : ℕ) → IsReachable fixed cell → Contains fixed.cells cell
+reached_is fixed _ (IsReachable.by_slot slot cell there refers is) = is
+reached_is fixed _ (IsReachable.by_cell host offset cell from there refers is) = is
 
 -- the address of a cell is in it
 pub cell_itself : {fixed : Fixed} (cell : ℕ) → IsLaidOut fixed → Contains fixed.cells cell → IsOfCell fixed cell cell
@@ -87,7 +87,7 @@ cell_itself {fixed} cell laid there =
     record { from = omega arith; below = omega arith }
 
 -- so many words from an address on have the one behind some of them
-pub within_by : (first many offset at : ℕ) → offset < many → first + offset ≡ at → IsWithin first many at
+pub within_by : (first many offset at : ℕ) → offset < many → first + offset ≡ at → IsInRange first many at
 within_by first many offset at less e = record { from = omega arith; below = omega arith }
 
 -- a cell with a home is one that is to be copied

@@ -7,7 +7,7 @@ use Rattle.tagged_word.proofs.Members.{one_in, first_in, rest_in, in_cases}
 use Rattle.scav_copy.specs.declared.places.Home.{Home}
 use Rattle.scav_copy.specs.declared.places.Room.{Room}
 use Rattle.scav_copy.specs.Places.{cell_before, size_of, offsets_of, IsInCells, IsInRooms, IsInRoom}
-use Rattle.scav_copy.specs.Renamings.{Reached, IsRenamed, Renaming, Outside}
+use Rattle.scav_copy.specs.Renamings.{IsReachable, IsRenamed, Renaming, Outside}
 use Rattle.scav_copy.specs.Worked.{words_before, words_after, list_home, worked, EndIsWorked, OthersAreNot}
 use Rattle.scav_copy.proofs.Spots.{none_in, reached_is, elsewhere}
 
@@ -36,11 +36,11 @@ kept_word = IsRenamed.kept (λ home there same.
     omega (arith, from, same)) refl
 
 -- the list was reached
-list_reached : Reached worked 0
-list_reached = Reached.by_slot 4 0 (first_in 4 (5 ∷ [])) refl (first_in 0 [])
+list_reached : IsReachable worked 0
+list_reached = IsReachable.by_slot 4 0 (first_in 4 (5 ∷ [])) refl (first_in 0 [])
 
 -- nothing else was
-only_list : (cell : ℕ) → Reached worked cell → 0 ≡ cell
+only_list : (cell : ℕ) → IsReachable worked cell → 0 ≡ cell
 only_list cell reached = one_in 0 cell (reached_is worked cell reached)
 
 -- each word of the copy that is no slot is that of the list
@@ -68,7 +68,7 @@ worked_renaming = record {
   survivors = λ cell. (
     λ found.
         let from : 0 ≡ cell = ap (λ (h : Home). h.from) (the_home found.0 found.1) ∙ found.2 in
-        subst (Reached worked) from list_reached,
+        subst (IsReachable worked) from list_reached,
     λ reached. (list_home 8, first_in (list_home 8) [], only_list cell reached),
   );
   copied = λ home offset there less no_slot.

@@ -7,7 +7,7 @@ use Rattle.tagged_word.specs.Words.{bits_of}
 use Rattle.scav_copy.specs.declared.places.Home.{Home}
 use Rattle.scav_copy.specs.declared.places.Room.{Room}
 use Rattle.scav_copy.specs.Places.{Fixed, size_of, offsets_of, IsInCopy, StoodAt}
-use Rattle.scav_copy.specs.Renamings.{Reached, Outside}
+use Rattle.scav_copy.specs.Renamings.{IsReachable, Outside}
 
 -- the homes with one more, in ascending order of the cells
 abbrev pub with_home : List Home → Home → List Home
@@ -44,8 +44,8 @@ AreHoused fixed homes =
     (home : Home) → Contains homes home → (room : Room) × LiesInRoom fixed room home.to (size_of fixed home.from)
 
 -- no word is one of two home copies
-abbrev pub AreApart : Fixed → List Home → Type 0
-AreApart fixed homes =
+abbrev pub HomesDisjoint : Fixed → List Home → Type 0
+HomesDisjoint fixed homes =
     (one other : Home) (at : ℕ) → Contains homes one → Contains homes other → IsInCopy fixed one at
     → IsInCopy fixed other at → one ≡ other
 
@@ -54,9 +54,9 @@ AreApart fixed homes =
 pub record Copying (fixed : Fixed) (words : List ℕ) (homes : List Home) : Type 0 where
   pub long : length words ≡ length fixed.before
   pub ascend : AllPairs (λ one other. one.from < other.from) homes
-  pub reached : (home : Home) → Contains homes home → Reached fixed home.from
+  pub reached : (home : Home) → Contains homes home → IsReachable fixed home.from
   pub housed : AreHoused fixed homes
-  pub apart : AreApart fixed homes
+  pub apart : HomesDisjoint fixed homes
   pub headers : (cell : ℕ) → Contains fixed.cells cell → HasHeader fixed words homes cell
   pub bodies : (cell offset : ℕ) → Contains fixed.cells cell → 1 ≤ offset → offset < size_of fixed cell
       → slice_index words (cell + offset) ≡ slice_index fixed.before (cell + offset)

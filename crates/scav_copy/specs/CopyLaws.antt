@@ -5,8 +5,8 @@ use Rattle.tagged_word.specs.Words.{bits_of}
 use Rattle.tagged_word.specs.Readings.{read_cell}
 use Rattle.scav_copy.specs.declared.places.Home.{Home}
 use Rattle.scav_copy.specs.Places.{Fixed, cell_before, size_of, IsLaidOut, IsInRooms, IsInCopies, StoodAt}
-use Rattle.scav_copy.specs.Renamings.{RefersTo, Reached, Renaming, Outside}
-use Rattle.scav_copy.specs.Copies.{with_home, HasNoHome, AreHoused, AreApart, Copying, IsCopyAt}
+use Rattle.scav_copy.specs.Renamings.{RefersToAddress, IsReachable, Renaming, Outside}
+use Rattle.scav_copy.specs.Copies.{with_home, HasNoHome, AreHoused, HomesDisjoint, Copying, IsCopyAt}
 
 -- words as before, with no home, are copying
 abbrev pub StartIsCopying : Type 0
@@ -23,7 +23,7 @@ RoomsMayBeFilled =
 abbrev pub CellsMayMove : Type 0
 CellsMayMove =
     (fixed : Fixed) (words : List ℕ) (homes : List Home) (cell to : ℕ) → IsLaidOut fixed → Copying fixed words homes
-    → Reached fixed cell → HasNoHome homes cell → IsCopyAt fixed words homes cell to
+    → IsReachable fixed cell → HasNoHome homes cell → IsCopyAt fixed words homes cell to
     → Copying fixed (slice_set words cell (bits_of (Ref to))) (with_home homes (record { from = cell; to = to }))
 
 -- a live slot that referred to a cell before may become the reference to the cell's home
@@ -31,14 +31,15 @@ abbrev pub SlotsMayBeRenamed : Type 0
 SlotsMayBeRenamed =
     (fixed : Fixed) (words : List ℕ) (homes : List Home) (slot place : ℕ) (home : Home) → IsLaidOut fixed
     → Copying fixed words homes → StoodAt fixed homes slot place → Contains homes home
-    → RefersTo fixed.before place home.from → Copying fixed (slice_set words slot (bits_of (Ref home.to))) homes
+    → RefersToAddress fixed.before place home.from → Copying fixed (slice_set words slot (bits_of (Ref home.to))) homes
 
 -- a live slot that refers to one of the cells holds the word that stood at its place before, and the cell is reached
 abbrev pub LiveSlotsReferAsBefore : Type 0
 LiveSlotsReferAsBefore =
     (fixed : Fixed) (words : List ℕ) (homes : List Home) (slot place cell : ℕ) → IsLaidOut fixed
-    → Copying fixed words homes → StoodAt fixed homes slot place → RefersTo words slot cell → Contains fixed.cells cell
-    → (slice_index words slot ≡ slice_index fixed.before place) × Reached fixed cell
+    → Copying fixed words homes → StoodAt fixed homes slot place → RefersToAddress words slot cell
+    → Contains fixed.cells cell
+    → (slice_index words slot ≡ slice_index fixed.before place) × IsReachable fixed cell
 
 -- the word of a live slot stood at one place
 abbrev pub LiveSlotsHaveOneOrigin : Type 0
@@ -57,9 +58,9 @@ LiveSlotsStayLive =
 abbrev pub EndIsRenaming : Type 0
 EndIsRenaming =
     (fixed : Fixed) (words : List ℕ) (homes : List Home) → IsLaidOut fixed → Copying fixed words homes
-    → ((slot place cell : ℕ) → StoodAt fixed homes slot place → RefersTo words slot cell → Contains fixed.cells cell
+    → ((slot place cell : ℕ) → StoodAt fixed homes slot place → RefersToAddress words slot cell → Contains fixed.cells cell
     → ⊥)
-    → Renaming fixed words homes × Outside fixed words × AreHoused fixed homes × AreApart fixed homes
+    → Renaming fixed words homes × Outside fixed words × AreHoused fixed homes × HomesDisjoint fixed homes
 
 -- a home copy ends where the words do, or before
 abbrev pub CopiesEnd : Type 0

@@ -5,8 +5,8 @@ use Rattle.tagged_word.specs.Words.{bits_of}
 use Rattle.tagged_word.specs.Readings.{reference_in, read_cell}
 use Rattle.scav_copy.specs.declared.places.Home.{Home}
 use Rattle.scav_copy.specs.Places.{Fixed, last_address, cell_before, IsLaidOut, IsInRooms, IsInCopies, StoodAt}
-use Rattle.scav_copy.specs.Renamings.{RefersTo, Reached, Renaming, Outside}
-use Rattle.scav_copy.specs.Copies.{with_home, HasNoHome, AreHoused, AreApart, Copying, IsCopyAt}
+use Rattle.scav_copy.specs.Renamings.{RefersToAddress, IsReachable, Renaming, Outside}
+use Rattle.scav_copy.specs.Copies.{with_home, HasNoHome, AreHoused, HomesDisjoint, Copying, IsCopyAt}
 
 -- Steps lead from words and homes to others: a word of a room that is in no home copy is stored; a cell that was
 -- reached and has no home gets one, where its words stand; a live slot gets the home of the cell that it referred to.
@@ -14,12 +14,12 @@ pub data GoesOn (fixed : Fixed) (words : List ℕ) (homes : List Home) : List �
   stays : GoesOn fixed words homes words homes
   fills : (now : List ℕ) (all : List Home) (at word : ℕ) → GoesOn fixed words homes now all → IsInRooms fixed at
       → (IsInCopies fixed all at → ⊥) → GoesOn fixed words homes (slice_set now at word) all
-  moves : (now : List ℕ) (all : List Home) (cell to : ℕ) → GoesOn fixed words homes now all → Reached fixed cell
+  moves : (now : List ℕ) (all : List Home) (cell to : ℕ) → GoesOn fixed words homes now all → IsReachable fixed cell
       → HasNoHome all cell → IsCopyAt fixed now all cell to
       → GoesOn fixed words homes (slice_set now cell (bits_of (Ref to)))
       (with_home all (record { from = cell; to = to }))
   renames : (now : List ℕ) (all : List Home) (slot place : ℕ) (home : Home) → GoesOn fixed words homes now all
-      → StoodAt fixed all slot place → Contains all home → RefersTo fixed.before place home.from
+      → StoodAt fixed all slot place → Contains all home → RefersToAddress fixed.before place home.from
       → GoesOn fixed words homes (slice_set now slot (bits_of (Ref home.to))) all
 
 -- The words and homes are copying, and no home of before is lost. Where no live slot refers to one of the cells, all
@@ -27,8 +27,8 @@ pub data GoesOn (fixed : Fixed) (words : List ℕ) (homes : List Home) : List �
 pub record HasGoneOn (fixed : Fixed) (homes : List Home) (now : List ℕ) (all : List Home) : Type 0 where
   pub copying : Copying fixed now all
   pub kept : (home : Home) → Contains homes home → Contains all home
-  pub end : ((slot place cell : ℕ) → StoodAt fixed all slot place → RefersTo now slot cell → Contains fixed.cells cell
-      → ⊥) → Renaming fixed now all × Outside fixed now × AreHoused fixed all × AreApart fixed all
+  pub end : ((slot place cell : ℕ) → StoodAt fixed all slot place → RefersToAddress now slot cell → Contains fixed.cells cell
+      → ⊥) → Renaming fixed now all × Outside fixed now × AreHoused fixed all × HomesDisjoint fixed all
 
 -- a scavenge may go on from any words and homes that are copying
 abbrev pub CopyingGoesOn : Type 0
@@ -41,8 +41,8 @@ CopyingGoesOn =
 -- and it may get a home.
 pub data IsFollowed (fixed : Fixed) (words : List ℕ) (homes : List Home) (place cell : ℕ) : Type 0 where
   has_home : (home : Home) → Contains homes home → reference_in (slice_index words cell) ≡ Some home.to
-      → RefersTo fixed.before place home.from → IsFollowed fixed words homes place cell
-  has_none : HasNoHome homes cell → Reached fixed cell → reference_in (slice_index words cell) ≡ None
+      → RefersToAddress fixed.before place home.from → IsFollowed fixed words homes place cell
+  has_none : HasNoHome homes cell → IsReachable fixed cell → reference_in (slice_index words cell) ≡ None
       → read_cell words fixed.layouts cell last_address ≡ cell_before fixed cell
       → IsFollowed fixed words homes place cell
 
@@ -50,5 +50,6 @@ pub data IsFollowed (fixed : Fixed) (words : List ℕ) (homes : List Home) (plac
 abbrev pub SlotsAreFollowed : Type 0
 SlotsAreFollowed =
     (fixed : Fixed) (words : List ℕ) (homes : List Home) (slot place cell : ℕ) → IsLaidOut fixed
-    → Copying fixed words homes → StoodAt fixed homes slot place → RefersTo words slot cell → Contains fixed.cells cell
+    → Copying fixed words homes → StoodAt fixed homes slot place → RefersToAddress words slot cell
+    → Contains fixed.cells cell
     → IsFollowed fixed words homes place cell

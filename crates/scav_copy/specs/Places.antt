@@ -44,13 +44,13 @@ abbrev pub offsets_of : Fixed → ℕ → List ℕ
 offsets_of fixed cell = offsets_in (cell_before fixed cell)
 
 -- the address is one of so many words from another on
-pub record IsWithin (first many at : ℕ) : Type 0 where
+pub record IsInRange (first many at : ℕ) : Type 0 where
   pub from : first ≤ at
   pub below : at < first + many
 
 -- the address is one of the words of the cell that stood at another
 abbrev pub IsOfCell : Fixed → ℕ → ℕ → Type 0
-IsOfCell fixed cell at = IsWithin cell (size_of fixed cell) at
+IsOfCell fixed cell at = IsInRange cell (size_of fixed cell) at
 
 -- the address is one of the room's
 pub record IsInRoom (room : Room) (at : ℕ) : Type 0 where
@@ -59,7 +59,7 @@ pub record IsInRoom (room : Room) (at : ℕ) : Type 0 where
 
 -- the address is one of the copy's words
 abbrev pub IsInCopy : Fixed → Home → ℕ → Type 0
-IsInCopy fixed home at = IsWithin home.to (size_of fixed home.from) at
+IsInCopy fixed home at = IsInRange home.to (size_of fixed home.from) at
 
 -- the address is a word of a cell that is to be copied
 abbrev pub IsInCells : Fixed → ℕ → Type 0

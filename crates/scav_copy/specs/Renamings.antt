@@ -8,16 +8,16 @@ use Rattle.scav_copy.specs.declared.places.Home.{Home}
 use Rattle.scav_copy.specs.Places.{Fixed, size_of, offsets_of, IsInCells, IsInRooms}
 
 -- the word of these is a reference to the cell
-abbrev pub RefersTo : List ℕ → ℕ → ℕ → Type 0
-RefersTo words at cell = reference_in (slice_index words at) ≡ Some cell
+abbrev pub RefersToAddress : List ℕ → ℕ → ℕ → Type 0
+RefersToAddress words at cell = reference_in (slice_index words at) ≡ Some cell
 
 -- the cell is one of `cells`, and a way of references led to it before: from a slot outside, through slots of such
 -- cells
-pub data Reached (fixed : Fixed) : ℕ → Type 0 where
-  by_slot : (slot cell : ℕ) → Contains fixed.slots slot → RefersTo fixed.before slot cell
-      → Contains fixed.cells cell → Reached fixed cell
-  by_cell : (host offset cell : ℕ) → Reached fixed host → Contains (offsets_of fixed host) offset
-      → RefersTo fixed.before (host + offset) cell → Contains fixed.cells cell → Reached fixed cell
+pub data IsReachable (fixed : Fixed) : ℕ → Type 0 where
+  by_slot : (slot cell : ℕ) → Contains fixed.slots slot → RefersToAddress fixed.before slot cell
+      → Contains fixed.cells cell → IsReachable fixed cell
+  by_cell : (host offset cell : ℕ) → IsReachable fixed host → Contains (offsets_of fixed host) offset
+      → RefersToAddress fixed.before (host + offset) cell → Contains fixed.cells cell → IsReachable fixed cell
 
 -- the word is the other one, in which a reference to a cell that has a home became that to the home
 pub data IsRenamed (homes : List Home) (old new : ℕ) : Type 0 where
@@ -33,7 +33,7 @@ HasOneHomeEach homes = AllPairs (λ one other. (one.from ≢ other.from) × (one
 -- outside are renamed.
 pub record Renaming (fixed : Fixed) (words : List ℕ) (homes : List Home) : Type 0 where
   pub one_each : HasOneHomeEach homes
-  pub survivors : (cell : ℕ) → ((home : Home) × Contains homes home × (home.from ≡ cell)) ↔ Reached fixed cell
+  pub survivors : (cell : ℕ) → ((home : Home) × Contains homes home × (home.from ≡ cell)) ↔ IsReachable fixed cell
   pub copied : (home : Home) (offset : ℕ) → Contains homes home → offset < size_of fixed home.from
       → (Contains (offsets_of fixed home.from) offset → ⊥)
       → slice_index words (home.to + offset) ≡ slice_index fixed.before (home.from + offset)

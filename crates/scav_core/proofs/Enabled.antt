@@ -12,8 +12,9 @@ use Rattle.std.proofs.lemmas.List.Sums.{AllPass-from_list_all}
 use Rattle.seat_steps.proofs.Joining.{in_found}
 use Rattle.scav_copy.specs.declared.places.Home.{Home}
 use Rattle.scav_copy.specs.declared.places.Room.{Room}
-use Rattle.scav_copy.specs.Places.{Fixed, size_of, offsets_of, IsWithin, IsInCopy, StoodAt}
-use Rattle.scav_core.specs.Possible.{is_copied_slot, is_live, is_beside, is_free, is_in_room, is_in_own_room, stands_at}
+use Rattle.scav_copy.specs.Places.{Fixed, size_of, offsets_of, IsInRange, IsInCopy, StoodAt}
+use Rattle.scav_core.specs.Possible.{is_copied_slot, is_live, is_disjoint, is_free, is_in_room, is_in_own_room}
+use Rattle.scav_core.specs.Possible.{stands_at}
 use Rattle.scav_core.specs.Possible.{is_home}
 use Rattle.scav_core.proofs.Tested.{same_at}
 
@@ -61,8 +62,8 @@ live_stood fixed homes slot t =
     ]
 
 -- words beside a copy share none with it
-beside_apart : (fixed : Fixed) (first many : ℕ) (home : Home) (at : ℕ) → is_beside fixed first many home ≡ true
-    → IsInCopy fixed home at → IsWithin first many at → ⊥
+beside_apart : (fixed : Fixed) (first many : ℕ) (home : Home) (at : ℕ) → is_disjoint fixed first many home ≡ true
+    → IsInCopy fixed home at → IsInRange first many at → ⊥
 beside_apart fixed first many home at t has within =
     elim (or_cases _ _ t) [
       | inl either ↦ elim (or_cases _ _ either) [
@@ -76,10 +77,10 @@ beside_apart fixed first many home at t has within =
 
 -- words that are found free share none with a home copy
 pub free_apart : (fixed : Fixed) (homes : List Home) (first many : ℕ) (home : Home) (at : ℕ)
-    → is_free fixed homes first many ≡ true → Contains homes home → IsInCopy fixed home at → IsWithin first many at
+    → is_free fixed homes first many ≡ true → Contains homes home → IsInCopy fixed home at → IsInRange first many at
     → ⊥
 free_apart fixed homes first many home at t there has within =
-    let test : Home → Bool = λ home. is_beside fixed first many home in
+    let test : Home → Bool = λ home. is_disjoint fixed first many home in
     beside_apart fixed first many home at
     (All-contains (λ (home : Home). test home ≡ true) homes home (AllPass-from_list_all test homes t) there) has within
 

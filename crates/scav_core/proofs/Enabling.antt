@@ -27,8 +27,8 @@ use Rattle.scav_core.specs.Possible.{is_copied_slot, is_live, is_part, words_wan
 use Rattle.scav_core.specs.Possible.{may_load_header}
 use Rattle.scav_core.specs.Possible.{may_load_body, may_redirect, is_home}
 use Rattle.scav_core.specs.Underway.{times, todo_times, board_times, home_times, HasReadCell, IsJob, HasJob, Underway}
-use Rattle.scav_core.specs.Reliance.{IsOutAt, HeadersMayBeLoaded, BodiesMayBeLoaded, SlotsMayBeRedirected}
-use Rattle.scav_core.specs.Reliance.{TodoMayBeLoaded}
+use Rattle.scav_core.specs.WorkerGuarantees.{IsOutAt, HeadersMayBeLoaded, BodiesMayBeLoaded, SlotsMayBeRedirected}
+use Rattle.scav_core.specs.WorkerGuarantees.{TodoMayBeLoaded}
 use Rattle.scav_core.proofs.Counting.{todo_one, is_counted, counted}
 use Rattle.scav_core.proofs.Redirecting.{header_no_reference}
 use Rattle.scav_core.proofs.Keeping.{view_in}

@@ -27,7 +27,7 @@ use Rattle.scav_core.specs.declared.workers.Job.{Job}
 use Rattle.scav_core.specs.declared.workers.WorkerView.{WorkerView}
 use Rattle.scav_core.specs.declared.world.World.{World}
 use Rattle.scav_core.specs.Worlds.{fixed_of, lent_view}
-use Rattle.scav_core.specs.Views.{touched, loaded_view, with_header, with_word}
+use Rattle.scav_core.specs.Views.{touched, loaded_view, with_header, with_body_word}
 use Rattle.scav_core.specs.Steps.{word_found, stepped, stepped_by, worker_of, after}
 use Rattle.scav_core.specs.Possible.{may, may_by, is_possible, is_place}
 use Rattle.scav_core.specs.Underway.{times, todo_times, board_times, home_times, is_address, IsLogged, HasJob, Underway}
@@ -111,7 +111,7 @@ body_step : {world : World} (worker : ℕ) (out : Bool) (job : Option Job) (todo
 body_step worker out None todo log underway stood is t = cc
 body_step {world} worker out (Some job) todo log underway stood is t =
     same_words world worker (made out (Some job) todo log)
-    (made out (with_word (Some job) (get_or world.words (job.cell + 1 + length job.body) 0)) todo log)
+    (made out (with_body_word (Some job) (get_or world.words (job.cell + 1 + length job.body) 0)) todo log)
     (job.cell + 1 + length job.body) (body_loaded worker out job todo log underway stood
     (view_in world.workers worker (made out (Some job) todo log) stood) is t)
 

@@ -18,7 +18,7 @@ use Rattle.scav_core.specs.Worlds.{fixed_of}
 use Rattle.scav_core.specs.Views.{touched, is_as_read, home_at, home_made}
 use Rattle.scav_core.specs.Steps.{worker_of, word_found, homes_after, stepped_by, after}
 use Rattle.scav_core.specs.Possible.{may, may_by, is_possible}
-use Rattle.scav_core.specs.Reliance.{IsOutAt, IsForwarded}
+use Rattle.scav_core.specs.WorkerGuarantees.{IsOutAt, IsForwarded}
 use Rattle.scav_core.proofs.Keeping.{IsChange}
 
 -- a new home is made by the worker in whose room it lies

@@ -12,7 +12,7 @@ use Rattle.seat_steps.specs.Boards.{IsBoard}
 use Rattle.scav_copy.specs.declared.places.Home.{Home}
 use Rattle.scav_copy.specs.declared.places.Room.{Room}
 use Rattle.scav_copy.specs.Places.{Fixed, size_of, IsInRoom, IsInCopies, StoodAt}
-use Rattle.scav_copy.specs.Renamings.{RefersTo}
+use Rattle.scav_copy.specs.Renamings.{RefersToAddress}
 use Rattle.scav_copy.specs.Copies.{with_home, HasNoHome, LiesInRoom, Copying}
 use Rattle.tagged_word.specs.declared.word.Class.TheVariants.{Ref}
 use Rattle.tagged_word.specs.Words.{bits_of}
@@ -115,7 +115,7 @@ pub data IsChange (world : World) (words : List ℕ) (homes : List Home) (worker
       → room.worker ≡ worker → LiesInRoom (fixed_of world) room home.to (size_of (fixed_of world) home.from)
       → IsChange world words homes worker
   renaming : (slot place : ℕ) (home : Home) → words ≡ set world.words slot (bits_of (Ref home.to)) → homes ≡ world.homes
-      → StoodAt (fixed_of world) world.homes slot place → RefersTo world.before place home.from
+      → StoodAt (fixed_of world) world.homes slot place → RefersToAddress world.before place home.from
       → Contains world.homes home → IsChange world words homes worker
 
 -- what an event owes

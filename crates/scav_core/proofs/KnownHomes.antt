@@ -16,7 +16,7 @@ use Rattle.scav_core.specs.declared.world.World.{World}
 use Rattle.scav_core.specs.Worlds.{lent_view}
 use Rattle.scav_core.specs.Views.{touched, view_after}
 use Rattle.scav_core.specs.Steps.{worker_of, word_found, stepped_by, after}
-use Rattle.scav_core.specs.Reliance.{IsOutAt, IsForwarded}
+use Rattle.scav_core.specs.WorkerGuarantees.{IsOutAt, IsForwarded}
 use Rattle.scav_core.specs.OwnHomes.{IsOwnHome}
 use Rattle.scav_core.specs.KnownHomes.{FreshHasMakers, EventsKeepMakers, LentKnowsNone, EventsKeepKnown}
 use Rattle.scav_core.specs.KnownHomes.{ExchangesAreKnown}

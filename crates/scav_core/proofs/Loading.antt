@@ -20,7 +20,7 @@ use Rattle.seat_steps.specs.Lists.{is_in}
 use Rattle.seat_steps.proofs.Joining.{in_found, out_not_found}
 use Rattle.scav_copy.specs.declared.places.Home.{Home}
 use Rattle.scav_copy.specs.Places.{Fixed, size_of, StoodAt}
-use Rattle.scav_copy.specs.Renamings.{RefersTo}
+use Rattle.scav_copy.specs.Renamings.{RefersToAddress}
 use Rattle.scav_copy.specs.Copies.{HasHeader}
 use Rattle.scav_copy.proofs.Redirecting.{as_before}
 use Rattle.scav_copy.proofs.Spots.{some_words}
@@ -28,7 +28,7 @@ use Rattle.scav_core.specs.declared.workers.Job.{Job}
 use Rattle.scav_core.specs.declared.workers.WorkerView.{WorkerView}
 use Rattle.scav_core.specs.declared.world.World.{World}
 use Rattle.scav_core.specs.Worlds.{fixed_of}
-use Rattle.scav_core.specs.Views.{job_for, job_at, with_header, with_word, loaded_view}
+use Rattle.scav_core.specs.Views.{job_for, job_at, with_header, with_body_word, loaded_view}
 use Rattle.scav_core.specs.Possible.{is_live, is_part, words_wanted, header_is, may_load_slot, may_load_header}
 use Rattle.scav_core.specs.Possible.{may_load_body}
 use Rattle.scav_core.specs.Underway.{IsQuiet, IsAt, IsRead, HasReadCell, IsJob, HasJob, IsLogged, Underway}
@@ -92,7 +92,7 @@ at_or_quiet fixed words slot (Some at) e =
 
 -- the job of a cell that was found among the cells is one
 given_job : {world : World} (b : Bool) (slot place cell : ℕ) → Underway world
-    → StoodAt (fixed_of world) world.homes slot place → RefersTo world.words slot cell
+    → StoodAt (fixed_of world) world.homes slot place → RefersToAddress world.words slot cell
     → (b ≡ true → Contains world.cells cell)
     → HasJob (fixed_of world) world.homes (given b (record { slot = slot; cell = cell; header = None; body = [] }))
 given_job false slot place cell underway stood refers there = tt
@@ -266,7 +266,7 @@ pub body_loaded : {world : World} (worker : ℕ) (out : Bool) (job : Job) (todo 
     → Underway world → slice_get world.workers worker ≡ Some (made out (Some job) todo log)
     → Contains world.workers (made out (Some job) todo log) → out ≡ true → may_load_body world job ≡ true
     → Keeps world world.words world.homes world.board worker (made out (Some job) todo log)
-    (made out (with_word (Some job) (get_or world.words (job.cell + 1 + length job.body) 0)) todo log)
+    (made out (with_body_word (Some job) (get_or world.words (job.cell + 1 + length job.body) 0)) todo log)
 body_loaded {world} worker out job todo log underway stood inside is may =
     let has : IsJob (fixed_of world) world.homes job = underway.jobs (made out (Some job) todo log) inside is in
     let word : ℕ = get_or world.words (job.cell + 1 + length job.body) 0 in

@@ -7,7 +7,7 @@ use Rattle.std.proofs.lemmas.Bool.{true≢false}
 use Rattle.tagged_word.specs.declared.word.Class.TheVariants.{Ref}
 use Rattle.tagged_word.specs.Words.{bits_of}
 use Rattle.tagged_word.specs.Readings.{reference_in}
-use Rattle.scav_copy.specs.Places.{Fixed, size_of, IsWithin, IsInRooms, IsInCopies}
+use Rattle.scav_copy.specs.Places.{Fixed, size_of, IsInRange, IsInRooms, IsInCopies}
 use Rattle.scav_copy.specs.Copies.{IsCopyAt}
 use Rattle.scav_copy.proofs.Filling.{rooms_may_be_filled, free_is_not_live}
 use Rattle.scav_copy.proofs.Spots.{elsewhere}
@@ -26,7 +26,7 @@ use Rattle.scav_core.proofs.Wanted.{wanted, whole_size}
 
 -- words that lie in a room of a worker are words of a room
 in_rooms : (fixed : Fixed) (worker first many at : ℕ) → IsInOwnRoom fixed.rooms worker first many
-    → IsWithin first many at
+    → IsInRange first many at
     → IsInRooms fixed at
 in_rooms fixed worker first many at own within = (
   own.room,
@@ -51,7 +51,7 @@ word_copied {world} worker at word view underway stood inside may =
     let fixed = fixed_of world in
     let parts = three_parts (is_in_own_room world.rooms worker at 1) (is_free fixed world.homes at 1)
     (nat_lt at (length world.words)) may in
-    let itself : IsWithin at 1 at = record { from = omega arith; below = omega arith } in
+    let itself : IsInRange at 1 at = record { from = omega arith; below = omega arith } in
     let in_room : IsInRooms fixed at = in_rooms fixed worker at 1 at
     (in_own_room world.rooms worker at 1 parts.0) itself in
     let free : IsInCopies fixed world.homes at → ⊥ = λ copy.

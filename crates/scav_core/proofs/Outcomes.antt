@@ -10,7 +10,8 @@ use Rattle.scav_core.specs.declared.world.World.{World}
 use Rattle.scav_core.specs.Worlds.{fixed_of, IsFresh}
 use Rattle.scav_core.specs.Runs.{ArePossible, after_all}
 use Rattle.scav_core.specs.Underway.{IsLogged, Underway}
-use Rattle.scav_core.specs.WorldLaws.{HasHeaders, HasCopies, IsCopying, IsOutside, HasWork, HasLogs, IsRenamedWhenDone}
+use Rattle.scav_core.specs.WorldLaws.{HasHeaders, HasCopies, IsCopying, IsUntouched, HasWork, HasLogs}
+use Rattle.scav_core.specs.WorldLaws.{IsRenamedWhenDone}
 use Rattle.scav_core.specs.WorldLaws.{UnderwayHasFacts}
 use Rattle.scav_core.proofs.Events.{fresh_is_underway, lists_keep}
 use Rattle.scav_core.proofs.Unchanged.{fixed_after}
@@ -53,7 +54,7 @@ has_copies out =
     }
 
 -- all outside is as before
-pub is_outside : {start world : World} → Outcome start world → IsOutside start world
+pub is_outside : {start world : World} → Outcome start world → IsUntouched start world
 is_outside out = (copying_of out).outside
 
 -- each copy is to be done once

@@ -25,7 +25,7 @@ use Rattle.scav_core.specs.Steps.{worker_of, after}
 use Rattle.scav_core.specs.Possible.{is_copied_slot, is_live, is_free, is_in_own_room, words_wanted, is_whole}
 use Rattle.scav_core.specs.Possible.{stands_at, is_copy, header_is, may, may_by, may_forward}
 use Rattle.scav_core.specs.Underway.{HasReadCell, IsJob, Underway}
-use Rattle.scav_core.specs.Reliance.{IsForwarded}
+use Rattle.scav_core.specs.WorkerGuarantees.{IsForwarded}
 use Rattle.scav_core.specs.OwnHomes.{IsOwnHome, OfferedMayBeLoaded, WordsMayBeStored, CellsMayBeForwarded}
 use Rattle.scav_core.specs.OwnHomes.{OwnHomesStay, IsOfSize, JobsGoOn, WholeHasSize}
 use Rattle.scav_core.proofs.Enabling.{job_of, by_job, in_words}

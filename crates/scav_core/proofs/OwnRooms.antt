@@ -14,7 +14,7 @@ use Rattle.scav_copy.specs.Copies.{LiesInRoom}
 use Rattle.scav_copy.proofs.Spots.{from_is, some_words}
 use Rattle.scav_core.specs.declared.world.World.{World}
 use Rattle.scav_core.specs.Worlds.{fixed_of}
-use Rattle.scav_core.specs.Possible.{is_beside, is_free, is_in_room, is_in_own_room}
+use Rattle.scav_core.specs.Possible.{is_disjoint, is_free, is_in_room, is_in_own_room}
 use Rattle.scav_core.specs.Underway.{Underway}
 use Rattle.scav_core.specs.OwnHomes.{IsOwnHome}
 
@@ -50,7 +50,7 @@ shared_at fixed first many home more less some words =
 
 -- some words are found beside a copy of some words, or share one with it
 pub beside_or : (fixed : Fixed) (first many : ℕ) (home : Home) → 1 ≤ many → 1 ≤ size_of fixed home.from
-    → (is_beside fixed first many home ≡ true) ⊎ SharesOne fixed first many home
+    → (is_disjoint fixed first many home ≡ true) ⊎ SharesOne fixed first many home
 beside_or fixed first many home some words =
     let size : ℕ = size_of fixed home.from in
     let empty : Bool = size == 0 in
@@ -67,12 +67,12 @@ beside_or fixed first many home some words =
 -- words in a room of a worker that are beside its own homes are found free
 pub free_of_own : (world : World) (worker : ℕ) (room : Room) (first many : ℕ) → Underway world → 1 ≤ many
     → room.worker ≡ worker → LiesInRoom (fixed_of world) room first many
-    → ((home : Home) → IsOwnHome world worker home → is_beside (fixed_of world) first many home ≡ true)
+    → ((home : Home) → IsOwnHome world worker home → is_disjoint (fixed_of world) first many home ≡ true)
     → is_free (fixed_of world) world.homes first many ≡ true
 free_of_own world worker room first many underway some own lies beside =
     let fixed : Fixed = fixed_of world in
-    list_all-from_AllPass (λ home. is_beside fixed first many home) world.homes
-    (All-weaker (Contains world.homes) (λ home. is_beside fixed first many home ≡ true)
+    list_all-from_AllPass (λ home. is_disjoint fixed first many home) world.homes
+    (All-weaker (Contains world.homes) (λ home. is_disjoint fixed first many home ≡ true)
     (λ home there.
     elim (beside_or fixed first many home some
     (some_words home.from underway.laid (from_is home underway.copying there))) [

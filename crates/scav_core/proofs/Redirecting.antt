@@ -13,7 +13,7 @@ use Rattle.tagged_word.proofs.Readings.{reference_from}
 use Rattle.seat_steps.specs.declared.note.Note.{Note}
 use Rattle.scav_copy.specs.declared.places.Home.{Home}
 use Rattle.scav_copy.specs.Places.{size_of, StoodAt}
-use Rattle.scav_copy.specs.Renamings.{RefersTo}
+use Rattle.scav_copy.specs.Renamings.{RefersToAddress}
 use Rattle.scav_copy.proofs.Redirecting.{slots_may_be_renamed, equal_or_not}
 use Rattle.scav_copy.proofs.Spots.{live_is_there, home_is_no_cell}
 use Rattle.scav_core.specs.declared.workers.Job.{Job}
@@ -68,10 +68,10 @@ slot_renamed {world} worker out job todo log home underway stood inside has ther
     record {
       stood = stood;
       change = IsChange.renaming job.slot has.place home refl refl has.stood
-          (subst (λ (cell : ℕ). RefersTo world.before has.place cell) (sym of) has.referred) there;
+          (subst (λ (cell : ℕ). RefersToAddress world.before has.place cell) (sym of) has.referred) there;
       copying = slots_may_be_renamed fixed world.words world.homes job.slot has.place home underway.laid
           underway.copying
-          has.stood there (subst (λ (cell : ℕ). RefersTo world.before has.place cell) (sym of) has.referred);
+          has.stood there (subst (λ (cell : ℕ). RefersToAddress world.before has.place cell) (sym of) has.referred);
       board_is = underway.board;
       work = same_work world worker (made out (Some job) todo log) (made out None todo log) stood refl underway.work;
       stays = record {

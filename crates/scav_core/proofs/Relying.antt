@@ -11,7 +11,7 @@ use Rattle.tagged_word.proofs.Readings.{reference_from}
 use Rattle.scav_copy.specs.declared.places.Home.{Home}
 use Rattle.scav_copy.specs.declared.places.Room.{Room}
 use Rattle.scav_copy.specs.Places.{IsInRoom, IsInCopies, IsOfCell, StoodAt}
-use Rattle.scav_copy.specs.Renamings.{RefersTo}
+use Rattle.scav_copy.specs.Renamings.{RefersToAddress}
 use Rattle.scav_copy.specs.Copies.{IsKeptOrRenamed}
 use Rattle.scav_copy.proofs.Ascending.{old_in, one_home}
 use Rattle.scav_copy.proofs.Filling.{free_is_not_live}
@@ -24,7 +24,7 @@ use Rattle.scav_core.specs.Worlds.{fixed_of}
 use Rattle.scav_core.specs.Steps.{worker_of, after}
 use Rattle.scav_core.specs.Underway.{Underway}
 use Rattle.scav_core.specs.Possible.{is_possible}
-use Rattle.scav_core.specs.Reliance.{IsRedirected, StaysFor, EventsStayFor}
+use Rattle.scav_core.specs.WorkerGuarantees.{IsRedirected, StaysFor, EventsStayFor}
 use Rattle.scav_core.proofs.Events.{Owes, Comes, comes, events_keep}
 use Rattle.scav_core.proofs.Forwarding.{no_home_or, forwarded_by}
 use Rattle.scav_core.proofs.Keeping.{IsChange}
@@ -57,7 +57,7 @@ stored_elsewhere words others at word other e apart =
 -- a live slot that is stored to becomes the reference to the home
 redirects : {world : World} (words : List ℕ) (slot place : ℕ) (home : Home) (other origin : ℕ) → Underway world
     → words ≡ set world.words slot (bits_of (Ref home.to)) → StoodAt (fixed_of world) world.homes slot place
-    → RefersTo world.before place home.from → Contains world.homes home
+    → RefersToAddress world.before place home.from → Contains world.homes home
     → StoodAt (fixed_of world) world.homes other origin
     → IsKeptOrRenamed world.homes (get_or world.before origin 0) (get_or world.words other 0)
     → (other ≡ slot) ⊎ (other ≢ slot)

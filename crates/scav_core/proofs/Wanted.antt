@@ -28,7 +28,7 @@ shape_has layouts shape layout known of is =
     ap (λ (b : Bool). if b then option_and_then layout_in (slice_get layouts shape) else None) t
     ∙ ap (option_and_then layout_in) of ∙ is
 
--- The words wanted of a cell are all of it, or its first two where the second is its length and not read yet.
+-- The words wanted of a cell are all of it, or its first two where the second is its length and is not read.
 pub data IsWanted (wanted : Option ℕ) (size : ℕ) (body : List ℕ) : Type 0 where
   all : wanted ≡ Some size → IsWanted wanted size body
   short : wanted ≡ Some 2 → body ≡ [] → 2 ≤ size → IsWanted wanted size body

@@ -10,7 +10,7 @@ use Rattle.scav_core.specs.Worlds.{IsFresh}
 use Rattle.scav_core.specs.Steps.{after}
 use Rattle.scav_core.specs.Possible.{is_possible}
 use Rattle.scav_core.specs.Underway.{Underway}
-use Rattle.scav_core.specs.Reliance.{IsOutAt}
+use Rattle.scav_core.specs.WorkerGuarantees.{IsOutAt}
 use Rattle.scav_core.specs.OwnHomes.{IsOwnHome}
 
 -- each home lies in a room of a worker that has begun

@@ -5,7 +5,7 @@ pub mod Possible
 pub mod Runs
 pub mod Underway
 pub mod WorldLaws
-pub mod Reliance
+pub mod WorkerGuarantees
 pub mod WorkerLaws
 pub mod OwnHomes
 pub mod KnownHomes

@@ -12,9 +12,9 @@ use Rattle.scav_core.specs.declared.workers.WorkerView.{WorkerView}
 use Rattle.scav_core.specs.declared.world.World.{World}
 use Rattle.scav_core.specs.Worlds.{fixed_of}
 use Rattle.scav_core.specs.Steps.{worker_of, after}
-use Rattle.scav_core.specs.Possible.{is_beside, words_wanted, is_whole, stands_at, is_possible}
+use Rattle.scav_core.specs.Possible.{is_disjoint, words_wanted, is_whole, stands_at, is_possible}
 use Rattle.scav_core.specs.Underway.{Underway}
-use Rattle.scav_core.specs.Reliance.{IsOutAt, IsForwarded}
+use Rattle.scav_core.specs.WorkerGuarantees.{IsOutAt, IsForwarded}
 
 -- the home lies in a room of the worker's
 pub record IsOwnHome (world : World) (worker : ℕ) (home : Home) : Type 0 where
@@ -48,7 +48,7 @@ CellsMayBeForwarded =
     → is_whole (words_wanted world.layouts header job.body) (1 + length job.body) ≡ true → room.worker ≡ worker
     → LiesInRoom (fixed_of world) room to (1 + length job.body) → stands_at world.words to header job.body ≡ true
     → ((home : Home) → IsOwnHome world worker home
-    → is_beside (fixed_of world) to (1 + length job.body) home ≡ true)
+    → is_disjoint (fixed_of world) to (1 + length job.body) home ≡ true)
     → is_possible world (Forward worker to) ≡ true
 
 -- a worker has a home more only by its own exchange

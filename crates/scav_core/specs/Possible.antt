@@ -29,13 +29,13 @@ abbrev pub is_live : Fixed → List Home → ℕ → Bool
 is_live fixed homes slot = is_in fixed.slots slot || list_any (λ home. is_copied_slot fixed slot home) homes
 
 -- whether so many words from an address on share none with the home copy
-abbrev pub is_beside : Fixed → ℕ → ℕ → Home → Bool
-is_beside fixed first many home =
+abbrev pub is_disjoint : Fixed → ℕ → ℕ → Home → Bool
+is_disjoint fixed first many home =
     size_of fixed home.from == 0 || nat_le (home.to + size_of fixed home.from) first || nat_le (first + many) home.to
 
 -- whether they share none with any home copy
 abbrev pub is_free : Fixed → List Home → ℕ → ℕ → Bool
-is_free fixed homes first many = list_all (λ home. is_beside fixed first many home) homes
+is_free fixed homes first many = list_all (λ home. is_disjoint fixed first many home) homes
 
 -- whether they lie in the room, and that is the worker's
 abbrev pub is_in_room : ℕ → ℕ → ℕ → Room → Bool
@@ -91,7 +91,7 @@ abbrev pub may_load_slot : World → ℕ → WorkerView → Bool
 may_load_slot world slot view =
     is_none view.job && is_live (fixed_of world) world.homes slot && nat_lt slot (length world.words)
 
--- whether the header of the job may be read: it isn't yet
+-- whether the header of the job may be read: it isn't read
 abbrev pub may_load_header : World → Job → Bool
 may_load_header world job = is_none job.header && nat_lt job.cell (length world.words)
 

@@ -11,7 +11,7 @@ use Rattle.seat_steps.specs.declared.note.Note.TheVariants.{Loaded}
 use Rattle.seat_steps.specs.Boards.{IsBoard}
 use Rattle.scav_copy.specs.declared.places.Home.{Home}
 use Rattle.scav_copy.specs.Places.{Fixed, size_of, IsLaidOut, StoodAt}
-use Rattle.scav_copy.specs.Renamings.{RefersTo}
+use Rattle.scav_copy.specs.Renamings.{RefersToAddress}
 use Rattle.scav_copy.specs.Copies.{Copying}
 use Rattle.scav_core.specs.declared.workers.Job.{Job}
 use Rattle.scav_core.specs.declared.workers.WorkerView.{WorkerView}
@@ -47,7 +47,7 @@ IsShared workers board homes =
 
 -- the word refers to none of the cells
 abbrev pub IsQuiet : Fixed → List ℕ → ℕ → Type 0
-IsQuiet fixed words slot = (cell : ℕ) → RefersTo words slot cell → Contains fixed.cells cell → ⊥
+IsQuiet fixed words slot = (cell : ℕ) → RefersToAddress words slot cell → Contains fixed.cells cell → ⊥
 
 -- the worker is at the slot
 abbrev pub IsAt : Option Job → ℕ → Type 0
@@ -74,7 +74,7 @@ pub data HasReadCell (fixed : Fixed) (homes : List Home) (job : Job) : Type 0 wh
 pub record IsJob (fixed : Fixed) (homes : List Home) (job : Job) : Type 0 where
   pub place : ℕ
   pub stood : StoodAt fixed homes job.slot place
-  pub referred : RefersTo fixed.before place job.cell
+  pub referred : RefersToAddress fixed.before place job.cell
   pub among : Contains fixed.cells job.cell
   pub read : HasReadCell fixed homes job
 

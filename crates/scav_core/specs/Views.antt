@@ -100,9 +100,9 @@ with_header None header = None
 with_header (Some job) header = Some (record job { header = Some header })
 
 -- the job with one word more
-abbrev pub with_word : Option Job → ℕ → Option Job
-with_word None word = None
-with_word (Some job) word = Some (record job { body = job.body ++ word ∷ [] })
+abbrev pub with_body_word : Option Job → ℕ → Option Job
+with_body_word None word = None
+with_body_word (Some job) word = Some (record job { body = job.body ++ word ∷ [] })
 
 -- the view after a slot was read
 abbrev pub loaded_view : List ℕ → WorkerView → ℕ → ℕ → WorkerView
@@ -133,7 +133,7 @@ view_after cells view event.Lend found = view
 view_after cells view (event.Return worker) found = record view { out = false }
 view_after cells view (event.LoadSlot worker slot) found = loaded_view cells view slot found
 view_after cells view (event.LoadHeader worker) found = record view { job = with_header view.job found }
-view_after cells view (event.LoadBody worker) found = record view { job = with_word view.job found }
+view_after cells view (event.LoadBody worker) found = record view { job = with_body_word view.job found }
 view_after cells view (event.CopyWord worker at word) found = view
 view_after cells view (event.Forward worker to) found = forwarded_view view to found
 view_after cells view (event.Redirect worker) found = record view { job = None }

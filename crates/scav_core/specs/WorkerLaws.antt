@@ -6,7 +6,7 @@ use Rattle.tagged_word.specs.Readings.{read_cell, reference_in}
 use Rattle.seat_steps.specs.declared.note.Note.TheVariants.{Loaded}
 use Rattle.scav_copy.specs.declared.places.Home.{Home}
 use Rattle.scav_copy.specs.Places.{cell_before, size_of, offsets_of, IsLaidOut, StoodAt}
-use Rattle.scav_copy.specs.Renamings.{RefersTo}
+use Rattle.scav_copy.specs.Renamings.{RefersToAddress}
 use Rattle.scav_copy.specs.Going.{GoesOn, HasGoneOn}
 use Rattle.scav_core.specs.declared.event.Event.TheVariants.{LoadSlot}
 use Rattle.scav_core.specs.declared.workers.WorkerView.{WorkerView}
@@ -65,7 +65,8 @@ pub record IsOnBoard (world : World) (slot : ℕ) : Type 0 where
 abbrev pub LeftIsOnBoard : Type 0
 LeftIsOnBoard =
     (world : World) (slot place cell : ℕ) → Underway world → WorkersAreDone world
-    → StoodAt (fixed_of world) world.homes slot place → RefersTo world.words slot cell → Contains world.cells cell
+    → StoodAt (fixed_of world) world.homes slot place → RefersToAddress world.words slot cell
+    → Contains world.cells cell
     → IsOnBoard world slot
 
 -- where they are done, and no word of the board is a reference, the scavenge is done

@@ -3,8 +3,8 @@ use Rattle.std.specs.Prelude.{◌≡◌, ℕ, ◌+◌, ◌<◌, true, List, Cont
 use Rattle.seat_steps.specs.Boards.{IsBoard}
 use Rattle.scav_copy.specs.declared.places.Home.{Home}
 use Rattle.scav_copy.specs.Places.{size_of, offsets_of, StoodAt}
-use Rattle.scav_copy.specs.Renamings.{RefersTo, Reached, HasOneHomeEach, Renaming, Outside}
-use Rattle.scav_copy.specs.Copies.{HasHeader, IsKeptOrRenamed, AreHoused, AreApart, Copying}
+use Rattle.scav_copy.specs.Renamings.{RefersToAddress, IsReachable, HasOneHomeEach, Renaming, Outside}
+use Rattle.scav_copy.specs.Copies.{HasHeader, IsKeptOrRenamed, AreHoused, HomesDisjoint, Copying}
 use Rattle.scav_core.specs.declared.workers.WorkerView.{WorkerView}
 use Rattle.scav_core.specs.declared.event.Event.{Event}
 use Rattle.scav_core.specs.declared.world.World.{World}
@@ -42,9 +42,9 @@ pub record HasHeaders (start world : World) : Type 0 where
 -- Each home copy is that of a cell that was reached. It lies in one room, and shares no word with another. It is the
 -- cell, with its slots as before or renamed.
 pub record HasCopies (start world : World) : Type 0 where
-  pub reached : (home : Home) → Contains world.homes home → Reached (fixed_of start) home.from
+  pub reached : (home : Home) → Contains world.homes home → IsReachable (fixed_of start) home.from
   pub housed : AreHoused (fixed_of start) world.homes
-  pub apart : AreApart (fixed_of start) world.homes
+  pub apart : HomesDisjoint (fixed_of start) world.homes
   pub words : (home : Home) (offset : ℕ) → Contains world.homes home → offset < size_of (fixed_of start) home.from
       → (Contains (offsets_of (fixed_of start) home.from) offset → ⊥)
       → slice_index world.words (home.to + offset) ≡ slice_index start.before (home.from + offset)
@@ -59,8 +59,8 @@ abbrev pub IsCopying : World → World → Type 0
 IsCopying start world = Copying (fixed_of start) world.words world.homes
 
 -- every word is as before that is no word of cells, no slot and in no room
-abbrev pub IsOutside : World → World → Type 0
-IsOutside start world = Outside (fixed_of start) world.words
+abbrev pub IsUntouched : World → World → Type 0
+IsUntouched start world = Outside (fixed_of start) world.words
 
 -- Each word of the board is 0 or a reference; what is to be done and the board together hold each home copy just once,
 -- and nothing else.
@@ -76,7 +76,7 @@ HasLogs start world =
 -- no live slot refers to one of the cells
 abbrev pub IsDone : World → World → Type 0
 IsDone start world =
-    (slot place cell : ℕ) → StoodAt (fixed_of start) world.homes slot place → RefersTo world.words slot cell
+    (slot place cell : ℕ) → StoodAt (fixed_of start) world.homes slot place → RefersToAddress world.words slot cell
     → Contains start.cells cell → ⊥
 
 -- where no live slot refers to one of the cells, all that was reached was copied and renamed
@@ -88,7 +88,7 @@ pub record HasFacts (start world : World) : Type 0 where
   pub headers : HasHeaders start world
   pub copies : HasCopies start world
   pub copying : IsCopying start world
-  pub outside : IsOutside start world
+  pub outside : IsUntouched start world
   pub work : HasWork world
   pub logs : HasLogs start world
   pub renamed : IsRenamedWhenDone start world

@@ -23,7 +23,7 @@ pub(crate) fn copied(alloc: Global, world: &World) -> Result<World, NoMemory>
     })
 }
 
-// The same views.
+/// The same views.
 fn copied_workers(alloc: Global, workers: &Workers) -> Result<Workers, NoMemory>
     ensures { IfOk result (λ copy. copy ≡ workers.now) }
 {
@@ -34,7 +34,7 @@ fn copied_workers(alloc: Global, workers: &Workers) -> Result<Workers, NoMemory>
     Ok(Workers::from_vec(list))
 }
 
-// The same view.
+/// The same view.
 fn copied_view(alloc: Global, view: &WorkerView) -> Result<WorkerView, NoMemory>
     ensures { IfOk result (λ copy. copy ≡ view.now) }
 {
@@ -46,7 +46,7 @@ fn copied_view(alloc: Global, view: &WorkerView) -> Result<WorkerView, NoMemory>
     })
 }
 
-// The same job.
+/// The same job.
 fn copied_job(alloc: Global, job: &Option<Job>) -> Result<Option<Job>, NoMemory>
     ensures { IfOk result (λ copy. copy ≡ job.now) }
 {

@@ -1,8 +1,8 @@
 //! What every list of events leaves true.
 ghost use Rattle.scav_core.specs.WorldLaws.{FreshIsUnderway, EventsKeepUnderway, ListsKeepUnderway};
 ghost use Rattle.scav_core.specs.WorldLaws.{FixedStays, UnderwayHasFacts};
-ghost use Rattle.scav_core.specs.Reliance.{EventsStayFor, HeadersMayBeLoaded, BodiesMayBeLoaded};
-ghost use Rattle.scav_core.specs.Reliance.{SlotsMayBeRedirected, TodoMayBeLoaded};
+ghost use Rattle.scav_core.specs.WorkerGuarantees.{EventsStayFor, HeadersMayBeLoaded, BodiesMayBeLoaded};
+ghost use Rattle.scav_core.specs.WorkerGuarantees.{SlotsMayBeRedirected, TodoMayBeLoaded};
 ghost use Rattle.scav_core.specs.WorkerLaws.{HomesReadAsCells, TodoReadsAsCells};
 ghost use Rattle.scav_core.specs.WorkerLaws.{LeftIsOnBoard, NothingLeftIsDone, MainGoesOn};
 ghost use Rattle.scav_core.specs.OwnHomes.{OfferedMayBeLoaded, WordsMayBeStored};

@@ -3,7 +3,7 @@ ghost use Rattle.std.specs.Prelude.{◌≡◌, ◌+◌, ◌<◌, ◌^◌};
 ghost use Rattle.std.specs.List.{list_any};
 ghost use Rattle.scav_copy.specs.Places.{cell_before, size_of};
 ghost use Rattle.scav_core.specs.Worlds.{fixed_of};
-ghost use Rattle.scav_core.specs.Possible.{is_copied_slot, is_live, is_beside, is_free, is_in_room};
+ghost use Rattle.scav_core.specs.Possible.{is_copied_slot, is_live, is_disjoint, is_free, is_in_room};
 ghost use Rattle.scav_core.specs.Possible.{is_in_own_room};
 
 use crate::world::World;
@@ -20,7 +20,7 @@ pub(crate) fn is_live(world: &World, slot: u32) -> bool
     is_outside || is_copied
 }
 
-// Whether the slot is one of a home copy.
+/// Whether the slot is one of a home copy.
 fn is_slot_of_copies(world: &World, slot: u32) -> bool
     ensures { result ≡ list_any (λ home. is_copied_slot (fixed_of world.now) slot home) world.now.homes }
 {
@@ -31,7 +31,7 @@ fn is_slot_of_copies(world: &World, slot: u32) -> bool
         .any(|home| is_copied_slot(world, slot, *home))
 }
 
-// Whether the slot is one of the home copy.
+/// Whether the slot is one of the home copy.
 fn is_copied_slot(world: &World, slot: u32, home: Home) -> bool
     ensures { result ≡ is_copied_slot (fixed_of world.now) slot home }
 {
@@ -44,7 +44,7 @@ fn is_copied_slot(world: &World, slot: u32, home: Home) -> bool
     }
 }
 
-// The cell that stood at an address before.
+/// The cell that stood at an address before.
 #[tactic(auto, unfolding(scav_copy::specs::Places::cell_before))]
 fn cell_before(world: &World, at: u32) -> Option<Reading>
     ensures { result ≡ cell_before (fixed_of world.now) at }
@@ -57,7 +57,7 @@ fn cell_before(world: &World, at: u32) -> Option<Reading>
     )
 }
 
-// How many words the cell has that stood at an address before.
+/// How many words the cell has that stood at an address before.
 fn size_of(world: &World, cell: u32) -> u32
     ensures { result ≡ size_of (fixed_of world.now) cell }
 {
@@ -67,10 +67,10 @@ fn size_of(world: &World, cell: u32) -> u32
     }
 }
 
-// Whether so many words from an address on share none with the home copy.
-fn is_beside(world: &World, first: u64, many: u64, home: Home) -> bool
+/// Whether so many words from an address on share none with the home copy.
+fn is_disjoint(world: &World, first: u64, many: u64, home: Home) -> bool
     requires { first + many < 2 ^ 64 }
-    ensures { result ≡ is_beside (fixed_of world.now) first many home }
+    ensures { result ≡ is_disjoint (fixed_of world.now) first many home }
 {
     let size = size_of(world, home.from);
     let end = home.to as u64 + size as u64;
@@ -88,10 +88,10 @@ pub(crate) fn is_free(world: &World, first: u64, many: u64) -> bool
         .homes
         .as_slice()
         .iter()
-        .all(|home| is_beside(world, first, many, *home))
+        .all(|home| is_disjoint(world, first, many, *home))
 }
 
-// Whether they lie in the room, and that is the worker's.
+/// Whether they lie in the room, and that is the worker's.
 fn is_in_room(worker: u32, first: u64, many: u64, room: Room) -> bool
     requires { first + many < 2 ^ 64 }
     ensures { result ≡ is_in_room worker first many room }

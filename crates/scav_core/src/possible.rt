@@ -18,7 +18,7 @@ use scav_copy::Home;
 use seat_steps::layout_of;
 use tagged_word::{Header, LayoutWord, Word};
 
-// The most workers that may be at work at a time.
+/// The most workers that may be at work at a time.
 const WORKERS_MOST: usize = 7;
 
 /// Whether an event is possible in a world.
@@ -34,7 +34,7 @@ pub fn is_possible(world: &World, event: Event) -> bool
     }
 }
 
-// Whether the main side may do this.
+/// Whether the main side may do this.
 fn may_main(world: &World, event: Event) -> bool
     ensures { result ≡ may_main world.now event }
 {
@@ -53,7 +53,7 @@ fn may_main(world: &World, event: Event) -> bool
     }
 }
 
-// Whether a worker that is out, and has this view, may do this.
+/// Whether a worker that is out, and has this view, may do this.
 fn may(world: &World, event: Event, view: &WorkerView) -> bool
     ensures { result ≡ may world.now event view.now }
 {
@@ -75,7 +75,7 @@ fn may(world: &World, event: Event, view: &WorkerView) -> bool
     }
 }
 
-// Whether the worker is at no slot, and this one is live.
+/// Whether the worker is at no slot, and this one is live.
 fn may_load_slot(world: &World, slot: u32, view: &WorkerView) -> bool
     ensures { result ≡ may_load_slot world.now slot view.now }
 {
@@ -85,7 +85,7 @@ fn may_load_slot(world: &World, slot: u32, view: &WorkerView) -> bool
     is_idle && is_live && is_there
 }
 
-// Whether the job's header may be read.
+/// Whether the job's header may be read.
 fn may_load_header(world: &World, job: &Option<Job>) -> bool
     ensures { result ≡ job_is job.now (may_load_header world.now) }
 {
@@ -99,7 +99,7 @@ fn may_load_header(world: &World, job: &Option<Job>) -> bool
     }
 }
 
-// Whether the next word of the cell may be read.
+/// Whether the next word of the cell may be read.
 fn may_load_body(world: &World, job: &Option<Job>) -> bool
     ensures { result ≡ job_is job.now (may_load_body world.now) }
 {
@@ -115,7 +115,7 @@ fn may_load_body(world: &World, job: &Option<Job>) -> bool
     }
 }
 
-// Whether a header that was read names more words than were read.
+/// Whether a header that was read names more words than were read.
 fn wants_more(layouts: &[u64], header: Option<u64>, body: &[u64]) -> bool
     ensures { result ≡ header_is header (λ header.
         is_part (words_wanted layouts.now header body.now) (1 + length body.now)) }
@@ -129,7 +129,7 @@ fn wants_more(layouts: &[u64], header: Option<u64>, body: &[u64]) -> bool
     }
 }
 
-// How many words of the cell are to be read.
+/// How many words of the cell are to be read.
 fn words_wanted(layouts: &[u64], header: u64, body: &[u64]) -> Option<u32>
     ensures { result ≡ words_wanted layouts.now header body.now }
 {
@@ -141,7 +141,7 @@ fn words_wanted(layouts: &[u64], header: u64, body: &[u64]) -> Option<u32>
     }
 }
 
-// The length of a cell with this layout; none where it is a word that was not read.
+/// The length of a cell with this layout; none where it is a word that was not read.
 fn length_of(layout: LayoutWord, body: &[u64]) -> Option<u64>
     ensures { result ≡ length_by (has_length layout.kind) (slice_get body.now 0) }
 {
@@ -152,7 +152,7 @@ fn length_of(layout: LayoutWord, body: &[u64]) -> Option<u64>
     }
 }
 
-// Whether the worker may store a word there.
+/// Whether the worker may store a word there.
 fn may_copy_word(world: &World, worker: u32, at: u32) -> bool
     ensures { result ≡ may_copy_word world.now worker at }
 {
@@ -162,7 +162,7 @@ fn may_copy_word(world: &World, worker: u32, at: u32) -> bool
     is_own && is_free && is_there
 }
 
-// Whether the header may be exchanged for the reference to that copy.
+/// Whether the header may be exchanged for the reference to that copy.
 fn may_forward(world: &World, worker: u32, to: u32, job: &Option<Job>) -> bool
     ensures { result ≡ job_is job.now (may_forward world.now worker to) }
 {
@@ -179,7 +179,7 @@ fn may_forward(world: &World, worker: u32, to: u32, job: &Option<Job>) -> bool
     }
 }
 
-// Whether a header and a body are a whole cell, and stand there as a copy.
+/// Whether a header and a body are a whole cell, and stand there as a copy.
 fn is_copy(world: &World, worker: u32, to: u32, header: u64, body: &[u64]) -> bool
     ensures { result ≡ is_copy world.now worker to header body.now }
 {
@@ -193,7 +193,7 @@ fn is_copy(world: &World, worker: u32, to: u32, header: u64, body: &[u64]) -> bo
     is_whole && is_there && is_own && is_free && is_stored
 }
 
-// Whether just so many words are wanted as there are.
+/// Whether just so many words are wanted as there are.
 fn is_whole(wanted: Option<u32>, many: u64) -> bool
     ensures { result ≡ is_whole wanted many }
 {
@@ -203,7 +203,7 @@ fn is_whole(wanted: Option<u32>, many: u64) -> bool
     }
 }
 
-// Whether a header and a body stand from an address on.
+/// Whether a header and a body stand from an address on.
 fn stands_at(words: &[u64], first: u64, header: u64, body: &[u64]) -> bool
     requires { first < 2 ^ 32 }
     ensures { result ≡ stands_at words.now first header body.now }
@@ -214,7 +214,7 @@ fn stands_at(words: &[u64], first: u64, header: u64, body: &[u64]) -> bool
     follows(words, first + 1, body)
 }
 
-// Whether the words from an address on are these.
+/// Whether the words from an address on are these.
 fn follows(words: &[u64], first: u64, list: &[u64]) -> bool
     requires { first ≤ 2 ^ 32 }
     ensures { result ≡ list_all (λ offset. slice_index words.now (first + offset) == slice_index list.now offset)
@@ -228,7 +228,7 @@ fn follows(words: &[u64], first: u64, list: &[u64]) -> bool
     true
 }
 
-// Whether the job's header may go into its slot.
+/// Whether the job's header may go into its slot.
 fn may_redirect(world: &World, job: &Option<Job>) -> bool
     ensures { result ≡ job_is job.now (may_redirect world.now) }
 {
@@ -245,7 +245,7 @@ fn may_redirect(world: &World, job: &Option<Job>) -> bool
     }
 }
 
-// Whether a home copy stands at the address.
+/// Whether a home copy stands at the address.
 fn is_home(homes: &[Home], address: Option<u32>) -> bool
     ensures { result ≡ is_home homes.now address }
 {
@@ -255,14 +255,14 @@ fn is_home(homes: &[Home], address: Option<u32>) -> bool
     }
 }
 
-// Whether one of the home copies stands at an address.
+/// Whether one of the home copies stands at an address.
 fn is_home_at(homes: &[Home], at: u32) -> bool
     ensures { result ≡ list_any (λ home. home.to == at) homes.now }
 {
     homes.iter().any(|home| home.to == at)
 }
 
-// Whether there is such a word of the board.
+/// Whether there is such a word of the board.
 fn is_place(world: &World, place: u32) -> bool
     ensures { result ≡ is_place world.now place }
 {

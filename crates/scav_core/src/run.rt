@@ -2,7 +2,7 @@
 ghost use Rattle.std.specs.Prelude.{◌≡◌, ℕ, IfOk, Err};
 ghost use Rattle.scav_core.specs.Worlds.{IsFresh};
 ghost use Rattle.scav_core.specs.Runs.{ArePossible, after_all, StopsAt};
-ghost use Rattle.scav_core.specs.WorldLaws.{HasHeaders, HasCopies, IsCopying, IsOutside};
+ghost use Rattle.scav_core.specs.WorldLaws.{HasHeaders, HasCopies, IsCopying, IsUntouched};
 ghost use Rattle.scav_core.specs.WorldLaws.{HasWork, HasLogs, IsRenamedWhenDone};
 
 use crate::copying::copied;
@@ -22,7 +22,7 @@ pub fn replay(alloc: Global, start: &World, events: &[Event]) -> Result<World, S
     ensures headers { IsFresh start.now → IfOk result (λ world. HasHeaders start.now world) }
     ensures copies { IsFresh start.now → IfOk result (λ world. HasCopies start.now world) }
     ensures copying { IsFresh start.now → IfOk result (λ world. IsCopying start.now world) }
-    ensures outside { IsFresh start.now → IfOk result (λ world. IsOutside start.now world) }
+    ensures outside { IsFresh start.now → IfOk result (λ world. IsUntouched start.now world) }
     ensures work { IsFresh start.now → IfOk result (λ world. HasWork world) }
     ensures logs { IsFresh start.now → IfOk result (λ world. HasLogs start.now world) }
     ensures renamed { IsFresh start.now → IfOk result (λ world. IsRenamedWhenDone start.now world) }

@@ -53,7 +53,7 @@ pub fn after(alloc: Global, world: &mut World, event: Event) -> Result<(), NoMem
     }
 }
 
-// What an event of the main side makes of the world.
+/// What an event of the main side makes of the world.
 fn after_main(alloc: Global, world: &mut World, event: Event) -> Result<(), NoMemory>
     ensures { OnOk result (world.new ≡ after_main world.old event) }
 {
@@ -72,7 +72,7 @@ fn after_main(alloc: Global, world: &mut World, event: Event) -> Result<(), NoMe
     }
 }
 
-// What an event of a worker makes of the world.
+/// What an event of a worker makes of the world.
 fn stepped_by(alloc: Global, world: &mut World, worker: u32, event: Event) -> Result<(), NoMemory>
     ensures { OnOk result (world.new ≡
         stepped_by world.old worker event (slice_get world.old.workers worker)) }
@@ -84,7 +84,7 @@ fn stepped_by(alloc: Global, world: &mut World, worker: u32, event: Event) -> Re
     }
 }
 
-// What an event of a worker that there is makes of the world.
+/// What an event of a worker that there is makes of the world.
 fn step(alloc: Global, world: &mut World, worker: usize, event: Event) -> Result<(), NoMemory>
     requires { worker < length world.old.workers }
     ensures { OnOk result (world.new ≡
@@ -102,7 +102,7 @@ fn step(alloc: Global, world: &mut World, worker: usize, event: Event) -> Result
         .change(alloc, worker, world.cells.as_slice(), event, found)
 }
 
-// The word that is touched.
+/// The word that is touched.
 fn word_found(world: &World, touch: Touch) -> u64
     ensures { result ≡ word_found world.now touch }
 {
@@ -113,7 +113,7 @@ fn word_found(world: &World, touch: Touch) -> u64
     }
 }
 
-// The word at an address, and 0 behind the last.
+/// The word at an address, and 0 behind the last.
 pub(crate) fn word_or_0(words: &[u64], at: u64) -> u64
     ensures { result ≡ slice_index words.now at }
 {
@@ -124,7 +124,7 @@ pub(crate) fn word_or_0(words: &[u64], at: u64) -> u64
     }
 }
 
-// The touched word is this, if it is one of the words.
+/// The touched word is this, if it is one of the words.
 fn store_word(words: &mut Items<u64>, touch: Touch, word: u64)
     ensures { words.new ≡ words_after words.old touch word }
 {
@@ -135,7 +135,7 @@ fn store_word(words: &mut Items<u64>, touch: Touch, word: u64)
     }
 }
 
-// The touched word is this, if it is one of the board.
+/// The touched word is this, if it is one of the board.
 fn store_board(board: &mut Items<u64>, touch: Touch, word: u64)
     ensures { board.new ≡ board_after board.old touch word }
 {
@@ -146,7 +146,7 @@ fn store_board(board: &mut Items<u64>, touch: Touch, word: u64)
     }
 }
 
-// The word at an address is this, if there is one.
+/// The word at an address is this, if there is one.
 fn set_word(words: &mut Items<u64>, at: u64, word: u64)
     ensures { words.new ≡ slice_set words.old at word }
 {
@@ -155,21 +155,21 @@ fn set_word(words: &mut Items<u64>, at: u64, word: u64)
     }
 }
 
-// The homes with the one that was made, if one was.
+/// The homes with the one that was made, if one was.
 fn join_home(homes: &mut Items<Home>, made: Option<Home>) -> Result<(), NoMemory>
     ensures { OnOk result (homes.new ≡ homes_after homes.old made) }
 {
     match made {
         None => Ok(()),
         Some(home) => {
-            let at = place_of(homes.as_slice(), home.from);
+            let at = insertion_index(homes.as_slice(), home.from);
             homes.insert(at, home)
         }
     }
 }
 
-// The place of the first home of a later cell, or behind the last.
-fn place_of(homes: &[Home], from: u32) -> usize
+/// The place of the first home of a later cell, or behind the last.
+fn insertion_index(homes: &[Home], from: u32) -> usize
     ensures { result ≡ position_or_len (λ home. nat_lt from home.from) homes.now }
 {
     match first_later(homes, from) {
@@ -178,7 +178,7 @@ fn place_of(homes: &[Home], from: u32) -> usize
     }
 }
 
-// The place of the first home of a later cell.
+/// The place of the first home of a later cell.
 fn first_later(homes: &[Home], from: u32) -> Option<usize>
     ensures { result ≡ position (λ home. nat_lt from home.from) homes.now }
 {

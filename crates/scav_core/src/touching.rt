@@ -30,7 +30,7 @@ pub(crate) fn touched(view: &WorkerView, event: Event) -> Touch
     }
 }
 
-// The cell of the job, if there is one.
+/// The cell of the job, if there is one.
 fn touched_cell(job: &Option<Job>) -> Touch
     ensures { result ≡ touched_by (λ job. job.cell) job.now }
 {
@@ -42,7 +42,7 @@ fn touched_cell(job: &Option<Job>) -> Touch
     }
 }
 
-// The next word of the job's cell.
+/// The next word of the job's cell.
 fn touched_body(job: &Option<Job>) -> Touch
     ensures { result ≡ touched_by (λ job. job.cell + 1 + length job.body) job.now }
 {
@@ -57,7 +57,7 @@ fn touched_body(job: &Option<Job>) -> Touch
     }
 }
 
-// The slot of the job.
+/// The slot of the job.
 fn touched_slot(job: &Option<Job>) -> Touch
     ensures { result ≡ touched_by (λ job. job.slot) job.now }
 {
@@ -88,7 +88,7 @@ pub(crate) fn word_after(view: &WorkerView, event: Event, found: u64) -> u64
     }
 }
 
-// The reference that goes into the job's slot.
+/// The reference that goes into the job's slot.
 fn slot_after(job: &Option<Job>, found: u64) -> u64
     ensures { result ≡ slot_after job.now found }
 {
@@ -101,7 +101,7 @@ fn slot_after(job: &Option<Job>, found: u64) -> u64
     }
 }
 
-// A word of the board after a copy was given to it.
+/// A word of the board after a copy was given to it.
 fn given_word(found: u64, at: u32) -> u64
     ensures { result ≡ given_word found at }
 {
@@ -137,7 +137,7 @@ pub(crate) fn home_made(view: &WorkerView, event: Event, found: u64) -> Option<H
     }
 }
 
-// The home of the job's cell.
+/// The home of the job's cell.
 fn home_at(job: &Option<Job>, to: u32) -> Option<Home>
     ensures { result ≡ home_at job.now to }
 {

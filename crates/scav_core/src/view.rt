@@ -1,6 +1,6 @@
 //! What an event makes of the view of its worker.
 ghost use Rattle.std.specs.Prelude.{◌≡◌, OnOk, slice_index};
-ghost use Rattle.scav_core.specs.Views.{view_after, job_at, with_header, with_word, is_as_read};
+ghost use Rattle.scav_core.specs.Views.{view_after, job_at, with_header, with_body_word, is_as_read};
 ghost use Rattle.scav_core.specs.Views.{header_after, given_view, taken_view, loaded_view, forwarded_view};
 
 use crate::event::Event;
@@ -44,7 +44,7 @@ pub(crate) fn change_view(
     }
 }
 
-// The worker is at the slot now, if the word there refers to one of the cells.
+/// The worker is at the slot now, if the word there refers to one of the cells.
 fn load_slot(
     alloc: Global,
     view: &mut WorkerView,
@@ -59,7 +59,7 @@ fn load_slot(
     Ok(())
 }
 
-// The job of a slot whose word refers to one of the cells.
+/// The job of a slot whose word refers to one of the cells.
 fn job_at(alloc: Global, cells: &[u32], slot: u32, found: u64) -> Option<Job>
     ensures { result ≡ job_at cells.now slot found }
 {
@@ -76,7 +76,7 @@ fn job_at(alloc: Global, cells: &[u32], slot: u32, found: u64) -> Option<Job>
     }
 }
 
-// The job has this header now.
+/// The job has this header now.
 fn set_header(job: &mut Option<Job>, header: u64)
     ensures { job.new ≡ with_header job.old header }
 {
@@ -85,9 +85,9 @@ fn set_header(job: &mut Option<Job>, header: u64)
     }
 }
 
-// The job has one word more.
+/// The job has one word more.
 fn add_word(job: &mut Option<Job>, word: u64) -> Result<(), NoMemory>
-    ensures { OnOk result (job.new ≡ with_word job.old word) }
+    ensures { OnOk result (job.new ≡ with_body_word job.old word) }
 {
     if let Some(job) = job {
         job.body.push(word)?;
@@ -120,7 +120,7 @@ pub(crate) fn header_after(job: &Option<Job>, to: u32, found: u64) -> u64
     }
 }
 
-// The header is exchanged for the reference to the copy, if it is the one that was read.
+/// The header is exchanged for the reference to the copy, if it is the one that was read.
 fn forward(view: &mut WorkerView, to: u32, found: u64) -> Result<(), NoMemory>
     ensures { OnOk result (view.new ≡ forwarded_view view.old to found) }
 {
@@ -133,7 +133,7 @@ fn forward(view: &mut WorkerView, to: u32, found: u64) -> Result<(), NoMemory>
     Ok(())
 }
 
-// The copy leaves the worker's list, if the word of the board was 0.
+/// The copy leaves the worker's list, if the word of the board was 0.
 fn give(view: &mut WorkerView, place: u32, at: u32, found: u64) -> Result<(), NoMemory>
     ensures { OnOk result (view.new ≡ given_view view.old place at found) }
 {
@@ -144,7 +144,7 @@ fn give(view: &mut WorkerView, place: u32, at: u32, found: u64) -> Result<(), No
     Ok(())
 }
 
-// The copy that the word of the board referred to joins the worker's list.
+/// The copy that the word of the board referred to joins the worker's list.
 fn take(view: &mut WorkerView, place: u32, found: u64) -> Result<(), NoMemory>
     ensures { OnOk result (view.new ≡ taken_view view.old place found) }
 {

@@ -1,4 +1,4 @@
--- Phrases that were read, one line each in canonical form, are read again, with the numbers of their new lines.
+-- Statements that were read, one line each in canonical form, are read again, with the numbers of their new lines.
 use Rattle.std.proofs.Common.{◌≡◌, ℕ, suc, ◌-◌, Bool, true, false, cond, nat_lt, ◌||◌, List, []}
 use Rattle.std.proofs.Common.{◌∷◌, ◌++◌, length, map, fold, Option, Some, None, Result, Ok, Err, refl, sym}
 use Rattle.std.proofs.Common.{ap, ◌∙◌, subst, arith}
@@ -10,93 +10,94 @@ use Rattle.script_text.specs.declared.script.BadScript.{BadScript}
 use Rattle.script_text.specs.declared.table.Keyword.{Keyword}
 use Rattle.script_text.specs.declared.table.Keyword.TheVariants as keyword
 use Rattle.script_text.specs.declared.script.Line.{Line}
-use Rattle.script_text.specs.Limits.{open_most, variables_most, fields_most}
-use Rattle.script_text.specs.Phrases.{Phrase, phrase_of_line}
+use Rattle.script_text.specs.Limits.{open_most, variable_names_most, field_names_most}
+use Rattle.script_text.specs.Statements.{Statement, statement_of_line}
 use Rattle.script_text.specs.Names.{with_name, variables_of, fields_of, first_uses}
-use Rattle.script_text.specs.Scripts.{ScriptText, Spoken, what_in, end_after}
-use Rattle.script_text.specs.Grammar.{nest, nested, followed, spoken_then, spoken_from, past_limit, lines_from}
+use Rattle.script_text.specs.Scripts.{ScriptText, NumberedStatement, what_in, end_after}
+use Rattle.script_text.specs.Grammar.{nest, nested, followed, stated_then, stated_from, past_limit, lines_from}
 use Rattle.script_text.specs.Grammar.{open_after, innermost_of, script_of}
-use Rattle.script_laws.specs.Canonical.{phrase_text}
-use Rattle.script_text.proofs.Speaking.{AreSpoken, MayStand, deeper}
+use Rattle.script_laws.specs.Canonical.{statement_text}
+use Rattle.script_text.proofs.Speaking.{AreStated, MayStand, deeper}
 use Rattle.script_laws.proofs.Spacing.{Avoids, AllAvoid, is_feed}
-use Rattle.script_laws.proofs.Spelling.{phrases_are_read_again, feed-phrase_text}
+use Rattle.script_laws.proofs.Spelling.{statements_are_read_again, feed-statement_text}
 
--- the canonical form of the phrase is one line, which is read as the phrase
-pub record IsReadAgain (unbuilt : List Keyword) (phrase : Phrase) : Type 0 where
-  pub read : phrase_of_line unbuilt (phrase_text phrase) ≡ Ok (Some phrase)
-  pub one_line : Avoids is_feed (phrase_text phrase)
+-- the canonical form of the statement is one line, which is read as the statement
+pub record IsReadAgain (unbuilt : List Keyword) (statement : Statement) : Type 0 where
+  pub read : statement_of_line unbuilt (statement_text statement) ≡ Ok (Some statement)
+  pub one_line : Avoids is_feed (statement_text statement)
 
--- the canonical form of each phrase is one line, which is read as the phrase
-abbrev pub AreReadAgain : List Keyword → List Spoken → Type 0
+-- the canonical form of each statement is one line, which is read as the statement
+abbrev pub AreReadAgain : List Keyword → List NumberedStatement → Type 0
 AreReadAgain unbuilt [] = Unit {0}
-AreReadAgain unbuilt (spoken ∷ more) = IsReadAgain unbuilt spoken.phrase × AreReadAgain unbuilt more
+AreReadAgain unbuilt (stated ∷ more) = IsReadAgain unbuilt stated.statement × AreReadAgain unbuilt more
 
--- a phrase and those that follow it are read again
+-- a statement and those that follow it are read again
 followed-AreReadAgain :
-    (unbuilt : List Keyword) (spoken : Spoken) (more : Result (List Spoken) BadScript) (all : List Spoken)
-    → IsReadAgain unbuilt spoken.phrase
-    → ((rest : List Spoken) → more ≡ Ok rest → AreReadAgain unbuilt rest) → followed spoken more ≡ Ok all
+    (unbuilt : List Keyword) (stated : NumberedStatement) (more : Result (List NumberedStatement) BadScript) (all : List NumberedStatement)
+    → IsReadAgain unbuilt stated.statement
+    → ((rest : List NumberedStatement) → more ≡ Ok rest → AreReadAgain unbuilt rest) → followed stated more ≡ Ok all
     → AreReadAgain unbuilt all
-followed-AreReadAgain unbuilt spoken (Err stop) all is step e = cc
-followed-AreReadAgain unbuilt spoken (Ok rest) all is step e =
-    let same : spoken ∷ rest ≡ all = cc in
+followed-AreReadAgain unbuilt stated (Err stop) all is step e = cc
+followed-AreReadAgain unbuilt stated (Ok rest) all is step e =
+    let same : stated ∷ rest ≡ all = cc in
     subst (AreReadAgain unbuilt) same (is, step rest refl)
 
 -- so they are where the first may stand in its place
-nested-AreReadAgain : (unbuilt : List Keyword) (spoken : Spoken) (inner : Result (List ℕ) Why) (more : List ℕ
-    → Result (List Spoken) BadScript) (all : List Spoken) → IsReadAgain unbuilt spoken.phrase
-    → ((deep : List ℕ) (rest : List Spoken) → more deep ≡ Ok rest → AreReadAgain unbuilt rest)
-    → nested spoken inner more ≡ Ok all → AreReadAgain unbuilt all
-nested-AreReadAgain unbuilt spoken (Err reason) more all is step e = cc
-nested-AreReadAgain unbuilt spoken (Ok inner) more all is step e =
-    followed-AreReadAgain unbuilt spoken (more inner) all is (step inner) e
+nested-AreReadAgain : (unbuilt : List Keyword) (stated : NumberedStatement) (inner : Result (List ℕ) Why) (more : List ℕ
+    → Result (List NumberedStatement) BadScript) (all : List NumberedStatement) → IsReadAgain unbuilt stated.statement
+    → ((deep : List ℕ) (rest : List NumberedStatement) → more deep ≡ Ok rest → AreReadAgain unbuilt rest)
+    → nested stated inner more ≡ Ok all → AreReadAgain unbuilt all
+nested-AreReadAgain unbuilt stated (Err reason) more all is step e = cc
+nested-AreReadAgain unbuilt stated (Ok inner) more all is step e =
+    followed-AreReadAgain unbuilt stated (more inner) all is (step inner) e
 
 -- and where the first is what its line says
 then-AreReadAgain :
-    (unbuilt : List Keyword) (number : ℕ) (open' : List ℕ) (first : Result (Option Phrase) Why) (more : List ℕ
-    → Result (List Spoken) BadScript) (all : List Spoken) → ((phrase : Phrase) → first ≡ Ok (Some phrase)
-    → IsReadAgain unbuilt phrase)
-    → ((deep : List ℕ) (rest : List Spoken) → more deep ≡ Ok rest → AreReadAgain unbuilt rest)
-    → spoken_then number open' first more ≡ Ok all → AreReadAgain unbuilt all
+    (unbuilt : List Keyword) (number : ℕ) (open' : List ℕ) (first : Result (Option Statement) Why) (more : List ℕ
+    → Result (List NumberedStatement) BadScript) (all : List NumberedStatement) → ((statement : Statement)
+    → first ≡ Ok (Some statement)
+    → IsReadAgain unbuilt statement)
+    → ((deep : List ℕ) (rest : List NumberedStatement) → more deep ≡ Ok rest → AreReadAgain unbuilt rest)
+    → stated_then number open' first more ≡ Ok all → AreReadAgain unbuilt all
 then-AreReadAgain unbuilt number open' (Err reason) more all is step e = cc
 then-AreReadAgain unbuilt number open' (Ok None) more all is step e = step open' all e
-then-AreReadAgain unbuilt number open' (Ok (Some phrase)) more all is step e =
-    nested-AreReadAgain unbuilt (record { number = number; phrase = phrase })
-    (nest number open' phrase.keyword) more all (is phrase refl) step e
+then-AreReadAgain unbuilt number open' (Ok (Some statement)) more all is step e =
+    nested-AreReadAgain unbuilt (record { number = number; statement = statement })
+    (nest number open' statement.keyword) more all (is statement refl) step e
 
--- each phrase of lines is read again from its canonical form
-pub spoken_from-AreReadAgain :
-    (unbuilt : List Keyword) (number : ℕ) (open' : List ℕ) (lines : List (List ℕ)) (all : List Spoken)
-    → AllAvoid is_feed lines → spoken_from unbuilt number open' lines ≡ Ok all → AreReadAgain unbuilt all
-spoken_from-AreReadAgain unbuilt number [] [] all h e =
+-- each statement of lines is read again from its canonical form
+pub stated_from-AreReadAgain :
+    (unbuilt : List Keyword) (number : ℕ) (open' : List ℕ) (lines : List (List ℕ)) (all : List NumberedStatement)
+    → AllAvoid is_feed lines → stated_from unbuilt number open' lines ≡ Ok all → AreReadAgain unbuilt all
+stated_from-AreReadAgain unbuilt number [] [] all h e =
     let same : [] ≡ all = cc in
     subst (AreReadAgain unbuilt) same tt
-spoken_from-AreReadAgain unbuilt number (innermost ∷ outer) [] all h e = cc
-spoken_from-AreReadAgain unbuilt number open' (line ∷ lines) all h e =
-    then-AreReadAgain unbuilt number open' (phrase_of_line unbuilt line)
-    (λ inner. spoken_from unbuilt (suc number) inner lines) all
-    (λ phrase p. record
-    { read = phrases_are_read_again unbuilt line phrase p; one_line = feed-phrase_text unbuilt line phrase p h.0 })
-    (λ deep rest p. spoken_from-AreReadAgain unbuilt (suc number) deep lines rest h.1 p) e
+stated_from-AreReadAgain unbuilt number (innermost ∷ outer) [] all h e = cc
+stated_from-AreReadAgain unbuilt number open' (line ∷ lines) all h e =
+    then-AreReadAgain unbuilt number open' (statement_of_line unbuilt line)
+    (λ inner. stated_from unbuilt (suc number) inner lines) all
+    (λ statement p. record
+    { read = statements_are_read_again unbuilt line statement p; one_line = feed-statement_text unbuilt line statement p h.0 })
+    (λ deep rest p. stated_from-AreReadAgain unbuilt (suc number) deep lines rest h.1 p) e
 
--- phrases in canonical form
-abbrev pub phrase_lines : List Spoken → List (List ℕ)
-phrase_lines all = map (λ spoken. phrase_text spoken.phrase) all
+-- statements in canonical form
+abbrev pub statement_lines : List NumberedStatement → List (List ℕ)
+statement_lines all = map (λ stated. statement_text stated.statement) all
 
--- the canonical form of each phrase has no line feed
-pub feed-phrase_lines : (unbuilt : List Keyword) (all : List Spoken) → AreReadAgain unbuilt all
-    → AllAvoid is_feed (phrase_lines all)
-feed-phrase_lines unbuilt [] h = tt
-feed-phrase_lines unbuilt (spoken ∷ more) h = (h.0.one_line, feed-phrase_lines unbuilt more h.1)
+-- the canonical form of each statement has no line feed
+pub feed-statement_lines : (unbuilt : List Keyword) (all : List NumberedStatement) → AreReadAgain unbuilt all
+    → AllAvoid is_feed (statement_lines all)
+feed-statement_lines unbuilt [] h = tt
+feed-statement_lines unbuilt (stated ∷ more) h = (h.0.one_line, feed-statement_lines unbuilt more h.1)
 
--- a phrase of a line with this number
-abbrev pub at_line : ℕ → Phrase → Spoken
-at_line number phrase = record { number = number; phrase = phrase }
+-- a statement of a line with this number
+abbrev pub at_line : ℕ → Statement → NumberedStatement
+at_line number statement = record { number = number; statement = statement }
 
--- the same phrases, one on each line from this number on
-abbrev pub renumbered : ℕ → List Spoken → List Spoken
+-- the same statements, one on each line from this number on
+abbrev pub renumbered : ℕ → List NumberedStatement → List NumberedStatement
 renumbered number [] = []
-renumbered number (spoken ∷ more) = at_line number spoken.phrase ∷ renumbered (suc number) more
+renumbered number (stated ∷ more) = at_line number stated.statement ∷ renumbered (suc number) more
 
 -- a command that may stand here is nested
 record IsAllowed (number : ℕ) (open' : List ℕ) (k : Keyword) : Type 0 where
@@ -117,54 +118,55 @@ nest-IsAllowed number [] keyword.End may = absurd (omega (arith, may))
 nest-IsAllowed number (innermost ∷ outer) keyword.End may = record { inner = outer; is = refl; deep = omega arith }
 nest-IsAllowed number open' other may = record { inner = open'; is = refl; deep = refl }
 
--- phrases in canonical form are read as they are, inside as many `repeat`s
-pub spoken_from-again : (unbuilt : List Keyword) (all : List Spoken) (number : ℕ) (open' : List ℕ)
-    → AreSpoken unbuilt (length open') all → AreReadAgain unbuilt all
-    → spoken_from unbuilt number open' (phrase_lines all) ≡ Ok (renumbered number all)
-spoken_from-again unbuilt [] number [] h again = refl
-spoken_from-again unbuilt [] number (innermost ∷ outer) h again = absurd (omega (arith, h))
-spoken_from-again unbuilt (spoken ∷ more) number open' h again =
-    let phrase = spoken.phrase in
-    let allowed = nest-IsAllowed number open' phrase.keyword h.1 in
-    let later = λ (inner : List ℕ). spoken_from unbuilt (suc number) inner (phrase_lines more) in
-    let deeper_in = subst (λ depth. AreSpoken unbuilt depth more) (sym allowed.deep) h.2 in
-    ap (λ read. spoken_then number open' read later) again.0.read
-    ∙ ap (λ inner. nested (at_line number phrase) inner later) allowed.is
-    ∙ ap (followed (at_line number phrase))
-    (spoken_from-again unbuilt more (suc number) allowed.inner deeper_in again.1)
+-- statements in canonical form are read as they are, inside as many `repeat`s
+pub stated_from-again : (unbuilt : List Keyword) (all : List NumberedStatement) (number : ℕ) (open' : List ℕ)
+    → AreStated unbuilt (length open') all → AreReadAgain unbuilt all
+    → stated_from unbuilt number open' (statement_lines all) ≡ Ok (renumbered number all)
+stated_from-again unbuilt [] number [] h again = refl
+stated_from-again unbuilt [] number (innermost ∷ outer) h again = absurd (omega (arith, h))
+stated_from-again unbuilt (stated ∷ more) number open' h again =
+    let statement = stated.statement in
+    let allowed = nest-IsAllowed number open' statement.keyword h.1 in
+    let later = λ (inner : List ℕ). stated_from unbuilt (suc number) inner (statement_lines more) in
+    let deeper_in = subst (λ depth. AreStated unbuilt depth more) (sym allowed.deep) h.2 in
+    ap (λ read. stated_then number open' read later) again.0.read
+    ∙ ap (λ inner. nested (at_line number statement) inner later) allowed.is
+    ∙ ap (followed (at_line number statement))
+    (stated_from-again unbuilt more (suc number) allowed.inner deeper_in again.1)
 
 -- where `repeat`s end doesn't depend on the numbers of the lines
-end_after-renumbered : (all : List Spoken) (inside at number : ℕ)
+end_after-renumbered : (all : List NumberedStatement) (inside at number : ℕ)
     → end_after inside at (renumbered number all) ≡ end_after inside at all
 end_after-renumbered [] inside at number = refl
-end_after-renumbered (spoken ∷ more) inside at number =
+end_after-renumbered (stated ∷ more) inside at number =
     let deep = end_after-renumbered more (suc inside) (suc at) (suc number) in
     let out = end_after-renumbered more (inside - 1) (suc at) (suc number) in
     let on = end_after-renumbered more inside (suc at) (suc number) in
     cc
 
 -- nor do the names
-names-renumbered : (names_of : Phrase → List (List ℕ)) (all : List Spoken) (number : ℕ)
-    → flat_map (λ s. names_of s.phrase) (renumbered number all) ≡ flat_map (λ s. names_of s.phrase) all
+names-renumbered : (names_of : Statement → List (List ℕ)) (all : List NumberedStatement) (number : ℕ)
+    → flat_map (λ s. names_of s.statement) (renumbered number all) ≡ flat_map (λ s. names_of s.statement) all
 names-renumbered names_of [] number = refl
-names-renumbered names_of (spoken ∷ more) number =
-    ap (λ rest. names_of spoken.phrase ++ rest) (names-renumbered names_of more (suc number))
+names-renumbered names_of (stated ∷ more) number =
+    ap (λ rest. names_of stated.statement ++ rest) (names-renumbered names_of more (suc number))
 
 -- nor does what the lines do
-whats-renumbered : (variables fields : List (List ℕ)) (all : List Spoken) (number at : ℕ) (open' : List ℕ) → map
+whats-renumbered : (variables fields : List (List ℕ)) (all : List NumberedStatement) (number at : ℕ) (open' : List ℕ)
+    → map
     (λ line. line.what) (lines_from variables fields at open' (renumbered number all)) ≡ map (λ line. line.what)
     (lines_from variables fields at open' all)
 whats-renumbered variables fields [] number at open' = refl
-whats-renumbered variables fields (spoken ∷ more) number at open' =
-    let k = spoken.phrase.keyword in
+whats-renumbered variables fields (stated ∷ more) number at open' =
+    let k = stated.statement.keyword in
     let whats =
-    λ (some : List Spoken). map (λ (line : Line). line.what)
+    λ (some : List NumberedStatement). map (λ (line : Line). line.what)
     (lines_from variables fields (suc at) (open_after at open' k) some) in
     ap
-    (λ end_at. what_in variables fields end_at (innermost_of open') spoken.phrase
+    (λ end_at. what_in variables fields end_at (innermost_of open') stated.statement
     ∷ whats (renumbered (suc number) more))
     (end_after-renumbered more 0 (suc at) (suc number))
-    ∙ ap (λ rest. what_in variables fields (end_after 0 (suc at) more) (innermost_of open') spoken.phrase ∷ rest)
+    ∙ ap (λ rest. what_in variables fields (end_after 0 (suc at) more) (innermost_of open') stated.statement ∷ rest)
     (whats-renumbered variables fields more (suc number) (suc at) (open_after at open' k))
 
 -- a number that is not given may be any
@@ -174,13 +176,13 @@ past-test true n m some more h e = cc
 past-test false n m some more h e = h e
 
 -- nor does whether there are too many names
-pub past_limit-renumbered : (variables fields : List (List ℕ)) (all : List Spoken) (number : ℕ)
+pub past_limit-renumbered : (variables fields : List (List ℕ)) (all : List NumberedStatement) (number : ℕ)
     → past_limit variables fields all ≡ None → past_limit variables fields (renumbered number all) ≡ None
 past_limit-renumbered variables fields [] number e = refl
-past_limit-renumbered variables fields (spoken ∷ more) number e =
-    let vs = fold with_name variables (variables_of spoken.phrase) in
-    let fs = fold with_name fields (fields_of spoken.phrase) in
-    past-test (nat_lt variables_most (length vs) || nat_lt fields_most (length fs)) spoken.number number
+past_limit-renumbered variables fields (stated ∷ more) number e =
+    let vs = fold with_name variables (variables_of stated.statement) in
+    let fs = fold with_name fields (fields_of stated.statement) in
+    past-test (nat_lt variable_names_most (length vs) || nat_lt field_names_most (length fs)) stated.number number
     (past_limit vs fs more) (past_limit vs fs (renumbered (suc number) more))
     (past_limit-renumbered vs fs more (suc number)) e
 
@@ -190,14 +192,14 @@ pub record DoesSame (again script : ScriptText) : Type 0 where
   pub variables : again.variables ≡ script.variables
   pub fields : again.fields ≡ script.fields
 
--- a script of the same phrases does the same
-pub script_of-renumbered : (all : List Spoken) (number : ℕ)
+-- a script of the same statements does the same
+pub script_of-renumbered : (all : List NumberedStatement) (number : ℕ)
     → DoesSame (script_of (renumbered number all)) (script_of all)
 script_of-renumbered all number =
     let variables = names-renumbered variables_of all number in
     let fields = names-renumbered fields_of all number in
-    let vs = λ (some : List Spoken). flat_map (λ (s : Spoken). variables_of s.phrase) some in
-    let fs = λ (some : List Spoken). flat_map (λ (s : Spoken). fields_of s.phrase) some in
+    let vs = λ (some : List NumberedStatement). flat_map (λ (s : NumberedStatement). variables_of s.statement) some in
+    let fs = λ (some : List NumberedStatement). flat_map (λ (s : NumberedStatement). fields_of s.statement) some in
     record {
       lines =
           ap (λ names. map (λ (line : Line). line.what)

@@ -7,46 +7,46 @@ use Rattle.script_text.specs.declared.script.Why.TheVariants as why
 use Rattle.script_text.specs.declared.script.BadScript.{BadScript}
 use Rattle.script_text.specs.declared.script.BadScript.TheVariants.{BadLine, TooManyNames}
 use Rattle.script_text.specs.Lines.{lines_of}
-use Rattle.script_text.specs.Phrases.{Phrase, phrase_of_line}
-use Rattle.script_text.specs.Scripts.{Spoken}
-use Rattle.script_text.specs.Grammar.{nest, nested, followed, spoken_then, spoken_from, script_or_stop}
-use Rattle.script_laws.specs.Refusals.{Pass, none, empty, spoken, CountsNamesLast}
+use Rattle.script_text.specs.Statements.{Statement, statement_of_line}
+use Rattle.script_text.specs.Scripts.{NumberedStatement}
+use Rattle.script_text.specs.Grammar.{nest, nested, followed, stated_then, stated_from, script_or_stop}
+use Rattle.script_laws.specs.Refusals.{Pass, none, empty, stated, CountsNamesLast}
 
 -- all lines were read and have passed
 record ArePassed (unbuilt : List Keyword) (number : ℕ) (open' : List ℕ) (lines : List (List ℕ))
-    (read : Result (List Spoken) BadScript) : Type 0 where
-  all : List Spoken
+    (read : Result (List NumberedStatement) BadScript) : Type 0 where
+  all : List NumberedStatement
   is : read ≡ Ok all
   passed : Pass unbuilt number open' lines []
 
 -- a line is refused, or a `repeat` is open
-record IsBadLine (read : Result (List Spoken) BadScript) : Type 0 where
+record IsBadLine (read : Result (List NumberedStatement) BadScript) : Type 0 where
   line : ℕ
   reason : Why
   is : read ≡ Err (BadLine line reason)
 
 -- lines pass, or one is refused
-abbrev Passes : List Keyword → ℕ → List ℕ → List (List ℕ) → Result (List Spoken) BadScript → Type 0
+abbrev Passes : List Keyword → ℕ → List ℕ → List (List ℕ) → Result (List NumberedStatement) BadScript → Type 0
 Passes unbuilt number open' lines read = ArePassed unbuilt number open' lines read ⊎ IsBadLine read
 
--- a phrase that may stand where it does passes where the lines after it do
-nested-passes : (unbuilt : List Keyword) (number : ℕ) (open' first : List ℕ) (lines : List (List ℕ)) (phrase : Phrase)
-    (inner : Result (List ℕ) Why) → phrase_of_line unbuilt first ≡ Ok (Some phrase)
-    → nest number open' phrase.keyword ≡ inner
-    → ((deep : List ℕ) → Passes unbuilt (suc number) deep lines (spoken_from unbuilt (suc number) deep lines))
+-- a statement that may stand where it does passes where the lines after it do
+nested-passes : (unbuilt : List Keyword) (number : ℕ) (open' first : List ℕ) (lines : List (List ℕ)) (statement : Statement)
+    (inner : Result (List ℕ) Why) → statement_of_line unbuilt first ≡ Ok (Some statement)
+    → nest number open' statement.keyword ≡ inner
+    → ((deep : List ℕ) → Passes unbuilt (suc number) deep lines (stated_from unbuilt (suc number) deep lines))
     → Passes unbuilt number open' (first ∷ lines)
-    (nested (record { number = number; phrase = phrase }) inner (λ deep. spoken_from unbuilt (suc number) deep lines))
-nested-passes unbuilt number open' first lines phrase (Err reason) p n step =
+    (nested (record { number = number; statement = statement }) inner (λ deep. stated_from unbuilt (suc number) deep lines))
+nested-passes unbuilt number open' first lines statement (Err reason) p n step =
     inr (record { line = number; reason = reason; is = refl })
-nested-passes unbuilt number open' first lines phrase (Ok inner) p n step =
-    let here : Spoken = record { number = number; phrase = phrase } in
+nested-passes unbuilt number open' first lines statement (Ok inner) p n step =
+    let here : NumberedStatement = record { number = number; statement = statement } in
     elim (step inner) [
       | inl h ↦
           inl (record {
             all = here ∷ h.all;
             is = ap (followed here) h.is;
-            passed = spoken number open' inner
-                [] first lines phrase p n h.passed;
+            passed = stated number open' inner
+                [] first lines statement p n h.passed;
           })
       | inr h ↦ inr (record { line = h.line; reason = h.reason; is = ap (followed here) h.is })
     ]
@@ -54,11 +54,11 @@ nested-passes unbuilt number open' first lines phrase (Ok inner) p n step =
 -- so does a line
 then-passes :
     (unbuilt : List Keyword) (number : ℕ) (open' first : List ℕ) (lines : List (List ℕ))
-    (read : Result (Option Phrase) Why)
-    → phrase_of_line unbuilt first ≡ read
-    → ((deep : List ℕ) → Passes unbuilt (suc number) deep lines (spoken_from unbuilt (suc number) deep lines))
+    (read : Result (Option Statement) Why)
+    → statement_of_line unbuilt first ≡ read
+    → ((deep : List ℕ) → Passes unbuilt (suc number) deep lines (stated_from unbuilt (suc number) deep lines))
     → Passes unbuilt number open' (first ∷ lines)
-    (spoken_then number open' read (λ deep. spoken_from unbuilt (suc number) deep lines))
+    (stated_then number open' read (λ deep. stated_from unbuilt (suc number) deep lines))
 then-passes unbuilt number open' first lines (Err reason) p step =
     inr (record { line = number; reason = reason; is = refl })
 then-passes unbuilt number open' first lines (Ok None) p step =
@@ -66,16 +66,16 @@ then-passes unbuilt number open' first lines (Ok None) p step =
       | inl h ↦ inl (record { all = h.all; is = h.is; passed = empty number open' [] first lines p h.passed })
       | inr h ↦ inr h
     ]
-then-passes unbuilt number open' first lines (Ok (Some phrase)) p step =
-    nested-passes unbuilt number open' first lines phrase (nest number open' phrase.keyword) p refl step
+then-passes unbuilt number open' first lines (Ok (Some statement)) p step =
+    nested-passes unbuilt number open' first lines statement (nest number open' statement.keyword) p refl step
 
 -- all lines pass, or one is refused
 passes : (unbuilt : List Keyword) (number : ℕ) (open' : List ℕ) (lines : List (List ℕ))
-    → Passes unbuilt number open' lines (spoken_from unbuilt number open' lines)
+    → Passes unbuilt number open' lines (stated_from unbuilt number open' lines)
 passes unbuilt number [] [] = inl (record { all = []; is = refl; passed = none number [] })
 passes unbuilt number (innermost ∷ outer) [] = inr (record { line = innermost; reason = why.Open; is = refl })
 passes unbuilt number open' (first ∷ lines) =
-    then-passes unbuilt number open' first lines (phrase_of_line unbuilt first) refl
+    then-passes unbuilt number open' first lines (statement_of_line unbuilt first) refl
     (λ deep. passes unbuilt (suc number) deep lines)
 
 -- a bad line is not too many names

@@ -5,22 +5,22 @@ use Rattle.std.proofs.Common.{codes}
 use Rattle.std.specs.List.{list_any}
 use Rattle.script_text.specs.declared.table.Keyword.{Keyword}
 use Rattle.script_text.specs.declared.table.Keyword.TheVariants as keyword
-use Rattle.script_text.specs.declared.table.Place.{Place}
-use Rattle.script_text.specs.declared.table.Place.TheVariants.{Variable, Field, Value, Literal}
+use Rattle.script_text.specs.declared.table.OperandKind.{OperandKind}
+use Rattle.script_text.specs.declared.table.OperandKind.TheVariants.{Variable, Field, Value, Literal}
 use Rattle.script_text.specs.declared.script.Why.{Why}
 use Rattle.script_text.specs.declared.script.Why.TheVariants as why
 use Rattle.script_text.specs.Limits.{line_bytes_most, open_most}
 use Rattle.script_text.specs.Lines.{tokens_of}
 use Rattle.script_text.specs.Table.{places_of, same_keyword, keyword_among, keywords}
 use Rattle.script_text.specs.Tokens.{is_name, integer_of}
-use Rattle.script_text.specs.Phrases.{Written, variable, field, literal, undefined, bound, integer_or_bound}
-use Rattle.script_text.specs.Phrases.{literal_up_to, written_at, written_all, joined, phrase_with, with_operands}
-use Rattle.script_text.specs.Phrases.{if_built, phrase_of}
+use Rattle.script_text.specs.Statements.{RawOperand, variable, field, literal, undefined, bound, integer_or_bound}
+use Rattle.script_text.specs.Statements.{literal_up_to, written_at, written_all, joined, statement_with, with_operands}
+use Rattle.script_text.specs.Statements.{if_built, statement_of}
 use Rattle.script_text.specs.Grammar.{nest}
 use Rattle.script_laws.specs.Refusals.{IsRefused, unread, misplaced}
 
 -- a test that fails for another reason is not for an open `repeat`
-test-open : (test : Bool) (made : Written) (reason : Why) → reason ≢ why.Open
+test-open : (test : Bool) (made : RawOperand) (reason : Why) → reason ≢ why.Open
     → cond test (Ok made) (Err reason) ≡ Err why.Open → ⊥
 test-open true made reason h e = cc
 test-open false made reason h e =
@@ -57,14 +57,14 @@ value-open true token e = cc
 value-open false token e = integer_or_bound-open (integer_of token) token e
 
 -- nor is an operand that may not stand at its place
-written_at-open : (place : Place) (token : List ℕ) → written_at place token ≡ Err why.Open → ⊥
+written_at-open : (place : OperandKind) (token : List ℕ) → written_at place token ≡ Err why.Open → ⊥
 written_at-open Variable token e = test-open (is_name token) (variable token) why.Name not_name e
 written_at-open Field token e = test-open (is_name token) (field token) why.Name not_name e
 written_at-open Value token e = value-open (bytes_eq token (codes "undefined")) token e
 written_at-open (Literal most) token e = literal-open most (integer_of token) e
 
 -- nor are several
-joined-open : (first : Result Written Why) (more : Result (List Written) Why) → (first ≡ Err why.Open → ⊥)
+joined-open : (first : Result RawOperand Why) (more : Result (List RawOperand) Why) → (first ≡ Err why.Open → ⊥)
     → (more ≡ Err why.Open → ⊥) → joined first more ≡ Err why.Open → ⊥
 joined-open (Err reason) more f m e =
     let same : reason ≡ why.Open = cc in
@@ -75,26 +75,26 @@ joined-open (Ok written) (Err reason) f m e =
 joined-open (Ok written) (Ok more) f m e = cc
 
 -- nor are the operands at their places
-written_all-open : (places : List Place) (tokens : List (List ℕ)) → written_all places tokens ≡ Err why.Open → ⊥
+written_all-open : (places : List OperandKind) (tokens : List (List ℕ)) → written_all places tokens ≡ Err why.Open → ⊥
 written_all-open [] tokens e = cc
 written_all-open (place ∷ places) [] e = cc
 written_all-open (place ∷ places) (token ∷ tokens) e =
     joined-open (written_at place token) (written_all places tokens) (λ h. written_at-open place token h)
     (λ h. written_all-open places tokens h) e
 
--- nor is a phrase with operands
-phrase_with-open : (k : Keyword) (operands : Result (List Written) Why) → (operands ≡ Err why.Open → ⊥)
-    → phrase_with k operands ≡ Err why.Open → ⊥
-phrase_with-open k (Ok operands) h e = cc
-phrase_with-open k (Err reason) h e =
+-- nor is a statement with operands
+statement_with-open : (k : Keyword) (operands : Result (List RawOperand) Why) → (operands ≡ Err why.Open → ⊥)
+    → statement_with k operands ≡ Err why.Open → ⊥
+statement_with-open k (Ok operands) h e = cc
+statement_with-open k (Err reason) h e =
     let same : reason ≡ why.Open = cc in
     h (ap Err same)
 
 -- nor is one whose tokens are counted
 even-open : (b : Bool) (k : Keyword) (tokens : List (List ℕ))
-    → cond b (phrase_with k (written_all (places_of k) tokens)) (Err why.Count) ≡ Err why.Open → ⊥
+    → cond b (statement_with k (written_all (places_of k) tokens)) (Err why.Count) ≡ Err why.Open → ⊥
 even-open true k tokens e =
-    phrase_with-open k (written_all (places_of k) tokens) (λ h. written_all-open (places_of k) tokens h) e
+    statement_with-open k (written_all (places_of k) tokens) (λ h. written_all-open (places_of k) tokens h) e
 even-open false k tokens e = cc
 
 -- nor is one whose command is judged
@@ -110,15 +110,15 @@ if_built-open unbuilt tokens None e = cc
 if_built-open unbuilt tokens (Some k) e = built-open (list_any (same_keyword k) unbuilt) k tokens e
 
 -- nor are tokens
-phrase_of-open : (unbuilt : List Keyword) (tokens : List (List ℕ)) → phrase_of unbuilt tokens ≡ Err why.Open → ⊥
-phrase_of-open unbuilt [] e = cc
-phrase_of-open unbuilt (first ∷ tokens) e = if_built-open unbuilt tokens (keyword_among keywords first) e
+statement_of-open : (unbuilt : List Keyword) (tokens : List (List ℕ)) → statement_of unbuilt tokens ≡ Err why.Open → ⊥
+statement_of-open unbuilt [] e = cc
+statement_of-open unbuilt (first ∷ tokens) e = if_built-open unbuilt tokens (keyword_among keywords first) e
 
 -- nor is a line
 long-open : (b : Bool) (unbuilt : List Keyword) (tokens : List (List ℕ))
-    → cond b (Err why.Long) (phrase_of unbuilt tokens) ≡ Err why.Open → ⊥
+    → cond b (Err why.Long) (statement_of unbuilt tokens) ≡ Err why.Open → ⊥
 long-open true unbuilt tokens e = cc
-long-open false unbuilt tokens e = phrase_of-open unbuilt tokens e
+long-open false unbuilt tokens e = statement_of-open unbuilt tokens e
 
 -- no `repeat` is misplaced for an open one
 shallow-open : (b : Bool) (inner : List ℕ) → cond b (Ok inner) (Err why.Nesting) ≡ Err why.Open → ⊥
@@ -137,4 +137,4 @@ pub refused-open : (unbuilt : List Keyword) (number : ℕ) (open' line : List �
     → IsRefused unbuilt number open' line why.Open → ⊥
 refused-open unbuilt number open' line (unread e) =
     long-open (nat_lt line_bytes_most (length line)) unbuilt (tokens_of line) e
-refused-open unbuilt number open' line (misplaced phrase p e) = nest-open number open' phrase.keyword e
+refused-open unbuilt number open' line (misplaced statement p e) = nest-open number open' statement.keyword e

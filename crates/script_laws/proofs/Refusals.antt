@@ -7,11 +7,11 @@ use Rattle.script_text.specs.declared.script.Why.TheVariants as why
 use Rattle.script_text.specs.declared.script.BadScript.{BadScript}
 use Rattle.script_text.specs.declared.script.BadScript.TheVariants.{BadLine}
 use Rattle.script_text.specs.Lines.{lines_of}
-use Rattle.script_text.specs.Phrases.{Phrase, phrase_of_line}
-use Rattle.script_text.specs.Scripts.{Spoken}
-use Rattle.script_text.specs.Grammar.{nest, nested, followed, spoken_then, spoken_from, past_limit, within_limit}
+use Rattle.script_text.specs.Statements.{Statement, statement_of_line}
+use Rattle.script_text.specs.Scripts.{NumberedStatement}
+use Rattle.script_text.specs.Grammar.{nest, nested, followed, stated_then, stated_from, past_limit, within_limit}
 use Rattle.script_text.specs.Grammar.{script_or_stop, reading_with}
-use Rattle.script_laws.specs.Refusals.{Pass, none, empty, spoken, IsRefused, unread, misplaced, IsFirstRefused}
+use Rattle.script_laws.specs.Refusals.{Pass, none, empty, stated, IsRefused, unread, misplaced, IsFirstRefused}
 use Rattle.script_laws.specs.Refusals.{RefusesFirst, RefusesOpen}
 use Rattle.script_laws.proofs.Reasons.{refused-open}
 
@@ -69,36 +69,38 @@ later-stops unbuilt number open' inner first lines line reason pass h =
       | inr r ↦ inr (record { outer = r.outer; passed = pass lines (line ∷ r.outer) r.passed; is_open = r.is_open })
     ]
 
--- a stop behind a phrase is the stop of what follows
-followed-stop : (s : Spoken) (more : Result (List Spoken) BadScript) (stop : BadScript) → followed s more ≡ Err stop
+-- a stop behind a statement is the stop of what follows
+followed-stop : (s : NumberedStatement) (more : Result (List NumberedStatement) BadScript) (stop : BadScript)
+    → followed s more ≡ Err stop
     → more ≡ Err stop
 followed-stop s (Ok rest) stop e = cc
 followed-stop s (Err other) stop e = e
 
--- a phrase is misplaced, or the stop is behind it
+-- a statement is misplaced, or the stop is behind it
 nested-stops : (unbuilt : List Keyword) (number : ℕ) (open' first : List ℕ) (lines : List (List ℕ)) (line : ℕ)
-    (reason : Why) (phrase : Phrase) (inner : Result (List ℕ) Why) → phrase_of_line unbuilt first ≡ Ok (Some phrase)
-    → nest number open' phrase.keyword ≡ inner
-    → ((deep : List ℕ) → spoken_from unbuilt (suc number) deep lines ≡ Err (BadLine line reason)
+    (reason : Why) (statement : Statement) (inner : Result (List ℕ) Why)
+    → statement_of_line unbuilt first ≡ Ok (Some statement)
+    → nest number open' statement.keyword ≡ inner
+    → ((deep : List ℕ) → stated_from unbuilt (suc number) deep lines ≡ Err (BadLine line reason)
     → Stops unbuilt (suc number) deep lines line reason)
-    → nested (record { number = number; phrase = phrase }) inner
-    (λ deep. spoken_from unbuilt (suc number) deep lines) ≡ Err (BadLine line reason) → Stops unbuilt number open'
+    → nested (record { number = number; statement = statement }) inner
+    (λ deep. stated_from unbuilt (suc number) deep lines) ≡ Err (BadLine line reason) → Stops unbuilt number open'
     (first ∷ lines) line reason
-nested-stops unbuilt number open' first lines line reason phrase (Err other) p n step e =
+nested-stops unbuilt number open' first lines line reason statement (Err other) p n step e =
     let same : BadLine number other ≡ BadLine line reason = cc in
-    here-stops unbuilt number open' first lines line reason other (misplaced phrase p n) same
-nested-stops unbuilt number open' first lines line reason phrase (Ok inner) p n step e =
+    here-stops unbuilt number open' first lines line reason other (misplaced statement p n) same
+nested-stops unbuilt number open' first lines line reason statement (Ok inner) p n step e =
     later-stops unbuilt number open' inner first lines line reason
-    (λ some after h. spoken number open' inner after first some phrase p n h)
-    (step inner (followed-stop (record { number = number; phrase = phrase })
-    (spoken_from unbuilt (suc number) inner lines) (BadLine line reason) e))
+    (λ some after h. stated number open' inner after first some statement p n h)
+    (step inner (followed-stop (record { number = number; statement = statement })
+    (stated_from unbuilt (suc number) inner lines) (BadLine line reason) e))
 
 -- a line is refused, or the stop is behind it
 then-stops : (unbuilt : List Keyword) (number : ℕ) (open' first : List ℕ) (lines : List (List ℕ)) (line : ℕ)
-    (reason : Why) (read : Result (Option Phrase) Why) → phrase_of_line unbuilt first ≡ read
-    → ((deep : List ℕ) → spoken_from unbuilt (suc number) deep lines ≡ Err (BadLine line reason)
+    (reason : Why) (read : Result (Option Statement) Why) → statement_of_line unbuilt first ≡ read
+    → ((deep : List ℕ) → stated_from unbuilt (suc number) deep lines ≡ Err (BadLine line reason)
     → Stops unbuilt (suc number) deep lines line reason)
-    → spoken_then number open' read (λ deep. spoken_from unbuilt (suc number) deep lines) ≡ Err (BadLine line reason)
+    → stated_then number open' read (λ deep. stated_from unbuilt (suc number) deep lines) ≡ Err (BadLine line reason)
     → Stops unbuilt number open' (first ∷ lines) line reason
 then-stops unbuilt number open' first lines line reason (Err other) p step e =
     let same : BadLine number other ≡ BadLine line reason = cc in
@@ -106,12 +108,12 @@ then-stops unbuilt number open' first lines line reason (Err other) p step e =
 then-stops unbuilt number open' first lines line reason (Ok None) p step e =
     later-stops unbuilt number open' open' first lines line reason
     (λ some after h. empty number open' after first some p h) (step open' e)
-then-stops unbuilt number open' first lines line reason (Ok (Some phrase)) p step e =
-    nested-stops unbuilt number open' first lines line reason phrase (nest number open' phrase.keyword) p refl step e
+then-stops unbuilt number open' first lines line reason (Ok (Some statement)) p step e =
+    nested-stops unbuilt number open' first lines line reason statement (nest number open' statement.keyword) p refl step e
 
 -- lines that are not read stop at the first that is refused, or at the innermost `repeat` that is open
 stops : (unbuilt : List Keyword) (number : ℕ) (open' : List ℕ) (lines : List (List ℕ)) (line : ℕ) (reason : Why)
-    → spoken_from unbuilt number open' lines ≡ Err (BadLine line reason)
+    → stated_from unbuilt number open' lines ≡ Err (BadLine line reason)
     → Stops unbuilt number open' lines line reason
 stops unbuilt number [] [] line reason e = cc
 stops unbuilt number (innermost ∷ outer) [] line reason e =
@@ -125,17 +127,17 @@ stops unbuilt number (innermost ∷ outer) [] line reason e =
       is_open = sym same_why;
     })
 stops unbuilt number open' (first ∷ lines) line reason e =
-    then-stops unbuilt number open' first lines line reason (phrase_of_line unbuilt first) refl
+    then-stops unbuilt number open' first lines line reason (statement_of_line unbuilt first) refl
     (λ deep h. stops unbuilt (suc number) deep lines line reason h) e
 
 -- too many names are no bad line
-limit-stop : (all : List Spoken) (past : Option ℕ) (line : ℕ) (reason : Why)
+limit-stop : (all : List NumberedStatement) (past : Option ℕ) (line : ℕ) (reason : Why)
     → within_limit all past ≡ Err (BadLine line reason) → ⊥
 limit-stop all None line reason e = cc
 limit-stop all (Some number) line reason e = cc
 
 -- a bad line of a source is one of its lines
-script-stop : (all : Result (List Spoken) BadScript) (line : ℕ) (reason : Why)
+script-stop : (all : Result (List NumberedStatement) BadScript) (line : ℕ) (reason : Why)
     → script_or_stop all ≡ Err (BadLine line reason) → all ≡ Err (BadLine line reason)
 script-stop (Ok all) line reason e = absurd (limit-stop all (past_limit [] [] all) line reason e)
 script-stop (Err stop) line reason e =
@@ -147,7 +149,7 @@ reading-stops : (unbuilt : List Keyword) (source : List ℕ) (line : ℕ) (reaso
     → reading_with unbuilt source ≡ Err (BadLine line reason) → Stops unbuilt 1 [] (lines_of source) line reason
 reading-stops unbuilt source line reason e =
     stops unbuilt 1 [] (lines_of source) line reason
-    (script-stop (spoken_from unbuilt 1 [] (lines_of source)) line reason e)
+    (script-stop (stated_from unbuilt 1 [] (lines_of source)) line reason e)
 
 -- the line of a refusal is the first that is refused
 pub refuses_first : RefusesFirst

@@ -1,4 +1,4 @@
--- The words of a phrase are the tokens that it was read from.
+-- The words of a statement are the tokens that it was read from.
 use Rattle.std.proofs.Common.{◌≡◌, inl, inr, ℕ, ◌≤◌, Bool, true, false, cond, eqb, nat_le, nat_lt, List}
 use Rattle.std.proofs.Common.{[], ◌∷◌, length, map, ℤ, pos, negsuc, Option, Some, None, Result, Ok, Err, codes}
 use Rattle.std.proofs.Common.{refl, sym, ap, ◌∙◌, subst, arith}
@@ -7,24 +7,25 @@ use Rattle.std.proofs.lemmas.Bool.Decides.{nat_tests}
 use Rattle.script_text.specs.declared.script.Why.{Why}
 use Rattle.script_text.specs.declared.script.Why.TheVariants as why
 use Rattle.script_text.specs.declared.table.Keyword.{Keyword}
-use Rattle.script_text.specs.declared.table.Place.{Place}
-use Rattle.script_text.specs.declared.table.Place.TheVariants.{Variable, Field, Value, Literal}
+use Rattle.script_text.specs.declared.table.OperandKind.{OperandKind}
+use Rattle.script_text.specs.declared.table.OperandKind.TheVariants.{Variable, Field, Value, Literal}
 use Rattle.script_text.specs.Limits.{line_bytes_most}
 use Rattle.script_text.specs.Tokens.{is_name, integer_of}
 use Rattle.script_text.specs.Lines.{tokens_of}
 use Rattle.script_text.specs.Table.{keyword_text, keywords, keyword_among, same_keyword, places_of}
-use Rattle.script_text.specs.Phrases.{Phrase, Written, variable, field, literal, integer, undefined, bound}
-use Rattle.script_text.specs.Phrases.{literal_up_to, integer_or_bound, written_at, written_all, joined, phrase_with}
-use Rattle.script_text.specs.Phrases.{with_operands, if_built, phrase_of, phrase_of_line}
-use Rattle.script_laws.specs.Canonical.{written_token, spaced, phrase_text, PhrasesAreReadAgain}
+use Rattle.script_text.specs.Statements.{Statement, RawOperand, variable, field, literal, integer, undefined, bound}
+use Rattle.script_text.specs.Statements.{literal_up_to, integer_or_bound, written_at, written_all, joined}
+use Rattle.script_text.specs.Statements.{statement_with}
+use Rattle.script_text.specs.Statements.{with_operands, if_built, statement_of, statement_of_line}
+use Rattle.script_laws.specs.Canonical.{written_token, spaced, statement_text, StatementsAreReadAgain}
 use Rattle.script_text.proofs.Numbers.{bytes_tell}
 use Rattle.script_laws.proofs.Integers.{integers_are_written}
 use Rattle.script_laws.proofs.Spacing.{Avoids, is_feed, Avoids-spaced, AllAvoid-tokens_of, tokens_of-again}
 use Rattle.script_laws.proofs.Widths.{length-spaced}
 
--- the words of a phrase: its command and its operands
-abbrev pub phrase_words : Phrase → List (List ℕ)
-phrase_words phrase = keyword_text phrase.keyword ∷ map written_token phrase.operands
+-- the words of a statement: its command and its operands
+abbrev pub statement_words : Statement → List (List ℕ)
+statement_words statement = keyword_text statement.keyword ∷ map written_token statement.operands
 
 -- the word of the command that was found
 keyword_among-text : (ks : List Keyword) (token : List ℕ) (k : Keyword) → keyword_among ks token ≡ Some k
@@ -40,7 +41,7 @@ keyword_among-text (first ∷ ks) token k e =
     ]
 
 -- the token of a name of this kind is the name
-name-token : (kind : List ℕ → Written) (v : Bool) (reason : Why) (token : List ℕ) (written : Written)
+name-token : (kind : List ℕ → RawOperand) (v : Bool) (reason : Why) (token : List ℕ) (written : RawOperand)
     → written_token (kind token) ≡ token
     → cond v (Ok (kind token)) (Err reason) ≡ Ok written → written_token written ≡ token
 name-token kind true reason token written spelled e =
@@ -49,12 +50,12 @@ name-token kind true reason token written spelled e =
 name-token kind false reason token written spelled e = cc
 
 -- the token of an integer is what is written of it
-integer-token : (v : ℤ) (token : List ℕ) (written : Written) → integer_of token ≡ Some v → integer v ≡ written
+integer-token : (v : ℤ) (token : List ℕ) (written : RawOperand) → integer_of token ≡ Some v → integer v ≡ written
     → written_token written ≡ token
 integer-token v token written e same = ap written_token (sym same) ∙ sym ((integers_are_written token v e).0)
 
 -- so it is of a literal
-literal-test : (within : Bool) (n : ℕ) (token : List ℕ) (written : Written) → integer_of token ≡ Some (pos n)
+literal-test : (within : Bool) (n : ℕ) (token : List ℕ) (written : RawOperand) → integer_of token ≡ Some (pos n)
     → cond within (Ok (literal n)) (Err why.Integer) ≡ Ok written → written_token written ≡ token
 literal-test true n token written read e =
     let same : literal n ≡ written = cc in
@@ -62,14 +63,14 @@ literal-test true n token written read e =
 literal-test false n token written read e = cc
 
 -- the token of a literal is what it was read from
-literal-token : (most : ℕ) (v : Option ℤ) (token : List ℕ) (written : Written) → integer_of token ≡ v
+literal-token : (most : ℕ) (v : Option ℤ) (token : List ℕ) (written : RawOperand) → integer_of token ≡ v
     → literal_up_to most v ≡ Ok written → written_token written ≡ token
 literal-token most None token written read e = cc
 literal-token most (Some (pos n)) token written read e = literal-test (nat_le n most) n token written read e
 literal-token most (Some (negsuc n)) token written read e = cc
 
 -- the token of a value that is not `undefined` is what it was read from
-value-token : (v : Option ℤ) (token : List ℕ) (written : Written) → integer_of token ≡ v
+value-token : (v : Option ℤ) (token : List ℕ) (written : RawOperand) → integer_of token ≡ v
     → integer_or_bound v token ≡ Ok written → written_token written ≡ token
 value-token None token written read e = name-token bound (is_name token) why.Value token written refl e
 value-token (Some v) token written read e =
@@ -77,11 +78,11 @@ value-token (Some v) token written read e =
     integer-token v token written read same
 
 -- an operand that was read
-abbrev spelled : Written → Result Written Why
+abbrev spelled : RawOperand → Result RawOperand Why
 spelled written = Ok written
 
 -- the token of an operand is the token that it was read from
-written_at-token : (place : Place) (token : List ℕ) (written : Written) → written_at place token ≡ Ok written
+written_at-token : (place : OperandKind) (token : List ℕ) (written : RawOperand) → written_at place token ≡ Ok written
     → written_token written ≡ token
 written_at-token Variable token written e = name-token variable (is_name token) why.Name token written refl e
 written_at-token Field token written e = name-token field (is_name token) why.Name token written refl e
@@ -97,10 +98,10 @@ written_at-token Value token written e =
 written_at-token (Literal most) token written e = literal-token most (integer_of token) token written refl e
 
 -- the tokens of operands are those of the first and of the rest
-joined-tokens : (token : List ℕ) (tokens : List (List ℕ)) (first : Result Written Why)
-    (more : Result (List Written) Why) (operands : List Written) →
-    ((written : Written) → first ≡ Ok written → written_token written ≡ token)
-    → ((rest : List Written) → more ≡ Ok rest → map written_token rest ≡ tokens) → joined first more ≡ Ok operands
+joined-tokens : (token : List ℕ) (tokens : List (List ℕ)) (first : Result RawOperand Why)
+    (more : Result (List RawOperand) Why) (operands : List RawOperand) →
+    ((written : RawOperand) → first ≡ Ok written → written_token written ≡ token)
+    → ((rest : List RawOperand) → more ≡ Ok rest → map written_token rest ≡ tokens) → joined first more ≡ Ok operands
     → map written_token operands ≡ token ∷ tokens
 joined-tokens token tokens (Err reason) more operands one others e = cc
 joined-tokens token tokens (Ok written) (Err reason) operands one others e = cc
@@ -110,7 +111,7 @@ joined-tokens token tokens (Ok written) (Ok rest) operands one others e =
     ∙ ap (λ ts. token ∷ ts) (others rest refl)
 
 -- the tokens of operands are the tokens that they were read from
-written_all-tokens : (places : List Place) (tokens : List (List ℕ)) (operands : List Written)
+written_all-tokens : (places : List OperandKind) (tokens : List (List ℕ)) (operands : List RawOperand)
     → length tokens ≡ length places → written_all places tokens ≡ Ok operands → map written_token operands ≡ tokens
 written_all-tokens [] [] operands even e =
     let same : [] ≡ operands = cc in
@@ -122,92 +123,94 @@ written_all-tokens (place ∷ places) (token ∷ tokens) operands even e =
     (λ written h. written_at-token place token written h)
     (λ rest h. written_all-tokens places tokens rest (omega arith) h) e
 
--- the words of a phrase are its command's and its operands' tokens
-phrase_with-words : (k : Keyword) (tokens : List (List ℕ)) (read : Result (List Written) Why) (phrase : Phrase)
-    → ((operands : List Written) → read ≡ Ok operands → map written_token operands ≡ tokens)
-    → phrase_with k read ≡ Ok (Some phrase) → phrase_words phrase ≡ keyword_text k ∷ tokens
-phrase_with-words k tokens (Err reason) phrase h e = cc
-phrase_with-words k tokens (Ok operands) phrase h e =
-    let made : Phrase = record { keyword = k; operands = operands } in
-    let same : made ≡ phrase = cc in
-    ap phrase_words (sym same) ∙ ap (λ ts. keyword_text k ∷ ts) (h operands refl)
+-- the words of a statement are its command's and its operands' tokens
+statement_with-words : (k : Keyword) (tokens : List (List ℕ)) (read : Result (List RawOperand) Why) (statement : Statement)
+    → ((operands : List RawOperand) → read ≡ Ok operands → map written_token operands ≡ tokens)
+    → statement_with k read ≡ Ok (Some statement) → statement_words statement ≡ keyword_text k ∷ tokens
+statement_with-words k tokens (Err reason) statement h e = cc
+statement_with-words k tokens (Ok operands) statement h e =
+    let made : Statement = record { keyword = k; operands = operands } in
+    let same : made ≡ statement = cc in
+    ap statement_words (sym same) ∙ ap (λ ts. keyword_text k ∷ ts) (h operands refl)
 
 -- so they are where the operands are counted first
-count-words : (even : Bool) (k : Keyword) (tokens : List (List ℕ)) (phrase : Phrase)
+count-words : (even : Bool) (k : Keyword) (tokens : List (List ℕ)) (statement : Statement)
     → (even ≡ true → length tokens ≡ length (places_of k))
-    → cond even (phrase_with k (written_all (places_of k) tokens)) (Err why.Count) ≡ Ok (Some phrase)
-    → phrase_words phrase ≡ keyword_text k ∷ tokens
-count-words true k tokens phrase h e =
-    phrase_with-words k tokens (written_all (places_of k) tokens) phrase
+    → cond even (statement_with k (written_all (places_of k) tokens)) (Err why.Count) ≡ Ok (Some statement)
+    → statement_words statement ≡ keyword_text k ∷ tokens
+count-words true k tokens statement h e =
+    statement_with-words k tokens (written_all (places_of k) tokens) statement
     (λ operands read. written_all-tokens (places_of k) tokens operands (h refl) read) e
-count-words false k tokens phrase h e = cc
+count-words false k tokens statement h e = cc
 
 -- and where the command is built
-built-words : (out : Bool) (k : Keyword) (tokens : List (List ℕ)) (phrase : Phrase)
-    → cond out (Err why.NotBuilt) (with_operands k tokens) ≡ Ok (Some phrase)
-    → phrase_words phrase ≡ keyword_text k ∷ tokens
-built-words true k tokens phrase e = cc
-built-words false k tokens phrase e =
-    count-words (eqb (length tokens) (length (places_of k))) k tokens phrase (λ h. grind (arith, nat_tests)) e
+built-words : (out : Bool) (k : Keyword) (tokens : List (List ℕ)) (statement : Statement)
+    → cond out (Err why.NotBuilt) (with_operands k tokens) ≡ Ok (Some statement)
+    → statement_words statement ≡ keyword_text k ∷ tokens
+built-words true k tokens statement e = cc
+built-words false k tokens statement e =
+    count-words (eqb (length tokens) (length (places_of k))) k tokens statement (λ h. grind (arith, nat_tests)) e
 
 -- and where the command is found by its word
 if_built-words :
-    (unbuilt : List Keyword) (first : List ℕ) (tokens : List (List ℕ)) (k : Option Keyword) (phrase : Phrase)
-    → keyword_among keywords first ≡ k → if_built unbuilt tokens k ≡ Ok (Some phrase)
-    → phrase_words phrase ≡ first ∷ tokens
-if_built-words unbuilt first tokens None phrase found e = cc
-if_built-words unbuilt first tokens (Some k) phrase found e =
-    built-words (list_any (same_keyword k) unbuilt) k tokens phrase e
+    (unbuilt : List Keyword) (first : List ℕ) (tokens : List (List ℕ)) (k : Option Keyword) (statement : Statement)
+    → keyword_among keywords first ≡ k → if_built unbuilt tokens k ≡ Ok (Some statement)
+    → statement_words statement ≡ first ∷ tokens
+if_built-words unbuilt first tokens None statement found e = cc
+if_built-words unbuilt first tokens (Some k) statement found e =
+    built-words (list_any (same_keyword k) unbuilt) k tokens statement e
     ∙ ap (λ word. word ∷ tokens) (keyword_among-text keywords first k found)
 
--- the words of a phrase are the tokens that it was read from
-phrase_of-words : (unbuilt : List Keyword) (tokens : List (List ℕ)) (phrase : Phrase)
-    → phrase_of unbuilt tokens ≡ Ok (Some phrase) → phrase_words phrase ≡ tokens
-phrase_of-words unbuilt [] phrase e = cc
-phrase_of-words unbuilt (first ∷ tokens) phrase e =
-    if_built-words unbuilt first tokens (keyword_among keywords first) phrase refl e
+-- the words of a statement are the tokens that it was read from
+statement_of-words : (unbuilt : List Keyword) (tokens : List (List ℕ)) (statement : Statement)
+    → statement_of unbuilt tokens ≡ Ok (Some statement) → statement_words statement ≡ tokens
+statement_of-words unbuilt [] statement e = cc
+statement_of-words unbuilt (first ∷ tokens) statement e =
+    if_built-words unbuilt first tokens (keyword_among keywords first) statement refl e
 
--- a line with a phrase is not too long, and its tokens make the phrase
-record IsShort (unbuilt : List Keyword) (line : List ℕ) (phrase : Phrase) : Type 0 where
+-- a line with a statement is not too long, and its tokens make the statement
+record IsShort (unbuilt : List Keyword) (line : List ℕ) (statement : Statement) : Type 0 where
   short : nat_lt line_bytes_most (length line) ≡ false
-  read : phrase_of unbuilt (tokens_of line) ≡ Ok (Some phrase)
+  read : statement_of unbuilt (tokens_of line) ≡ Ok (Some statement)
 
 -- a line that is not refused as too long is short
-short-test : (unbuilt : List Keyword) (line : List ℕ) (phrase : Phrase) (long : Bool)
+short-test : (unbuilt : List Keyword) (line : List ℕ) (statement : Statement) (long : Bool)
     → nat_lt line_bytes_most (length line) ≡ long
-    → cond long (Err why.Long) (phrase_of unbuilt (tokens_of line)) ≡ Ok (Some phrase) → IsShort unbuilt line phrase
-short-test unbuilt line phrase true h e = cc
-short-test unbuilt line phrase false h e = record { short = h; read = e }
+    → cond long (Err why.Long) (statement_of unbuilt (tokens_of line)) ≡ Ok (Some statement)
+    → IsShort unbuilt line statement
+short-test unbuilt line statement true h e = cc
+short-test unbuilt line statement false h e = record { short = h; read = e }
 
 -- what is no longer than a short line is short
 still_short : (some more : ℕ) → some ≤ more → nat_lt line_bytes_most more ≡ false
     → nat_lt line_bytes_most some ≡ false
 still_short some more le h = grind (arith, nat_tests)
 
--- the line of a phrase is short
-line-IsShort : (unbuilt : List Keyword) (line : List ℕ) (phrase : Phrase)
-    → phrase_of_line unbuilt line ≡ Ok (Some phrase) → IsShort unbuilt line phrase
-line-IsShort unbuilt line phrase e = short-test unbuilt line phrase (nat_lt line_bytes_most (length line)) refl e
+-- the line of a statement is short
+line-IsShort : (unbuilt : List Keyword) (line : List ℕ) (statement : Statement)
+    → statement_of_line unbuilt line ≡ Ok (Some statement) → IsShort unbuilt line statement
+line-IsShort unbuilt line statement e = short-test unbuilt line statement (nat_lt line_bytes_most (length line)) refl e
 
--- the canonical form of a phrase is that of the line that it was read from
-phrase_text-line : (unbuilt : List Keyword) (line : List ℕ) (phrase : Phrase)
-    → phrase_of_line unbuilt line ≡ Ok (Some phrase) → phrase_text phrase ≡ spaced (tokens_of line)
-phrase_text-line unbuilt line phrase e =
-    ap spaced (phrase_of-words unbuilt (tokens_of line) phrase (line-IsShort unbuilt line phrase e).read)
+-- the canonical form of a statement is that of the line that it was read from
+statement_text-line : (unbuilt : List Keyword) (line : List ℕ) (statement : Statement)
+    → statement_of_line unbuilt line ≡ Ok (Some statement) → statement_text statement ≡ spaced (tokens_of line)
+statement_text-line unbuilt line statement e =
+    ap spaced (statement_of-words unbuilt (tokens_of line) statement (line-IsShort unbuilt line statement e).read)
 
--- the canonical form of a phrase is read as the phrase
-pub phrases_are_read_again : PhrasesAreReadAgain
-phrases_are_read_again unbuilt line phrase e =
-    let parts = line-IsShort unbuilt line phrase e in
+-- the canonical form of a statement is read as the statement
+pub statements_are_read_again : StatementsAreReadAgain
+statements_are_read_again unbuilt line statement e =
+    let parts = line-IsShort unbuilt line statement e in
     let form = spaced (tokens_of line) in
     let short = still_short (length form) (length line) (length-spaced line) parts.short in
-    ap (phrase_of_line unbuilt) (phrase_text-line unbuilt line phrase e)
-    ∙ ap (λ long. cond long (Err why.Long) (phrase_of unbuilt (tokens_of form))) short
-    ∙ ap (phrase_of unbuilt) (tokens_of-again line) ∙ parts.read
+    ap (statement_of_line unbuilt) (statement_text-line unbuilt line statement e)
+    ∙ ap (λ long. cond long (Err why.Long) (statement_of unbuilt (tokens_of form))) short
+    ∙ ap (statement_of unbuilt) (tokens_of-again line) ∙ parts.read
 
--- it is one line, where the phrase was read from one
-pub feed-phrase_text : (unbuilt : List Keyword) (line : List ℕ) (phrase : Phrase)
-    → phrase_of_line unbuilt line ≡ Ok (Some phrase) → Avoids is_feed line → Avoids is_feed (phrase_text phrase)
-feed-phrase_text unbuilt line phrase e h =
-    subst (Avoids is_feed) (sym (phrase_text-line unbuilt line phrase e))
+-- it is one line, where the statement was read from one
+pub feed-statement_text : (unbuilt : List Keyword) (line : List ℕ) (statement : Statement)
+    → statement_of_line unbuilt line ≡ Ok (Some statement) → Avoids is_feed line
+    → Avoids is_feed (statement_text statement)
+feed-statement_text unbuilt line statement e h =
+    subst (Avoids is_feed) (sym (statement_text-line unbuilt line statement e))
     (Avoids-spaced is_feed (tokens_of line) refl (AllAvoid-tokens_of is_feed line h))

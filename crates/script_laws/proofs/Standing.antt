@@ -4,17 +4,17 @@ use Rattle.script_text.specs.declared.commands.Argument.{Argument}
 use Rattle.script_text.specs.declared.commands.Argument.TheVariants as argument
 use Rattle.script_text.specs.declared.table.Keyword.{Keyword}
 use Rattle.script_text.specs.declared.table.Keyword.TheVariants as keyword
-use Rattle.script_text.specs.declared.table.Place.{Place}
-use Rattle.script_text.specs.declared.table.Place.TheVariants.{Variable, Field, Value, Literal}
+use Rattle.script_text.specs.declared.table.OperandKind.{OperandKind}
+use Rattle.script_text.specs.declared.table.OperandKind.TheVariants.{Variable, Field, Value, Literal}
 use Rattle.script_text.specs.Table.{places_of}
-use Rattle.script_text.specs.Phrases.{Written, variable, field, literal, integer, undefined, bound}
+use Rattle.script_text.specs.Statements.{RawOperand, variable, field, literal, integer, undefined, bound}
 use Rattle.script_text.specs.Scripts.{argument_of}
 use Rattle.script_text.proofs.Fits.{Fits, AllFit}
 use Rattle.script_text.proofs.Within.{what_at_places}
 use Rattle.script_laws.specs.Canonical.{arguments_in}
 
 -- the argument is of the kind that its place wants
-abbrev pub Stands : Place → Argument → Type 0
+abbrev pub Stands : OperandKind → Argument → Type 0
 Stands Variable (argument.Variable number) = Unit {0}
 Stands Field (argument.Field number) = Unit {0}
 Stands (Literal most) (argument.Literal n) = Unit {0}
@@ -22,13 +22,14 @@ Stands Value (argument.Value value) = Unit {0}
 Stands _ _ = ⊥
 
 -- there is an argument for each place, of the kind that it wants
-abbrev pub AllStand : List Place → List Argument → Type 0
+abbrev pub AllStand : List OperandKind → List Argument → Type 0
 AllStand [] [] = Unit {0}
 AllStand (place ∷ places) (first ∷ arguments) = Stands place first × AllStand places arguments
 AllStand _ _ = ⊥
 
 -- an operand that fits its place is an argument of the kind that the place wants
-Stands-argument_of : (variables fields : List (List ℕ)) (place : Place) (written : Written) → Fits place written
+Stands-argument_of : (variables fields : List (List ℕ)) (place : OperandKind) (written : RawOperand)
+    → Fits place written
     → Stands place (argument_of variables fields written)
 Stands-argument_of variables fields Variable (variable token) fits = tt
 Stands-argument_of variables fields Field (field token) fits = tt
@@ -39,7 +40,7 @@ Stands-argument_of variables fields Value (bound token) fits = tt
 Stands-argument_of variables fields place written fits = absurd fits
 
 -- operands that fit their places are arguments of the kinds that these want
-pub AllStand-arguments : (variables fields : List (List ℕ)) (places : List Place) (operands : List Written)
+pub AllStand-arguments : (variables fields : List (List ℕ)) (places : List OperandKind) (operands : List RawOperand)
     → AllFit places operands
     → AllStand places (map (argument_of variables fields) operands)
 AllStand-arguments variables fields [] [] fits = tt

@@ -10,8 +10,8 @@ use Rattle.script_text.specs.declared.table.Keyword.{Keyword}
 use Rattle.script_text.specs.declared.script.What.{What}
 use Rattle.script_text.specs.declared.script.What.TheVariants.{Run, Repeat}
 use Rattle.script_text.specs.Table.{keyword_text}
-use Rattle.script_text.specs.Phrases.{Phrase, Written, variable, field, literal, integer, undefined, bound}
-use Rattle.script_text.specs.Phrases.{phrase_of_line}
+use Rattle.script_text.specs.Statements.{Statement, RawOperand, variable, field, literal, integer, undefined, bound}
+use Rattle.script_text.specs.Statements.{statement_of_line}
 use Rattle.script_text.specs.Scripts.{ScriptText}
 use Rattle.script_text.specs.Sound.{keyword_of}
 use Rattle.script_text.specs.Grammar.{reading_with}
@@ -30,8 +30,8 @@ spaced (word ∷ words) = word ++ spaced_after words
 abbrev pub ended : List (List ℕ) → List ℕ
 ended lines = flat_map (λ line. line ++ 10 ∷ []) lines
 
--- the token of an operand of a phrase
-abbrev pub written_token : Written → List ℕ
+-- the token of an operand of a statement
+abbrev pub written_token : RawOperand → List ℕ
 written_token (variable token) = token
 written_token (field token) = token
 written_token (literal n) = signed_decimal (pos n)
@@ -39,9 +39,9 @@ written_token (integer v) = signed_decimal v
 written_token undefined = codes "undefined"
 written_token (bound token) = token
 
--- a phrase as a line in canonical form
-abbrev pub phrase_text : Phrase → List ℕ
-phrase_text phrase = spaced (keyword_text phrase.keyword ∷ map written_token phrase.operands)
+-- a statement as a line in canonical form
+abbrev pub statement_text : Statement → List ℕ
+statement_text statement = spaced (keyword_text statement.keyword ∷ map written_token statement.operands)
 
 -- the token of an argument: a number stands for its name
 abbrev pub token_of : List (List ℕ) → List (List ℕ) → Argument → List ℕ
@@ -87,14 +87,15 @@ what_text variables fields what =
 abbrev pub printed : ScriptText → List ℕ
 printed script = ended (map (λ line. what_text script.variables script.fields line.what) script.lines)
 
--- a phrase that is read from a line is read from its canonical form too
-abbrev pub PhrasesAreReadAgain : Type 0
-PhrasesAreReadAgain =
-    (unbuilt : List Keyword) (line : List ℕ) (phrase : Phrase) → phrase_of_line unbuilt line ≡ Ok (Some phrase)
-    → phrase_of_line unbuilt (phrase_text phrase) ≡ Ok (Some phrase)
+-- a statement that is read from a line is read from its canonical form too
+abbrev pub StatementsAreReadAgain : Type 0
+StatementsAreReadAgain =
+    (unbuilt : List Keyword) (line : List ℕ) (statement : Statement)
+    → statement_of_line unbuilt line ≡ Ok (Some statement)
+    → statement_of_line unbuilt (statement_text statement) ≡ Ok (Some statement)
 
 -- the source is read as a script that does the same, line for line, with the same names by number
-pub record ReadsAs (unbuilt : List Keyword) (source : List ℕ) (script : ScriptText) : Type 0 where
+pub record ParsesAs (unbuilt : List Keyword) (source : List ℕ) (script : ScriptText) : Type 0 where
   pub again : ScriptText
   pub read : reading_with unbuilt source ≡ Ok again
   pub lines : map (λ line. line.what) again.lines ≡ map (λ line. line.what) script.lines
@@ -105,4 +106,4 @@ pub record ReadsAs (unbuilt : List Keyword) (source : List ℕ) (script : Script
 abbrev pub PrintedIsReadAgain : Type 0
 PrintedIsReadAgain =
     (unbuilt : List Keyword) (source : List ℕ) (script : ScriptText) → reading_with unbuilt source ≡ Ok script
-    → ReadsAs unbuilt (printed script) script
+    → ParsesAs unbuilt (printed script) script

@@ -9,25 +9,25 @@ use Rattle.script_text.specs.Scripts.{ScriptText}
 use Rattle.script_text.specs.Grammar.{reading_with}
 use Rattle.script_text.specs.Sound.{depth_of, IsMatched}
 use Rattle.script_text.specs.Unrolled.{executed, turns, executed_lines}
-use Rattle.script_text.specs.Whole.{run_line, repeat_line, end_line, IsWhole, IsPlaced}
+use Rattle.script_text.specs.Whole.{run_line, repeat_line, end_line, AreBlocks, IsPlaced}
 use Rattle.script_text.specs.Left.{IsLeft, Goes}
 
 -- the lines of a script that was read are whole
 abbrev pub ScriptsAreWhole : Type 0
 ScriptsAreWhole =
     (unbuilt : List Keyword) (source : List ℕ)
-    (script : ScriptText) → reading_with unbuilt source ≡ Ok script → IsWhole script.lines
+    (script : ScriptText) → reading_with unbuilt source ≡ Ok script → AreBlocks script.lines
 
 -- a command is executed once, and then what follows it
 abbrev pub UnrollsRuns : Type 0
 UnrollsRuns =
-    (number : ℕ) (command : Command) (lines : List Line) → IsWhole lines
+    (number : ℕ) (command : Command) (lines : List Line) → AreBlocks lines
     → executed_lines (run_line number command ∷ lines) ≡ executed number (Some command) ∷ executed_lines lines
 
 -- A block is executed as its `repeat`, and then so many times its lines and its `end`. Then comes what follows it.
 abbrev pub UnrollsBlocks : Type 0
 UnrollsBlocks =
-    (number times end_at last repeat_at : ℕ) (body rest : List Line) → IsWhole body → IsWhole rest
+    (number times end_at last repeat_at : ℕ) (body rest : List Line) → AreBlocks body → AreBlocks rest
     → executed_lines (repeat_line number times end_at ∷ (body ++ (end_line last repeat_at ∷ rest)))
     ≡ executed number None ∷ (turns times (executed_lines body ++ (executed last None ∷ [])) ++ executed_lines rest)
 

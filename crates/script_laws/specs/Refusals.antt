@@ -5,7 +5,7 @@ use Rattle.script_text.specs.declared.script.Why.{Why}
 use Rattle.script_text.specs.declared.script.Why.TheVariants.{Open}
 use Rattle.script_text.specs.declared.script.BadScript.TheVariants.{BadLine, TooManyNames}
 use Rattle.script_text.specs.Lines.{lines_of}
-use Rattle.script_text.specs.Phrases.{Phrase, phrase_of_line}
+use Rattle.script_text.specs.Statements.{Statement, statement_of_line}
 use Rattle.script_text.specs.Grammar.{nest, reading_with}
 
 -- No line of these is refused, where the first has this number and stands inside these open `repeat`s. After them the
@@ -13,18 +13,18 @@ use Rattle.script_text.specs.Grammar.{nest, reading_with}
 pub data Pass (unbuilt : List Keyword) : ℕ → List ℕ → List (List ℕ) → List ℕ → Type 0 where
   none : (number : ℕ) (open' : List ℕ) → Pass unbuilt number open' [] open'
   empty : (number : ℕ) (open' after : List ℕ) (line : List ℕ) (lines : List (List ℕ))
-      → phrase_of_line unbuilt line ≡ Ok None
+      → statement_of_line unbuilt line ≡ Ok None
       → Pass unbuilt (suc number) open' lines after → Pass unbuilt number open' (line ∷ lines) after
-  spoken : (number : ℕ) (open' inner after : List ℕ) (line : List ℕ) (lines : List (List ℕ)) (phrase : Phrase)
-      → phrase_of_line unbuilt line ≡ Ok (Some phrase)
-      → nest number open' phrase.keyword ≡ Ok inner → Pass unbuilt (suc number) inner lines after
+  stated : (number : ℕ) (open' inner after : List ℕ) (line : List ℕ) (lines : List (List ℕ)) (statement : Statement)
+      → statement_of_line unbuilt line ≡ Ok (Some statement)
+      → nest number open' statement.keyword ≡ Ok inner → Pass unbuilt (suc number) inner lines after
       → Pass unbuilt number open' (line ∷ lines) after
 
 -- the line is refused for this reason, where it has this number and stands inside these open `repeat`s
 pub data IsRefused (unbuilt : List Keyword) (number : ℕ) (open' line : List ℕ) (why : Why) : Type 0 where
-  unread : phrase_of_line unbuilt line ≡ Err why → IsRefused unbuilt number open' line why
-  misplaced : (phrase : Phrase) → phrase_of_line unbuilt line ≡ Ok (Some phrase)
-      → nest number open' phrase.keyword ≡ Err why → IsRefused unbuilt number open' line why
+  unread : statement_of_line unbuilt line ≡ Err why → IsRefused unbuilt number open' line why
+  misplaced : (statement : Statement) → statement_of_line unbuilt line ≡ Ok (Some statement)
+      → nest number open' statement.keyword ≡ Err why → IsRefused unbuilt number open' line why
 
 -- of lines, the first with this number inside these open `repeat`s, the first that is refused is this one
 pub record IsFirstRefused (unbuilt : List Keyword) (number : ℕ) (open' : List ℕ) (lines : List (List ℕ)) (line : ℕ)

@@ -11,7 +11,7 @@ ghost use Rattle.script_laws.specs.Refusals.{RefusesFirst, RefusesOpen, CountsNa
 ghost use Rattle.script_laws.specs.Execution.{ScriptsAreWhole, UnrollsRuns, UnrollsBlocks, AllIsLeft, NothingIsLeft};
 ghost use Rattle.script_laws.specs.Execution.{GoesPastCommands, GoesIntoBlocks, GoesPastBlocks, GoesBack, GoesOut};
 ghost use Rattle.script_laws.specs.Execution.{EndsStandInBlocks, CountsOpenBlocks, FewBlocksAreOpen};
-ghost use Rattle.script_laws.specs.Canonical.{PhrasesAreReadAgain, PrintedIsReadAgain};
+ghost use Rattle.script_laws.specs.Canonical.{StatementsAreReadAgain, PrintedIsReadAgain};
 
 /// The names that get numbers are those that are used, each once, and the number of a name names it
 /// back.
@@ -63,6 +63,6 @@ pub fn execution_goes_on()
 /// A command that is read from a line is read from its canonical form too. So is a script: the same
 /// commands, repeats and ends in the same order, with the same names.
 pub fn printed_is_read_again()
-    ensures phrases { PhrasesAreReadAgain }
+    ensures statements { StatementsAreReadAgain }
     ensures scripts { PrintedIsReadAgain }
 {}

@@ -35,7 +35,7 @@ impl<'p> Read for Hindered<'p> {
     }
 }
 
-// The room of the buffer, the most bytes a call, interruptions, the calls that fail, and what comes of it.
+/// The room of the buffer, the most bytes a call, interruptions, the calls that fail, and what comes of it.
 #[test]
 fn each_error_of_a_reader_is_a_fault_and_nothing_else_is(rt: HostRuntime) -> Result<(), Fail> {
     let rows: [(usize, usize, u32, &[u32], &str); 15] = [

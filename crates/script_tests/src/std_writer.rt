@@ -62,8 +62,8 @@ const SOON: &[u8] = b"~~~~~~~~~~~~~~~~~~~~~~~~~~~~~~~~~~~~~~~~~~~~~~~~~~~~~~~~~~
 
 const LATE: &[u8] = b"~~~~~~~~~~~~~~~~~~~~~~~~~~~~~~~~~~~~~~~~~~~~~~~~~~~~~~~~~~~~~~~~";
 
-// The plans of the writer, what the sink says, and the writer's log. The front of the log up to the first error is
-// what `write_all` leaves.
+/// The plans of the writer, what the sink says, and the writer's log. The front of the log up to the first error is
+/// what `write_all` leaves.
 #[test]
 fn each_error_of_a_writer_is_a_fault_and_what_it_took_is_handed_on(
     rt: HostRuntime,

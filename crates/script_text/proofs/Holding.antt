@@ -19,7 +19,7 @@ Stops (line ∷ lines) = (repeat_at : ℕ) × (line.what ≡ End repeat_at)
 
 -- What is left from a place on, inside the innermost open block or outside blocks: lines at their places, and then a
 -- tail that any lines at their places may stand before.
-pub record Holds (lines : List Line) (at : ℕ) (ts : List ℕ) (left : List Executed) : Type 0 where
+pub record ExecutesFrom (lines : List Line) (at : ℕ) (ts : List ℕ) (left : List Executed) : Type 0 where
   pub rest : List Line
   pub more : List Line
   pub tail : List Executed
@@ -34,7 +34,7 @@ pub record Holds (lines : List Line) (at : ℕ) (ts : List ℕ) (left : List Exe
 
 -- each of the two ways in which something is left
 pub holds : (lines : List Line) (at : ℕ) (ts : List ℕ) (left : List Executed) → IsLeft lines at ts left
-    → Holds lines at ts left
+    → ExecutesFrom lines at ts left
 holds lines _ _ _ (IsLeft.outside at rest cut deep placed) = record {
   rest = rest;
   more = [];

@@ -9,7 +9,7 @@ use Rattle.script_text.specs.Unrolled.{executed, turns, executed_lines}
 use Rattle.script_text.specs.Whole.{run_line, repeat_line, end_line, IsPlaced}
 use Rattle.script_text.specs.Left.{IsLeft, Goes}
 use Rattle.script_text.proofs.Depths.{drop-get, drop-end, depth_of-placed, depth-past, depth-next}
-use Rattle.script_text.proofs.Placed.{IsWhole-placed}
+use Rattle.script_text.proofs.Placed.{AreBlocks-placed}
 use Rattle.script_text.proofs.Unrolling.{unrolls_runs}
 use Rattle.script_text.proofs.Holding.{holds, first_of, placed-run, placed-end, some_lines, no_end-run}
 use Rattle.script_text.proofs.Turning.{turn_first, block_begins, block_ends}
@@ -46,7 +46,7 @@ past_command lines at ts left number command h e =
       rest = executed_lines some ++ here.tail;
       is =
           here.is ∙ ap (λ all. executed_lines all ++ here.tail) split.1
-          ∙ ap (λ all. all ++ here.tail) (unrolls_runs number command some (IsWhole-placed (suc at) some placed));
+          ∙ ap (λ all. all ++ here.tail) (unrolls_runs number command some (AreBlocks-placed (suc at) some placed));
       left = here.again (suc at) some (sym split.2) (depth-next lines at line e ∙ here.deep) placed count;
     }
 

@@ -3,12 +3,12 @@ use Rattle.std.proofs.Common.{◌≡◌, ℕ, zero, suc, ◌≤◌, List, [], �
 use Rattle.script_text.specs.declared.table.Keyword.{Keyword}
 use Rattle.script_text.specs.declared.table.Keyword.TheVariants as keyword
 use Rattle.script_text.specs.Limits.{open_most}
-use Rattle.script_text.specs.Phrases.{Written}
-use Rattle.script_text.specs.Scripts.{Spoken}
+use Rattle.script_text.specs.Statements.{RawOperand}
+use Rattle.script_text.specs.Scripts.{NumberedStatement}
 use Rattle.script_text.specs.Grammar.{lines_from, open_after}
 use Rattle.script_text.specs.Sound.{depth_of}
 use Rattle.script_text.proofs.Ending.{speaks}
-use Rattle.script_text.proofs.Speaking.{AreSpoken, deeper, MayStand}
+use Rattle.script_text.proofs.Speaking.{AreStated, deeper, MayStand}
 
 -- as many `repeat`s are open after a command
 length-open_after : (at : ℕ) (open' : List ℕ) (k : Keyword) → length (open_after at open' k) ≡ deeper (length open') k
@@ -17,10 +17,10 @@ length-open_after at [] keyword.End = refl
 length-open_after at (innermost ∷ outer) keyword.End = omega arith
 length-open_after at open' other = refl
 
--- the phrases after a command were read inside as many `repeat`s as are open after it
-pub later : (unbuilt : List Keyword) (at : ℕ) (open' : List ℕ) (k : Keyword) (more : List Spoken)
-    → AreSpoken unbuilt (deeper (length open') k) more → AreSpoken unbuilt (length (open_after at open' k)) more
-later unbuilt at open' k more h = subst (λ depth. AreSpoken unbuilt depth more) (sym (length-open_after at open' k)) h
+-- the statements after a command were read inside as many `repeat`s as are open after it
+pub later : (unbuilt : List Keyword) (at : ℕ) (open' : List ℕ) (k : Keyword) (more : List NumberedStatement)
+    → AreStated unbuilt (deeper (length open') k) more → AreStated unbuilt (length (open_after at open' k)) more
+later unbuilt at open' k more h = subst (λ depth. AreStated unbuilt depth more) (sym (length-open_after at open' k)) h
 
 -- a command that may stand leaves at most four open
 few-deeper : (depth : ℕ) (k : Keyword) → depth ≤ open_most → MayStand depth k → deeper depth k ≤ open_most
@@ -30,7 +30,7 @@ few-deeper depth other h may = h
 
 -- the depth after a line is that after its command
 depth-line : (variables fields : List (List ℕ)) (at : ℕ) (open' : List ℕ) (number : ℕ) (k : Keyword)
-    (operands : List Written) (more : List Spoken) (depth : ℕ) (n : ℕ)
+    (operands : List RawOperand) (more : List NumberedStatement) (depth : ℕ) (n : ℕ)
     → depth_of depth (take (suc n) (lines_from variables fields at open' (speaks number k operands ∷ more)))
     ≡ depth_of (deeper depth k) (take n (lines_from variables fields (suc at) (open_after at open' k) more))
 depth-line variables fields at open' number keyword.Repeat operands more depth n = refl
@@ -39,15 +39,15 @@ depth-line variables fields at open' number other operands more depth n = refl
 
 -- at most four `repeat`s are open
 pub nested :
-    (unbuilt : List Keyword) (variables fields : List (List ℕ)) (at : ℕ) (open' : List ℕ) (xs : List Spoken) (depth : ℕ)
-    → depth ≤ open_most → AreSpoken unbuilt depth xs → (n : ℕ)
+    (unbuilt : List Keyword) (variables fields : List (List ℕ)) (at : ℕ) (open' : List ℕ) (xs : List NumberedStatement) (depth : ℕ)
+    → depth ≤ open_most → AreStated unbuilt depth xs → (n : ℕ)
     → depth_of depth (take n (lines_from variables fields at open' xs)) ≤ open_most
 nested unbuilt variables fields at open' xs depth few h zero = few
 nested unbuilt variables fields at open' [] depth few h (suc n) = few
-nested unbuilt variables fields at open' (spoken ∷ more) depth few h (suc n) =
-    let k = spoken.phrase.keyword in
+nested unbuilt variables fields at open' (stated ∷ more) depth few h (suc n) =
+    let k = stated.statement.keyword in
     let there =
     nested unbuilt variables fields (suc at) (open_after at open' k) more (deeper depth k)
     (few-deeper depth k few h.1) h.2 n in
     subst (λ d. d ≤ open_most)
-    (sym (depth-line variables fields at open' spoken.number k spoken.phrase.operands more depth n)) there
+    (sym (depth-line variables fields at open' stated.number k stated.statement.operands more depth n)) there

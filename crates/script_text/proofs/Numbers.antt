@@ -6,7 +6,7 @@ use Rattle.std.specs.List.{Contains}
 use Rattle.std.proofs.lemmas.Bool.{false≢true}
 use Rattle.std.proofs.lemmas.List.Elements.{Contains-append_left, Contains-push}
 use Rattle.std.proofs.lemmas.Slice.Eq.{bytes_eq-Decides}
-use Rattle.script_text.specs.Names.{place_of, number_of, with_name, first_uses}
+use Rattle.script_text.specs.Names.{position_of_name, number_of_name, with_name, first_uses}
 
 -- a test passes or fails
 pub true_or_false : (b : Bool) → (b ≡ true) ⊎ (b ≡ false)
@@ -23,19 +23,19 @@ pub bytes_tell : (xs ys : List ℕ) → ((bytes_eq xs ys ≡ true) × (xs ≡ ys
 bytes_tell xs ys = told (xs ≡ ys) (bytes_eq xs ys) (bytes_eq-Decides xs ys)
 
 -- the first name has the first place
-pub place_of-here : (first : List ℕ) (names : List (List ℕ)) (name : List ℕ) → bytes_eq first name ≡ true
-    → place_of (first ∷ names) name ≡ Some 0
-place_of-here first names name e = ap (λ b. cond b (Some 0) (option_map suc (place_of names name))) e
+pub position_of_name-here : (first : List ℕ) (names : List (List ℕ)) (name : List ℕ) → bytes_eq first name ≡ true
+    → position_of_name (first ∷ names) name ≡ Some 0
+position_of_name-here first names name e = ap (λ b. cond b (Some 0) (option_map suc (position_of_name names name))) e
 
 -- another name has its place among the others
-pub place_of-later : (first : List ℕ) (names : List (List ℕ)) (name : List ℕ) → bytes_eq first name ≡ false
-    → place_of (first ∷ names) name ≡ option_map suc (place_of names name)
-place_of-later first names name e = ap (λ b. cond b (Some 0) (option_map suc (place_of names name))) e
+pub position_of_name-later : (first : List ℕ) (names : List (List ℕ)) (name : List ℕ) → bytes_eq first name ≡ false
+    → position_of_name (first ∷ names) name ≡ option_map suc (position_of_name names name)
+position_of_name-later first names name e = ap (λ b. cond b (Some 0) (option_map suc (position_of_name names name))) e
 
 -- a name that is in a list has a place there, and the place has the name
 pub record IsFound (names : List (List ℕ)) (name : List ℕ) : Type 0 where
   pub at : ℕ
-  pub place : place_of names name ≡ Some at
+  pub place : position_of_name names name ≡ Some at
   pub within : at < length names
   pub back : slice_get names at ≡ Some name
 
@@ -55,22 +55,23 @@ pub found : (names : List (List ℕ)) (name : List ℕ) → Contains names name 
 found [] name h = absurd (omega (arith, h.1))
 found (first ∷ names) name h =
     elim (bytes_tell first name) [
-      | inl e ↦ record { at = 0; place = place_of-here first names name e.0; within = omega arith; back = ap Some e.1 }
+      | inl e ↦ record { at = 0; place = position_of_name-here first names name e.0; within = omega arith; back = ap Some e.1 }
       | inr e ↦
           let later = found names name (Contains-later first names name e.1 h) in
           record {
             at = suc later.at;
-            place = place_of-later first names name e.0 ∙ ap (option_map suc) later.place;
+            place = position_of_name-later first names name e.0 ∙ ap (option_map suc) later.place;
             within = omega (arith, later.within);
             back = later.back;
           }
     ]
 
 -- a name's number is below the count of the names
-pub number_of-lt : (names : List (List ℕ)) (name : List ℕ) → Contains names name → number_of names name < length names
-number_of-lt names name h =
+pub number_of_name-lt : (names : List (List ℕ)) (name : List ℕ) → Contains names name
+    → number_of_name names name < length names
+number_of_name-lt names name h =
     let here = found names name h in
-    let e : number_of names name ≡ here.at = ap (λ place. unwrap_or place 0) here.place in
+    let e : number_of_name names name ≡ here.at = ap (λ place. unwrap_or place 0) here.place in
     omega (arith, here.within)
 
 -- a place further on is a place
@@ -89,21 +90,21 @@ pub Contains-tail : (first : List ℕ) (names : List (List ℕ)) (name : List �
 Contains-tail first names name h = (suc h.0, omega (arith, h.1), h.2)
 
 -- a name that has a place is in the list
-Contains-from_place : (names : List (List ℕ)) (name : List ℕ) → is_some (place_of names name) ≡ true
+Contains-from_place : (names : List (List ℕ)) (name : List ℕ) → is_some (position_of_name names name) ≡ true
     → Contains names name
 Contains-from_place [] name h = absurd (false≢true h)
 Contains-from_place (first ∷ names) name h =
     elim (bytes_tell first name) [
       | inl e ↦ Contains-head first names name e.1
       | inr e ↦
-          Contains-tail first names name (Contains-from_place names name (sym (is_some-suc (place_of names name))
-          ∙ sym (ap is_some (place_of-later first names name e.0)) ∙ h))
+          Contains-tail first names name (Contains-from_place names name (sym (is_some-suc (position_of_name names name))
+          ∙ sym (ap is_some (position_of_name-later first names name e.0)) ∙ h))
     ]
 
 -- a name that is not in the list goes to its end
 pub record IsNew (names : List (List ℕ)) (new : List ℕ) : Type 0 where
   pub absent : Contains names new → ⊥
-  pub none : place_of names new ≡ None
+  pub none : position_of_name names new ≡ None
   pub ends : with_name names new ≡ names ++ new ∷ []
 
 -- a name that is in the list leaves it as it is
@@ -119,7 +120,7 @@ none_placed (Some at) h = absurd (false≢true (sym h))
 -- a name is in the list, or goes to its end
 pub known_or_new : (names : List (List ℕ)) (new : List ℕ) → IsKnown names new ⊎ IsNew names new
 known_or_new names new =
-    elim (true_or_false (is_some (place_of names new))) [
+    elim (true_or_false (is_some (position_of_name names new))) [
       | inl e ↦ inl (record {
         present = Contains-from_place names new e;
         same = ap (λ b. cond b names (names ++ new ∷ [])) e;
@@ -128,7 +129,7 @@ known_or_new names new =
           inr (record {
             absent = λ h. false≢true (sym e ∙ ap is_some (found names new h).place);
             none = none_placed
-                (place_of names new) e;
+                (position_of_name names new) e;
             ends = ap (λ b. cond b names (names ++ new ∷ [])) e;
           })
     ]

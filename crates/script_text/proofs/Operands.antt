@@ -1,28 +1,28 @@
--- The operands of a phrase, one token after another.
+-- The operands of a statement, one token after another.
 use Rattle.std.proofs.Common.{◌≡◌, ℕ, suc, ◌+◌, ◌<◌, List, [], ◌∷◌, ◌++◌, length, map, take, drop, set}
 use Rattle.std.proofs.Common.{get_or, drop-cons, Result, Ok, Err, Bor, refl, sym, ap, ◌∙◌, append_assoc, arith}
 use Rattle.std.proofs.Math.Seq.{drop-length}
 use Rattle.std.proofs.lemmas.List.{append-nil, map-append, take_more_set}
 use Rattle.script_text.specs.declared.script.Why.{Why}
-use Rattle.script_text.specs.declared.table.Place.{Place}
-use Rattle.script_text.specs.declared.phrases.Written.{Written as Slice}
-use Rattle.script_text.specs.Phrases.{Written, written_at, written_all, joined}
+use Rattle.script_text.specs.declared.table.OperandKind.{OperandKind}
+use Rattle.script_text.specs.declared.statement.RawOperand.{RawOperand as Slice}
+use Rattle.script_text.specs.Statements.{RawOperand, written_at, written_all, joined}
 use Rattle.script_text.specs.Shown.{shown}
 
 -- what was written, and then the rest
-abbrev pub after : List Written → Result (List Written) Why → Result (List Written) Why
+abbrev pub after : List RawOperand → Result (List RawOperand) Why → Result (List RawOperand) Why
 after done (Ok more) = Ok (done ++ more)
 after done (Err why) = Err why
 
 -- an operand before the rest comes after what was written
-after-joined : (done : List Written) (written : Written) (rest : Result (List Written) Why)
+after-joined : (done : List RawOperand) (written : RawOperand) (rest : Result (List RawOperand) Why)
     → after done (joined (Ok written) rest) ≡ after (done ++ written ∷ []) rest
 after-joined done written (Err why) = refl
 after-joined done written (Ok more) = ap Ok (sym (append_assoc done (written ∷ []) more))
 
 -- one more operand was written
 pub after-more :
-    (done : List Written) (place : Place) (token : List ℕ) (written : Written) (places : List Place)
+    (done : List RawOperand) (place : OperandKind) (token : List ℕ) (written : RawOperand) (places : List OperandKind)
     (tokens : List (List ℕ))
     → written_at place token ≡ Ok written
     → after done (written_all (place ∷ places) (token ∷ tokens))
@@ -33,7 +33,7 @@ after-more done place token written places tokens e =
 
 -- an operand may not stand at its place
 pub after-refused :
-    (done : List Written) (place : Place) (token : List ℕ) (why : Why) (places : List Place) (tokens : List (List ℕ))
+    (done : List RawOperand) (place : OperandKind) (token : List ℕ) (why : Why) (places : List OperandKind) (tokens : List (List ℕ))
     → written_at place token ≡ Err why
     → after done (written_all (place ∷ places) (token ∷ tokens)) ≡ Err why
 after-refused done place token why places tokens e =
@@ -44,14 +44,14 @@ abbrev bytes_of : List (Bor (List ℕ)) → List (List ℕ)
 bytes_of tokens = map (λ token. token.now) tokens
 
 -- what is said of operands where so many were written: with those of the rest they are all
-abbrev pub Reads : List Slice → List Place → List (Bor (List ℕ)) → ℕ → Type 0
+abbrev pub Reads : List Slice → List OperandKind → List (Bor (List ℕ)) → ℕ → Type 0
 Reads operands places tokens i =
     after (map shown (take i operands)) (written_all (drop i places) (map (λ token. token.now) (drop i tokens)))
     ≡ written_all places (map (λ token. token.now) tokens)
 
 -- the places and the tokens from one on
 read-cons :
-    (done : List Written) (places : List Place) (tokens : List (Bor (List ℕ))) (i : ℕ) (place : Place)
+    (done : List RawOperand) (places : List OperandKind) (tokens : List (Bor (List ℕ))) (i : ℕ) (place : OperandKind)
     (token : Bor (List ℕ))
     → i < length places → i < length tokens
     → after done (written_all (drop i places) (bytes_of (drop i tokens)))
@@ -67,7 +67,7 @@ read-cons done places tokens i place token lt below =
     (written_all (get_or places i place ∷ drop n places) ((get_or tokens i token).now ∷ bytes_of (drop n tokens)))) next
 
 -- one more operand was written
-pub Reads-more : (operands : List Slice) (places : List Place) (tokens : List (Bor (List ℕ))) (i : ℕ) (place : Place)
+pub Reads-more : (operands : List Slice) (places : List OperandKind) (tokens : List (Bor (List ℕ))) (i : ℕ) (place : OperandKind)
     (token : Bor (List ℕ)) (written : Slice)
     → i < length places → i < length tokens → i < length operands
     → written_at (get_or places i place) (get_or tokens i token).now ≡ Ok (shown written)
@@ -82,8 +82,8 @@ Reads-more operands places tokens i place token written lt below room e h =
     ∙ sym (read-cons done places tokens i place token lt below) ∙ h
 
 -- an operand may not stand at its place
-pub Reads-refused : (operands : List Slice) (places : List Place) (tokens : List (Bor (List ℕ))) (i : ℕ)
-    (place : Place) (token : Bor (List ℕ)) (why : Why)
+pub Reads-refused : (operands : List Slice) (places : List OperandKind) (tokens : List (Bor (List ℕ))) (i : ℕ)
+    (place : OperandKind) (token : Bor (List ℕ)) (why : Why)
     → i < length places → i < length tokens → written_at (get_or places i place) (get_or tokens i token).now ≡ Err why
     → Reads operands places tokens i → written_all places (bytes_of tokens) ≡ Err why
 Reads-refused operands places tokens i place token why lt below e h =
@@ -93,7 +93,8 @@ Reads-refused operands places tokens i place token why lt below e h =
     (bytes_of (drop (i + 1) tokens)) e
 
 -- all operands were written
-pub Reads-all : (operands : List Slice) (places : List Place) (tokens : List (Bor (List ℕ))) (i : ℕ) → i ≡ length places
+pub Reads-all : (operands : List Slice) (places : List OperandKind) (tokens : List (Bor (List ℕ))) (i : ℕ)
+    → i ≡ length places
     → Reads operands places tokens i
     → written_all places (bytes_of tokens) ≡ Ok (map shown (take (length places) operands))
 Reads-all operands places tokens i e h =

@@ -1,4 +1,4 @@
--- The phrase of a line whose first token is a command.
+-- The statement of a line whose first token is a command.
 use Rattle.std.proofs.Common.{◌≡◌, ℕ, ◌≤◌, Bool, false, cond, nat_lt, List, [], ◌∷◌, drop, slice_get, length}
 use Rattle.std.proofs.Common.{Some, Err, sym, ap, ◌∙◌, arith}
 use Rattle.std.specs.List.{list_any}
@@ -8,7 +8,7 @@ use Rattle.script_text.specs.declared.script.Why.TheVariants as why
 use Rattle.script_text.specs.Limits.{line_bytes_most}
 use Rattle.script_text.specs.Lines.{tokens_of}
 use Rattle.script_text.specs.Table.{keywords, keyword_among, same_keyword}
-use Rattle.script_text.specs.Phrases.{phrase_of, phrase_of_line, if_built, with_operands}
+use Rattle.script_text.specs.Statements.{statement_of, statement_of_line, if_built, with_operands}
 
 -- a list begins with the first of its items
 first-rest : (tokens : List (List ℕ)) (first : List ℕ) → Some first ≡ slice_get tokens 0
@@ -18,16 +18,16 @@ first-rest (token ∷ tokens) first e =
     let same : first ≡ token = cc in
     ap (λ t. t ∷ tokens) (sym same)
 
--- the phrase of a line that is not too long, by its first token and the others
-pub phrase-of_line :
+-- the statement of a line that is not too long, by its first token and the others
+pub statement-of_line :
     (unbuilt : List Keyword) (line first : List ℕ) (k : Keyword) (tokens rest : List (List ℕ)) (out : Bool)
     → length line ≤ line_bytes_most
     → tokens ≡ tokens_of line → Some first ≡ slice_get tokens 0 → rest ≡ drop 1 tokens
     → Some k ≡ keyword_among keywords first → out ≡ list_any (same_keyword k) unbuilt
-    → phrase_of_line unbuilt line ≡ cond out (Err why.NotBuilt) (with_operands k rest)
-phrase-of_line unbuilt line first k tokens rest out short cut taken others found built =
+    → statement_of_line unbuilt line ≡ cond out (Err why.NotBuilt) (with_operands k rest)
+statement-of_line unbuilt line first k tokens rest out short cut taken others found built =
     let fits : nat_lt line_bytes_most (length line) ≡ false = grind (arith, nat_tests) in
-    ap (λ long. cond long (Err why.Long) (phrase_of unbuilt (tokens_of line))) fits
-    ∙ ap (phrase_of unbuilt) (sym cut ∙ first-rest tokens first taken ∙ ap (λ ts. first ∷ ts) (sym others))
+    ap (λ long. cond long (Err why.Long) (statement_of unbuilt (tokens_of line))) fits
+    ∙ ap (statement_of unbuilt) (sym cut ∙ first-rest tokens first taken ∙ ap (λ ts. first ∷ ts) (sym others))
     ∙ ap (if_built unbuilt rest) (sym found)
     ∙ ap (λ b. cond b (Err why.NotBuilt) (with_operands k rest)) (sym built)

@@ -5,22 +5,22 @@ use Rattle.heap_command.specs.declared.command.Command.{Command}
 use Rattle.script_text.specs.declared.table.Keyword.{Keyword}
 use Rattle.script_text.specs.declared.table.Keyword.TheVariants as keyword
 use Rattle.script_text.specs.declared.script.Line.{Line}
-use Rattle.script_text.specs.Phrases.{Written}
-use Rattle.script_text.specs.Scripts.{Spoken, end_after}
+use Rattle.script_text.specs.Statements.{RawOperand}
+use Rattle.script_text.specs.Scripts.{NumberedStatement, end_after}
 use Rattle.script_text.specs.Grammar.{lines_from, open_after}
-use Rattle.script_text.specs.Whole.{run_line, repeat_line, end_line, IsWhole, IsPlaced}
+use Rattle.script_text.specs.Whole.{run_line, repeat_line, end_line, AreBlocks, IsPlaced}
 use Rattle.script_text.proofs.Ending.{speaks, end_after-end}
-use Rattle.script_text.proofs.Speaking.{AreSpoken, MayStand}
+use Rattle.script_text.proofs.Speaking.{AreStated, MayStand}
 use Rattle.script_text.proofs.Nested.{later}
 
 -- lines at their places are whole
-pub IsWhole-placed : (at : ℕ) (lines : List Line) → IsPlaced at lines → IsWhole lines
-IsWhole-placed _ _ (IsPlaced.none at) = IsWhole.none
-IsWhole-placed _ _ (IsPlaced.run at number command lines h) =
-    IsWhole.run number command lines (IsWhole-placed (suc at) lines h)
-IsWhole-placed _ _ (IsPlaced.block at number times end_at last body rest place h k) =
-    IsWhole.block number times end_at last at body rest (IsWhole-placed (suc at) body h)
-    (IsWhole-placed (suc end_at) rest k)
+pub AreBlocks-placed : (at : ℕ) (lines : List Line) → IsPlaced at lines → AreBlocks lines
+AreBlocks-placed _ _ (IsPlaced.none at) = AreBlocks.none
+AreBlocks-placed _ _ (IsPlaced.run at number command lines h) =
+    AreBlocks.run number command lines (AreBlocks-placed (suc at) lines h)
+AreBlocks-placed _ _ (IsPlaced.block at number times end_at last body rest place h k) =
+    AreBlocks.block number times end_at last at body rest (AreBlocks-placed (suc at) body h)
+    (AreBlocks-placed (suc end_at) rest k)
 
 -- Lines at their places from this place on, and then the `end` of the innermost open `repeat`, at the place where that
 -- `repeat` ends; then lines of this kind.
@@ -126,9 +126,9 @@ Closes-end innermost outer ends at number lines place h =
       cut = refl;
     }
 
--- a phrase more that was read from a line
+-- a statement more that was read from a line
 Closes-step : (variables fields : List (List ℕ)) (at : ℕ) (open' : List ℕ) (number : ℕ) (k : Keyword)
-    (operands : List Written) (more : List Spoken) → MayStand (length open') k
+    (operands : List RawOperand) (more : List NumberedStatement) → MayStand (length open') k
     → Closes (open_after at open' k) (λ inside. end_after inside (suc at) more) (suc at)
     (lines_from variables fields (suc at) (open_after at open' k) more)
     → Closes open' (λ inside. end_after inside at (speaks number k operands ∷ more)) at
@@ -148,20 +148,20 @@ Closes-step variables fields at open' number other operands more may h =
     Closes-run open' (λ inside. end_after inside (suc at) more) at number _
     (lines_from variables fields (suc at) open' more) h
 
--- the lines of phrases that were read inside open `repeat`s end them at their places
+-- the lines of statements that were read inside open `repeat`s end them at their places
 lines_from-Closes :
-    (unbuilt : List Keyword) (variables fields : List (List ℕ)) (at : ℕ) (open' : List ℕ) (xs : List Spoken)
-    → AreSpoken unbuilt (length open') xs
+    (unbuilt : List Keyword) (variables fields : List (List ℕ)) (at : ℕ) (open' : List ℕ) (xs : List NumberedStatement)
+    → AreStated unbuilt (length open') xs
     → Closes open' (λ inside. end_after inside at xs) at (lines_from variables fields at open' xs)
 lines_from-Closes unbuilt variables fields at [] [] h = IsPlaced.none at
 lines_from-Closes unbuilt variables fields at (innermost ∷ outer) [] h = absurd (omega (arith, h))
-lines_from-Closes unbuilt variables fields at open' (spoken ∷ more) h =
-    let k = spoken.phrase.keyword in
-    Closes-step variables fields at open' spoken.number k spoken.phrase.operands more h.1
+lines_from-Closes unbuilt variables fields at open' (stated ∷ more) h =
+    let k = stated.statement.keyword in
+    Closes-step variables fields at open' stated.number k stated.statement.operands more h.1
     (lines_from-Closes unbuilt variables fields (suc at) (open_after at open' k) more
     (later unbuilt at open' k more h.2))
 
 -- the lines of a script that was read stand at their places
-pub lines_from-IsPlaced : (unbuilt : List Keyword) (variables fields : List (List ℕ)) (xs : List Spoken)
-    → AreSpoken unbuilt 0 xs → IsPlaced 0 (lines_from variables fields 0 [] xs)
+pub lines_from-IsPlaced : (unbuilt : List Keyword) (variables fields : List (List ℕ)) (xs : List NumberedStatement)
+    → AreStated unbuilt 0 xs → IsPlaced 0 (lines_from variables fields 0 [] xs)
 lines_from-IsPlaced unbuilt variables fields xs h = lines_from-Closes unbuilt variables fields 0 [] xs h

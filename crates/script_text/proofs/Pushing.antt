@@ -2,8 +2,8 @@
 use Rattle.std.proofs.Common.{◌≡◌, inl, inr, ℕ, suc, Bool, true, false, cond, List, [], ◌∷◌, ◌++◌, length}
 use Rattle.std.proofs.Common.{Option, Some, None, option_map, unwrap_or, bytes_eq, map, Bor, refl, sym, ap, ◌∙◌}
 use Rattle.std.proofs.lemmas.List.{length-map, map-append}
-use Rattle.script_text.specs.Names.{place_of, number_of}
-use Rattle.script_text.proofs.Numbers.{bytes_tell, place_of-here, place_of-later}
+use Rattle.script_text.specs.Names.{position_of_name, number_of_name}
+use Rattle.script_text.proofs.Numbers.{bytes_tell, position_of_name-here, position_of_name-later}
 
 -- a place further on is none only where there is none
 option_map-none : (place : Option ℕ) → option_map suc place ≡ None → place ≡ None
@@ -21,50 +21,50 @@ one_more true at place = refl
 one_more false at place = refl
 
 -- a name that goes to the end has the next number, and the others keep theirs
-pub place_of-push : (names : List (List ℕ)) (new name : List ℕ) → place_of names new ≡ None
-    → place_of (names ++ new ∷ []) name ≡ cond (bytes_eq new name) (Some (length names)) (place_of names name)
-place_of-push [] new name h = refl
-place_of-push (first ∷ names) new name h =
+pub position_of_name-push : (names : List (List ℕ)) (new name : List ℕ) → position_of_name names new ≡ None
+    → position_of_name (names ++ new ∷ []) name ≡ cond (bytes_eq new name) (Some (length names)) (position_of_name names name)
+position_of_name-push [] new name h = refl
+position_of_name-push (first ∷ names) new name h =
     elim (bytes_tell first name) [
       | inl e ↦ elim (bytes_tell new name) [
-        | inl same ↦ absurd (some_none (sym (place_of-here first names new (ap (bytes_eq first) same.1 ∙ e.0)) ∙ h))
+        | inl same ↦ absurd (some_none (sym (position_of_name-here first names new (ap (bytes_eq first) same.1 ∙ e.0)) ∙ h))
         | inr other ↦
-            place_of-here first (names ++ new ∷ []) name e.0
-            ∙ sym (ap (λ b. cond b (Some (length (first ∷ names))) (place_of (first ∷ names) name)) other.0
-            ∙ place_of-here first names name e.0)
+            position_of_name-here first (names ++ new ∷ []) name e.0
+            ∙ sym (ap (λ b. cond b (Some (length (first ∷ names))) (position_of_name (first ∷ names) name)) other.0
+            ∙ position_of_name-here first names name e.0)
       ]
       | inr e ↦ elim (bytes_tell first new) [
-        | inl same ↦ absurd (some_none (sym (place_of-here first names new same.0) ∙ h))
+        | inl same ↦ absurd (some_none (sym (position_of_name-here first names new same.0) ∙ h))
         | inr other ↦
-            let absent : place_of names new ≡ None =
-            option_map-none (place_of names new) (sym (place_of-later first names new other.0) ∙ h) in
-            place_of-later first (names ++ new ∷ []) name e.0
-            ∙ ap (option_map suc) (place_of-push names new name absent)
-            ∙ one_more (bytes_eq new name) (length names) (place_of names name)
-            ∙ ap (cond (bytes_eq new name) (Some (length (first ∷ names)))) (sym (place_of-later first names name e.0))
+            let absent : position_of_name names new ≡ None =
+            option_map-none (position_of_name names new) (sym (position_of_name-later first names new other.0) ∙ h) in
+            position_of_name-later first (names ++ new ∷ []) name e.0
+            ∙ ap (option_map suc) (position_of_name-push names new name absent)
+            ∙ one_more (bytes_eq new name) (length names) (position_of_name names name)
+            ∙ ap (cond (bytes_eq new name) (Some (length (first ∷ names)))) (sym (position_of_name-later first names name e.0))
       ]
     ]
 
 -- what a table finds after a name goes to the end, where `was` is what it found before
-pub place_of-pushed :
+pub position_of_name-pushed :
     (items pushed : List (Bor (List ℕ))) (new : Bor (List ℕ)) (at : ℕ) (was : Option ℕ) (name : List ℕ)
-    → place_of (map (λ item. item.now) items) new.now ≡ None → pushed ≡ items ++ new ∷ [] → at ≡ length items
-    → was ≡ place_of (map (λ item. item.now) items) name
-    → cond (bytes_eq new.now name) (Some at) was ≡ place_of (map (λ item. item.now) pushed) name
-place_of-pushed items pushed new at was name absent ends last h =
+    → position_of_name (map (λ item. item.now) items) new.now ≡ None → pushed ≡ items ++ new ∷ [] → at ≡ length items
+    → was ≡ position_of_name (map (λ item. item.now) items) name
+    → cond (bytes_eq new.now name) (Some at) was ≡ position_of_name (map (λ item. item.now) pushed) name
+position_of_name-pushed items pushed new at was name absent ends last h =
     let names = map (λ (item : Bor (List ℕ)). item.now) items in
     let count : at ≡ length names = last ∙ sym (length-map items (λ item. item.now)) in
     let joined : map (λ item. item.now) pushed ≡ names ++ new.now ∷ [] =
     ap (map (λ item. item.now)) ends ∙ map-append (λ item. item.now) items (new ∷ []) in
     ap (cond (bytes_eq new.now name) (Some at)) h
-    ∙ ap (λ n. cond (bytes_eq new.now name) (Some n) (place_of names name)) count
-    ∙ sym (place_of-push names new.now name absent) ∙ ap (λ all. place_of all name) (sym joined)
+    ∙ ap (λ n. cond (bytes_eq new.now name) (Some n) (position_of_name names name)) count
+    ∙ sym (position_of_name-push names new.now name absent) ∙ ap (λ all. position_of_name all name) (sym joined)
 
 -- a name that goes to the end has the next number
-pub number_of-pushed : (items pushed : List (Bor (List ℕ))) (new : Bor (List ℕ)) (at : ℕ)
-    → place_of (map (λ item. item.now) items) new.now ≡ None
-    → pushed ≡ items ++ new ∷ [] → at ≡ length items → at ≡ number_of (map (λ item. item.now) pushed) new.now
-number_of-pushed items pushed new at absent ends last =
+pub number_of_name-pushed : (items pushed : List (Bor (List ℕ))) (new : Bor (List ℕ)) (at : ℕ)
+    → position_of_name (map (λ item. item.now) items) new.now ≡ None
+    → pushed ≡ items ++ new ∷ [] → at ≡ length items → at ≡ number_of_name (map (λ item. item.now) pushed) new.now
+number_of_name-pushed items pushed new at absent ends last =
     let names = map (λ (item : Bor (List ℕ)). item.now) items in
     let joined : map (λ item. item.now) pushed ≡ names ++ new.now ∷ [] =
     ap (map (λ item. item.now)) ends ∙ map-append (λ item. item.now) items (new ∷ []) in
@@ -72,8 +72,8 @@ number_of-pushed items pushed new at absent ends last =
     elim (bytes_tell new.now new.now) [
       | inl same ↦
           count
-          ∙ sym (ap (λ place. unwrap_or place 0) (place_of-push names new.now new.now absent
-          ∙ ap (λ b. cond b (Some (length names)) (place_of names new.now)) same.0))
-          ∙ ap (λ all. number_of all new.now) (sym joined)
+          ∙ sym (ap (λ place. unwrap_or place 0) (position_of_name-push names new.now new.now absent
+          ∙ ap (λ b. cond b (Some (length names)) (position_of_name names new.now)) same.0))
+          ∙ ap (λ all. number_of_name all new.now) (sym joined)
       | inr other ↦ absurd (other.1 refl)
     ]

@@ -1,4 +1,4 @@
--- The phrases of lines that were read: each is built and fits, and the blocks are nested.
+-- The statements of lines that were read: each is built and fits, and the blocks are nested.
 use Rattle.std.proofs.Common.{◌≡◌, ℕ, suc, ◌-◌, ◌<◌, ◌≤◌, Bool, true, false, cond, nat_lt, List, []}
 use Rattle.std.proofs.Common.{◌∷◌, length, Option, Some, None, Result, Ok, Err, refl, sym, ap, ◌∙◌, subst, arith}
 use Rattle.std.proofs.lemmas.Bool.Decides.{nat_tests}
@@ -8,10 +8,10 @@ use Rattle.script_text.specs.declared.script.BadScript.{BadScript}
 use Rattle.script_text.specs.declared.table.Keyword.{Keyword}
 use Rattle.script_text.specs.declared.table.Keyword.TheVariants as keyword
 use Rattle.script_text.specs.Limits.{open_most}
-use Rattle.script_text.specs.Phrases.{Phrase, phrase_of_line}
-use Rattle.script_text.specs.Scripts.{Spoken}
-use Rattle.script_text.specs.Grammar.{nest, nested, followed, spoken_then, spoken_from}
-use Rattle.script_text.proofs.Fits.{IsSpoken, phrase_of_line-IsSpoken}
+use Rattle.script_text.specs.Statements.{Statement, statement_of_line}
+use Rattle.script_text.specs.Scripts.{NumberedStatement}
+use Rattle.script_text.specs.Grammar.{nest, nested, followed, stated_then, stated_from}
+use Rattle.script_text.proofs.Fits.{IsStated, statement_of_line-IsStated}
 
 -- how many `repeat`s are open after a command
 abbrev pub deeper : ℕ → Keyword → ℕ
@@ -25,12 +25,12 @@ MayStand depth keyword.Repeat = depth < open_most
 MayStand depth keyword.End = 0 < depth
 MayStand depth other = Unit {0}
 
--- the phrases were read from lines, inside so many `repeat`s
-abbrev pub AreSpoken : List Keyword → ℕ → List Spoken → Type 0
-AreSpoken unbuilt depth [] = depth ≡ 0
-AreSpoken unbuilt depth (spoken ∷ more) =
-    IsSpoken unbuilt spoken.phrase × MayStand depth spoken.phrase.keyword × AreSpoken unbuilt
-    (deeper depth spoken.phrase.keyword) more
+-- the statements were read from lines, inside so many `repeat`s
+abbrev pub AreStated : List Keyword → ℕ → List NumberedStatement → Type 0
+AreStated unbuilt depth [] = depth ≡ 0
+AreStated unbuilt depth (stated ∷ more) =
+    IsStated unbuilt stated.statement × MayStand depth stated.statement.keyword × AreStated unbuilt
+    (deeper depth stated.statement.keyword) more
 
 -- what `nest` has allowed
 pub record IsNested (k : Keyword) (open' inner : List ℕ) : Type 0 where
@@ -58,93 +58,94 @@ nest-IsNested number open' other inner e =
     let same : open' ≡ inner = cc in
     record { may = tt; deep = ap length (sym same) }
 
--- both parts of phrases that were read
-record AreRead (spoken : Spoken) (more : Result (List Spoken) BadScript) (all : List Spoken) : Type 0 where
-  rest : List Spoken
+-- both parts of statements that were read
+record AreRead (stated : NumberedStatement) (more : Result (List NumberedStatement) BadScript) (all : List NumberedStatement) : Type 0 where
+  rest : List NumberedStatement
   more_is : more ≡ Ok rest
-  same : spoken ∷ rest ≡ all
+  same : stated ∷ rest ≡ all
 
--- phrases that were read have a first and the others
-followed-parts : (spoken : Spoken) (more : Result (List Spoken) BadScript) (all : List Spoken)
-    → followed spoken more ≡ Ok all → AreRead spoken more all
-followed-parts spoken (Err stop) all e = cc
-followed-parts spoken (Ok rest) all e = record { rest = rest; more_is = refl; same = cc }
+-- statements that were read have a first and the others
+followed-parts : (stated : NumberedStatement) (more : Result (List NumberedStatement) BadScript) (all : List NumberedStatement)
+    → followed stated more ≡ Ok all → AreRead stated more all
+followed-parts stated (Err stop) all e = cc
+followed-parts stated (Ok rest) all e = record { rest = rest; more_is = refl; same = cc }
 
--- a phrase that may stand where it does, and those after it
-nested-AreSpoken :
-    (unbuilt : List Keyword) (spoken : Spoken) (open' : List ℕ) (inner : Result (List ℕ) Why) (more : List ℕ
-    → Result (List Spoken) BadScript) (all : List Spoken) → IsSpoken unbuilt spoken.phrase
-    → nest spoken.number open' spoken.phrase.keyword ≡ inner
-    → ((deep : List ℕ) (rest : List Spoken) → more deep ≡ Ok rest → AreSpoken unbuilt (length deep) rest)
-    → nested spoken inner more ≡ Ok all → AreSpoken unbuilt (length open') all
-nested-AreSpoken unbuilt spoken open' (Err reason) more all is n step e = cc
-nested-AreSpoken unbuilt spoken open' (Ok inner) more all is n step e =
-    let parts = followed-parts spoken (more inner) all e in
-    let nests = nest-IsNested spoken.number open' spoken.phrase.keyword inner n in
+-- a statement that may stand where it does, and those after it
+nested-AreStated :
+    (unbuilt : List Keyword) (stated : NumberedStatement) (open' : List ℕ) (inner : Result (List ℕ) Why) (more : List ℕ
+    → Result (List NumberedStatement) BadScript) (all : List NumberedStatement) → IsStated unbuilt stated.statement
+    → nest stated.number open' stated.statement.keyword ≡ inner
+    → ((deep : List ℕ) (rest : List NumberedStatement) → more deep ≡ Ok rest → AreStated unbuilt (length deep) rest)
+    → nested stated inner more ≡ Ok all → AreStated unbuilt (length open') all
+nested-AreStated unbuilt stated open' (Err reason) more all is n step e = cc
+nested-AreStated unbuilt stated open' (Ok inner) more all is n step e =
+    let parts = followed-parts stated (more inner) all e in
+    let nests = nest-IsNested stated.number open' stated.statement.keyword inner n in
     let later = step inner parts.rest parts.more_is in
-    subst (AreSpoken unbuilt (length open')) parts.same
-    (is, nests.may, subst (λ depth. AreSpoken unbuilt depth parts.rest) nests.deep later)
+    subst (AreStated unbuilt (length open')) parts.same
+    (is, nests.may, subst (λ depth. AreStated unbuilt depth parts.rest) nests.deep later)
 
--- a line, and the phrases after it
-spoken_then-AreSpoken :
-    (unbuilt : List Keyword) (number : ℕ) (open' : List ℕ) (first : Result (Option Phrase) Why) (more : List ℕ
-    → Result (List Spoken) BadScript) (all : List Spoken) → ((phrase : Phrase) → first ≡ Ok (Some phrase)
-    → IsSpoken unbuilt phrase)
-    → ((deep : List ℕ) (rest : List Spoken) → more deep ≡ Ok rest → AreSpoken unbuilt (length deep) rest)
-    → spoken_then number open' first more ≡ Ok all → AreSpoken unbuilt (length open') all
-spoken_then-AreSpoken unbuilt number open' (Err reason) more all is step e = cc
-spoken_then-AreSpoken unbuilt number open' (Ok None) more all is step e = step open' all e
-spoken_then-AreSpoken unbuilt number open' (Ok (Some phrase)) more all is step e =
-    nested-AreSpoken unbuilt (record { number = number; phrase = phrase }) open'
-    (nest number open' phrase.keyword) more all (is phrase refl) refl step e
+-- a line, and the statements after it
+stated_then-AreStated :
+    (unbuilt : List Keyword) (number : ℕ) (open' : List ℕ) (first : Result (Option Statement) Why) (more : List ℕ
+    → Result (List NumberedStatement) BadScript) (all : List NumberedStatement) → ((statement : Statement)
+    → first ≡ Ok (Some statement)
+    → IsStated unbuilt statement)
+    → ((deep : List ℕ) (rest : List NumberedStatement) → more deep ≡ Ok rest → AreStated unbuilt (length deep) rest)
+    → stated_then number open' first more ≡ Ok all → AreStated unbuilt (length open') all
+stated_then-AreStated unbuilt number open' (Err reason) more all is step e = cc
+stated_then-AreStated unbuilt number open' (Ok None) more all is step e = step open' all e
+stated_then-AreStated unbuilt number open' (Ok (Some statement)) more all is step e =
+    nested-AreStated unbuilt (record { number = number; statement = statement }) open'
+    (nest number open' statement.keyword) more all (is statement refl) refl step e
 
--- the phrases of lines were read from them
-pub spoken_from-AreSpoken :
-    (unbuilt : List Keyword) (number : ℕ) (open' : List ℕ) (lines : List (List ℕ)) (all : List Spoken)
-    → spoken_from unbuilt number open' lines ≡ Ok all → AreSpoken unbuilt (length open') all
-spoken_from-AreSpoken unbuilt number [] [] all e =
+-- the statements of lines were read from them
+pub stated_from-AreStated :
+    (unbuilt : List Keyword) (number : ℕ) (open' : List ℕ) (lines : List (List ℕ)) (all : List NumberedStatement)
+    → stated_from unbuilt number open' lines ≡ Ok all → AreStated unbuilt (length open') all
+stated_from-AreStated unbuilt number [] [] all e =
     let same : [] ≡ all = cc in
-    subst (AreSpoken unbuilt 0) same refl
-spoken_from-AreSpoken unbuilt number (innermost ∷ outer) [] all e = cc
-spoken_from-AreSpoken unbuilt number open' (line ∷ lines) all e =
-    spoken_then-AreSpoken unbuilt number open' (phrase_of_line unbuilt line)
-    (λ inner. spoken_from unbuilt (suc number) inner lines) all
-    (λ phrase h. phrase_of_line-IsSpoken line phrase unbuilt h)
-    (λ deep rest h. spoken_from-AreSpoken unbuilt (suc number) deep lines rest h) e
+    subst (AreStated unbuilt 0) same refl
+stated_from-AreStated unbuilt number (innermost ∷ outer) [] all e = cc
+stated_from-AreStated unbuilt number open' (line ∷ lines) all e =
+    stated_then-AreStated unbuilt number open' (statement_of_line unbuilt line)
+    (λ inner. stated_from unbuilt (suc number) inner lines) all
+    (λ statement h. statement_of_line-IsStated line statement unbuilt h)
+    (λ deep rest h. stated_from-AreStated unbuilt (suc number) deep lines rest h) e
 
--- a phrase before others is one more
-followed-few : (n : ℕ) (spoken : Spoken) (more : Result (List Spoken) BadScript) (all : List Spoken)
-    → ((rest : List Spoken) → more ≡ Ok rest → length rest ≤ n) → followed spoken more ≡ Ok all
+-- a statement before others is one more
+followed-few : (n : ℕ) (stated : NumberedStatement) (more : Result (List NumberedStatement) BadScript) (all : List NumberedStatement)
+    → ((rest : List NumberedStatement) → more ≡ Ok rest → length rest ≤ n) → followed stated more ≡ Ok all
     → length all ≤ suc n
-followed-few n spoken more all h e =
-    let parts = followed-parts spoken more all e in
+followed-few n stated more all h e =
+    let parts = followed-parts stated more all e in
     omega (arith, h parts.rest parts.more_is, ap length parts.same)
 
 -- so it is where it may stand where it does
-nested-few : (n : ℕ) (spoken : Spoken) (inner : Result (List ℕ) Why) (more : List ℕ
-    → Result (List Spoken) BadScript) (all : List Spoken) → ((deep : List ℕ) (rest : List Spoken)
-    → more deep ≡ Ok rest → length rest ≤ n) → nested spoken inner more ≡ Ok all → length all ≤ suc n
-nested-few n spoken (Err reason) more all h e = cc
-nested-few n spoken (Ok inner) more all h e = followed-few n spoken (more inner) all (h inner) e
+nested-few : (n : ℕ) (stated : NumberedStatement) (inner : Result (List ℕ) Why) (more : List ℕ
+    → Result (List NumberedStatement) BadScript) (all : List NumberedStatement) → ((deep : List ℕ) (rest : List NumberedStatement)
+    → more deep ≡ Ok rest → length rest ≤ n) → nested stated inner more ≡ Ok all → length all ≤ suc n
+nested-few n stated (Err reason) more all h e = cc
+nested-few n stated (Ok inner) more all h e = followed-few n stated (more inner) all (h inner) e
 
 -- and where it was read from a line
-then-few : (n number : ℕ) (open' : List ℕ) (first : Result (Option Phrase) Why) (more : List ℕ
-    → Result (List Spoken) BadScript) (all : List Spoken) → ((deep : List ℕ) (rest : List Spoken)
-    → more deep ≡ Ok rest → length rest ≤ n) → spoken_then number open' first more ≡ Ok all → length all ≤ suc n
+then-few : (n number : ℕ) (open' : List ℕ) (first : Result (Option Statement) Why) (more : List ℕ
+    → Result (List NumberedStatement) BadScript) (all : List NumberedStatement) → ((deep : List ℕ) (rest : List NumberedStatement)
+    → more deep ≡ Ok rest → length rest ≤ n) → stated_then number open' first more ≡ Ok all → length all ≤ suc n
 then-few n number open' (Err reason) more all h e = cc
 then-few n number open' (Ok None) more all h e = omega (arith, h open' all e)
-then-few n number open' (Ok (Some phrase)) more all h e =
-    nested-few n (record { number = number; phrase = phrase }) (nest number open' phrase.keyword) more all h e
+then-few n number open' (Ok (Some statement)) more all h e =
+    nested-few n (record { number = number; statement = statement }) (nest number open' statement.keyword) more all h e
 
--- there are at most as many phrases as lines
-pub spoken_from-few :
-    (unbuilt : List Keyword) (number : ℕ) (open' : List ℕ) (lines : List (List ℕ)) (all : List Spoken)
-    → spoken_from unbuilt number open' lines ≡ Ok all → length all ≤ length lines
-spoken_from-few unbuilt number [] [] all e =
+-- there are at most as many statements as lines
+pub stated_from-few :
+    (unbuilt : List Keyword) (number : ℕ) (open' : List ℕ) (lines : List (List ℕ)) (all : List NumberedStatement)
+    → stated_from unbuilt number open' lines ≡ Ok all → length all ≤ length lines
+stated_from-few unbuilt number [] [] all e =
     let same : [] ≡ all = cc in
     omega (arith, ap length same)
-spoken_from-few unbuilt number (innermost ∷ outer) [] all e = cc
-spoken_from-few unbuilt number open' (line ∷ lines) all e =
-    then-few (length lines) number open' (phrase_of_line unbuilt line)
-    (λ inner. spoken_from unbuilt (suc number) inner lines) all
-    (λ deep rest h. spoken_from-few unbuilt (suc number) deep lines rest h) e
+stated_from-few unbuilt number (innermost ∷ outer) [] all e = cc
+stated_from-few unbuilt number open' (line ∷ lines) all e =
+    then-few (length lines) number open' (statement_of_line unbuilt line)
+    (λ inner. stated_from unbuilt (suc number) inner lines) all
+    (λ deep rest h. stated_from-few unbuilt (suc number) deep lines rest h) e

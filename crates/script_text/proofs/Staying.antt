@@ -11,52 +11,52 @@ use Rattle.script_text.specs.declared.commands.Argument.TheVariants as argument
 use Rattle.script_text.specs.declared.table.Keyword.{Keyword}
 use Rattle.script_text.specs.declared.table.Keyword.TheVariants as keyword
 use Rattle.script_text.specs.Table.{places_of}
-use Rattle.script_text.specs.Phrases.{Written, variable, field, bound}
-use Rattle.script_text.specs.Names.{place_of, number_of, with_name, names_at, variable_in, field_in}
+use Rattle.script_text.specs.Statements.{RawOperand, variable, field, bound}
+use Rattle.script_text.specs.Names.{position_of_name, number_of_name, with_name, names_at, variable_in, field_in}
 use Rattle.script_text.specs.Scripts.{argument_of, argument_at}
 use Rattle.script_text.proofs.Numbers.{known_or_new, bytes_tell, Contains-with_name, Contains-fold}
-use Rattle.script_text.proofs.Pushing.{place_of-push}
+use Rattle.script_text.proofs.Pushing.{position_of_name-push}
 use Rattle.script_text.proofs.Within.{AreIn, AreIn-left, AreIn-right}
 
 -- one name more leaves the place of a name
-place_of-with_name : (names : List (List ℕ)) (new name : List ℕ) → Contains names name
-    → place_of (with_name names new) name ≡ place_of names name
-place_of-with_name names new name h =
+position_of_name-with_name : (names : List (List ℕ)) (new name : List ℕ) → Contains names name
+    → position_of_name (with_name names new) name ≡ position_of_name names name
+position_of_name-with_name names new name h =
     elim (known_or_new names new) [
-      | inl e ↦ ap (λ all. place_of all name) e.same
-      | inr e ↦ ap (λ all. place_of all name) e.ends ∙ place_of-push names new name e.none
+      | inl e ↦ ap (λ all. position_of_name all name) e.same
+      | inr e ↦ ap (λ all. position_of_name all name) e.ends ∙ position_of_name-push names new name e.none
           ∙ (elim (bytes_tell new name) [
             | inl same ↦ absurd (e.absent (subst (Contains names) (sym same.1) h))
-            | inr other ↦ ap (λ b. cond b (Some (length names)) (place_of names name)) other.0
+            | inr other ↦ ap (λ b. cond b (Some (length names)) (position_of_name names name)) other.0
           ])
     ]
 
 -- more names leave its number
-number_of-fold : (names more : List (List ℕ)) (name : List ℕ) → Contains names name
-    → number_of (fold with_name names more) name ≡ number_of names name
-number_of-fold names [] name h = refl
-number_of-fold names (new ∷ more) name h =
-    number_of-fold (with_name names new) more name (Contains-with_name names new name h)
-    ∙ ap (λ place. unwrap_or place 0) (place_of-with_name names new name h)
+number_of_name-fold : (names more : List (List ℕ)) (name : List ℕ) → Contains names name
+    → number_of_name (fold with_name names more) name ≡ number_of_name names name
+number_of_name-fold names [] name h = refl
+number_of_name-fold names (new ∷ more) name h =
+    number_of_name-fold (with_name names new) more name (Contains-with_name names new name h)
+    ∙ ap (λ place. unwrap_or place 0) (position_of_name-with_name names new name h)
 
 -- the only name of these
 only_name : (names : List (List ℕ)) (token : List ℕ) → AreIn names (token ∷ []) → Contains names token
 only_name names token h = h.each token (0, omega arith, refl)
 
 -- more names leave the argument that an operand is
-argument_of-fold : (vs fs more others : List (List ℕ)) (written : Written) → AreIn vs (variable_in written)
+argument_of-fold : (vs fs more others : List (List ℕ)) (written : RawOperand) → AreIn vs (variable_in written)
     → AreIn fs (field_in written)
     → argument_of vs fs written ≡ argument_of (fold with_name vs more) (fold with_name fs others) written
 argument_of-fold vs fs more others (variable token) h k =
-    ap argument.Variable (sym (number_of-fold vs more token (only_name vs token h)))
+    ap argument.Variable (sym (number_of_name-fold vs more token (only_name vs token h)))
 argument_of-fold vs fs more others (field token) h k =
-    ap argument.Field (sym (number_of-fold fs others token (only_name fs token k)))
+    ap argument.Field (sym (number_of_name-fold fs others token (only_name fs token k)))
 argument_of-fold vs fs more others (bound token) h k =
-    ap (λ n. Value (Var n)) (sym (number_of-fold vs more token (only_name vs token h)))
+    ap (λ n. Value (Var n)) (sym (number_of_name-fold vs more token (only_name vs token h)))
 argument_of-fold vs fs more others written h k = refl
 
 -- so they do of operands whose names have numbers
-pub arguments-fold : (vs fs more others : List (List ℕ)) (operands : List Written)
+pub arguments-fold : (vs fs more others : List (List ℕ)) (operands : List RawOperand)
     → AreIn vs (flat_map variable_in operands) → AreIn fs (flat_map field_in operands)
     → map (argument_of vs fs) operands ≡ map (argument_of (fold with_name vs more) (fold with_name fs others)) operands
 arguments-fold vs fs more others [] h k = refl
@@ -75,14 +75,14 @@ pub AreIn-fold : (names uses : List (List ℕ)) → AreIn (fold with_name names 
 AreIn-fold names uses = record { each = λ name h. Contains-fold uses names name (inr h) }
 
 -- the argument of an operand, where there is one
-argument_at-some : (make : Written → Argument) (operands : List Written) (at : ℕ) (written : Written)
+argument_at-some : (make : RawOperand → Argument) (operands : List RawOperand) (at : ℕ) (written : RawOperand)
     → slice_get operands at ≡ Some written
     → argument_at (map make operands) at ≡ make written
 argument_at-some make operands at written e =
     ap (λ o. unwrap_or o (Value Undefined)) (slice_get-map make operands at ∙ ap (option_map make) e)
 
 -- `undefined` past the last
-argument_at-none : (make : Written → Argument) (operands : List Written) (at : ℕ) → slice_get operands at ≡ None
+argument_at-none : (make : RawOperand → Argument) (operands : List RawOperand) (at : ℕ) → slice_get operands at ≡ None
     → argument_at (map make operands) at ≡ Value Undefined
 argument_at-none make operands at e =
     ap (λ o. unwrap_or o (Value Undefined)) (slice_get-map make operands at ∙ ap (option_map make) e)
@@ -93,7 +93,7 @@ few_places keyword.New = omega arith
 few_places other = omega arith
 
 -- the names of at most three operands get numbers one after another
-fold-three : (names_in : Written → List (List ℕ)) (names : List (List ℕ)) (operands : List Written)
+fold-three : (names_in : RawOperand → List (List ℕ)) (names : List (List ℕ)) (operands : List RawOperand)
     → length operands ≤ 3
     → fold with_name names (flat_map names_in operands)
     ≡ fold with_name (fold with_name (fold with_name names (names_at names_in (slice_get operands 0)))
@@ -110,7 +110,7 @@ fold-three names_in names (a ∷ b ∷ c ∷ []) h =
 fold-three names_in names (a ∷ b ∷ c ∷ d ∷ more) h = absurd (omega arith)
 
 -- an operand was entered: its name has got a number, and this is its argument
-pub record Enters (operands : List Written) (at : ℕ) (vs fs vs' fs' : List (List ℕ))
+pub record Enters (operands : List RawOperand) (at : ℕ) (vs fs vs' fs' : List (List ℕ))
     (argument : Argument) : Type 0 where
   pub variables_are : vs' ≡ fold with_name vs (names_at variable_in (slice_get operands at))
   pub fields_are : fs' ≡ fold with_name fs (names_at field_in (slice_get operands at))
@@ -118,13 +118,13 @@ pub record Enters (operands : List Written) (at : ℕ) (vs fs vs' fs' : List (Li
 
 -- its argument stays when more names get numbers
 Enters-stays :
-    (operands : List Written) (at : ℕ) (vs fs vs' fs' : List (List ℕ)) (argument : Argument)
+    (operands : List RawOperand) (at : ℕ) (vs fs vs' fs' : List (List ℕ)) (argument : Argument)
     (more others : List (List ℕ))
     → Enters operands at vs fs vs' fs' argument
     → argument ≡ argument_at (map (argument_of (fold with_name vs' more) (fold with_name fs' others)) operands) at
 Enters-stays operands at vs fs vs' fs' argument more others h = h.argument_is ∙ stays (slice_get operands at) refl
   where
-    stays : (here : Option Written) → slice_get operands at ≡ here
+    stays : (here : Option RawOperand) → slice_get operands at ≡ here
         → argument_at (map (argument_of vs' fs') operands) at ≡ argument_at
         (map (argument_of (fold with_name vs' more) (fold with_name fs' others)) operands) at
     stays None here =
@@ -140,8 +140,8 @@ Enters-stays operands at vs fs vs' fs' argument more others h = h.argument_is �
         ∙ sym (argument_at-some (argument_of (fold with_name vs' more) (fold with_name fs' others))
         operands at written here)
 
--- all operands of a phrase were entered
-pub record AllEnter (operands : List Written) (vs fs vs' fs' : List (List ℕ)) (a b c : Argument) : Type 0 where
+-- all operands of a statement were entered
+pub record AllEnter (operands : List RawOperand) (vs fs vs' fs' : List (List ℕ)) (a b c : Argument) : Type 0 where
   pub variables_are : vs' ≡ fold with_name vs (flat_map variable_in operands)
   pub fields_are : fs' ≡ fold with_name fs (flat_map field_in operands)
   pub first : a ≡ argument_at (map (argument_of vs' fs') operands) 0
@@ -149,7 +149,7 @@ pub record AllEnter (operands : List Written) (vs fs vs' fs' : List (List ℕ)) 
   pub third : c ≡ argument_at (map (argument_of vs' fs') operands) 2
 
 -- at most three operands are entered one after another
-pub three_enter : (operands : List Written) (vs fs vs1 fs1 vs2 fs2 vs3 fs3 : List (List ℕ)) (a b c : Argument)
+pub three_enter : (operands : List RawOperand) (vs fs vs1 fs1 vs2 fs2 vs3 fs3 : List (List ℕ)) (a b c : Argument)
     → length operands ≤ 3
     → Enters operands 0 vs fs vs1 fs1 a → Enters operands 1 vs1 fs1 vs2 fs2 b → Enters operands 2 vs2 fs2 vs3 fs3 c
     → AllEnter operands vs fs vs3 fs3 a b c

@@ -9,9 +9,9 @@ use Rattle.script_text.specs.Unrolled.{executed, turns, executed_lines}
 use Rattle.script_text.specs.Whole.{repeat_line, end_line, IsPlaced}
 use Rattle.script_text.specs.Left.{IsLeft}
 use Rattle.script_text.proofs.Depths.{drop-get, drop-past, depth_of-placed, depth-past, depth-next}
-use Rattle.script_text.proofs.Placed.{IsWhole-placed}
+use Rattle.script_text.proofs.Placed.{AreBlocks-placed}
 use Rattle.script_text.proofs.Unrolling.{unrolls_blocks}
-use Rattle.script_text.proofs.Holding.{Holds, holds, first_of, same_what, Opens, placed-repeat, placed-end}
+use Rattle.script_text.proofs.Holding.{ExecutesFrom, holds, first_of, same_what, Opens, placed-repeat, placed-end}
 use Rattle.script_text.proofs.Holding.{no_end-repeat}
 
 -- one turn of a block, and then what follows it
@@ -35,7 +35,7 @@ pub record Begins (lines : List Line) (at : ℕ) (ts : List ℕ) (left : List Ex
 
 -- what is left behind the block at a place
 behind_block : (lines : List Line) (at : ℕ) (ts : List ℕ) (left : List Executed) (number times end_at : ℕ)
-    (here : Holds lines at ts left) (some : List Line) → here.rest ≡ repeat_line number times end_at ∷ some
+    (here : ExecutesFrom lines at ts left) (some : List Line) → here.rest ≡ repeat_line number times end_at ∷ some
     → (opens : Opens at end_at some) → IsLeft lines (suc end_at) ts (executed_lines opens.after ++ here.tail)
 behind_block lines at ts left number times end_at here some e opens =
     let first = repeat_line number times end_at in
@@ -73,11 +73,11 @@ unrolled_block : (at number times end_at : ℕ) (rest some : List Line) → rest
 unrolled_block at number times end_at rest some e opens =
     ap executed_lines (e ∙ ap (λ all. repeat_line number times end_at ∷ all) opens.cut)
     ∙ unrolls_blocks number times end_at opens.last at opens.body opens.after
-    (IsWhole-placed (suc at) opens.body opens.placed) (IsWhole-placed (suc end_at) opens.after opens.behind)
+    (AreBlocks-placed (suc at) opens.body opens.placed) (AreBlocks-placed (suc end_at) opens.after opens.behind)
 
 -- the lines that are left at a `repeat` begin with its block
 block_holds : (lines : List Line) (at : ℕ) (ts : List ℕ) (left : List Executed) (number times end_at : ℕ)
-    (here : Holds lines at ts left) (some : List Line)
+    (here : ExecutesFrom lines at ts left) (some : List Line)
     → slice_get lines at ≡ Some (repeat_line number times end_at) → here.rest ≡ repeat_line number times end_at ∷ some
     → some ++ here.more ≡ drop (suc at) lines
     → (opens : Opens at end_at some) → Begins lines at ts left number times end_at

@@ -1,4 +1,4 @@
--- The lines of phrases name only variables and fields that have a number.
+-- The lines of statements name only variables and fields that have a number.
 use Rattle.std.proofs.Common.{◌≡◌, ℕ, zero, suc, ◌<◌, ◌≤◌, List, [], ◌∷◌, ◌++◌, length, map}
 use Rattle.std.proofs.Common.{slice_get, Some, false, refl, sym, subst, arith}
 use Rattle.std.specs.List.{All, Contains, flat_map, list_any}
@@ -7,21 +7,22 @@ use Rattle.heap_command.specs.Commands.{NamesBelow}
 use Rattle.script_text.specs.declared.commands.Argument.{Argument}
 use Rattle.script_text.specs.declared.table.Keyword.{Keyword}
 use Rattle.script_text.specs.declared.table.Keyword.TheVariants as keyword
-use Rattle.script_text.specs.declared.table.Place.{Place}
-use Rattle.script_text.specs.declared.table.Place.TheVariants as place
+use Rattle.script_text.specs.declared.table.OperandKind.{OperandKind}
+use Rattle.script_text.specs.declared.table.OperandKind.TheVariants as place
 use Rattle.script_text.specs.declared.script.Line.{Line}
 use Rattle.script_text.specs.declared.script.What.{What}
 use Rattle.script_text.specs.Limits.{cap_most, turns_most}
 use Rattle.script_text.specs.Table.{places_of, same_keyword}
-use Rattle.script_text.specs.Phrases.{Written, variable, field, literal, integer, undefined, bound}
-use Rattle.script_text.specs.Names.{number_of, variable_in, field_in, variables_of, fields_of, first_uses}
-use Rattle.script_text.specs.Scripts.{Spoken, argument_of, argument_at, as_variable, as_field, as_literal, as_value}
+use Rattle.script_text.specs.Statements.{RawOperand, variable, field, literal, integer, undefined, bound}
+use Rattle.script_text.specs.Names.{number_of_name, variable_in, field_in, variables_of, fields_of, first_uses}
+use Rattle.script_text.specs.Scripts.{NumberedStatement, argument_of, argument_at, as_variable, as_field, as_literal}
+use Rattle.script_text.specs.Scripts.{as_value}
 use Rattle.script_text.specs.Scripts.{what_of, end_after}
 use Rattle.script_text.specs.Grammar.{lines_from, open_after, innermost_of, script_of}
 use Rattle.script_text.specs.Sound.{NamesWithin, IsNumbered, keyword_of, IsBuilt}
 use Rattle.script_text.proofs.Fits.{Fits, AllFit}
-use Rattle.script_text.proofs.Speaking.{AreSpoken, deeper}
-use Rattle.script_text.proofs.Numbers.{number_of-lt, Contains-first_uses}
+use Rattle.script_text.proofs.Speaking.{AreStated, deeper}
+use Rattle.script_text.proofs.Numbers.{number_of_name-lt, Contains-first_uses}
 
 -- each of these names is in the list
 pub record AreIn (names wanted : List (List ℕ)) : Type 0 where
@@ -38,18 +39,19 @@ AreIn-right names some more h =
     record { each = λ text in_more. h.each text (Contains-append_right some more text in_more) }
 
 -- the argument is what its place wants, with a number below the count
-abbrev pub Suits : List (List ℕ) → List (List ℕ) → Place → Argument → Type 0
+abbrev pub Suits : List (List ℕ) → List (List ℕ) → OperandKind → Argument → Type 0
 Suits variables fields place.Variable argument = as_variable argument < length variables
 Suits variables fields place.Field argument = as_field argument < length fields
 Suits variables fields place.Value argument = NamesBelow (length variables) (as_value argument)
 Suits variables fields (place.Literal most) argument = as_literal argument ≤ most
 
 -- the number of a name that is in the list
-number_below : (names : List (List ℕ)) (text : List ℕ) → AreIn names (text ∷ []) → number_of names text < length names
-number_below names text h = number_of-lt names text (h.each text (0, omega arith, refl))
+number_below : (names : List (List ℕ)) (text : List ℕ) → AreIn names (text ∷ [])
+    → number_of_name names text < length names
+number_below names text h = number_of_name-lt names text (h.each text (0, omega arith, refl))
 
 -- an operand that fits its place is what the place wants
-Suits-argument_of : (variables fields : List (List ℕ)) (place : Place) (written : Written) → Fits place written
+Suits-argument_of : (variables fields : List (List ℕ)) (place : OperandKind) (written : RawOperand) → Fits place written
     → AreIn variables (variable_in written) → AreIn fields (field_in written)
     → Suits variables fields place (argument_of variables fields written)
 Suits-argument_of variables fields place.Variable (variable token) fits vs fs = number_below variables token vs
@@ -61,14 +63,14 @@ Suits-argument_of variables fields place.Value (bound token) fits vs fs = number
 Suits-argument_of variables fields place written fits vs fs = absurd fits
 
 -- the arguments of operands
-abbrev arguments_of : List (List ℕ) → List (List ℕ) → List Written → List Argument
+abbrev arguments_of : List (List ℕ) → List (List ℕ) → List RawOperand → List Argument
 arguments_of variables fields operands = map (argument_of variables fields) operands
 
 -- the argument at a place is what the place wants
-Suits-argument_at : (variables fields : List (List ℕ)) (places : List Place) (operands : List Written)
+Suits-argument_at : (variables fields : List (List ℕ)) (places : List OperandKind) (operands : List RawOperand)
     → AllFit places operands
     → AreIn variables (flat_map variable_in operands) → AreIn fields (flat_map field_in operands)
-    → (at : ℕ) (place : Place) → slice_get places at ≡ Some place
+    → (at : ℕ) (place : OperandKind) → slice_get places at ≡ Some place
     → Suits variables fields place (argument_at (arguments_of variables fields operands) at)
 Suits-argument_at variables fields [] operands fits vs fs at place e = cc
 Suits-argument_at variables fields (first ∷ places) [] fits vs fs at place e = absurd fits
@@ -84,9 +86,9 @@ Suits-argument_at variables fields (first ∷ places) (written ∷ operands) fit
     Suits-argument_at variables fields places operands fits.1 vs_later fs_later at place e
 
 -- the arguments are what the places want
-abbrev AllSuit : List (List ℕ) → List (List ℕ) → List Place → List Argument → Type 0
+abbrev AllSuit : List (List ℕ) → List (List ℕ) → List OperandKind → List Argument → Type 0
 AllSuit variables fields places arguments =
-    (at : ℕ) (place : Place) → slice_get places at ≡ Some place
+    (at : ℕ) (place : OperandKind) → slice_get places at ≡ Some place
     → Suits variables fields place (argument_at arguments at)
 
 -- what a command does with these arguments
@@ -139,34 +141,34 @@ what_of-NamesWithin variables fields ends repeats keyword.Repeat arguments suits
     suits 0 (place.Literal turns_most) refl
 what_of-NamesWithin variables fields ends repeats k arguments suits = tt
 
--- the lines of phrases that were read name only what has a number
+-- the lines of statements that were read name only what has a number
 pub lines_from-NamesWithin :
-    (unbuilt : List Keyword) (depth : ℕ) (variables fields : List (List ℕ)) (at : ℕ) (open' : List ℕ) (xs : List Spoken)
-    → AreSpoken unbuilt depth xs → AreIn variables (flat_map (λ s. variables_of s.phrase) xs)
-    → AreIn fields (flat_map (λ s. fields_of s.phrase) xs)
+    (unbuilt : List Keyword) (depth : ℕ) (variables fields : List (List ℕ)) (at : ℕ) (open' : List ℕ) (xs : List NumberedStatement)
+    → AreStated unbuilt depth xs → AreIn variables (flat_map (λ s. variables_of s.statement) xs)
+    → AreIn fields (flat_map (λ s. fields_of s.statement) xs)
     → All (λ line. NamesWithin (length variables) (length fields) line.what) (lines_from variables fields at open' xs)
 lines_from-NamesWithin unbuilt depth variables fields at open' [] h vs fs = λ k d lt. absurd (omega (arith, lt))
-lines_from-NamesWithin unbuilt depth variables fields at open' (spoken ∷ more) h vs fs =
-    let phrase = spoken.phrase in
-    let vs_more = flat_map (λ (s : Spoken). variables_of s.phrase) more in
-    let fs_more = flat_map (λ (s : Spoken). fields_of s.phrase) more in
+lines_from-NamesWithin unbuilt depth variables fields at open' (stated ∷ more) h vs fs =
+    let statement = stated.statement in
+    let vs_more = flat_map (λ (s : NumberedStatement). variables_of s.statement) more in
+    let fs_more = flat_map (λ (s : NumberedStatement). fields_of s.statement) more in
     let suits =
-    Suits-argument_at variables fields (places_of phrase.keyword) phrase.operands h.0.fitting
-    (AreIn-left variables (variables_of phrase) vs_more vs) (AreIn-left fields (fields_of phrase) fs_more fs) in
+    Suits-argument_at variables fields (places_of statement.keyword) statement.operands h.0.fitting
+    (AreIn-left variables (variables_of statement) vs_more vs) (AreIn-left fields (fields_of statement) fs_more fs) in
     All-cons (λ (line : Line). NamesWithin (length variables) (length fields) line.what) _
-    (lines_from variables fields (suc at) (open_after at open' phrase.keyword) more)
-    (what_of-NamesWithin variables fields (end_after 0 (suc at) more) (innermost_of open') phrase.keyword
-    (arguments_of variables fields phrase.operands) suits)
-    (lines_from-NamesWithin unbuilt (deeper depth phrase.keyword) variables fields (suc at)
-    (open_after at open' phrase.keyword) more h.2
-    (AreIn-right variables (variables_of phrase) vs_more vs) (AreIn-right fields (fields_of phrase) fs_more fs))
+    (lines_from variables fields (suc at) (open_after at open' statement.keyword) more)
+    (what_of-NamesWithin variables fields (end_after 0 (suc at) more) (innermost_of open') statement.keyword
+    (arguments_of variables fields statement.operands) suits)
+    (lines_from-NamesWithin unbuilt (deeper depth statement.keyword) variables fields (suc at)
+    (open_after at open' statement.keyword) more h.2
+    (AreIn-right variables (variables_of statement) vs_more vs) (AreIn-right fields (fields_of statement) fs_more fs))
 
 -- a script that was read is numbered
-pub script_of-IsNumbered : (unbuilt : List Keyword) (xs : List Spoken) → AreSpoken unbuilt 0 xs
+pub script_of-IsNumbered : (unbuilt : List Keyword) (xs : List NumberedStatement) → AreStated unbuilt 0 xs
     → IsNumbered (script_of xs)
 script_of-IsNumbered unbuilt xs h =
-    let vs = flat_map (λ (s : Spoken). variables_of s.phrase) xs in
-    let fs = flat_map (λ (s : Spoken). fields_of s.phrase) xs in
+    let vs = flat_map (λ (s : NumberedStatement). variables_of s.statement) xs in
+    let fs = flat_map (λ (s : NumberedStatement). fields_of s.statement) xs in
     lines_from-NamesWithin unbuilt 0 (first_uses vs) (first_uses fs) 0 [] xs h
     (record { each = Contains-first_uses vs }) (record { each = Contains-first_uses fs })
 
@@ -176,14 +178,14 @@ pub keyword_of-what_of : (ends repeats : ℕ) (k : Keyword) (a b c : Argument)
 keyword_of-what_of ends repeats keyword.New a b c = refl
 keyword_of-what_of ends repeats other a b c = refl
 
--- the lines of phrases that were read are built
+-- the lines of statements that were read are built
 pub lines_from-IsBuilt :
-    (unbuilt : List Keyword) (depth : ℕ) (variables fields : List (List ℕ)) (at : ℕ) (open' : List ℕ) (xs : List Spoken)
-    → AreSpoken unbuilt depth xs → All (λ line. IsBuilt unbuilt line.what) (lines_from variables fields at open' xs)
+    (unbuilt : List Keyword) (depth : ℕ) (variables fields : List (List ℕ)) (at : ℕ) (open' : List ℕ) (xs : List NumberedStatement)
+    → AreStated unbuilt depth xs → All (λ line. IsBuilt unbuilt line.what) (lines_from variables fields at open' xs)
 lines_from-IsBuilt unbuilt depth variables fields at open' [] h = λ k d lt. absurd (omega (arith, lt))
-lines_from-IsBuilt unbuilt depth variables fields at open' (spoken ∷ more) h =
-    let k = spoken.phrase.keyword in
-    let arguments = arguments_of variables fields spoken.phrase.operands in
+lines_from-IsBuilt unbuilt depth variables fields at open' (stated ∷ more) h =
+    let k = stated.statement.keyword in
+    let arguments = arguments_of variables fields stated.statement.operands in
     let same =
     keyword_of-what_of (end_after 0 (suc at) more) (innermost_of open') k (argument_at arguments 0)
     (argument_at arguments 1) (argument_at arguments 2) in

@@ -9,12 +9,12 @@ use Rattle.script_text.specs.declared.script.Why.TheVariants.{Long, Command, Not
 use Rattle.script_text.specs.declared.script.Why.TheVariants.{Nesting, End, Open}
 use Rattle.script_text.specs.declared.script.BadScript.{BadScript}
 use Rattle.script_text.specs.declared.script.BadScript.TheVariants.{BadLine, TooManyNames}
-use Rattle.script_text.specs.Limits.{open_most, variables_most, fields_most}
+use Rattle.script_text.specs.Limits.{open_most, variable_names_most, field_names_most}
 use Rattle.script_text.specs.Lines.{lines_of}
-use Rattle.script_text.specs.Table.{unbuilt_today}
-use Rattle.script_text.specs.Phrases.{Phrase, phrase_of_line}
+use Rattle.script_text.specs.Table.{unbuilt_keywords}
+use Rattle.script_text.specs.Statements.{Statement, statement_of_line}
 use Rattle.script_text.specs.Names.{first_uses, with_name, variables_of, fields_of}
-use Rattle.script_text.specs.Scripts.{ScriptText, Spoken, what_in, end_after}
+use Rattle.script_text.specs.Scripts.{ScriptText, NumberedStatement, what_in, end_after}
 
 -- a reason as it is written
 abbrev pub why_text : Why → List ℕ
@@ -36,43 +36,45 @@ nest number [] keyword.End = Err End
 nest number (innermost ∷ outer) keyword.End = Ok outer
 nest number open' _ = Ok open'
 
--- a phrase and those that follow it
-abbrev pub followed : Spoken → Result (List Spoken) BadScript → Result (List Spoken) BadScript
-followed spoken (Err stop) = Err stop
-followed spoken (Ok more) = Ok (spoken ∷ more)
+-- a statement and those that follow it
+abbrev pub followed : NumberedStatement → Result (List NumberedStatement) BadScript
+    → Result (List NumberedStatement) BadScript
+followed stated (Err stop) = Err stop
+followed stated (Ok more) = Ok (stated ∷ more)
 
--- a phrase that may stand where it does, and those that follow it
-abbrev pub nested : Spoken → Result (List ℕ) Why → (List ℕ → Result (List Spoken) BadScript)
-    → Result (List Spoken) BadScript
-nested spoken (Err why) more = Err (BadLine spoken.number why)
-nested spoken (Ok open') more = followed spoken (more open')
+-- a statement that may stand where it does, and those that follow it
+abbrev pub nested : NumberedStatement → Result (List ℕ) Why → (List ℕ → Result (List NumberedStatement) BadScript)
+    → Result (List NumberedStatement) BadScript
+nested stated (Err why) more = Err (BadLine stated.number why)
+nested stated (Ok open') more = followed stated (more open')
 
--- what a line says, and the phrases that follow it
-abbrev pub spoken_then : ℕ → List ℕ → Result (Option Phrase) Why → (List ℕ → Result (List Spoken) BadScript)
-    → Result (List Spoken) BadScript
-spoken_then number open' (Err why) more = Err (BadLine number why)
-spoken_then number open' (Ok None) more = more open'
-spoken_then number open' (Ok (Some phrase)) more =
-    nested (record { number = number; phrase = phrase }) (nest number open' phrase.keyword) more
+-- what a line says, and the statements that follow it
+abbrev pub stated_then : ℕ → List ℕ → Result (Option Statement) Why
+    → (List ℕ → Result (List NumberedStatement) BadScript)
+    → Result (List NumberedStatement) BadScript
+stated_then number open' (Err why) more = Err (BadLine number why)
+stated_then number open' (Ok None) more = more open'
+stated_then number open' (Ok (Some statement)) more =
+    nested (record { number = number; statement = statement }) (nest number open' statement.keyword) more
 
 -- at the end of the source no `repeat` may be open
-abbrev pub closed : List ℕ → Result (List Spoken) BadScript
+abbrev pub closed : List ℕ → Result (List NumberedStatement) BadScript
 closed [] = Ok []
 closed (innermost ∷ outer) = Err (BadLine innermost Open)
 
--- The phrases of lines, the first with this number, inside the `repeat`s that are open; or the line that is refused.
-abbrev pub spoken_from : List Keyword → ℕ → List ℕ → List (List ℕ) → Result (List Spoken) BadScript
-spoken_from unbuilt number open' [] = closed open'
-spoken_from unbuilt number open' (line ∷ lines) =
-    spoken_then number open' (phrase_of_line unbuilt line) (λ inner. spoken_from unbuilt (suc number) inner lines)
+-- The statements of lines, the first with this number, inside the `repeat`s that are open; or the line that is refused.
+abbrev pub stated_from : List Keyword → ℕ → List ℕ → List (List ℕ) → Result (List NumberedStatement) BadScript
+stated_from unbuilt number open' [] = closed open'
+stated_from unbuilt number open' (line ∷ lines) =
+    stated_then number open' (statement_of_line unbuilt line) (λ inner. stated_from unbuilt (suc number) inner lines)
 
 -- the first line that, with those before it, has too many names; these were there before
-abbrev pub past_limit : List (List ℕ) → List (List ℕ) → List Spoken → Option ℕ
+abbrev pub past_limit : List (List ℕ) → List (List ℕ) → List NumberedStatement → Option ℕ
 past_limit variables fields [] = None
-past_limit variables fields (spoken ∷ more) =
-    let variables' = fold with_name variables (variables_of spoken.phrase) in
-    let fields' = fold with_name fields (fields_of spoken.phrase) in
-    if nat_lt variables_most (length variables') || nat_lt fields_most (length fields') then Some spoken.number
+past_limit variables fields (stated ∷ more) =
+    let variables' = fold with_name variables (variables_of stated.statement) in
+    let fields' = fold with_name fields (fields_of stated.statement) in
+    if nat_lt variable_names_most (length variables') || nat_lt field_names_most (length fields') then Some stated.number
     else past_limit variables' fields' more
 
 -- the `repeat`s that are open after a command at this place
@@ -87,35 +89,35 @@ abbrev pub innermost_of : List ℕ → ℕ
 innermost_of [] = 0
 innermost_of (innermost ∷ outer) = innermost
 
--- the lines of phrases, the first at this place, inside the `repeat`s that are open
-abbrev pub lines_from : List (List ℕ) → List (List ℕ) → ℕ → List ℕ → List Spoken → List Line
+-- the lines of statements, the first at this place, inside the `repeat`s that are open
+abbrev pub lines_from : List (List ℕ) → List (List ℕ) → ℕ → List ℕ → List NumberedStatement → List Line
 lines_from variables fields at open' [] = []
-lines_from variables fields at open' (spoken ∷ more) =
-    let what = what_in variables fields (end_after 0 (suc at) more) (innermost_of open') spoken.phrase in
-    record { number = spoken.number; what = what } ∷ lines_from variables fields (suc at)
-    (open_after at open' spoken.phrase.keyword) more
+lines_from variables fields at open' (stated ∷ more) =
+    let what = what_in variables fields (end_after 0 (suc at) more) (innermost_of open') stated.statement in
+    record { number = stated.number; what = what } ∷ lines_from variables fields (suc at)
+    (open_after at open' stated.statement.keyword) more
 
--- the script of some phrases: variables and fields are numbered apart, in order of first appearance
-abbrev pub script_of : List Spoken → ScriptText
-script_of spoken =
-    let variables = first_uses (flat_map (λ s. variables_of s.phrase) spoken) in
-    let fields = first_uses (flat_map (λ s. fields_of s.phrase) spoken) in
-    record { lines = lines_from variables fields 0 [] spoken; variables = variables; fields = fields }
+-- the script of some statements: variables and fields are numbered apart, in order of first appearance
+abbrev pub script_of : List NumberedStatement → ScriptText
+script_of stated =
+    let variables = first_uses (flat_map (λ s. variables_of s.statement) stated) in
+    let fields = first_uses (flat_map (λ s. fields_of s.statement) stated) in
+    record { lines = lines_from variables fields 0 [] stated; variables = variables; fields = fields }
 
--- the script of some phrases, or the first line with too many names
-abbrev pub within_limit : List Spoken → Option ℕ → Result ScriptText BadScript
-within_limit spoken None = Ok (script_of spoken)
-within_limit spoken (Some line) = Err (TooManyNames line)
+-- the script of some statements, or the first line with too many names
+abbrev pub within_limit : List NumberedStatement → Option ℕ → Result ScriptText BadScript
+within_limit stated None = Ok (script_of stated)
+within_limit stated (Some line) = Err (TooManyNames line)
 
--- the script of the phrases that were read, or the line that is refused
-abbrev pub script_or_stop : Result (List Spoken) BadScript → Result ScriptText BadScript
-script_or_stop (Ok spoken) = within_limit spoken (past_limit [] [] spoken)
+-- the script of the statements that were read, or the line that is refused
+abbrev pub script_or_stop : Result (List NumberedStatement) BadScript → Result ScriptText BadScript
+script_or_stop (Ok stated) = within_limit stated (past_limit [] [] stated)
 script_or_stop (Err stop) = Err stop
 
 -- What a source is read as, where these commands are not built. Lines are numbered from 1.
 abbrev pub reading_with : List Keyword → List ℕ → Result ScriptText BadScript
-reading_with unbuilt source = script_or_stop (spoken_from unbuilt 1 [] (lines_of source))
+reading_with unbuilt source = script_or_stop (stated_from unbuilt 1 [] (lines_of source))
 
--- what a source is read as, with the commands that are built today
+-- what a source is read as, with the commands that are built
 abbrev pub reading : List ℕ → Result ScriptText BadScript
-reading source = reading_with unbuilt_today source
+reading source = reading_with unbuilt_keywords source

@@ -2,7 +2,7 @@ pub mod Limits
 pub mod Lines
 pub mod Tokens
 pub mod Table
-pub mod Phrases
+pub mod Statements
 pub mod Names
 pub mod Scripts
 pub mod Blocks

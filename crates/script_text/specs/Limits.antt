@@ -22,9 +22,9 @@ abbrev pub open_most : ℕ
 open_most = 4
 
 -- the most names of variables
-abbrev pub variables_most : ℕ
-variables_most = 1024
+abbrev pub variable_names_most : ℕ
+variable_names_most = 1024
 
 -- the most names of fields
-abbrev pub fields_most : ℕ
-fields_most = 4096
+abbrev pub field_names_most : ℕ
+field_names_most = 4096

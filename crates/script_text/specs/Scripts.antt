@@ -1,4 +1,4 @@
--- A script as it is read, and the commands of its phrases.
+-- A script as it is read, and the commands of its statements.
 use Rattle.std.specs.Prelude.{ℕ, suc, ◌-◌, ◌==◌, List, [], ◌∷◌, map, slice_get, unwrap_or, if◌then◌else◌}
 use Rattle.heap_command.specs.declared.command.Operand.{Operand}
 use Rattle.heap_command.specs.declared.command.Operand.TheVariants.{Int, Undefined, Var}
@@ -10,8 +10,8 @@ use Rattle.script_text.specs.declared.table.Keyword.TheVariants as keyword
 use Rattle.script_text.specs.declared.script.Line.{Line}
 use Rattle.script_text.specs.declared.script.What.{What}
 use Rattle.script_text.specs.declared.script.What.TheVariants.{Run, Repeat, End}
-use Rattle.script_text.specs.Phrases.{Phrase, Written, variable, field, literal, integer, undefined, bound}
-use Rattle.script_text.specs.Names.{number_of}
+use Rattle.script_text.specs.Statements.{Statement, RawOperand, variable, field, literal, integer, undefined, bound}
+use Rattle.script_text.specs.Names.{number_of_name}
 
 -- the lines with what they do, and the names of the variables and of the fields by number
 pub record ScriptText : Type 0 where
@@ -23,19 +23,19 @@ pub record ScriptText : Type 0 where
 abbrev pub line : ℕ → What → Line
 line number what = record { number = number; what = what }
 
--- a phrase and the number of its line
-pub record Spoken : Type 0 where
+-- a statement and the number of its line
+pub record NumberedStatement : Type 0 where
   pub number : ℕ
-  pub phrase : Phrase
+  pub statement : Statement
 
 -- the argument that is written: a name stands for its number
-abbrev pub argument_of : List (List ℕ) → List (List ℕ) → Written → Argument
-argument_of variables fields (variable token) = Variable (number_of variables token)
-argument_of variables fields (field token) = Field (number_of fields token)
+abbrev pub argument_of : List (List ℕ) → List (List ℕ) → RawOperand → Argument
+argument_of variables fields (variable token) = Variable (number_of_name variables token)
+argument_of variables fields (field token) = Field (number_of_name fields token)
 argument_of variables fields (literal n) = Literal n
 argument_of variables fields (integer v) = Value (Int v)
 argument_of variables fields undefined = Value Undefined
-argument_of variables fields (bound token) = Value (Var (number_of variables token))
+argument_of variables fields (bound token) = Value (Var (number_of_name variables token))
 
 -- the argument at a place, counted from 0; `undefined` past the last
 abbrev pub argument_at : List Argument → ℕ → Argument
@@ -61,17 +61,17 @@ abbrev pub as_value : Argument → Operand
 as_value (Value value) = value
 as_value _ = Undefined
 
--- what the phrases from here on hold of the end of a `repeat`, with so many others open inside it: its place
-abbrev pub end_after : ℕ → ℕ → List Spoken → ℕ
+-- what the statements from here on hold of the end of a `repeat`, with so many others open inside it: its place
+abbrev pub end_after : ℕ → ℕ → List NumberedStatement → ℕ
 end_after inside at [] = at
-end_after inside at (spoken ∷ more) =
-    end_at_phrase inside at spoken.phrase.keyword (end_after (suc inside) (suc at) more)
+end_after inside at (stated ∷ more) =
+    end_at_statement inside at stated.statement.keyword (end_after (suc inside) (suc at) more)
     (end_after (inside - 1) (suc at) more) (end_after inside (suc at) more)
   where
-    end_at_phrase : ℕ → ℕ → Keyword → ℕ → ℕ → ℕ → ℕ
-    end_at_phrase inside at keyword.Repeat deeper outer further = deeper
-    end_at_phrase inside at keyword.End deeper outer further = if inside == 0 then at else outer
-    end_at_phrase inside at _ deeper outer further = further
+    end_at_statement : ℕ → ℕ → Keyword → ℕ → ℕ → ℕ → ℕ
+    end_at_statement inside at keyword.Repeat deeper outer further = deeper
+    end_at_statement inside at keyword.End deeper outer further = if inside == 0 then at else outer
+    end_at_statement inside at _ deeper outer further = further
 
 -- What a command is, with its arguments from left to right; those past its last are not read. A `repeat` and an `end`
 -- have the place of the other.
@@ -105,8 +105,8 @@ what_of ends repeats keyword.Finish a b c = Run command.Finish
 what_of ends repeats keyword.Gc a b c = Run command.Gc
 what_of ends repeats keyword.Census a b c = Run command.Census
 
--- what a phrase is, where names have these numbers
-abbrev pub what_in : List (List ℕ) → List (List ℕ) → ℕ → ℕ → Phrase → What
-what_in variables fields ends repeats phrase =
-    let arguments = map (argument_of variables fields) phrase.operands in
-    what_of ends repeats phrase.keyword (argument_at arguments 0) (argument_at arguments 1) (argument_at arguments 2)
+-- what a statement is, where names have these numbers
+abbrev pub what_in : List (List ℕ) → List (List ℕ) → ℕ → ℕ → Statement → What
+what_in variables fields ends repeats statement =
+    let arguments = map (argument_of variables fields) statement.operands in
+    what_of ends repeats statement.keyword (argument_at arguments 0) (argument_at arguments 1) (argument_at arguments 2)

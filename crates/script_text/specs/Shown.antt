@@ -1,18 +1,18 @@
--- The phrases of the code, as the grammar sees them, and where reading stops.
+-- The statements of the code, as the grammar sees them, and where reading stops.
 use Rattle.std.specs.Prelude.{◌≡◌, ℕ, map, take, Bool, ◌||◌, List, length, Option, Some, Result, Err, nat_lt}
 use Rattle.script_text.specs.declared.script.BadScript.{BadScript}
 use Rattle.script_text.specs.declared.script.BadScript.TheVariants as bad_script
-use Rattle.script_text.specs.declared.phrases.Written.{Written as Slice}
-use Rattle.script_text.specs.declared.phrases.Written.TheVariants as slice
-use Rattle.script_text.specs.declared.phrases.Phrase.{Phrase as Slices}
-use Rattle.script_text.specs.declared.speech.Spoken.{Spoken as SpokenSlices}
-use Rattle.script_text.specs.Limits.{variables_most, fields_most}
+use Rattle.script_text.specs.declared.statement.RawOperand.{RawOperand as Slice}
+use Rattle.script_text.specs.declared.statement.RawOperand.TheVariants as slice
+use Rattle.script_text.specs.declared.statement.Statement.{Statement as Slices}
+use Rattle.script_text.specs.declared.statements.NumberedStatement.{NumberedStatement as StatedSlices}
+use Rattle.script_text.specs.Limits.{variable_names_most, field_names_most}
 use Rattle.script_text.specs.Table.{places_of}
-use Rattle.script_text.specs.Phrases.{Phrase, Written, variable, field, literal, integer, undefined, bound}
-use Rattle.script_text.specs.Scripts.{Spoken}
+use Rattle.script_text.specs.Statements.{Statement, RawOperand, variable, field, literal, integer, undefined, bound}
+use Rattle.script_text.specs.Scripts.{NumberedStatement}
 
 -- an operand, with the bytes of its name
-abbrev pub shown : Slice → Written
+abbrev pub shown : Slice → RawOperand
 shown (slice.Variable token) = variable token.now
 shown (slice.Field token) = field token.now
 shown (slice.Literal n) = literal n
@@ -20,14 +20,14 @@ shown (slice.Integer v) = integer v
 shown slice.Undefined = undefined
 shown (slice.Bound token) = bound token.now
 
--- a phrase, with as many operands as its command has
-abbrev pub phrase_shown : Slices → Phrase
-phrase_shown phrase =
-    record { keyword = phrase.keyword; operands = map shown (take (length (places_of phrase.keyword)) phrase.operands) }
+-- a statement, with as many operands as its command has
+abbrev pub statement_shown : Slices → Statement
+statement_shown statement =
+    record { keyword = statement.keyword; operands = map shown (take (length (places_of statement.keyword)) statement.operands) }
 
--- a phrase and the number of its line
-abbrev pub spoken_shown : SpokenSlices → Spoken
-spoken_shown spoken = record { number = spoken.number; phrase = phrase_shown spoken.phrase }
+-- a statement and the number of its line
+abbrev pub stated_shown : StatedSlices → NumberedStatement
+stated_shown stated = record { number = stated.number; statement = statement_shown stated.statement }
 
 -- the answer is the reason why reading a source stops, where that is not for memory
 abbrev pub IsBad : {A : Type 0} → Result A BadScript → BadScript → Type 0
@@ -43,4 +43,4 @@ IsPast past bad_script.NoMemory = Unit {0}
 
 -- there are more names than a script may have
 abbrev pub are_too_many : List (List ℕ) → List (List ℕ) → Bool
-are_too_many variables fields = nat_lt variables_most (length variables) || nat_lt fields_most (length fields)
+are_too_many variables fields = nat_lt variable_names_most (length variables) || nat_lt field_names_most (length fields)

@@ -11,7 +11,7 @@ use Rattle.script_text.specs.declared.script.What.{What}
 use Rattle.script_text.specs.declared.script.What.TheVariants.{Run, Repeat, End}
 use Rattle.script_text.specs.Table.{same_keyword}
 use Rattle.script_text.specs.Scripts.{ScriptText}
-use Rattle.script_text.specs.Limits.{turns_most, open_most, variables_most, fields_most, name_bytes_most}
+use Rattle.script_text.specs.Limits.{turns_most, open_most, variable_names_most, field_names_most, name_bytes_most}
 use Rattle.script_text.specs.Whole.{IsPlaced}
 
 -- a script of these lines, variables and fields
@@ -63,12 +63,12 @@ AreShort names = All (λ name. length name ≤ name_bytes_most) names
 
 -- The lines name only what the script has, each `repeat` has its `end`, there are not too many names, and those of
 -- fields are short.
-pub record IsSound (script : ScriptText) : Type 0 where
+pub record IsWellFormed (script : ScriptText) : Type 0 where
   pub numbered : IsNumbered script
   pub matched : IsMatched script.lines
   pub placed : IsPlaced 0 script.lines
-  pub few_variables : length script.variables ≤ variables_most
-  pub few_fields : length script.fields ≤ fields_most
+  pub few_variables : length script.variables ≤ variable_names_most
+  pub few_fields : length script.fields ≤ field_names_most
   pub short : AreShort script.fields
 
 -- the command of a line

@@ -6,8 +6,8 @@ use Rattle.script_text.specs.declared.table.Keyword.TheVariants.{New, List, Weak
 use Rattle.script_text.specs.declared.table.Keyword.TheVariants.{Put, At, Shift, Trunc, WPut, WGet, WDel, Print, Same}
 use Rattle.script_text.specs.declared.table.Keyword.TheVariants.{Alike, Shape, Repeat, End, Scavenge, Mark, Finish, Gc}
 use Rattle.script_text.specs.declared.table.Keyword.TheVariants.{Census}
-use Rattle.script_text.specs.declared.table.Place.{Place}
-use Rattle.script_text.specs.declared.table.Place.TheVariants.{Variable, Field, Value, Literal}
+use Rattle.script_text.specs.declared.table.OperandKind.{OperandKind}
+use Rattle.script_text.specs.declared.table.OperandKind.TheVariants.{Variable, Field, Value, Literal}
 
 -- the word of a command
 abbrev pub keyword_text : Keyword → Row ℕ
@@ -48,7 +48,7 @@ keywords =
     ∷ Same ∷ Alike ∷ Shape ∷ Repeat ∷ End ∷ Scavenge ∷ Mark ∷ Finish ∷ Gc ∷ Census ∷ []
 
 -- what the operands of a command are, in order
-abbrev pub places_of : Keyword → Row Place
+abbrev pub places_of : Keyword → Row OperandKind
 places_of New = Variable ∷ Literal cap_most ∷ []
 places_of List = Variable ∷ []
 places_of Weak = Variable ∷ []
@@ -84,5 +84,5 @@ abbrev pub same_keyword : Keyword → Keyword → Bool
 same_keyword a b = bytes_eq (keyword_text a) (keyword_text b)
 
 -- the commands that are not built
-abbrev pub unbuilt_today : Row Keyword
-unbuilt_today = Scavenge ∷ Mark ∷ Finish ∷ Gc ∷ Census ∷ []
+abbrev pub unbuilt_keywords : Row Keyword
+unbuilt_keywords = Scavenge ∷ Mark ∷ Finish ∷ Gc ∷ Census ∷ []

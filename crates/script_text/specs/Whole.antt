@@ -17,11 +17,12 @@ abbrev pub end_line : ℕ → ℕ → Line
 end_line number repeat_at = record { number = number; what = End repeat_at }
 
 -- lines in which each `repeat` has its `end`
-pub data IsWhole : List Line → Type 0 where
-  none : IsWhole []
-  run : (number : ℕ) (command : Command) (lines : List Line) → IsWhole lines → IsWhole (run_line number command ∷ lines)
-  block : (number times end_at last repeat_at : ℕ) (body rest : List Line) → IsWhole body → IsWhole rest
-      → IsWhole (repeat_line number times end_at ∷ (body ++ (end_line last repeat_at ∷ rest)))
+pub data AreBlocks : List Line → Type 0 where
+  none : AreBlocks []
+  run : (number : ℕ) (command : Command) (lines : List Line) → AreBlocks lines
+      → AreBlocks (run_line number command ∷ lines)
+  block : (number times end_at last repeat_at : ℕ) (body rest : List Line) → AreBlocks body → AreBlocks rest
+      → AreBlocks (repeat_line number times end_at ∷ (body ++ (end_line last repeat_at ∷ rest)))
 
 -- Lines of which the first stands at this place, counted from 0. Each `repeat` has its `end` behind the lines of its
 -- block, and each of the two names the place of the other.

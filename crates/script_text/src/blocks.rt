@@ -2,25 +2,28 @@
 ghost use Rattle.std.specs.Prelude.{◌≡◌, ◌<◌, ◌^◌, IfOk, OnOk, length, map};
 ghost use Rattle.script_text.specs.Blocks.{ends_from, end_before};
 ghost use Rattle.script_text.specs.Grammar.{open_after};
-ghost use Rattle.script_text.specs.Shown.{spoken_shown};
+ghost use Rattle.script_text.specs.Shown.{stated_shown};
 
-use crate::speech::Spoken;
 use crate::stack::Stack;
+use crate::statements::NumberedStatement;
 use crate::table::Keyword;
 use std::alloc::{AllocError, Global};
 
-/// For each phrase the place where the innermost `repeat` that is open after it ends; where none is
-/// open, the number of phrases.
-pub(crate) fn ends<'s>(alloc: Global, spoken: &[Spoken<'s>]) -> Result<Vec<u32>, AllocError>
-    requires { length spoken.now < 2 ^ 32 }
-    ensures { IfOk result (λ ends. ends.items ≡ ends_from 0 (map spoken_shown spoken.now)) }
+/// For each statement the place where the innermost `repeat` that is open after it ends; where none is
+/// open, the number of statements.
+pub(crate) fn ends<'s>(
+    alloc: Global,
+    stated: &[NumberedStatement<'s>],
+) -> Result<Vec<u32>, AllocError>
+    requires { length stated.now < 2 ^ 32 }
+    ensures { IfOk result (λ ends. ends.items ≡ ends_from 0 (map stated_shown stated.now)) }
 {
-    let none = spoken.len() as u32;
-    let mut ends = vec![in alloc; none; spoken.len()]?;
+    let none = stated.len() as u32;
+    let mut ends = vec![in alloc; none; stated.len()]?;
     let mut later = Stack::new(alloc);
-    for i in (0..spoken.len()).rev() {
+    for i in (0..stated.len()).rev() {
         ends[i] = later.top().unwrap_or(none);
-        end_before(&mut later, i as u32, spoken[i].phrase.keyword)?;
+        end_before(&mut later, i as u32, stated[i].statement.keyword)?;
     }
     Ok(ends)
 }

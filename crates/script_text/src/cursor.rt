@@ -8,7 +8,7 @@ ghost use Rattle.script_text.specs.Pieces.{ends_token};
 
 use std::marker::Model;
 
-/// What of a line has not been read so far.
+/// What of a line has not been read.
 #[derive(Drop)]
 pub(crate) struct Tokens<'s> {
     rest: &'s [u8],

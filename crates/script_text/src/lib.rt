@@ -3,7 +3,7 @@
 //! Model: a `ScriptText` of `specs/Scripts.antt` is the list of lines with their commands, and the
 //! names of the variables and of the fields by number. `reading` of `specs/Grammar.antt` says what a
 //! source is read as. The names of a `Script` are slices of its source; no name is copied.
-//! Invariant: `IsSound` of `specs/Sound.antt`. The lines name only what the script has, and each
+//! Invariant: `IsWellFormed` of `specs/Sound.antt`. The lines name only what the script has, and each
 //! `repeat` and its `end` name one another.
 #![tactic(auto)]
 
@@ -15,14 +15,14 @@ mod lines;
 mod names;
 mod numbering;
 mod parsing;
-mod phrases;
 mod script;
-mod speech;
 mod stack;
+mod statement;
+mod statements;
 mod table;
 mod tokens;
 
 pub use commands::Argument;
 pub use parsing::parse;
 pub use script::{BadScript, Line, Script, What, Why};
-pub use table::{Keyword, Place};
+pub use table::{Keyword, OperandKind};

@@ -16,7 +16,7 @@ pub(crate) const TURNS_MOST: u32 = 20_000_000;
 pub(crate) const OPEN_MOST: usize = 4;
 
 /// The most names of variables.
-pub(crate) const VARIABLES_MOST: usize = 1024;
+pub(crate) const VARIABLE_NAMES_MOST: usize = 1024;
 
 /// The most names of fields.
-pub(crate) const FIELDS_MOST: usize = 4096;
+pub(crate) const FIELD_NAMES_MOST: usize = 4096;

@@ -1,6 +1,6 @@
 //! Names get numbers in the order in which they first appear.
 ghost use Rattle.std.specs.Prelude.{◌≡◌, ◌<◌, ◌≤◌, ◌+◌, ◌^◌, [], length, map, IfOk, OnOk, OnErr};
-ghost use Rattle.script_text.specs.Names.{number_of, with_name};
+ghost use Rattle.script_text.specs.Names.{number_of_name, with_name};
 
 use std::alloc::{AllocError, Global};
 use std::collections::HashMap;
@@ -16,7 +16,7 @@ pub(crate) struct Names<'s> {
 impl<'s> Model for Names<'s> {
     ghost use Rattle.std.specs.Prelude.{◌≡◌, ℕ, List, map, bytes_eq};
     ghost use Rattle.std.specs.HashMap.{get_by};
-    ghost use Rattle.script_text.specs.Names.{place_of};
+    ghost use Rattle.script_text.specs.Names.{position_of_name};
 
     ghost Value = { List (List ℕ) };
 
@@ -24,7 +24,7 @@ impl<'s> Model for Names<'s> {
 
     ghost invariant = { λ list. (bytes : List ℕ) →
         get_by (λ name. bytes_eq bytes name.now) list.numbers
-        ≡ place_of (map (λ name. name.now) list.names.items) bytes };
+        ≡ position_of_name (map (λ name. name.now) list.names.items) bytes };
 }
 
 impl<'s> Names<'s> {
@@ -41,7 +41,7 @@ impl<'s> Names<'s> {
     pub(crate) fn enter(&mut self, name: &'s [u8]) -> Result<u32, AllocError>
         requires { length self.old < 2 ^ 31 }
         ensures entered { OnOk result (self.new ≡ with_name self.old name.now) }
-        ensures number { IfOk result (λ number. number ≡ number_of self.new name.now) }
+        ensures number { IfOk result (λ number. number ≡ number_of_name self.new name.now) }
         ensures unchanged { OnErr result (self.new ≡ self.old) }
         ensures few { length self.new ≤ length self.old + 1 }
     {

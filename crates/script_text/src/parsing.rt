@@ -1,23 +1,23 @@
 //! Reading a source as a script.
 ghost use Rattle.std.specs.Prelude.{◌≡◌, ◌≢◌, IfOk, IfErr, Ok, Err, All};
 ghost use Rattle.script_text.specs.Grammar.{reading_with};
-ghost use Rattle.script_text.specs.Table.{unbuilt_today};
+ghost use Rattle.script_text.specs.Table.{unbuilt_keywords};
 ghost use Rattle.script_text.specs.Sound.{IsBuilt};
 
 use crate::lines::lines;
 use crate::numbering::with_numbers;
 use crate::script::{BadScript, Script};
-use crate::speech::phrases_of;
+use crate::statements::statements_of;
 use crate::table::{Keyword, UNBUILT_TODAY};
 use std::alloc::Global;
 
 /// Reads a source as a script. A source of 4 GiB or more is refused as `NoMemory`.
 pub fn parse<'s>(alloc: Global, source: &'s [u8]) -> Result<Script<'s>, BadScript>
-    ensures script { IfOk result (λ script. reading_with unbuilt_today source.now ≡ Ok script) }
+    ensures script { IfOk result (λ script. reading_with unbuilt_keywords source.now ≡ Ok script) }
     ensures built { IfOk result (λ script.
-        All (λ line. IsBuilt unbuilt_today line.what) script.lines) }
+        All (λ line. IsBuilt unbuilt_keywords line.what) script.lines) }
     ensures refused { IfErr result (λ stop.
-        stop ≢ BadScript.NoMemory → reading_with unbuilt_today source.now ≡ Err stop) }
+        stop ≢ BadScript.NoMemory → reading_with unbuilt_keywords source.now ≡ Err stop) }
 {
     parse_with_table(alloc, source, UNBUILT_TODAY)
 }
@@ -36,8 +36,8 @@ pub(crate) fn parse_with_table<'s>(
         return Err(BadScript::NoMemory);
     }
     let lines = lines(alloc, source)?;
-    let spoken = phrases_of(alloc, unbuilt, &lines)?;
-    let numbered = with_numbers(alloc, &spoken)?;
+    let stated = statements_of(alloc, unbuilt, &lines)?;
+    let numbered = with_numbers(alloc, &stated)?;
     Ok(Script::new(
         numbered.lines,
         numbered.names.variables.into_names(),

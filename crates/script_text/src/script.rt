@@ -1,8 +1,8 @@
 //! A script as it was read.
 ghost use Rattle.std.specs.Prelude.{◌≡◌, ◌<◌, ◌≤◌, Some, length, map, slice_get};
-ghost use Rattle.script_text.specs.Limits.{variables_most, fields_most};
+ghost use Rattle.script_text.specs.Limits.{variable_names_most, field_names_most};
 ghost use Rattle.script_text.specs.Grammar.{why_text};
-ghost use Rattle.script_text.specs.Sound.{script_text, IsNumbered, IsMatched, IsSound, AreShort};
+ghost use Rattle.script_text.specs.Sound.{script_text, IsNumbered, IsMatched, IsWellFormed, AreShort};
 ghost use Rattle.script_text.specs.Whole.{IsPlaced};
 
 use heap_command::Command;
@@ -118,7 +118,7 @@ pub struct Script<'s> {
 impl<'s> Model for Script<'s> {
     ghost use Rattle.std.specs.Prelude.{map};
     ghost use Rattle.script_text.specs.Scripts.{ScriptText};
-    ghost use Rattle.script_text.specs.Sound.{script_text, IsSound};
+    ghost use Rattle.script_text.specs.Sound.{script_text, IsWellFormed};
 
     ghost Value = { ScriptText };
 
@@ -126,7 +126,7 @@ impl<'s> Model for Script<'s> {
         (map (λ name. name.now) script.variables.items)
         (map (λ name. name.now) script.fields.items) };
 
-    ghost invariant = { λ script. IsSound (script_text script.lines.items
+    ghost invariant = { λ script. IsWellFormed (script_text script.lines.items
         (map (λ name. name.now) script.variables.items)
         (map (λ name. name.now) script.fields.items)) };
 }
@@ -144,7 +144,7 @@ impl<'s> Script<'s> {
     /// How many variables the script names.
     pub fn variables(&self) -> u32
         ensures count { result ≡ length self.now.variables }
-        ensures few { result ≤ variables_most }
+        ensures few { result ≤ variable_names_most }
     {
         self.variables.len() as u32
     }
@@ -152,7 +152,7 @@ impl<'s> Script<'s> {
     /// How many fields the script names.
     pub fn fields(&self) -> u32
         ensures count { result ≡ length self.now.fields }
-        ensures few { result ≤ fields_most }
+        ensures few { result ≤ field_names_most }
         ensures short { AreShort self.now.fields }
     {
         self.fields.len() as u32
@@ -176,7 +176,7 @@ impl<'s> Script<'s> {
 
     /// A script of these lines, variables and fields.
     pub(crate) fn new(lines: Vec<Line>, variables: Vec<&'s [u8]>, fields: Vec<&'s [u8]>) -> Self
-        requires { IsSound (script_text lines.items
+        requires { IsWellFormed (script_text lines.items
             (map (λ name. name.now) variables.items) (map (λ name. name.now) fields.items)) }
         ensures { result ≡ script_text lines.items
             (map (λ name. name.now) variables.entry.items)

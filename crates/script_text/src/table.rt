@@ -40,7 +40,7 @@ pub enum Keyword {
 
 /// What an operand has to be.
 #[derive(Clone, Copy)]
-pub enum Place {
+pub enum OperandKind {
     /// The name of a variable.
     Variable,
     /// The name of a field.
@@ -83,28 +83,47 @@ pub(crate) fn is_among(keyword: Keyword, keywords: &[Keyword]) -> bool
 }
 
 /// What the operands of a command are, in order.
-pub(crate) fn places(keyword: Keyword) -> &'static [Place]
+pub(crate) fn places(keyword: Keyword) -> &'static [OperandKind]
     ensures all { result.now ≡ places_of keyword }
     ensures few { length result.now ≤ PLACES_MOST }
 {
     match keyword {
-        Keyword::New => &[Place::Variable, Place::Literal { most: CAP_MOST }],
-        Keyword::List | Keyword::Weak | Keyword::Drop | Keyword::Shape => &[Place::Variable],
+        Keyword::New => &[
+            OperandKind::Variable,
+            OperandKind::Literal { most: CAP_MOST },
+        ],
+        Keyword::List | Keyword::Weak | Keyword::Drop | Keyword::Shape => &[OperandKind::Variable],
         Keyword::Let
         | Keyword::Add
         | Keyword::Push
         | Keyword::Shift
         | Keyword::Trunc
-        | Keyword::WDel => &[Place::Variable, Place::Value],
-        Keyword::Set => &[Place::Variable, Place::Field, Place::Value],
-        Keyword::Get => &[Place::Variable, Place::Variable, Place::Field],
-        Keyword::Del => &[Place::Variable, Place::Field],
-        Keyword::Put | Keyword::WPut => &[Place::Variable, Place::Value, Place::Value],
-        Keyword::At | Keyword::WGet => &[Place::Variable, Place::Variable, Place::Value],
-        Keyword::Print => &[Place::Value],
-        Keyword::Same => &[Place::Value, Place::Value],
-        Keyword::Alike => &[Place::Variable, Place::Variable],
-        Keyword::Repeat => &[Place::Literal { most: TURNS_MOST }],
+        | Keyword::WDel => &[OperandKind::Variable, OperandKind::Value],
+        Keyword::Set => &[
+            OperandKind::Variable,
+            OperandKind::Field,
+            OperandKind::Value,
+        ],
+        Keyword::Get => &[
+            OperandKind::Variable,
+            OperandKind::Variable,
+            OperandKind::Field,
+        ],
+        Keyword::Del => &[OperandKind::Variable, OperandKind::Field],
+        Keyword::Put | Keyword::WPut => &[
+            OperandKind::Variable,
+            OperandKind::Value,
+            OperandKind::Value,
+        ],
+        Keyword::At | Keyword::WGet => &[
+            OperandKind::Variable,
+            OperandKind::Variable,
+            OperandKind::Value,
+        ],
+        Keyword::Print => &[OperandKind::Value],
+        Keyword::Same => &[OperandKind::Value, OperandKind::Value],
+        Keyword::Alike => &[OperandKind::Variable, OperandKind::Variable],
+        Keyword::Repeat => &[OperandKind::Literal { most: TURNS_MOST }],
         _ => &[],
     }
 }

@@ -7,7 +7,7 @@ use Rattle.std.specs.List.{list_any}
 abbrev pub is_in : List ℕ → ℕ → Bool
 is_in list a = list_any (λ x. x == a) list
 
--- the list once an address has joined: it is put at the end where it does not stand in the list yet
+-- the list once an address has joined: it is put at the end where it does not stand in the list
 abbrev pub joined : List ℕ → ℕ → List ℕ
 joined list a = if is_in list a then list else list ++ a ∷ []
 

@@ -15,14 +15,14 @@ pub fn read_cell(words: &[u64], layouts: &[u64], at: u32, bound: u32) -> Option<
     laid_cell(words, at, bound, header, layout)
 }
 
-// The header at an address.
+/// The header at an address.
 fn header_at(words: &[u64], at: u32) -> Option<Header>
     ensures { result ≡ header_at words.now at }
 {
     Header::parse(Word(*words.get(at as usize)?))
 }
 
-// The cell of a header and a layout.
+/// The cell of a header and a layout.
 fn laid_cell(
     words: &[u64],
     at: u32,
@@ -46,7 +46,7 @@ fn laid_cell(
     }
 }
 
-// Whether so many words from an address end at the bound or before, and are all there.
+/// Whether so many words from an address end at the bound or before, and are all there.
 fn is_within(words: &[u64], at: u32, bound: u32, size: u32) -> bool
     ensures { result ≡ is_within words.now at bound size }
 {
@@ -65,7 +65,7 @@ pub fn layout_of(layouts: &[u64], number: u32) -> Option<LayoutWord>
     }
 }
 
-// The length of a cell with this layout at an address; none behind the last word.
+/// The length of a cell with this layout at an address; none behind the last word.
 fn length_of(words: &[u64], at: u32, layout: LayoutWord) -> Option<u64>
     ensures { result ≡ length_at words.now at layout }
 {

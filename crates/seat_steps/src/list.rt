@@ -9,7 +9,7 @@ ghost use Rattle.seat_steps.specs.Lists.{LeavingOfNoneChangesNothing, LeavingMak
 use crate::items::Items;
 use tagged_word::NoMemory;
 
-/// Puts an address at the end of a list, where it does not stand in it yet, and says whether it
+/// Puts an address at the end of a list, where it does not stand in it, and says whether it
 /// stood there. Without memory the list stays as it was; where it stands there, none is wanted.
 pub fn join(list: &mut Items<u32>, address: u32) -> Result<bool, NoMemory>
     ensures joined { OnOk result (list.new ≡ joined list.old address) }

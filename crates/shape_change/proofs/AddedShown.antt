@@ -2,10 +2,7 @@
 use Rattle.std.proofs.Common.{◌≡◌, ℕ, List, [], ◌∷◌, ◌++◌, length, Some, None, sym}
 use Rattle.std.proofs.Common.{◌∙◌, ap, subst, arith}
 use Rattle.std.proofs.lemmas.List.{length-map}
-use Rattle.tagged_word.specs.declared.header.Header.{Header}
-use Rattle.object_graph.specs.declared.value.Value.{Value}
-use Rattle.object_graph.specs.declared.object.Field.{Field}
-use Rattle.object_graph.specs.declared.path.Path.{Path}
+use Rattle.heap_model.specs.Types.{Header, Value, Field, Path, Cell, Held}
 use Rattle.object_graph.specs.Objects.{field_value, with_field}
 use Rattle.object_graph.specs.Paths.{path_of, with_path}
 use Rattle.object_graph.specs.Graphs.{Graph, PlainObject}
@@ -13,13 +10,11 @@ use Rattle.object_graph.specs.Invariants.{IsValue}
 use Rattle.object_graph.specs.Limits.{paths_most}
 use Rattle.nursery.specs.Young.{Young}
 use Rattle.shape_tree.specs.Shapes.{shape_path, stepped}
-use Rattle.cell_layout.specs.declared.cell.Cell.{Cell}
-use Rattle.handle_roots.specs.declared.held.Held.{Held}
 use Rattle.heap_model.specs.Heaps.{HasCell, words_of_cell}
 use Rattle.heap_model.specs.Kinds.{IsPlainCell}
 use Rattle.heap_model.specs.Showing.{ShowsPlain}
 use Rattle.heap_model.proofs.CellsApart.{one_at}
-use Rattle.write_barrier.specs.Mains.{Mutator, heap_of, IsTied, MainShows, reserved}
+use Rattle.write_barrier.specs.MutatorState.{Mutator, heap_of, IsTied, MainShows, reserved}
 use Rattle.object_cells.specs.PlainObjects.{IsPlainAt, LacksFields, ShowsRefilled}
 use Rattle.object_cells.specs.HeldValues.{IsValueHeld}
 use Rattle.object_cells.specs.Refills.{AreNewFields}

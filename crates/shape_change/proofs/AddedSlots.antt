@@ -4,12 +4,10 @@ use Rattle.std.proofs.Common.{length, Some, Contains, nat_lt, slice_get, refl, s
 use Rattle.std.proofs.Common.{length-append}
 use Rattle.std.proofs.lemmas.List.{length-map}
 use Rattle.tagged_word.specs.declared.layout.Kind.TheVariants as kind
-use Rattle.object_graph.specs.declared.object.Field.{Field}
-use Rattle.object_graph.specs.declared.path.Path.{Path}
+use Rattle.heap_model.specs.Types.{Field, Path, Cell}
 use Rattle.object_graph.specs.Paths.{path_of}
 use Rattle.shape_tree.specs.Shapes.{shape_path, stepped}
 use Rattle.shape_tree.specs.ShapeLayouts.{layout_of}
-use Rattle.cell_layout.specs.declared.cell.Cell.{Cell}
 use Rattle.heap_model.specs.Heaps.{Heap, HasCell, words_of_cell}
 use Rattle.heap_model.specs.Slots.{hole_word, reference_word}
 use Rattle.heap_model.specs.Kinds.{HasWord, HasSlots, IsPlainCell, HasNoNumber, IsBoxCell}

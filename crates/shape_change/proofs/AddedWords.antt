@@ -2,10 +2,9 @@
 use Rattle.std.proofs.Common.{◌≡◌, ◌≢◌, ℕ, ◌+◌, ◌<◌, ◌≤◌, List, length, Some, slice_get}
 use Rattle.std.proofs.Common.{sym, ◌∙◌, ap, subst, arith, length-set}
 use Rattle.std.specs.Prelude.{slice_set}
-use Rattle.tagged_word.specs.declared.header.Header.{Header}
+use Rattle.heap_model.specs.Types.{Header, Path, Cell}
 use Rattle.tagged_word.specs.Headers.{header_bits}
 use Rattle.tagged_word.specs.Shapes.{shapes_most}
-use Rattle.object_graph.specs.declared.path.Path.{Path}
 use Rattle.object_graph.specs.Paths.{missing}
 use Rattle.object_graph.specs.Limits.{paths_most}
 use Rattle.object_graph.proofs.AddedPaths.{with_path-is}
@@ -15,12 +14,11 @@ use Rattle.page_space.proofs.Starts.{roots_start_is, layouts_start_is, marks_sta
 use Rattle.nursery.specs.Young.{Young, HasRoom}
 use Rattle.shape_tree.specs.Shapes.{AreShapes}
 use Rattle.shape_tree.specs.ShapeLayouts.{layout_word}
-use Rattle.cell_layout.specs.declared.cell.Cell.{Cell}
 use Rattle.cell_layout.specs.Cells.{IsRow}
-use Rattle.heap_table.specs.Seats.{heap_words, StaysBeside}
-use Rattle.heap_table.specs.Staying.{stays_beside_again}
+use Rattle.heap_table.specs.Seats.{heap_words, RestStays}
+use Rattle.heap_table.specs.Staying.{rest_stays_again}
 use Rattle.heap_model.specs.Wholeness.{HasSizes}
-use Rattle.write_barrier.specs.Mains.{Mutator, heap_of, IsTied, reserved}
+use Rattle.write_barrier.specs.MutatorState.{Mutator, heap_of, IsTied, reserved}
 use Rattle.object_cells.specs.Contents.{next_at}
 use Rattle.shape_change.specs.Additions.{AddsPath, with_shape}
 use Rattle.object_cells.specs.Made.{PutsWords}
@@ -84,9 +82,9 @@ over_young over = over.puts.young ∙ over.adds.young
 
 -- all words from the marks on stay
 pub over_beside : {old mid new : Mutator} {path : Path} {cell : Cell} {shape at word need : ℕ} {words : List ℕ}
-    → PutsOver old mid new path cell shape at word need words → StaysBeside old.seat new.seat
+    → PutsOver old mid new path cell shape at word need words → RestStays old.seat new.seat
 over_beside {old} {mid} {new} over =
-    stays_beside_again old.seat mid.seat new.seat over.adds.beside over.puts.beside
+    rest_stays_again old.seat mid.seat new.seat over.adds.beside over.puts.beside
 
 -- the regions are those from before
 pub over_space : {old mid new : Mutator} {path : Path} {cell : Cell} {shape at word need : ℕ} {words : List ℕ}

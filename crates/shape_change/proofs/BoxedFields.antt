@@ -6,22 +6,20 @@ use Rattle.std.proofs.lemmas.List.Elements.{Contains-append_right}
 use Rattle.tagged_word.specs.declared.layout.Kind.TheVariants as kind
 use Rattle.tagged_word.specs.Headers.{header_bits}
 use Rattle.tagged_word.proofs.Members.{one_in, first_in}
-use Rattle.object_graph.specs.declared.value.Value.{Value}
-use Rattle.object_graph.specs.declared.path.Path.{Path}
+use Rattle.heap_model.specs.Types.{Value, Path, Cell}
 use Rattle.object_graph.specs.Objects.{revalued}
 use Rattle.object_graph.specs.Graphs.{Graph, PlainObject}
 use Rattle.page_space.specs.Extents.{Space, eden_start, segments_start, layouts_start, marks_start}
 use Rattle.page_space.proofs.Starts.{roots_start_is, layouts_start_is, marks_start_is}
-use Rattle.cell_layout.specs.declared.cell.Cell.{Cell}
 use Rattle.heap_table.specs.Seats.{heap_words}
 use Rattle.heap_model.specs.Heaps.{Heap, HasCell, words_of_cell}
 use Rattle.heap_model.specs.Slots.{reference_word, raw_word, RefersToBox}
 use Rattle.heap_model.specs.Kinds.{HasWord, IsBoxCell}
 use Rattle.heap_model.specs.Needs.{box_words}
 use Rattle.heap_model.proofs.CellsApart.{IsOfCell, first_of_cell}
-use Rattle.write_barrier.specs.Mains.{Mutator, heap_of, with_word}
+use Rattle.write_barrier.specs.MutatorState.{Mutator, heap_of, with_word}
 use Rattle.object_cells.specs.Formats.{box_header}
-use Rattle.object_cells.specs.declared.content.Content.TheVariants as content
+use Rattle.object_cells.specs.declared.content.SlotContent.TheVariants as content
 use Rattle.object_cells.specs.Contents.{next_at, with_box}
 use Rattle.object_cells.specs.CellWrites.{reshaped}
 use Rattle.object_cells.specs.OwnSlots.{ComesFrom}

@@ -4,11 +4,9 @@ use Rattle.std.proofs.Common.{refl, sym, ◌∙◌}
 use Rattle.std.specs.Prelude.{ℤ, FitsSigned}
 use Rattle.std.specs.Int.{w64}
 use Rattle.std.proofs.lemmas.Bool.{false≢true}
-use Rattle.tagged_word.specs.declared.word.Word.{Word}
+use Rattle.heap_model.specs.Types.{Word, Value, Rep}
 use Rattle.tagged_word.specs.Words.{small}
-use Rattle.object_graph.specs.declared.value.Value.{Value}
 use Rattle.object_graph.specs.declared.value.Value.TheVariants as value
-use Rattle.object_graph.specs.declared.value.Rep.{Rep}
 use Rattle.object_graph.specs.declared.value.Rep.TheVariants as rep
 use Rattle.object_graph.specs.Invariants.{IsValue}
 use Rattle.heap_model.specs.Heaps.{Heap}
@@ -16,7 +14,7 @@ use Rattle.heap_model.specs.Slots.{small_word, raw_word}
 use Rattle.heap_model.specs.Slots.{RefersToPlace, RefersToBox}
 use Rattle.heap_model.specs.Showing.{ShowsValue, ShowsField}
 use Rattle.heap_model.proofs.WordsStay.{PlacesStay}
-use Rattle.object_cells.specs.declared.content.Content.TheVariants as content
+use Rattle.object_cells.specs.declared.content.SlotContent.TheVariants as content
 use Rattle.object_cells.specs.OwnSlots.{NamesNone}
 use Rattle.object_cells.proofs.WrittenPlaces.{small_names_none, undefined_names_none, object_names_none}
 use Rattle.object_cells.proofs.HeldContents.{HoldsValue}

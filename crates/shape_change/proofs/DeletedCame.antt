@@ -8,14 +8,13 @@ use Rattle.tagged_word.specs.declared.layout.Kind.TheVariants as kind
 use Rattle.tagged_word.specs.Cells.{plain_head, store_head, store_slot}
 use Rattle.tagged_word.proofs.Members.{first_in, rest_in}
 use Rattle.page_space.proofs.Starts.{layouts_start_is}
-use Rattle.object_graph.specs.declared.object.Field.{Field}
-use Rattle.cell_layout.specs.declared.cell.Cell.{Cell}
+use Rattle.heap_model.specs.Types.{Field, Cell}
 use Rattle.heap_table.specs.Seats.{heap_words}
 use Rattle.heap_model.specs.Heaps.{Heap, HasCell, words_of_cell}
-use Rattle.heap_model.specs.Slots.{RefersTo, IsBeside}
+use Rattle.heap_model.specs.Slots.{RefersTo, HoldsStore}
 use Rattle.heap_model.specs.Kinds.{HasWord, HasSlots}
 use Rattle.heap_model.proofs.CellWords.{words_by_kind, words_are_size, word_there}
-use Rattle.write_barrier.specs.Mains.{Mutator, heap_of}
+use Rattle.write_barrier.specs.MutatorState.{Mutator, heap_of}
 use Rattle.object_cells.specs.CellWrites.{reshaped}
 use Rattle.shape_change.specs.Shifts.{slot_at}
 use Rattle.object_cells.proofs.CellsRead.{word_stands}
@@ -36,21 +35,21 @@ word_in_cell k word has below stands =
 -- What stands beside the word in the new heap: as much, at the same address.
 record StillBeside (new : Heap) (word store many : ℕ) : Type 0 where
   pub beside : List ℕ
-  pub stands : IsBeside new kind.Store word beside
+  pub stands : HoldsStore new kind.Store word beside
   pub at : store_at stands ≡ store
   pub count : length beside ≡ many
 
 -- where the store stands in the new heap, so it is
-still_beside : {old new : Heap} {word : ℕ} {beside : List ℕ} (stands : IsBeside old kind.Store word beside)
+still_beside : {old new : Heap} {word : ℕ} {beside : List ℕ} (stands : HoldsStore old kind.Store word beside)
     → ((other : Cell) → Contains (store_cells stands) other → HasCell new other (words_of_cell new other))
     → StillBeside new word (store_at stands) (length beside)
-still_beside IsBeside.none came = record { beside = []; stands = IsBeside.none; at = refl; count = refl }
-still_beside {new = new} (IsBeside.store to cell words refers of_kind) came =
+still_beside HoldsStore.none came = record { beside = []; stands = HoldsStore.none; at = refl; count = refl }
+still_beside {new = new} (HoldsStore.store to cell words refers of_kind) came =
     let has : HasCell new cell (words_of_cell new cell) = came cell (first_in cell []) in
     let refers_now : RefersTo new to cell (words_of_cell new cell) = record { refers = refers.refers; has = has } in
     record {
       beside = drop store_head (words_of_cell new cell);
-      stands = IsBeside.store to cell (words_of_cell new cell) refers_now of_kind;
+      stands = HoldsStore.store to cell (words_of_cell new cell) refers_now of_kind;
       at = refl;
       count = omega (
         arith,

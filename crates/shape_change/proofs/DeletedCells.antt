@@ -4,18 +4,16 @@ use Rattle.std.proofs.Common.{slice_get, refl, sym, ◌∙◌, ap, subst, arith}
 use Rattle.tagged_word.specs.Cells.{store_head, length_offset}
 use Rattle.page_space.specs.Extents.{Space, layouts_start, eden_start}
 use Rattle.page_space.proofs.Starts.{layouts_start_is}
-use Rattle.object_graph.specs.declared.object.Field.{Field}
-use Rattle.object_graph.specs.declared.path.Path.{Path}
+use Rattle.heap_model.specs.Types.{Field, Path, Cell}
 use Rattle.object_graph.specs.Paths.{missing}
 use Rattle.object_graph.specs.Limits.{paths_most}
 use Rattle.object_graph.proofs.AddedPaths.{with_path-is}
 use Rattle.shape_tree.specs.Shapes.{shape_path, without}
-use Rattle.cell_layout.specs.declared.cell.Cell.{Cell}
 use Rattle.cell_layout.specs.Cells.{IsRow}
 use Rattle.heap_model.proofs.CellsApart.{first_of_cell}
 use Rattle.nursery.specs.Young.{Young}
 use Rattle.heap_table.specs.Seats.{heap_words}
-use Rattle.write_barrier.specs.Mains.{Mutator, heap_of}
+use Rattle.write_barrier.specs.MutatorState.{Mutator, heap_of}
 use Rattle.tagged_word.specs.declared.layout.Kind.TheVariants as kind
 use Rattle.object_cells.specs.CellWrites.{IsInCell, IsWrittenOfKind, Becomes}
 use Rattle.object_cells.specs.SlotChanges.{WritesFields}

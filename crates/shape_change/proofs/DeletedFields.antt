@@ -6,17 +6,14 @@ use Rattle.std.proofs.lemmas.Bool.{lt-ltb}
 use Rattle.std.proofs.lemmas.Option.{same_Some, slice_get-get_or, slice_get_within}
 use Rattle.object_graph.specs.declared.value.Value.TheVariants.{Undefined}
 use Rattle.object_graph.specs.declared.value.Rep.TheVariants as rep
-use Rattle.object_graph.specs.declared.object.Field.{Field}
-use Rattle.object_graph.specs.declared.path.Path.{Path}
-use Rattle.object_graph.specs.declared.path.PathField.{PathField}
+use Rattle.heap_model.specs.Types.{Field, Path, PathField, Cell}
 use Rattle.object_graph.specs.Objects.{without_field}
 use Rattle.object_graph.specs.Paths.{path_of}
 use Rattle.shape_tree.specs.Shapes.{shape_path, without}
-use Rattle.cell_layout.specs.declared.cell.Cell.{Cell}
 use Rattle.heap_model.specs.Slots.{hole_word}
 use Rattle.heap_model.specs.Kinds.{HasWord}
 use Rattle.heap_model.specs.Showing.{ShowsField}
-use Rattle.write_barrier.specs.Mains.{Mutator, heap_of}
+use Rattle.write_barrier.specs.MutatorState.{Mutator, heap_of}
 use Rattle.object_cells.specs.OwnSlots.{NamesNone, ComesFrom}
 use Rattle.object_cells.specs.SlotChanges.{IsTaggedSlot, HasTagged, ShowsSlot}
 use Rattle.shape_change.proofs.FieldsLess.{origin_of, origin_of-behind, origins_few, AreLess}
@@ -28,7 +25,7 @@ use Rattle.object_cells.proofs.WrittenPlaces.{hole_names_none}
 use Rattle.shape_change.proofs.DeletedSlots.{Deleting, count_is, NowHolds}
 use Rattle.shape_change.proofs.DeletedCells.{others_of, deleted_writes}
 use Rattle.shape_change.proofs.DeletedCame.{one_of, slots_now, now_read}
-use Rattle.shape_change.proofs.DrawnFields.{drawn_shown, drawn_is, no_box, drawn_field}
+use Rattle.shape_change.proofs.MovedInFields.{drawn_shown, drawn_is, no_box, drawn_field}
 
 -- the path of the new shape is that of the fields without the one
 pub path_now : {old new : Mutator} {cell : Cell} {slot : ℕ} {fields : List Field} (name : ℕ)

@@ -4,35 +4,31 @@ use Rattle.std.proofs.Common.{slice_set, refl, sym, ◌∙◌, ap, subst, arith,
 use Rattle.std.specs.Prelude.{Result, Ok, Err}
 use Rattle.std.proofs.lemmas.List.{append-nil, set-get_or}
 use Rattle.std.proofs.lemmas.Option.{none-some, get_or_from_slice_get, slice_get_within}
-use Rattle.tagged_word.specs.declared.header.Header.{Header}
-use Rattle.object_graph.specs.declared.object.Object.{Object}
+use Rattle.heap_model.specs.Types.{Header, Object, Path, ShapesFull, Cell}
 use Rattle.object_graph.specs.declared.object.Object.TheVariants.{Plain}
-use Rattle.object_graph.specs.declared.path.Path.{Path}
 use Rattle.object_graph.specs.Objects.{without_field}
 use Rattle.object_graph.specs.Paths.{path_of, with_path, missing}
 use Rattle.object_graph.specs.Graphs.{Graph, PlainObject}
 use Rattle.object_graph.specs.Invariants.{HasItsPath}
 use Rattle.object_graph.specs.Limits.{paths_most}
-use Rattle.shape_tree.specs.declared.full.ShapesFull.{ShapesFull}
 use Rattle.shape_tree.specs.Shapes.{shape_path, has_name, without}
 use Rattle.shape_tree.proofs.GrownPaths.{missing-there}
 use Rattle.shape_tree.proofs.LedPaths.{with_path-added}
-use Rattle.cell_layout.specs.declared.cell.Cell.{Cell}
 use Rattle.nursery.specs.Young.{Young}
-use Rattle.heap_table.specs.Seats.{StaysBeside}
-use Rattle.heap_table.specs.Staying.{stays_beside_itself}
+use Rattle.heap_table.specs.Seats.{RestStays}
+use Rattle.heap_table.specs.Staying.{rest_stays_itself}
 use Rattle.heap_model.specs.Heaps.{words_of_cell}
 use Rattle.heap_model.specs.Needs.{capacity_at}
 use Rattle.heap_model.specs.Showing.{ShowsPlain}
 use Rattle.heap_model.proofs.BoundHeaps.{none_in}
 use Rattle.heap_model.proofs.SlotWords.{All-slice_get}
-use Rattle.write_barrier.specs.Mains.{Mutator, heap_of, MainShows}
+use Rattle.write_barrier.specs.MutatorState.{Mutator, heap_of, MainShows}
 use Rattle.object_cells.specs.CellsAt.{IsHeaderAt}
 use Rattle.object_cells.specs.PlainObjects.{IsPlainAt, ShowsRefilled}
 use Rattle.object_cells.specs.Uses.{UsesMore}
 use Rattle.object_cells.specs.Capacities.{ChangesObject}
 use Rattle.shape_change.specs.FieldChanges.{HasDeletedField, DeletesField}
-use Rattle.shape_change.specs.Deletions.{TakesOut, TakingOut}
+use Rattle.shape_change.specs.Deletions.{TakesFieldOut, TakingOut}
 use Rattle.object_cells.proofs.FieldsFound.{no_value, value_found}
 use Rattle.shape_change.proofs.FieldsLess.{are_less, none_less}
 use Rattle.object_cells.proofs.PlainFields.{names_distinct}
@@ -48,7 +44,7 @@ use Rattle.shape_change.proofs.DeletedHeaps.{deleted_refills, store_belongs}
 use Rattle.shape_change.proofs.ShownFields.{shown_cell, FieldFound}
 
 -- no word more is used
-uses_none : (old new : Mutator) → StaysBeside old.seat new.seat → new.young ≡ old.young → UsesMore old new 0
+uses_none : (old new : Mutator) → RestStays old.seat new.seat → new.young ≡ old.young → UsesMore old new 0
 uses_none old new beside young =
     let used : Young → ℕ → Young = λ one n. record one { used = n } in
     record { beside = beside; young = young ∙ ap (used old.young) (sym (add-zero old.young.used)) }
@@ -69,7 +65,7 @@ path_less main graph object plain header slot name shows is header_at found =
 deleting_of : (old new : Mutator) (graph : Graph) (object : ℕ) (plain : PlainObject) (header : Header) (slot name : ℕ)
     (shows : MainShows old graph) (is : IsPlainAt old graph object plain)
     (header_at : IsHeaderAt (heap_of old) object header)
-    → FieldFound old object plain header slot name → TakesOut old new object header slot
+    → FieldFound old object plain header slot name → TakesFieldOut old new object header slot
     → Deleting old new (shown_cell old graph object plain header shows is header_at).cell slot plain.fields
 deleting_of old new graph object plain header slot name shows is header_at found taken =
     let shown = shown_cell old graph object plain header shows is header_at in
@@ -79,15 +75,15 @@ deleting_of old new graph object plain header slot name shows is header_at found
       whole = shows.shows.whole;
       has = shown.has;
       shows = subst (λ n. ShowsPlain (heap_of old) cell words n plain.fields) (sym shown.cap) shown.shows;
-      taken = subst (λ n. TakesOut old new n cell.header slot) (sym shown.at)
-          (subst (λ (h : Header). TakesOut old new object h slot) (sym shown.header_is) taken);
+      taken = subst (λ n. TakesFieldOut old new n cell.header slot) (sym shown.at)
+          (subst (λ (h : Header). TakesFieldOut old new object h slot) (sym shown.header_is) taken);
       there = slice_get_within plain.fields slot found.field found.there;
     }
 
 -- each property store has as many slots as before
 stores_stay : (old new : Mutator) (graph : Graph) (object : ℕ) (plain : PlainObject) (header : Header) (slot name : ℕ)
     → MainShows old graph → IsPlainAt old graph object plain → IsHeaderAt (heap_of old) object header
-    → FieldFound old object plain header slot name → TakesOut old new object header slot
+    → FieldFound old object plain header slot name → TakesFieldOut old new object header slot
     → ChangesObject (heap_of old) (heap_of new) object (capacity_at (heap_of old) object)
 stores_stay old new graph object plain header slot name shows is header_at found taken =
     let shown = shown_cell old graph object plain header shows is header_at in
@@ -104,7 +100,7 @@ stores_stay old new graph object plain header slot name shows is header_at found
 -- the heap shows the graph in which the object lacks the field
 field_less : (old new : Mutator) (graph : Graph) (object : ℕ) (plain : PlainObject) (header : Header) (slot name : ℕ)
     → MainShows old graph → IsPlainAt old graph object plain → IsHeaderAt (heap_of old) object header
-    → FieldFound old object plain header slot name → TakesOut old new object header slot
+    → FieldFound old object plain header slot name → TakesFieldOut old new object header slot
     → ShowsRefilled new graph plain (without_field plain.fields name)
 field_less old new graph object plain header slot name shows is header_at found taken =
     let shown = shown_cell old graph object plain header shows is header_at in
@@ -176,7 +172,7 @@ none_deleted main graph object plain header name shows is header_at none =
     let value = no_value plain.cap plain.fields name (ap (λ (p : Path). has_name p name) (sym path) ∙ none) in
     record {
       none = λ _. refl;
-      uses = uses_none main main (stays_beside_itself main.seat) refl;
+      uses = uses_none main main (rest_stays_itself main.seat) refl;
       changes = record {
         words = λ word below not_own not_new. refl;
         own = refl;

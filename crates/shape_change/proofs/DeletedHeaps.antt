@@ -4,15 +4,14 @@ use Rattle.std.proofs.Common.{inl, refl, sym, ◌∙◌, ap, subst, arith}
 use Rattle.std.proofs.lemmas.List.{append-nil}
 use Rattle.tagged_word.specs.declared.layout.Kind.TheVariants as kind
 use Rattle.tagged_word.specs.Cells.{store_slot}
-use Rattle.object_graph.specs.declared.object.Field.{Field}
+use Rattle.heap_model.specs.Types.{Field, Cell}
 use Rattle.object_graph.specs.Objects.{without_field}
-use Rattle.cell_layout.specs.declared.cell.Cell.{Cell}
 use Rattle.heap_model.specs.Heaps.{Heap, words_of_cell}
 use Rattle.heap_model.specs.Slots.{is_object_kind, reference_word}
 use Rattle.heap_model.specs.Kinds.{HasWord, HasNoNumber, IsStoreCell, IsSoundOf}
 use Rattle.heap_model.specs.Wholeness.{IsOwnedKind, NamesFrom}
 use Rattle.heap_model.proofs.ObjectSlots.{store_slot_at}
-use Rattle.write_barrier.specs.Mains.{Mutator, heap_of}
+use Rattle.write_barrier.specs.MutatorState.{Mutator, heap_of}
 use Rattle.object_cells.specs.SlotChanges.{RefillsSlots}
 use Rattle.shape_change.proofs.FieldsLess.{origin_of, origins_apart, AreLess}
 use Rattle.object_cells.proofs.StoreCells.{is_store_cell}

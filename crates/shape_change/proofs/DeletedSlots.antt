@@ -5,19 +5,16 @@ use Rattle.std.proofs.lemmas.Bool.{cases_lt, cases_eq}
 use Rattle.std.proofs.lemmas.Bool.Decides.{nat_tests}
 use Rattle.std.proofs.lemmas.List.{length-map}
 use Rattle.std.proofs.lemmas.Option.{same_Some}
-use Rattle.object_graph.specs.declared.object.Field.{Field}
-use Rattle.object_graph.specs.declared.path.Path.{Path}
-use Rattle.object_graph.specs.declared.path.PathField.{PathField}
-use Rattle.cell_layout.specs.declared.cell.Cell.{Cell}
+use Rattle.heap_model.specs.Types.{Field, Path, PathField, Cell}
 use Rattle.heap_table.specs.Seats.{heap_words}
 use Rattle.heap_model.specs.Heaps.{HasCell, words_of_cell}
 use Rattle.heap_model.specs.Slots.{hole_word}
 use Rattle.heap_model.specs.Kinds.{HasWord}
 use Rattle.heap_model.specs.Wholeness.{Whole}
 use Rattle.heap_model.specs.Showing.{ShowsPlain}
-use Rattle.write_barrier.specs.Mains.{Mutator, heap_of}
+use Rattle.write_barrier.specs.MutatorState.{Mutator, heap_of}
 use Rattle.shape_change.specs.Shifts.{slot_at}
-use Rattle.shape_change.specs.Deletions.{TakesOut}
+use Rattle.shape_change.specs.Deletions.{TakesFieldOut}
 use Rattle.shape_change.proofs.FieldsLess.{origin_of, origin_of-before, origin_of-behind}
 use Rattle.object_cells.proofs.PlainFields.{plain_sound}
 use Rattle.object_cells.proofs.SlotPlaces.{one_slots}
@@ -32,7 +29,7 @@ pub record Deleting (old new : Mutator) (cell : Cell) (slot : ℕ) (fields : Lis
   pub whole : Whole (heap_of old)
   pub has : HasCell (heap_of old) cell (words_of_cell (heap_of old) cell)
   pub shows : ShowsPlain (heap_of old) cell (words_of_cell (heap_of old) cell) cell.layout.cap fields
-  pub taken : TakesOut old new cell.at cell.header slot
+  pub taken : TakesFieldOut old new cell.at cell.header slot
   pub there : slot < length fields
 
 -- the cap is that of the cell

@@ -2,36 +2,37 @@
 use Rattle.std.proofs.Common.{◌≡◌, ℕ, refl, sym, ap, subst, ◌∙◌}
 use Rattle.heap_table.specs.Seats.{Seat}
 use Rattle.heap_model.specs.Wholeness.{HasSizes}
-use Rattle.write_barrier.specs.Mains.{Mutator, heap_of}
+use Rattle.write_barrier.specs.MutatorState.{Mutator, heap_of}
 use Rattle.write_barrier.specs.Opening.{ChangesWithin}
-use Rattle.object_cells.specs.declared.content.Filling.{Filling}
-use Rattle.object_cells.specs.declared.content.Filling.TheVariants as filling
-use Rattle.object_cells.specs.Contents.{filled, Allocates}
-use Rattle.object_cells.proofs.WordsBeside.{allocates_seat}
+use Rattle.object_cells.specs.declared.content.SlotWrite.{SlotWrite}
+use Rattle.object_cells.specs.declared.content.SlotWrite.TheVariants as filling
+use Rattle.object_cells.specs.Contents.{filled, AllocatesBox}
+use Rattle.object_cells.proofs.RestOfWords.{allocates_seat}
 use Rattle.shape_change.specs.Fillings.{with_paths}
 
 -- where words are used, the paths stay
-pub allocates_paths : (old new : Mutator) (filling : Filling) → Allocates old new filling → new.paths ≡ old.paths
+pub allocates_paths : (old new : Mutator) (filling : SlotWrite) → AllocatesBox old new filling → new.paths ≡ old.paths
 allocates_paths old new (filling.Tagged word) same = ap (λ (main : Mutator). main.paths) same
 allocates_paths old new (filling.Raw word) same = ap (λ (main : Mutator). main.paths) same
 allocates_paths old new (filling.NewBox at v) more = ap (λ (main : Mutator). main.paths) more.1
 allocates_paths old new (filling.OldBox at v) same = ap (λ (main : Mutator). main.paths) same
 
 -- where a slot is filled, the regions stay
-pub filled_space : (main : Mutator) (at : ℕ) (filling : Filling) → (filled main at filling).seat.space ≡ main.seat.space
+pub filled_space : (main : Mutator) (at : ℕ) (filling : SlotWrite)
+    → (filled main at filling).seat.space ≡ main.seat.space
 filled_space main at (filling.Tagged word) = refl
 filled_space main at (filling.Raw word) = refl
 filled_space main at (filling.NewBox box v) = refl
 filled_space main at (filling.OldBox box v) = refl
 
 -- and so they do where paths are added in between
-pub laid_space : (old between laid : Mutator) (filling : Filling) (from to : ℕ) → Allocates old between filling
+pub laid_space : (old between laid : Mutator) (filling : SlotWrite) (from to : ℕ) → AllocatesBox old between filling
     → ChangesWithin (with_paths between laid.paths) laid from to → laid.seat.space ≡ old.seat.space
 laid_space old between laid filling from to allocates changes =
     changes.seat.space ∙ ap (λ (seat : Seat). seat.space) (allocates_seat old between filling allocates)
 
 -- where words were used, there are as many words and paths as before, and the layout words are the same
-pub allocates_sized : (old new : Mutator) (filling : Filling) → Allocates old new filling → HasSizes (heap_of old)
+pub allocates_sized : (old new : Mutator) (filling : SlotWrite) → AllocatesBox old new filling → HasSizes (heap_of old)
     → HasSizes (heap_of new)
 allocates_sized old new (filling.Tagged word) same sized =
     subst (λ (main : Mutator). HasSizes (heap_of main)) (sym same) sized

@@ -3,29 +3,24 @@ use Rattle.std.proofs.Common.{◌≡◌, ◌≢◌, ℕ, ◌+◌, ◌<◌, List,
 use Rattle.std.proofs.Common.{refl, sym, ◌∙◌, ap, subst, arith, add-zero}
 use Rattle.std.proofs.lemmas.Bool.Decides.{nat_tests}
 use Rattle.std.proofs.lemmas.Option.{same_Some}
-use Rattle.tagged_word.specs.declared.word.Word.{Word}
+use Rattle.heap_model.specs.Types.{Word, Value, Field, Path, PathField, Cell}
 use Rattle.tagged_word.specs.Headers.{header_bits}
 use Rattle.tagged_word.specs.Cells.{store_slot}
-use Rattle.object_graph.specs.declared.value.Value.{Value}
 use Rattle.object_graph.specs.declared.value.Rep.TheVariants as rep
-use Rattle.object_graph.specs.declared.object.Field.{Field}
-use Rattle.object_graph.specs.declared.path.Path.{Path}
-use Rattle.object_graph.specs.declared.path.PathField.{PathField}
 use Rattle.object_graph.specs.Objects.{revalued}
 use Rattle.object_graph.specs.Graphs.{Graph, PlainObject}
 use Rattle.object_graph.proofs.Lists.{slice_get-set_same}
 use Rattle.page_space.specs.Extents.{Space, layouts_start, marks_start}
 use Rattle.page_space.proofs.Starts.{marks_start_is}
 use Rattle.shape_tree.specs.Shapes.{shape_path}
-use Rattle.cell_layout.specs.declared.cell.Cell.{Cell}
 use Rattle.cell_layout.specs.Cells.{IsRow}
 use Rattle.heap_table.specs.Seats.{heap_words}
 use Rattle.heap_model.specs.Heaps.{Heap, words_of_cell}
 use Rattle.heap_model.specs.Showing.{ShowsField}
 use Rattle.heap_model.proofs.BoundHeaps.{none_in}
 use Rattle.heap_model.proofs.CellsApart.{first_of_cell}
-use Rattle.write_barrier.specs.Mains.{Mutator, heap_of, with_word}
-use Rattle.object_cells.specs.declared.content.Content.TheVariants as content
+use Rattle.write_barrier.specs.MutatorState.{Mutator, heap_of, with_word}
+use Rattle.object_cells.specs.declared.content.SlotContent.TheVariants as content
 use Rattle.object_cells.specs.Contents.{next_at}
 use Rattle.object_cells.specs.CellWrites.{reshaped}
 use Rattle.object_cells.specs.OwnSlots.{ComesFrom}

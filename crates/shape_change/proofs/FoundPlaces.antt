@@ -5,16 +5,16 @@ use Rattle.tagged_word.specs.declared.layout.Kind.TheVariants as kind
 use Rattle.tagged_word.specs.Cells.{store_head, store_slot}
 use Rattle.tagged_word.specs.Readings.{reference_in}
 use Rattle.tagged_word.proofs.Readings.{reference_from}
-use Rattle.cell_layout.specs.declared.cell.Cell.{Cell}
+use Rattle.heap_model.specs.Types.{Cell}
 use Rattle.heap_model.specs.Heaps.{Heap, HasCell}
-use Rattle.heap_model.specs.Slots.{IsBeside}
+use Rattle.heap_model.specs.Slots.{HoldsStore}
 use Rattle.heap_model.specs.Kinds.{HasWord, HasSlots}
 use Rattle.heap_model.proofs.CellsApart.{IsOfCell}
 use Rattle.heap_model.proofs.CellWords.{words_are_size}
 use Rattle.heap_model.proofs.WordClasses.{same_reference}
 use Rattle.heap_model.proofs.WordsRead.{word_of_cell}
 use Rattle.shape_change.specs.declared.slots.Place.{Place}
-use Rattle.shape_change.specs.declared.slots.Place.TheVariants.{InObject, Beside}
+use Rattle.shape_change.specs.declared.slots.Place.TheVariants.{InObject, InStore}
 use Rattle.shape_change.specs.Places.{place_at, IsPlaceOf}
 use Rattle.object_cells.proofs.SlotPlaces.{behind_cap_below}
 use Rattle.object_cells.proofs.NumberedSlots.{IsNumbered}
@@ -22,11 +22,11 @@ use Rattle.object_cells.proofs.SlotsNow.{plain_cell_size}
 
 -- a place in the store is the address of its slot
 place_beside : {heap : Heap} {cell : Cell} {words : List ℕ} (word : ℕ) (slots : List ℕ) (slot store offset : ℕ)
-    → HasWord words store_slot word → IsBeside heap kind.Store word slots → cell.layout.cap ≤ slot
+    → HasWord words store_slot word → HoldsStore heap kind.Store word slots → cell.layout.cap ≤ slot
     → slot - cell.layout.cap < length slots → reference_in word ≡ Some store
     → offset ≡ store_head + (slot - cell.layout.cap) → IsNumbered heap cell words slot (store + offset)
-place_beside word slots slot store offset there IsBeside.none from below refers is = absurd (omega (arith, below))
-place_beside {cell = cell} word slots slot store offset there (IsBeside.store to other others target of_kind) from below
+place_beside word slots slot store offset there HoldsStore.none from below refers is = absurd (omega (arith, below))
+place_beside {cell = cell} word slots slot store offset there (HoldsStore.store to other others target of_kind) from below
     refers is =
     let same : other.at ≡ store =
     same_reference other.at store (sym target.refers ∙ (reference_from word store refers).1) in
@@ -46,7 +46,7 @@ place_numbered {cell = cell} slot (InObject offset) has plain are below is =
     let of_cell : IsOfCell cell (cell.at + offset) =
     record { from = omega arith; below = omega (arith, is.0, is.1, plain_cell_size has plain) } in
     IsNumbered.own is.0 (ap (λ n. cell.at + n) is.1) of_cell
-place_numbered {cell = cell} slot (Beside store offset) has plain are below is =
+place_numbered {cell = cell} slot (InStore store offset) has plain are below is =
     let read = word_of_cell store_slot are.store has are.slot in
     place_beside are.store are.beside slot store offset are.slot are.stands is.0
     (behind_cap_below slot cell.layout.cap has plain are refl is.0 below) (ap reference_in (sym read) ∙ is.1) is.2

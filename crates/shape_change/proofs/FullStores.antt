@@ -1,18 +1,15 @@
 -- How many slots a plain object has: as many as its cap, and those of its store; a store that has no room is full.
 use Rattle.std.proofs.Common.{◌≡◌, ℕ, ◌+◌, ◌≤◌, List, length, drop, ap, arith, length-append, length-drop}
-use Rattle.tagged_word.specs.declared.header.Header.{Header}
+use Rattle.heap_model.specs.Types.{Header, LayoutWord, Cell, Held}
 use Rattle.tagged_word.specs.declared.layout.Kind.TheVariants as kind
-use Rattle.tagged_word.specs.declared.layout.LayoutWord.{LayoutWord}
 use Rattle.tagged_word.specs.Cells.{plain_head}
 use Rattle.shape_tree.specs.Shapes.{IsPathShape, shape_path}
-use Rattle.cell_layout.specs.declared.cell.Cell.{Cell}
-use Rattle.handle_roots.specs.declared.held.Held.{Held}
 use Rattle.heap_model.specs.Heaps.{Heap, HasCell}
 use Rattle.heap_model.specs.Kinds.{HasSlots}
 use Rattle.heap_model.specs.Wholeness.{HasSizes}
 use Rattle.heap_model.proofs.CellWords.{words_by_kind}
 use Rattle.heap_model.proofs.PathLayouts.{layout_is}
-use Rattle.write_barrier.specs.Mains.{Mutator, heap_of}
+use Rattle.write_barrier.specs.MutatorState.{Mutator, heap_of}
 use Rattle.object_cells.specs.declared.stores.Store.{Store}
 use Rattle.shape_change.specs.Additions.{CanAdd, count_of, behind_cap}
 use Rattle.object_cells.specs.Made.{IsStoreAt}

@@ -4,16 +4,13 @@ use Rattle.std.proofs.Common.{subst, arith}
 use Rattle.std.specs.Prelude.{ℤ}
 use Rattle.std.proofs.lemmas.Bool.{false≢true}
 use Rattle.std.proofs.lemmas.Bool.Decides.{nat_tests}
-use Rattle.tagged_word.specs.declared.header.Header.{Header}
+use Rattle.heap_model.specs.Types.{Header, Value, Cell, Held}
 use Rattle.tagged_word.specs.declared.layout.Kind.TheVariants as kind
 use Rattle.tagged_word.proofs.Members.{first_in, rest_in}
-use Rattle.object_graph.specs.declared.value.Value.{Value}
 use Rattle.object_graph.specs.Values.{rep_of}
 use Rattle.object_graph.specs.Objects.{with_field}
 use Rattle.object_graph.specs.Graphs.{Graph, PlainObject}
 use Rattle.page_space.specs.Sizes.{AreWithin}
-use Rattle.cell_layout.specs.declared.cell.Cell.{Cell}
-use Rattle.handle_roots.specs.declared.held.Held.{Held}
 use Rattle.heap_model.specs.Heaps.{words_of_cell}
 use Rattle.heap_model.specs.Slots.{reference_word}
 use Rattle.heap_model.specs.Kinds.{HasNoNumber, IsBoxCell}
@@ -21,13 +18,13 @@ use Rattle.heap_model.specs.Needs.{grown}
 use Rattle.heap_model.specs.Showing.{ShowsField}
 use Rattle.heap_model.proofs.BoundHeaps.{none_in}
 use Rattle.heap_model.proofs.WordsStay.{PlacesStay}
-use Rattle.write_barrier.specs.Mains.{Mutator, heap_of}
-use Rattle.object_cells.specs.declared.content.Content.TheVariants as content
+use Rattle.write_barrier.specs.MutatorState.{Mutator, heap_of}
+use Rattle.object_cells.specs.declared.content.SlotContent.TheVariants as content
 use Rattle.object_cells.specs.declared.stores.Store.{Store}
 use Rattle.object_cells.specs.OwnSlots.{ComesFrom}
 use Rattle.object_cells.specs.SlotChanges.{HasTagged}
 use Rattle.object_cells.specs.PlainObjects.{ShowsRefilled}
-use Rattle.object_cells.specs.Made.{beside_content}
+use Rattle.object_cells.specs.Made.{store_content}
 use Rattle.object_cells.specs.Capacities.{ChangesObject}
 use Rattle.object_cells.specs.Contents.{next_at}
 use Rattle.object_cells.proofs.CellsRead.{fits_address}
@@ -68,12 +65,12 @@ module _ {old new : Mutator} {graph : Graph} {plain : PlainObject} {object : ℕ
       let test : nat_lt (length plain.fields) known.cell.layout.cap ≡ false =
       let from : known.cell.layout.cap ≤ length plain.fields = omega (arith, fields_full growing) in
       grind (arith, nat_tests) in
-      let refers = λ (v : ℤ) (boxed : beside_content value ≡ content.Boxed v).
-      refers_to_made (beside_content value) box v boxed (boxed_integer count v holds known.fits boxed)
+      let refers = λ (v : ℤ) (boxed : store_content value ≡ content.Boxed v).
+      refers_to_made (store_content value) box v boxed (boxed_integer count v holds known.fits boxed)
       (box_stands growing)
       (made_has growing (box_cell box)
-      (rest_in (new_store growing) (made_boxes (beside_content value) box) (box_cell box)
-      (made_box (beside_content value) box v boxed))) in
+      (rest_in (new_store growing) (made_boxes (store_content value) box) (box_cell box)
+      (made_box (store_content value) box v boxed))) in
       subst (λ o. ShowsField (heap_of new) o (slot_word old value store) (rep_of what) what) (sym test)
       (content_shows count box holds places known.fits refers)
 
@@ -86,8 +83,8 @@ module _ {old new : Mutator} {graph : Graph} {plain : PlainObject} {object : ℕ
       let holds = new_value_held false value what known.held.shows in
       content_comes (HasTagged known.cell known.sound.slots) (made_cells old value store) (length plain.fields)
       (length plain.fields) box holds places (λ is_own wide. false≢true is_own) (λ v boxed. is_made_box box
-      (rest_in (new_store growing) (made_boxes (beside_content value) box) (box_cell box)
-      (made_box (beside_content value) box v boxed)))
+      (rest_in (new_store growing) (made_boxes (store_content value) box) (box_cell box)
+      (made_box (store_content value) box v boxed)))
 
   -- a store that was made is the new one
   made_store : (other : Cell) → Contains (made_cells old value store) other → other.layout.kind ≡ kind.Store
@@ -99,7 +96,7 @@ module _ {old new : Mutator} {graph : Graph} {plain : PlainObject} {object : ℕ
     )
     | inr box ↦
         let apart : kind.Store ≡ kind.Boxed = sym is_store
-        ∙ made_boxed (beside_content value) (box_at old store) other box in
+        ∙ made_boxed (store_content value) (box_at old store) other box in
         cc
   ]
 
@@ -121,7 +118,7 @@ module _ {old new : Mutator} {graph : Graph} {plain : PlainObject} {object : ℕ
       plain.fields (new_field name what)
   adds_slot =
       let known = growing.known in
-      let boxes = made_boxes (beside_content value) (box_at old store) in
+      let boxes = made_boxes (store_content value) (box_at old store) in
       record {
         whole = known.shows.shows.whole;
         has = known.has;
@@ -141,7 +138,7 @@ module _ {old new : Mutator} {graph : Graph} {plain : PlainObject} {object : ℕ
         stores_only = λ other there. absurd (none_in other there);
         kinds = λ other there. elim (made_kind growing other there) [
           | inl same ↦ inl (ap (λ (c : Cell). c.layout.kind) (sym same))
-          | inr box ↦ inr (made_boxed (beside_content value) (box_at old store) other box)
+          | inr box ↦ inr (made_boxed (store_content value) (box_at old store) other box)
         ];
         stores = λ other there is_store. made_store other there is_store;
         boxes = λ other there is_box. made_box_sound other there is_box;
@@ -158,7 +155,7 @@ module _ {old new : Mutator} {graph : Graph} {plain : PlainObject} {object : ℕ
       → ChangesObject (heap_of old) (heap_of new) growing.known.cell.at (grown store.capacity)
   grown_becomes within =
       let known = growing.known in
-      let boxes = made_boxes (beside_content value) (box_at old store) in
+      let boxes = made_boxes (store_content value) (box_at old store) in
       let ends = next_before_marks old (run_words value store) known.can.tied growing.adds.room in
       let fits = fits_address {space = old.seat.space} {at = next_at old} (omega (arith, ends)) within in
       object_grows

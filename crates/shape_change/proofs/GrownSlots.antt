@@ -4,28 +4,24 @@ use Rattle.std.proofs.Common.{length, drop, Some, refl, sym, ◌∙◌, ap, arit
 use Rattle.std.proofs.Common.{length-append}
 use Rattle.std.proofs.lemmas.Bool.{cases_lt, cases_eq}
 use Rattle.std.proofs.lemmas.Option.{same_Some}
-use Rattle.tagged_word.specs.declared.header.Header.{Header}
+use Rattle.heap_model.specs.Types.{Header, Value, Path, Cell, Held}
 use Rattle.tagged_word.specs.declared.layout.Kind.TheVariants as kind
 use Rattle.tagged_word.specs.Cells.{plain_head, store_head, store_slot}
 use Rattle.tagged_word.proofs.Members.{first_in, rest_in, in_cases}
-use Rattle.object_graph.specs.declared.value.Value.{Value}
-use Rattle.object_graph.specs.declared.path.Path.{Path}
 use Rattle.object_graph.specs.Graphs.{Graph, PlainObject}
-use Rattle.cell_layout.specs.declared.cell.Cell.{Cell}
-use Rattle.handle_roots.specs.declared.held.Held.{Held}
 use Rattle.heap_table.specs.Seats.{heap_words}
 use Rattle.heap_model.specs.Heaps.{HasCell, words_of_cell}
-use Rattle.heap_model.specs.Slots.{hole_word, reference_word, IsBeside}
+use Rattle.heap_model.specs.Slots.{hole_word, reference_word, HoldsStore}
 use Rattle.heap_model.specs.Kinds.{HasWord, HasSlots}
 use Rattle.heap_model.specs.Needs.{grown}
 use Rattle.heap_model.specs.Changes.{CellsChange}
 use Rattle.heap_model.proofs.BoundHeaps.{none_in}
-use Rattle.write_barrier.specs.Mains.{Mutator, heap_of}
+use Rattle.write_barrier.specs.MutatorState.{Mutator, heap_of}
 use Rattle.object_cells.specs.declared.stores.Store.{Store}
 use Rattle.object_cells.specs.CellWrites.{reshaped}
 use Rattle.object_cells.specs.SlotChanges.{WritesFields}
 use Rattle.object_cells.specs.Contents.{next_at}
-use Rattle.object_cells.specs.Made.{beside_content}
+use Rattle.object_cells.specs.Made.{store_content}
 use Rattle.object_cells.proofs.OwnerWrites.{plain_owns, becomes_cap, written_own_keeps_cells}
 use Rattle.object_cells.proofs.OwnCells.{IsOwnWord, writes_cells, word_stays}
 use Rattle.object_cells.proofs.SlotPlaces.{own_slot, behind_cap}
@@ -46,7 +42,7 @@ use Rattle.shape_change.proofs.GrownStores.{slot_copied, slot_put, slot_hole, ne
 -- the cells that are made
 abbrev pub made_cells : Mutator → Held → Store → List Cell
 made_cells old value store =
-    store_cell (next_at old) (grown store.capacity) ∷ made_boxes (beside_content value) (box_at old store)
+    store_cell (next_at old) (grown store.capacity) ∷ made_boxes (store_content value) (box_at old store)
 
 module _ {old new : Mutator} {graph : Graph} {plain : PlainObject} {object : ℕ} {header : Header} {name : ℕ}
     {value : Held} {what : Value}
@@ -125,13 +121,13 @@ module _ {old new : Mutator} {graph : Graph} {plain : PlainObject} {object : ℕ
       now
   slots_now =
       let made = new_store in
-      let boxes = made_boxes (beside_content value) (box_at old store) in
+      let boxes = made_boxes (store_content value) (box_at old store) in
       let words = words_of_cell (heap_of new) made in
       record {
         store = reference_word (next_at old);
         slot = names_new;
         beside = drop store_head words;
-        stands = IsBeside.store (reference_word (next_at old)) made words
+        stands = HoldsStore.store (reference_word (next_at old)) made words
             (record { refers = refl; has = made_has made (first_in made boxes) }) refl;
         are = refl;
       }
@@ -164,7 +160,7 @@ module _ {old new : Mutator} {graph : Graph} {plain : PlainObject} {object : ℕ
       let known = growing.known in
       let cap : ℕ = known.cell.layout.cap in
       let same : object_cell.layout.cap ≡ cap = becomes_cap writes.becomes in
-      let boxes = made_boxes (beside_content value) (box_at old store) in
+      let boxes = made_boxes (store_content value) (box_at old store) in
       let words = words_of_cell (heap_of new) new_store in
       let has = made_has new_store (first_in new_store boxes) in
       let place : k - cap ≡ j = omega (arith, is) in
@@ -240,7 +236,7 @@ module _ {old new : Mutator} {graph : Graph} {plain : PlainObject} {object : ℕ
   pub now_long : length plain.fields < length now
   now_long =
       let known = growing.known in
-      let boxes = made_boxes (beside_content value) (box_at old store) in
+      let boxes = made_boxes (store_content value) (box_at old store) in
       let has = made_has new_store (first_in new_store boxes) in
       let words = words_of_cell (heap_of new) object_cell in
       let others = words_of_cell (heap_of new) new_store in
@@ -257,5 +253,5 @@ module _ {old new : Mutator} {graph : Graph} {plain : PlainObject} {object : ℕ
 
   -- a cell that was made is the store or the box
   pub made_kind : (other : Cell) → Contains (made_cells old value store) other
-      → (new_store ≡ other) ⊎ Contains (made_boxes (beside_content value) (box_at old store)) other
-  made_kind other there = in_cases new_store (made_boxes (beside_content value) (box_at old store)) other there
+      → (new_store ≡ other) ⊎ Contains (made_boxes (store_content value) (box_at old store)) other
+  made_kind other there = in_cases new_store (made_boxes (store_content value) (box_at old store)) other there

@@ -2,26 +2,24 @@
 use Rattle.std.proofs.Common.{◌≡◌, ◌≢◌, ℕ, ◌+◌, ◌≤◌, ◌<◌, inl, inr, ◌∷◌, Some, slice_get, sym}
 use Rattle.std.proofs.Common.{◌∙◌, ap, subst, arith}
 use Rattle.std.specs.Prelude.{ℤ, slice_set}
-use Rattle.tagged_word.specs.declared.header.Header.{Header}
+use Rattle.heap_model.specs.Types.{Header, Value, Held}
 use Rattle.tagged_word.specs.Headers.{header_bits}
 use Rattle.tagged_word.specs.Cells.{store_head}
-use Rattle.object_graph.specs.declared.value.Value.{Value}
 use Rattle.object_graph.specs.Graphs.{Graph, PlainObject}
 use Rattle.object_graph.proofs.Lists.{slice_get-set_same, slice_get-set_other}
 use Rattle.page_space.specs.Extents.{Space, eden_start, segments_start}
 use Rattle.page_space.proofs.Starts.{marks_start_is}
 use Rattle.cell_layout.specs.Cells.{IsCell, IsRow, next}
-use Rattle.handle_roots.specs.declared.held.Held.{Held}
 use Rattle.heap_table.specs.Seats.{heap_words}
 use Rattle.heap_model.specs.Slots.{hole_word}
 use Rattle.heap_model.specs.Needs.{grown}
 use Rattle.heap_model.proofs.CellsApart.{IsOfCell, first_of_cell}
-use Rattle.write_barrier.specs.Mains.{Mutator, heap_of}
+use Rattle.write_barrier.specs.MutatorState.{Mutator, heap_of}
 use Rattle.object_cells.specs.Formats.{empty_store}
-use Rattle.object_cells.specs.declared.content.Content.TheVariants as content
+use Rattle.object_cells.specs.declared.content.SlotContent.TheVariants as content
 use Rattle.object_cells.specs.declared.stores.Store.{Store}
 use Rattle.object_cells.specs.Contents.{next_at}
-use Rattle.object_cells.specs.Made.{content_need, beside_content}
+use Rattle.object_cells.specs.Made.{content_need, store_content}
 use Rattle.object_cells.proofs.OwnCells.{cell_below_layouts}
 use Rattle.object_cells.proofs.StoresRead.{stored_at}
 use Rattle.shape_change.proofs.AddedWords.{over_sized, over_space, last_stays}
@@ -74,7 +72,7 @@ module _ {old new : Mutator} {graph : Graph} {plain : PlainObject} {object : ℕ
   slot_put =
       let adds = growing.adds in
       let words = boxed old adds.mid object value store in
-      let long = length-with_content (stored old adds.mid object store) (beside_content value) (box_at old store)
+      let long = length-with_content (stored old adds.mid object store) (store_content value) (box_at old store)
       ∙ length-with_store (heap_words adds.mid.seat) object store (grown store.capacity) (next_at old)
       (makes growing) ∙ counted growing in
       let put = slice_set words (slot_at old store) (slot_word old value store) in
@@ -115,7 +113,7 @@ module _ {old new : Mutator} {graph : Graph} {plain : PlainObject} {object : ℕ
       (omega (arith, run_ends growing, ap (λ (s : Space). segments_start s) space))
 
   -- a word of the box is what it was made
-  box_word_is : (b : ℕ) → box_at old store ≤ b → b < box_at old store + content_need (beside_content value)
+  box_word_is : (b : ℕ) → box_at old store ≤ b → b < box_at old store + content_need (store_content value)
       → slice_get (heap_words new.seat) b ≡ slice_get (boxed old growing.adds.mid object value store) b
   box_word_is b from below =
       let adds = growing.adds in
@@ -124,7 +122,7 @@ module _ {old new : Mutator} {graph : Graph} {plain : PlainObject} {object : ℕ
       adds.next b (not_header b (omega (arith, from)) (omega (arith, below))) (λ same. omega (arith, same, from))
 
   -- so the box stands there
-  pub box_stands : BoxStands (heap_of new) (beside_content value) (box_at old store)
+  pub box_stands : BoxStands (heap_of new) (store_content value) (box_at old store)
   box_stands =
       let adds = growing.adds in
       let space = over_space (over growing) in
@@ -134,8 +132,8 @@ module _ {old new : Mutator} {graph : Graph} {plain : PlainObject} {object : ℕ
       length-with_store (heap_words adds.mid.seat) object store (grown store.capacity) (next_at old) (makes growing)
       ∙ counted growing in
       let behind = marks_start_is old.seat.space in
-      let words = λ (v : ℤ) (is : beside_content value ≡ content.Boxed v).
-      with_content_box (stored old adds.mid object store) (beside_content value) (box_at old store) v is
+      let words = λ (v : ℤ) (is : store_content value ≡ content.Boxed v).
+      with_content_box (stored old adds.mid object store) (store_content value) (box_at old store) v is
       (omega (arith, long, run_ends growing, eden_below growing, behind, ap content_need is)) in
       record {
         header = λ v is. box_word_is (box_at old store) (omega arith) (omega (arith, ap content_need is))
@@ -148,13 +146,13 @@ module _ {old new : Mutator} {graph : Graph} {plain : PlainObject} {object : ℕ
 
   -- both are the row of the words that were reserved
   pub new_row : IsRow new.seat.space (heap_words new.seat) (next_at old) (next_at old + run_words value store)
-      (store_cell (next_at old) (grown store.capacity) ∷ made_boxes (beside_content value) (box_at old store))
+      (store_cell (next_at old) (grown store.capacity) ∷ made_boxes (store_content value) (box_at old store))
   new_row =
-      let boxes = made_boxes (beside_content value) (box_at old store) in
-      let end : ℕ = box_at old store + content_need (beside_content value) in
+      let boxes = made_boxes (store_content value) (box_at old store) in
+      let end : ℕ = box_at old store + content_need (store_content value) in
       let ends : end ≡ next_at old + run_words value store = omega arith in
       let row =
-      made_row (heap_of new) (beside_content value) (box_at old store) (over_sized (over growing)) box_stands in
+      made_row (heap_of new) (store_content value) (box_at old store) (over_sized (over growing)) box_stands in
       subst (λ to. IsRow new.seat.space (heap_words new.seat) (next_at old) to
       (store_cell (next_at old) (grown store.capacity) ∷ boxes)) ends
       (next (store_cell (next_at old) (grown store.capacity)) end boxes new_store_is_cell row)

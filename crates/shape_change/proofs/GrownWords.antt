@@ -2,30 +2,27 @@
 use Rattle.std.proofs.Common.{◌≡◌, ◌≢◌, ℕ, ◌+◌, ◌≤◌, ◌<◌, inl, inr, List, length, Some, slice_get}
 use Rattle.std.proofs.Common.{refl, sym, ◌∙◌, ap, arith, length-set}
 use Rattle.std.specs.Prelude.{slice_set}
-use Rattle.tagged_word.specs.declared.header.Header.{Header}
+use Rattle.heap_model.specs.Types.{Header, Value, Cell, Held}
 use Rattle.tagged_word.specs.Headers.{header_bits}
 use Rattle.tagged_word.specs.Cells.{store_head, store_slot}
-use Rattle.object_graph.specs.declared.value.Value.{Value}
 use Rattle.object_graph.specs.Graphs.{Graph, PlainObject}
 use Rattle.object_graph.proofs.Lists.{slice_get-set_same}
 use Rattle.page_space.specs.Extents.{Space, segments_start, layouts_start, marks_start}
 use Rattle.page_space.proofs.Starts.{roots_start_is, layouts_start_is, marks_start_is}
 use Rattle.shape_tree.specs.Shapes.{shape_path}
-use Rattle.cell_layout.specs.declared.cell.Cell.{Cell}
-use Rattle.handle_roots.specs.declared.held.Held.{Held}
 use Rattle.heap_table.specs.Seats.{heap_words}
 use Rattle.heap_model.specs.Heaps.{HasCell}
 use Rattle.heap_model.specs.Slots.{reference_word}
 use Rattle.heap_model.specs.Needs.{grown}
 use Rattle.heap_model.proofs.CellsApart.{IsOfCell, first_of_cell}
-use Rattle.write_barrier.specs.Mains.{Mutator, heap_of}
+use Rattle.write_barrier.specs.MutatorState.{Mutator, heap_of}
 use Rattle.object_cells.specs.declared.stores.Store.{Store}
 use Rattle.object_cells.specs.Contents.{next_at}
 use Rattle.shape_change.specs.Additions.{AddsToNewStore, added_path, count_of, behind_cap}
 use Rattle.object_cells.specs.Made.{IsStoreAt, content_need}
 use Rattle.object_cells.specs.Made.{content_word}
 use Rattle.shape_change.specs.Additions.{with_shape}
-use Rattle.object_cells.specs.Made.{beside_content, with_content, with_store}
+use Rattle.object_cells.specs.Made.{store_content, with_content, with_store}
 use Rattle.object_cells.proofs.OwnCells.{cell_below_layouts}
 use Rattle.object_cells.proofs.SlotsNow.{plain_cell_size}
 use Rattle.object_cells.proofs.UnusedWords.{next_before_segments, cell_is_used}
@@ -45,7 +42,7 @@ pub record StoreGrowing (old new : Mutator) (graph : Graph) (plain : PlainObject
 
 -- how many words are reserved
 abbrev pub run_words : Held → Store → ℕ
-run_words value store = store_head + grown store.capacity + content_need (beside_content value)
+run_words value store = store_head + grown store.capacity + content_need (store_content value)
 
 -- the address of the box
 abbrev pub box_at : Mutator → Store → ℕ
@@ -57,7 +54,7 @@ slot_at old store = next_at old + (store_head + store.capacity)
 
 -- its word
 abbrev pub slot_word : Mutator → Held → Store → ℕ
-slot_word old value store = content_word (beside_content value) (box_at old store)
+slot_word old value store = content_word (store_content value) (box_at old store)
 
 -- the words with the store
 abbrev pub stored : Mutator → Mutator → ℕ → Store → List ℕ
@@ -65,7 +62,7 @@ stored old mid object store = with_store (heap_words mid.seat) object store (gro
 
 -- with the box too
 abbrev pub boxed : Mutator → Mutator → ℕ → Held → Store → List ℕ
-boxed old mid object value store = with_content (stored old mid object store) (beside_content value) (box_at old store)
+boxed old mid object value store = with_content (stored old mid object store) (store_content value) (box_at old store)
 
 -- and with the word of the slot and the header
 abbrev pub headed : Mutator → Mutator → ℕ → Header → Held → Store → ℕ → List ℕ
@@ -128,7 +125,7 @@ module _ {old new : Mutator} {graph : Graph} {plain : PlainObject} {object : ℕ
 
   -- a word that is neither the header, the slot, nor one of the box is that before these were put
   pub headed_stays : (a : ℕ) → a ≢ object → a ≢ slot_at old store
-      → (box_at old store ≤ a → a < box_at old store + content_need (beside_content value) → ⊥)
+      → (box_at old store ≤ a → a < box_at old store + content_need (store_content value) → ⊥)
       → slice_get (headed old growing.adds.mid object header value store growing.adds.next) a
       ≡ slice_get (stored old growing.adds.mid object store) a
   headed_stays a not_object not_slot not_box =
@@ -137,7 +134,7 @@ module _ {old new : Mutator} {graph : Graph} {plain : PlainObject} {object : ℕ
       last_stays (boxed old adds.mid object value store) (slot_at old store) (slot_word old value store) object header
       adds.next
       a not_object not_slot
-      ∙ with_content_stays words (beside_content value) (box_at old store) a not_box
+      ∙ with_content_stays words (store_content value) (box_at old store) a not_box
 
   -- there are as many words
   headed_long : length (headed old growing.adds.mid object header value store growing.adds.next)
@@ -149,7 +146,7 @@ module _ {old new : Mutator} {graph : Graph} {plain : PlainObject} {object : ℕ
       length-set (slice_set box (slot_at old store) (slot_word old value store)) object
       (header_bits (record header { shape = adds.next }))
       ∙ length-set box (slot_at old store) (slot_word old value store)
-      ∙ length-with_content (stored old adds.mid object store) (beside_content value) (box_at old store)
+      ∙ length-with_content (stored old adds.mid object store) (store_content value) (box_at old store)
       ∙ length-with_store words object store (grown store.capacity) (next_at old) makes
 
   -- a word of the object's cell is none of a box or of the new slot
@@ -172,7 +169,7 @@ module _ {old new : Mutator} {graph : Graph} {plain : PlainObject} {object : ℕ
       let bits = header_bits (record header { shape = adds.next }) in
       let put_long : length put ≡ marks_start old.seat.space =
       length-set (boxed old adds.mid object value store) (slot_at old store) (slot_word old value store)
-      ∙ length-with_content (stored old adds.mid object store) (beside_content value) (box_at old store)
+      ∙ length-with_content (stored old adds.mid object store) (store_content value) (box_at old store)
       ∙ length-with_store words object store (grown store.capacity) (next_at old) makes ∙ counted in
       record {
         tied = known.can.tied;

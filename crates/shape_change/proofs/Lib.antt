@@ -30,7 +30,7 @@ mod TakenFields
 mod DeletedSlots
 mod DeletedCells
 mod DeletedCame
-mod DrawnFields
+mod MovedInFields
 mod DeletedFields
 mod DeletedHeaps
 mod DeletedGraphs

@@ -8,16 +8,16 @@ use Rattle.std.proofs.lemmas.Option.{slice_get_past}
 use Rattle.tagged_word.specs.Layouts.{layout_bits}
 use Rattle.tagged_word.specs.Shapes.{shapes_most, first_path_shape, fixed_layout_words}
 use Rattle.page_space.specs.Extents.{layouts_start, marks_start}
-use Rattle.object_graph.specs.declared.path.Path.{Path}
+use Rattle.heap_model.specs.Types.{Path}
 use Rattle.object_graph.specs.Limits.{paths_most}
 use Rattle.object_graph.specs.Paths.{missing}
 use Rattle.object_graph.proofs.AddedPaths.{with_path-is}
 use Rattle.shape_tree.specs.Shapes.{Leads}
 use Rattle.shape_tree.specs.ShapeLayouts.{layout_of, layout_word, layout_words}
 use Rattle.shape_tree.proofs.PathLayouts.{layout_word-append}
-use Rattle.heap_table.specs.Seats.{Seat, StaysBeside, heap_words}
+use Rattle.heap_table.specs.Seats.{Seat, RestStays, heap_words}
 use Rattle.heap_model.specs.Wholeness.{HasSizes}
-use Rattle.write_barrier.specs.Mains.{Mutator, heap_of}
+use Rattle.write_barrier.specs.MutatorState.{Mutator, heap_of}
 use Rattle.write_barrier.specs.Opening.{ChangesWithin, LayoutsBelow}
 use Rattle.shape_change.specs.Additions.{AddsPath}
 use Rattle.shape_change.specs.Deletions.{AddsPaths}
@@ -91,7 +91,7 @@ pub led_paths : {old mid new : Mutator} → mid ≡ record old { paths = mid.pat
 led_paths {old = old} {mid = mid} {new = new} rest changes =
     let seat : mid.seat ≡ old.seat = ap (λ (main : Mutator). main.seat) rest in
     record {
-      beside = subst (λ (one : Seat). StaysBeside one new.seat) seat changes.seat;
+      beside = subst (λ (one : Seat). RestStays one new.seat) seat changes.seat;
       young = changes.young ∙ ap (λ (main : Mutator). main.young) rest;
       count = changes.count ∙ ap (λ (one : Seat). length (heap_words one)) seat;
       same = λ at below.

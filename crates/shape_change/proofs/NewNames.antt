@@ -3,21 +3,16 @@ use Rattle.std.proofs.Common.{◌≡◌, ℕ, ◌≤◌, ◌<◌, false, length,
 use Rattle.std.proofs.Common.{arith, ◌++◌}
 use Rattle.std.proofs.lemmas.List.{length-map}
 use Rattle.std.proofs.lemmas.Option.{none-some}
-use Rattle.tagged_word.specs.declared.header.Header.{Header}
-use Rattle.object_graph.specs.declared.value.Value.{Value}
-use Rattle.object_graph.specs.declared.object.Field.{Field}
-use Rattle.object_graph.specs.declared.path.Path.{Path}
+use Rattle.heap_model.specs.Types.{Header, Value, Field, Path, ShapesFull, Held}
 use Rattle.object_graph.specs.Objects.{field_value, with_field}
 use Rattle.object_graph.specs.Paths.{path_of, with_path, missing}
 use Rattle.object_graph.specs.Graphs.{Graph, PlainObject}
 use Rattle.object_graph.specs.Invariants.{fields_most}
 use Rattle.object_graph.specs.Limits.{paths_most}
-use Rattle.shape_tree.specs.declared.full.ShapesFull.{ShapesFull}
-use Rattle.shape_tree.specs.Shapes.{IsPathShape, IsFullFor, shape_path, has_name, stepped}
+use Rattle.shape_tree.specs.Shapes.{IsPathShape, LacksPathsFor, shape_path, has_name, stepped}
 use Rattle.shape_tree.proofs.LedPaths.{with_path-added}
-use Rattle.handle_roots.specs.declared.held.Held.{Held}
 use Rattle.heap_model.specs.Showing.{ShowsHeld}
-use Rattle.write_barrier.specs.Mains.{Mutator, heap_of, MainShows}
+use Rattle.write_barrier.specs.MutatorState.{Mutator, heap_of, MainShows}
 use Rattle.object_cells.specs.PlainObjects.{IsPlainAt, LacksFields, LacksPaths}
 use Rattle.shape_change.specs.FieldChanges.{IsShownSetting, IsFullOfPaths, SetsField}
 use Rattle.shape_change.specs.declared.stop.FieldStop.{FieldStop}
@@ -82,7 +77,7 @@ path_with {plain = plain} {what = what} name value known shows fresh =
 pub lacks_paths : {old : Mutator} {graph : Graph} {plain : PlainObject} {shape : ℕ} {what : Value} {full : ShapesFull}
     (name : ℕ) (value : Held) → MainShows old graph → IsShownShape old plain shape
     → ShowsHeld (heap_of old) value (Some what) → field_value plain.fields name ≡ None
-    → IsFullFor old.paths old.paths (added_path old.paths shape name value) full
+    → LacksPathsFor old.paths old.paths (added_path old.paths shape name value) full
     → IsFullOfPaths graph plain (with_field plain.fields name what) full
 lacks_paths {old} {plain = plain} {shape} {what} name value shows known held fresh full =
     full_of_paths plain (with_field plain.fields name what) (added_path old.paths shape name value) old.paths shows

@@ -2,13 +2,13 @@
 use Rattle.std.proofs.Common.{◌≡◌, ℕ, ◌+◌, ◌-◌, ◌≤◌, ◌<◌, true, false, cond, nat_lt, ◌∙◌, ap, sym, arith}
 use Rattle.std.proofs.lemmas.Bool.Decides.{nat_tests}
 use Rattle.tagged_word.specs.Cells.{store_head}
-use Rattle.handle_roots.specs.declared.held.Held.{Held}
+use Rattle.heap_model.specs.Types.{Held}
 use Rattle.heap_model.specs.Needs.{store_need, box_need, grown}
 use Rattle.heap_model.specs.Rooms.{new_field_need, new_field_capacity}
-use Rattle.object_cells.specs.declared.content.Content.{Content}
-use Rattle.object_cells.specs.declared.content.Content.TheVariants as content
+use Rattle.object_cells.specs.declared.content.SlotContent.{SlotContent}
+use Rattle.object_cells.specs.declared.content.SlotContent.TheVariants as content
 use Rattle.object_cells.proofs.HeldNeeds.{content_need_is}
-use Rattle.object_cells.specs.Made.{is_wide_held, content_need, beside_content}
+use Rattle.object_cells.specs.Made.{is_wide_held, content_need, store_content}
 
 -- none in the object itself
 pub need_own : (capacity cap fields : ℕ) (value : Held) → fields < cap
@@ -20,7 +20,7 @@ need_own capacity cap fields value own =
 -- beside it those of a new store, if there is one, and of a box
 need_beside : (capacity cap fields : ℕ) (value : Held) → cap ≤ fields
     → new_field_need capacity cap fields (is_wide_held value)
-    ≡ store_need capacity (fields - cap) + content_need (beside_content value)
+    ≡ store_need capacity (fields - cap) + content_need (store_content value)
 need_beside capacity cap fields value behind =
     let test : nat_lt fields cap ≡ false = grind (arith, nat_tests) in
     ap (λ t. cond t 0 (store_need capacity (fields - cap) + box_need (is_wide_held value))) test
@@ -28,20 +28,20 @@ need_beside capacity cap fields value behind =
 
 -- a box alone, where the store has room
 pub need_to_store : (capacity cap fields : ℕ) (value : Held) → cap ≤ fields → fields - cap < capacity
-    → new_field_need capacity cap fields (is_wide_held value) ≡ content_need (beside_content value)
+    → new_field_need capacity cap fields (is_wide_held value) ≡ content_need (store_content value)
 need_to_store capacity cap fields value behind room =
     let test : nat_lt (fields - cap) capacity ≡ true = grind (arith, nat_tests) in
     need_beside capacity cap fields value behind
-    ∙ ap (λ t. cond t 0 (store_head + grown capacity) + content_need (beside_content value)) test ∙ omega arith
+    ∙ ap (λ t. cond t 0 (store_head + grown capacity) + content_need (store_content value)) test ∙ omega arith
 
 -- a store and a box, where it is full
 pub need_to_new_store : (capacity cap fields : ℕ) (value : Held) → cap ≤ fields → fields - cap ≡ capacity
     → new_field_need capacity cap fields (is_wide_held value)
-    ≡ store_head + grown capacity + content_need (beside_content value)
+    ≡ store_head + grown capacity + content_need (store_content value)
 need_to_new_store capacity cap fields value behind full =
     let test : nat_lt (fields - cap) capacity ≡ false = grind (arith, nat_tests) in
     need_beside capacity cap fields value behind
-    ∙ ap (λ t. cond t 0 (store_head + grown capacity) + content_need (beside_content value)) test
+    ∙ ap (λ t. cond t 0 (store_head + grown capacity) + content_need (store_content value)) test
 
 -- the capacity is as before, where the object itself has a slot for the field
 pub capacity_own : (capacity cap fields : ℕ) → fields < cap → new_field_capacity capacity cap fields ≡ capacity
@@ -68,7 +68,7 @@ capacity_to_new_store capacity cap fields behind full =
     ∙ ap (λ t. cond t capacity (grown capacity)) has_none
 
 -- a box has two words
-pub content_need_few : (holds : Content) → content_need holds ≤ 2
+pub content_need_few : (holds : SlotContent) → content_need holds ≤ 2
 content_need_few (content.Tagged word) = omega arith
 content_need_few (content.Raw word) = omega arith
 content_need_few (content.Boxed v) = omega arith

@@ -3,7 +3,7 @@ use Rattle.std.proofs.Common.{◌≡◌, ℕ, ◌+◌, ◌<◌, ◌≤◌, inl, 
 use Rattle.std.proofs.Common.{refl, sym, ◌∙◌, ap, subst, arith, append-nil, add-zero}
 use Rattle.std.specs.Prelude.{ℤ}
 use Rattle.tagged_word.specs.Headers.{header_bits}
-use Rattle.object_graph.specs.declared.path.Path.{Path}
+use Rattle.heap_model.specs.Types.{Path}
 use Rattle.page_space.specs.Extents.{Space, layouts_start, marks_start}
 use Rattle.page_space.proofs.Starts.{roots_start_is, layouts_start_is, marks_start_is}
 use Rattle.nursery.specs.Young.{Young, HasRoom}
@@ -11,12 +11,12 @@ use Rattle.heap_table.specs.Seats.{heap_words}
 use Rattle.heap_model.specs.Slots.{raw_word}
 use Rattle.heap_model.specs.Needs.{box_words}
 use Rattle.heap_model.specs.Wholeness.{HasSizes}
-use Rattle.write_barrier.specs.Mains.{Mutator, heap_of, IsTied, reserved}
+use Rattle.write_barrier.specs.MutatorState.{Mutator, heap_of, IsTied, reserved}
 use Rattle.write_barrier.specs.Opening.{ChangesWithin}
 use Rattle.object_cells.specs.Formats.{box_header}
-use Rattle.object_cells.specs.declared.content.Filling.{Filling}
-use Rattle.object_cells.specs.declared.content.Filling.TheVariants as filling
-use Rattle.object_cells.specs.Contents.{next_at, with_box, Allocates, filling_need}
+use Rattle.object_cells.specs.declared.content.SlotWrite.{SlotWrite}
+use Rattle.object_cells.specs.declared.content.SlotWrite.TheVariants as filling
+use Rattle.object_cells.specs.Contents.{next_at, with_box, AllocatesBox, filling_need}
 use Rattle.shape_change.specs.Fillings.{with_paths}
 use Rattle.object_cells.proofs.WordsPut.{PutsTwo, puts_two, sizes_put}
 use Rattle.object_cells.proofs.OneWord.{IsReady, still_new}
@@ -45,8 +45,8 @@ ready_same old new sized room same =
     subst (λ (main : Mutator). IsReady old main 0) (as_before ∙ sym same) (ready_reserved old 0 sized room)
 
 -- the words that a slot needs are used
-pub ready_allocated : (old new : Mutator) (filling : Filling) → HasSizes (heap_of old) → HasRoom old.young 0
-    → Allocates old new filling → IsReady old new (filling_need filling)
+pub ready_allocated : (old new : Mutator) (filling : SlotWrite) → HasSizes (heap_of old) → HasRoom old.young 0
+    → AllocatesBox old new filling → IsReady old new (filling_need filling)
 ready_allocated old new (filling.Tagged word) sized room same = ready_same old new sized room same
 ready_allocated old new (filling.Raw word) sized room same = ready_same old new sized room same
 ready_allocated old new (filling.NewBox at v) sized room more =

@@ -3,16 +3,13 @@ use Rattle.std.proofs.Common.{◌≡◌, ◌≢◌, ℕ, ◌+◌, ◌<◌, List,
 use Rattle.std.proofs.Common.{sym, ◌∙◌, ap, subst}
 use Rattle.tagged_word.specs.Headers.{header_bits}
 use Rattle.tagged_word.specs.Cells.{store_slot}
-use Rattle.object_graph.specs.declared.value.Value.{Value}
-use Rattle.object_graph.specs.declared.object.Field.{Field}
-use Rattle.object_graph.specs.declared.path.Path.{Path}
+use Rattle.heap_model.specs.Types.{Value, Field, Path, Cell}
 use Rattle.object_graph.specs.Paths.{path_of, with_path}
 use Rattle.object_graph.specs.Objects.{with_field, revalued}
 use Rattle.object_graph.specs.Graphs.{Graph, PlainObject}
 use Rattle.object_graph.specs.Limits.{paths_most}
 use Rattle.page_space.specs.Extents.{layouts_start}
 use Rattle.shape_tree.specs.Shapes.{IsShapeOf}
-use Rattle.cell_layout.specs.declared.cell.Cell.{Cell}
 use Rattle.cell_layout.specs.Cells.{IsRow}
 use Rattle.heap_table.specs.declared.phase.Phase.TheVariants.{Quiet}
 use Rattle.heap_table.specs.Seats.{heap_words}
@@ -21,7 +18,7 @@ use Rattle.heap_model.specs.Needs.{capacity_at}
 use Rattle.heap_model.specs.Showing.{ShowsPlain}
 use Rattle.heap_model.proofs.CellsApart.{first_of_cell}
 use Rattle.nursery.specs.Young.{Young}
-use Rattle.write_barrier.specs.Mains.{Mutator, heap_of, IsTied}
+use Rattle.write_barrier.specs.MutatorState.{Mutator, heap_of, IsTied}
 use Rattle.object_cells.specs.PlainObjects.{ShowsRefilled}
 use Rattle.object_cells.specs.Refills.{AreNewFields}
 use Rattle.object_cells.specs.Capacities.{ChangesObject}

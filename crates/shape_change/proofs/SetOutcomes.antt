@@ -2,11 +2,8 @@
 use Rattle.std.proofs.Common.{◌≡◌, ℕ, ◌+◌, List, ◌++◌, length, Some, slice_get, set}
 use Rattle.std.proofs.Common.{refl, sym, ◌∙◌, ap, subst, arith, inl, inr, nat_lt}
 use Rattle.std.proofs.lemmas.Option.{cond_some}
-use Rattle.tagged_word.specs.declared.header.Header.{Header}
+use Rattle.heap_model.specs.Types.{Header, Value, Path, Field}
 use Rattle.tagged_word.specs.Headers.{header_bits}
-use Rattle.object_graph.specs.declared.value.Value.{Value}
-use Rattle.object_graph.specs.declared.path.Path.{Path}
-use Rattle.object_graph.specs.declared.object.Field.{Field}
 use Rattle.object_graph.specs.Paths.{path_of, with_path, missing, may_have}
 use Rattle.object_graph.specs.Objects.{revalued}
 use Rattle.object_graph.specs.Graphs.{Graph, PlainObject}
@@ -15,15 +12,15 @@ use Rattle.page_space.specs.Sizes.{AreWithin}
 use Rattle.page_space.specs.Extents.{Space}
 use Rattle.shape_tree.specs.Shapes.{IsShapeOf}
 use Rattle.nursery.specs.Young.{Young, HasRoom}
-use Rattle.heap_table.specs.Seats.{heap_words, StaysBeside}
+use Rattle.heap_table.specs.Seats.{heap_words, RestStays}
 use Rattle.heap_model.specs.Heaps.{Heap, words_of_cell}
 use Rattle.heap_model.specs.Needs.{capacity_at}
 use Rattle.heap_model.specs.Rooms.{on_found, field_need, set_need, set_need_by, set_capacity, set_capacity_by}
 use Rattle.heap_model.proofs.CellsApart.{first_of_cell, has_is_cell}
-use Rattle.write_barrier.specs.Mains.{Mutator, heap_of, with_word}
-use Rattle.object_cells.specs.declared.content.Content.{Content}
-use Rattle.object_cells.specs.declared.content.Filling.{Filling}
-use Rattle.object_cells.specs.declared.content.Filling.TheVariants as filling
+use Rattle.write_barrier.specs.MutatorState.{Mutator, heap_of, with_word}
+use Rattle.object_cells.specs.declared.content.SlotContent.{SlotContent}
+use Rattle.object_cells.specs.declared.content.SlotWrite.{SlotWrite}
+use Rattle.object_cells.specs.declared.content.SlotWrite.TheVariants as filling
 use Rattle.shape_change.specs.declared.slots.Place.{Place}
 use Rattle.object_cells.specs.Uses.{UsesMore}
 use Rattle.object_cells.specs.Capacities.{ChangesObject}
@@ -47,7 +44,7 @@ use Rattle.object_cells.proofs.WordsPut.{HasHead}
 
 -- how many words it takes to set the field
 pub setting_need : {old : Mutator} {graph : Graph} {object slot : ℕ} {plain : PlainObject} {what : Value} {name : ℕ}
-    (capacity : ℕ) (place : Place) (word : ℕ) (content : Content) (s : Setting old graph object slot plain what name)
+    (capacity : ℕ) (place : Place) (word : ℕ) (content : SlotContent) (s : Setting old graph object slot plain what name)
     → AreWithin old.seat.space.sizes old.seat.space.variables → FillsAt s (place_at s.cell.at place) word content
     → set_need capacity plain name what ≡ filling_need (filling_at old (place_at s.cell.at place) content)
 setting_need {old} {slot = slot} {plain} {what} {name} capacity place word content s within fills =
@@ -68,14 +65,14 @@ setting_capacity {slot = slot} {plain} {name = name} capacity s =
     (place_found plain.fields slot s.field name (names_distinct s.shows s.is) s.there s.named)
 
 -- where a slot is filled, what is used stays
-filled_young : (main : Mutator) (at : ℕ) (filling : Filling) → (filled main at filling).young ≡ main.young
+filled_young : (main : Mutator) (at : ℕ) (filling : SlotWrite) → (filled main at filling).young ≡ main.young
 filled_young main at (filling.Tagged word) = refl
 filled_young main at (filling.Raw word) = refl
 filled_young main at (filling.NewBox box v) = refl
 filled_young main at (filling.OldBox box v) = refl
 
 -- and the paths stay
-filled_paths : (main : Mutator) (at : ℕ) (filling : Filling) → (filled main at filling).paths ≡ main.paths
+filled_paths : (main : Mutator) (at : ℕ) (filling : SlotWrite) → (filled main at filling).paths ≡ main.paths
 filled_paths main at (filling.Tagged word) = refl
 filled_paths main at (filling.Raw word) = refl
 filled_paths main at (filling.NewBox box v) = refl
@@ -94,8 +91,8 @@ head_rest before old new object head (inr is) = (
 )
 
 -- so many words of eden more are used
-uses_more : {old mid new : Mutator} {need : ℕ} (object head at : ℕ) (filling : Filling) → IsReady old mid need
-    → StaysBeside old.seat new.seat → HasHead mid (filled mid at filling) new object head → UsesMore old new need
+uses_more : {old mid new : Mutator} {need : ℕ} (object head at : ℕ) (filling : SlotWrite) → IsReady old mid need
+    → RestStays old.seat new.seat → HasHead mid (filled mid at filling) new object head → UsesMore old new need
 uses_more {mid = mid} {new} object head at filling ready beside put = record {
   beside = beside;
   young = (head_rest mid (filled mid at filling) new object head put).0 ∙ filled_young mid at filling ∙ ready.young;
@@ -124,11 +121,11 @@ head_was {old} {mid} {need = need} s ready =
 -- the field has the value where its slot was filled, and the object's header is that of the shape
 pub has_set_field : {old mid new : Mutator} {graph : Graph} {object slot : ℕ} {plain : PlainObject} {what : Value}
     {name : ℕ}
-    (place : Place) (word next : ℕ) (content : Content) (s : Setting old graph object slot plain what name)
+    (place : Place) (word next : ℕ) (content : SlotContent) (s : Setting old graph object slot plain what name)
     → AreWithin old.seat.space.sizes old.seat.space.variables
     → IsPlaceOf (heap_of old) s.cell.at s.cell.layout.cap slot place → FillsAt s (place_at s.cell.at place) word content
     → IsReady old mid (filling_need (filling_at old (place_at s.cell.at place) content)) → IsNextShape old new s next
-    → StaysBeside old.seat new.seat
+    → RestStays old.seat new.seat
     → HasHead mid (filled mid (place_at s.cell.at place) (filling_at old (place_at s.cell.at place) content)) new
     s.cell.at (next_head s next)
     → HasSetField old new graph object plain name what
@@ -152,7 +149,7 @@ has_set_field {old} {new = new} {graph} {object} {plain = plain} {what} {name} p
     }
 
 -- the paths are those from before it was filled
-filled_with_paths : (mid new : Mutator) (object head at : ℕ) (filling : Filling)
+filled_with_paths : (mid new : Mutator) (object head at : ℕ) (filling : SlotWrite)
     → HasHead mid (filled mid at filling) new object head → new.paths ≡ mid.paths
 filled_with_paths mid new object head at filling put =
     (head_rest mid (filled mid at filling) new object head put).1 ∙ filled_paths mid at filling
@@ -178,14 +175,14 @@ same_shape {old} {new} {slot = slot} {plain} {what} s same paths =
 
 -- so the field has the value where its slot was filled and its representation stays
 pub set_as_it_is : {old new : Mutator} {graph : Graph} {object slot : ℕ} {plain : PlainObject} {what : Value} {name : ℕ}
-    (place : Place) (word : ℕ) (content : Content) (s : Setting old graph object slot plain what name)
+    (place : Place) (word : ℕ) (content : SlotContent) (s : Setting old graph object slot plain what name)
     → AreWithin old.seat.space.sizes old.seat.space.variables
     → IsPlaceOf (heap_of old) s.cell.at s.cell.layout.cap slot place → FillsAt s (place_at s.cell.at place) word content
     → (revalued s.field what).rep ≡ s.field.rep → FillsSlot old new (place_at s.cell.at place) content
     → HasSetField old new graph object plain name what
 set_as_it_is {old} {new} place word content s within is fills same filled_so =
     let at : ℕ = place_at s.cell.at place in
-    let filling : Filling = filling_at old at content in
+    let filling : SlotWrite = filling_at old at content in
     let between = filled_so.between in
     let ready = ready_allocated old between filling s.shows.shows.whole.sized (room_for_none s) filled_so.allocates in
     let head : HasHead between (filled between at filling) new s.cell.at (next_head s s.cell.header.shape) =
@@ -205,7 +202,7 @@ added_behind old new path added =
 -- and it has the value where its representation became wider as well
 pub set_wider_has : {old new : Mutator} {graph : Graph} {object slot : ℕ} {plain : PlainObject} {what : Value}
     {name : ℕ}
-    (place : Place) (word : ℕ) (path : Path) (content : Content) (s : Setting old graph object slot plain what name)
+    (place : Place) (word : ℕ) (path : Path) (content : SlotContent) (s : Setting old graph object slot plain what name)
     → AreWithin old.seat.space.sizes old.seat.space.variables
     → IsPlaceOf (heap_of old) s.cell.at s.cell.layout.cap slot place → FillsAt s (place_at s.cell.at place) word content
     → path_of plain.cap (set plain.fields slot (revalued s.field what)) ≡ path
@@ -213,7 +210,7 @@ pub set_wider_has : {old new : Mutator} {graph : Graph} {object slot : ℕ} {pla
     → HasSetField old new graph object plain name what
 set_wider_has {old} {new} {plain = plain} {what} place word path content s within is fills is_path wider =
     let at : ℕ = place_at s.cell.at place in
-    let filling : Filling = filling_at old at content in
+    let filling : SlotWrite = filling_at old at content in
     let laid = wider.laid in
     let allocated =
     ready_allocated old wider.between filling s.shows.shows.whole.sized (room_for_none s) wider.allocates in

@@ -2,19 +2,17 @@
 use Rattle.std.proofs.Common.{◌≡◌, ℕ, Some, None, set, refl, sym, ◌∙◌, ap}
 use Rattle.std.specs.Prelude.{Result, Ok, Err}
 use Rattle.std.proofs.lemmas.Option.{none-some}
-use Rattle.object_graph.specs.declared.value.Value.{Value}
-use Rattle.object_graph.specs.declared.path.Path.{Path}
+use Rattle.heap_model.specs.Types.{Value, Path, ShapesFull}
 use Rattle.object_graph.specs.Paths.{path_of, with_path}
 use Rattle.object_graph.specs.Objects.{with_field, revalued}
 use Rattle.object_graph.specs.Graphs.{Graph, PlainObject}
 use Rattle.object_graph.specs.Limits.{paths_most}
-use Rattle.shape_tree.specs.declared.full.ShapesFull.{ShapesFull}
-use Rattle.shape_tree.specs.Shapes.{IsFullFor}
+use Rattle.shape_tree.specs.Shapes.{LacksPathsFor}
 use Rattle.page_space.specs.Sizes.{AreWithin}
 use Rattle.heap_model.specs.Needs.{capacity_at}
-use Rattle.write_barrier.specs.Mains.{Mutator, heap_of}
+use Rattle.write_barrier.specs.MutatorState.{Mutator, heap_of}
 use Rattle.write_barrier.specs.declared.room.NoRoom.{NoRoom}
-use Rattle.object_cells.specs.declared.content.Content.{Content}
+use Rattle.object_cells.specs.declared.content.SlotContent.{SlotContent}
 use Rattle.shape_change.specs.declared.slots.Place.{Place}
 use Rattle.shape_change.specs.declared.stop.FieldStop.{FieldStop}
 use Rattle.shape_change.specs.declared.stop.FieldStop.TheVariants as stop
@@ -45,7 +43,7 @@ paths_lack {graph = graph} {plain = plain} path s is_path =
 wider_lacks : {old : Mutator} {graph : Graph} {object slot : ℕ} {plain : PlainObject} {what : Value} {name : ℕ}
     (path : Path) (full : ShapesFull) (s : Setting old graph object slot plain what name)
     → path_of plain.cap (set plain.fields slot (revalued s.field what)) ≡ path
-    → IsFullFor old.paths old.paths path full
+    → LacksPathsFor old.paths old.paths path full
     → IsFullOfPaths graph plain (with_field plain.fields name what) full
 wider_lacks {old} {plain = plain} {what} {name} path full s is_path is =
     full_of_paths plain (with_field plain.fields name what) path old.paths s.shows
@@ -53,7 +51,7 @@ wider_lacks {old} {plain = plain} {what} {name} path full s is_path is =
 
 -- there is no room for the words that the field needs, and nothing else is lacking
 pub refused_room : {old new : Mutator} {graph : Graph} {object slot : ℕ} {plain : PlainObject} {what : Value} {name : ℕ}
-    (place : Place) (word : ℕ) (path : Path) (content : Content) (full : NoRoom)
+    (place : Place) (word : ℕ) (path : Path) (content : SlotContent) (full : NoRoom)
     (s : Setting old graph object slot plain what name) → AreWithin old.seat.space.sizes old.seat.space.variables
     → IsPlaceOf (heap_of old) s.cell.at s.cell.layout.cap slot place → FillsAt s (place_at s.cell.at place) word content
     → path_of plain.cap (set plain.fields slot (revalued s.field what)) ≡ path
@@ -82,7 +80,7 @@ paths_enough {old} {slot = slot} {plain} {what} s same none =
 
 -- what comes of setting a field to a wider representation
 pub wider_sets : {old : Mutator} {graph : Graph} {object slot : ℕ} {plain : PlainObject} {what : Value} {name : ℕ}
-    (new : Mutator) (place : Place) (word : ℕ) (path : Path) (content : Content) (result : Result Unit FieldStop)
+    (new : Mutator) (place : Place) (word : ℕ) (path : Path) (content : SlotContent) (result : Result Unit FieldStop)
     (s : Setting old graph object slot plain what name) → AreWithin old.seat.space.sizes old.seat.space.variables
     → IsPlaceOf (heap_of old) s.cell.at s.cell.layout.cap slot place → FillsAt s (place_at s.cell.at place) word content
     → path_of plain.cap (set plain.fields slot (revalued s.field what)) ≡ path

@@ -2,16 +2,16 @@
 use Rattle.std.proofs.Common.{◌≡◌, ℕ, Option, Some, None, nat_lt}
 use Rattle.std.proofs.Common.{sym, ap}
 use Rattle.std.specs.Prelude.{ℤ}
-use Rattle.object_graph.specs.declared.value.Value.{Value}
+use Rattle.heap_model.specs.Types.{Value}
 use Rattle.object_graph.specs.Objects.{revalued}
 use Rattle.object_graph.specs.Graphs.{Graph, PlainObject}
 use Rattle.heap_model.specs.Heaps.{words_of_cell}
 use Rattle.heap_model.specs.Slots.{IsSlotWord, IsFieldWord}
 use Rattle.heap_model.specs.Kinds.{HasWord}
 use Rattle.heap_model.specs.Needs.{word_at}
-use Rattle.write_barrier.specs.Mains.{Mutator, heap_of}
-use Rattle.object_cells.specs.declared.content.Content.{Content}
-use Rattle.object_cells.specs.declared.content.Content.TheVariants as content
+use Rattle.write_barrier.specs.MutatorState.{Mutator, heap_of}
+use Rattle.object_cells.specs.declared.content.SlotContent.{SlotContent}
+use Rattle.object_cells.specs.declared.content.SlotContent.TheVariants as content
 use Rattle.object_cells.specs.Contents.{box_in, next_at, filling_of, filling_at, filling_need, filled}
 use Rattle.shape_change.proofs.BoxedFields.{new_box_shown, old_box_shown}
 use Rattle.object_cells.proofs.SlotBoxes.{box_of_word}
@@ -26,7 +26,7 @@ use Rattle.object_cells.proofs.WordsPut.{HasHead}
 
 -- The slot of the field stands at the address and holds the word, and comes to hold this.
 pub record FillsAt {old : Mutator} {graph : Graph} {object slot : ℕ} {plain : PlainObject} {what : Value} {name : ℕ}
-    (s : Setting old graph object slot plain what name) (at word : ℕ) (content : Content) : Type 0 where
+    (s : Setting old graph object slot plain what name) (at word : ℕ) (content : SlotContent) : Type 0 where
   pub numbered : IsNumbered (heap_of old) s.cell (words_of_cell (heap_of old) s.cell) slot at
   pub holds : HasWord s.shown.slots slot word
   pub reads : word_at (heap_of old) at ≡ word
@@ -35,7 +35,7 @@ pub record FillsAt {old : Mutator} {graph : Graph} {object slot : ℕ} {plain : 
 
 -- the word is one of the field's representation
 pub was_field_word : {old : Mutator} {graph : Graph} {object slot : ℕ} {plain : PlainObject} {what : Value} {name : ℕ}
-    {at word : ℕ} {content : Content} (s : Setting old graph object slot plain what name) → FillsAt s at word content
+    {at word : ℕ} {content : SlotContent} (s : Setting old graph object slot plain what name) → FillsAt s at word content
     → IsFieldWord (heap_of old) (nat_lt slot s.cell.layout.cap) s.field.rep word
 was_field_word {slot = slot} {word = word} s fills =
     is_field_word word s.field.rep s.field.value (s.shown.each slot s.field word s.there fills.holds)
@@ -58,7 +58,7 @@ boxed_shown {old} at word next v (Some box) s fills is ready shape head =
 -- where the slot was filled, the heap shows the graph with the field
 pub fill_shown : {old mid new : Mutator} {graph : Graph} {object slot : ℕ} {plain : PlainObject} {what : Value}
     {name : ℕ}
-    (at word next : ℕ) (content : Content) (s : Setting old graph object slot plain what name)
+    (at word next : ℕ) (content : SlotContent) (s : Setting old graph object slot plain what name)
     → FillsAt s at word content
     → IsReady old mid (filling_need (filling_at old at content)) → IsNextShape old new s next
     → HasHead mid (filled mid at (filling_at old at content)) new s.cell.at (next_head s next)

@@ -4,24 +4,19 @@ use Rattle.std.proofs.Common.{refl, sym, ◌∙◌, ap, subst, arith}
 use Rattle.std.specs.Prelude.{option_map}
 use Rattle.std.proofs.lemmas.Option.{same_Some, slice_get-get_or}
 use Rattle.std.proofs.lemmas.List.{length-map}
-use Rattle.object_graph.specs.declared.value.Value.{Value}
+use Rattle.heap_model.specs.Types.{Value, Rep, Field, Path, PathField, Held}
 use Rattle.object_graph.specs.declared.value.Value.TheVariants.{Undefined}
-use Rattle.object_graph.specs.declared.value.Rep.{Rep}
 use Rattle.object_graph.specs.declared.value.Rep.TheVariants as rep
-use Rattle.object_graph.specs.declared.object.Field.{Field}
-use Rattle.object_graph.specs.declared.path.Path.{Path}
-use Rattle.object_graph.specs.declared.path.PathField.{PathField}
 use Rattle.object_graph.specs.Paths.{path_of}
 use Rattle.object_graph.specs.Objects.{revalued}
 use Rattle.object_graph.specs.Values.{rep_of, join}
 use Rattle.object_graph.specs.Graphs.{Graph, PlainObject}
 use Rattle.shape_tree.specs.Shapes.{shape_path, changed}
-use Rattle.handle_roots.specs.declared.held.Held.{Held}
 use Rattle.handle_roots.specs.Roots.{FitsHeld}
 use Rattle.heap_model.specs.Needs.{word_at}
 use Rattle.heap_model.specs.Showing.{ShowsHeld}
-use Rattle.write_barrier.specs.Mains.{Mutator, heap_of}
-use Rattle.object_cells.specs.declared.content.Content.{Content}
+use Rattle.write_barrier.specs.MutatorState.{Mutator, heap_of}
+use Rattle.object_cells.specs.declared.content.SlotContent.{SlotContent}
 use Rattle.shape_change.specs.declared.slots.Place.{Place}
 use Rattle.shape_change.specs.declared.set_field.SlotSetting.{SlotSetting}
 use Rattle.shape_change.specs.FieldChanges.{IsShownSetting}
@@ -86,7 +81,7 @@ slot_is_there {old} {plain = plain} s =
 -- what the slot comes to hold for the value that is held, and what it held
 pub fills_at : {old : Mutator} {graph : Graph} {object slot : ℕ} {plain : PlainObject} {what : Value} {name : ℕ}
     {shape : ℕ}
-    (place : Place) (own : Bool) (was one : Rep) (held : Held) (content : Content)
+    (place : Place) (own : Bool) (was one : Rep) (held : Held) (content : SlotContent)
     (s : Setting old graph object slot plain what name) → IsReadOf s shape place own was
     → ShowsHeld (heap_of old) held (Some what) → one ≡ join was (held_rep held) → content ≡ content_of own one held
     → FillsAt s (place_at s.cell.at place) (get_or s.shown.slots slot 0) content
@@ -112,7 +107,7 @@ fills_at {old} {slot = slot} {what = what} place own was one held content s read
 
 -- where it comes to refer to a box it held a slot word
 pub held_there : {old : Mutator} {graph : Graph} {object slot : ℕ} {plain : PlainObject} {what : Value} {name word : ℕ}
-    {content : Content} (place : Place) (s : Setting old graph object slot plain what name)
+    {content : SlotContent} (place : Place) (s : Setting old graph object slot plain what name)
     → FillsAt s (place_at s.cell.at place) word content
     → HoldsSlotWord (heap_of old) (word_at (heap_of old) (place_at object place)) content
 held_there {old} {word = word} {content} place s fills =

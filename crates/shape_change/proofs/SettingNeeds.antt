@@ -3,9 +3,8 @@ use Rattle.std.proofs.Common.{◌≡◌, ℕ, Bool, false, refl, sym, ◌∙◌,
 use Rattle.std.specs.Prelude.{ℤ}
 use Rattle.std.proofs.lemmas.Bool.{false≢true}
 use Rattle.tagged_word.specs.Words.{small}
-use Rattle.object_graph.specs.declared.value.Value.{Value}
+use Rattle.heap_model.specs.Types.{Value, Rep}
 use Rattle.object_graph.specs.declared.value.Value.TheVariants.{Int}
-use Rattle.object_graph.specs.declared.value.Rep.{Rep}
 use Rattle.object_graph.specs.declared.value.Rep.TheVariants as rep
 use Rattle.page_space.specs.RegionLaws.{IsSpace}
 use Rattle.heap_model.specs.Heaps.{Heap}
@@ -14,7 +13,7 @@ use Rattle.heap_model.specs.Rooms.{is_boxed}
 use Rattle.heap_model.specs.Showing.{ShowsField}
 use Rattle.heap_model.specs.Wholeness.{HasSizes}
 use Rattle.heap_model.proofs.ShownBoxes.{field_boxed}
-use Rattle.object_cells.specs.declared.content.Content.{Content}
+use Rattle.object_cells.specs.declared.content.SlotContent.{SlotContent}
 use Rattle.object_cells.specs.Contents.{box_in, filling_of, filling_need}
 use Rattle.object_cells.proofs.SlotBoxes.{boxed_need}
 use Rattle.object_cells.proofs.HeldContents.{HoldsValue}
@@ -27,7 +26,7 @@ small_unboxed own rep.Wide v is apart = absurd (apart refl)
 small_unboxed own rep.Tagged v is apart = ap not is
 
 -- a field that is there takes the words of a box where it comes to stand in one, and its slot refers to none
-pub need_there : {heap : Heap} {own : Bool} {was one : Rep} {before what : Value} {content : Content} (word at : ℕ)
+pub need_there : {heap : Heap} {own : Bool} {was one : Rep} {before what : Value} {content : SlotContent} (word at : ℕ)
     → IsSpace heap.space → HasSizes heap → HoldsValue heap own was one what content
     → ShowsField heap own word was before
     → box_need (is_boxed own one what && not (is_boxed own was before))

@@ -3,11 +3,8 @@ use Rattle.std.proofs.Common.{◌≡◌, ℕ, ◌<◌, List, length, Option, Som
 use Rattle.std.proofs.Common.{refl, sym, ◌∙◌, ap, subst, arith, ◌++◌, append-nil, Contains}
 use Rattle.std.specs.Prelude.{option_map}
 use Rattle.std.proofs.lemmas.Option.{none-some, same_Some, slice_get_within}
-use Rattle.tagged_word.specs.declared.layout.LayoutWord.{LayoutWord}
-use Rattle.object_graph.specs.declared.value.Value.{Value}
-use Rattle.object_graph.specs.declared.object.Field.{Field}
+use Rattle.heap_model.specs.Types.{LayoutWord, Value, Field, Path, Cell, Held}
 use Rattle.object_graph.specs.declared.object.Object.TheVariants.{Plain}
-use Rattle.object_graph.specs.declared.path.Path.{Path}
 use Rattle.object_graph.specs.Paths.{path_of, with_path}
 use Rattle.object_graph.specs.Objects.{with_field, revalued, field_value}
 use Rattle.object_graph.specs.Graphs.{Graph, PlainObject}
@@ -15,14 +12,12 @@ use Rattle.object_graph.specs.Invariants.{IsValue, HasItsPath}
 use Rattle.object_graph.specs.Limits.{paths_most}
 use Rattle.shape_tree.proofs.GrownPaths.{missing-there}
 use Rattle.shape_tree.proofs.LedPaths.{with_path-added}
-use Rattle.cell_layout.specs.declared.cell.Cell.{Cell}
-use Rattle.handle_roots.specs.declared.held.Held.{Held}
 use Rattle.handle_roots.specs.Roots.{FitsHeld}
 use Rattle.heap_model.specs.Heaps.{HasCell, words_of_cell}
 use Rattle.heap_model.specs.Showing.{ShowsHeld, ShowsPlain}
 use Rattle.heap_model.proofs.PathLayouts.{layout_is}
 use Rattle.heap_model.proofs.SlotWords.{All-slice_get}
-use Rattle.write_barrier.specs.Mains.{Mutator, heap_of, MainShows}
+use Rattle.write_barrier.specs.MutatorState.{Mutator, heap_of, MainShows}
 use Rattle.object_cells.specs.PlainObjects.{IsPlainAt, LacksFields}
 use Rattle.object_cells.specs.HeldValues.{IsReachedValue, IsValueHeld}
 use Rattle.object_cells.specs.Refills.{AreNewFields}

@@ -7,9 +7,9 @@ use Rattle.std.proofs.lemmas.Option.{slice_get-get_or}
 use Rattle.tagged_word.specs.declared.layout.Kind.TheVariants as kind
 use Rattle.tagged_word.specs.Cells.{plain_head, store_head}
 use Rattle.page_space.specs.Extents.{roots_start}
-use Rattle.cell_layout.specs.declared.cell.Cell.{Cell}
+use Rattle.heap_model.specs.Types.{Cell}
 use Rattle.heap_model.specs.Heaps.{Heap, HasCell}
-use Rattle.heap_model.specs.Slots.{IsBeside}
+use Rattle.heap_model.specs.Slots.{HoldsStore}
 use Rattle.heap_model.specs.Kinds.{HasWord, HasSlots}
 use Rattle.heap_model.specs.Wholeness.{Whole}
 use Rattle.heap_model.proofs.CellsApart.{used_few}
@@ -19,7 +19,7 @@ use Rattle.object_cells.specs.CellWrites.{IsInCell}
 use Rattle.shape_change.specs.Shifts.{slot_at}
 use Rattle.object_cells.proofs.CellsRead.{word_stands}
 use Rattle.object_cells.proofs.SlotPlaces.{own_slot, behind_cap}
-use Rattle.object_cells.proofs.StoreCells.{store_cells, store_at, IsStoreBeside, is_store_cell, store_cell_there}
+use Rattle.object_cells.proofs.StoreCells.{store_cells, store_at, IsStoreOf, is_store_cell, store_cell_there}
 use Rattle.object_cells.proofs.StoreCells.{cells_beside, store_is_other, slots_counted, more_slots}
 
 -- a slot below the cap stands in the object
@@ -103,7 +103,7 @@ pub record IsApart (heap : Heap) (cell : Cell) (store count at : ℕ) : Type 0 w
 -- so it is
 pub head_is_apart : {heap : Heap} {cell other : Cell} {words slots : List ℕ} (k : ℕ) → Whole heap
     → HasCell heap cell words → cell.layout.kind ≡ kind.Plain → (are : HasSlots heap words slots)
-    → IsStoreBeside heap are.store are.beside (store_at are.stands) other → k < store_head
+    → IsStoreOf heap are.store are.beside (store_at are.stands) other → k < store_head
     → IsApart heap cell (store_at are.stands) (length slots) (other.at + k)
 head_is_apart {heap} {cell} {other} {words} {slots} k whole has plain are is head =
     let cap : ℕ = cell.layout.cap in
@@ -131,10 +131,10 @@ head_is_apart {heap} {cell} {other} {words} {slots} k whole has plain are is hea
     }
 
 -- a word beside an object stands in its store
-beside_read : {heap : Heap} {word : ℕ} {beside : List ℕ} (k : ℕ) (stands : IsBeside heap kind.Store word beside)
+beside_read : {heap : Heap} {word : ℕ} {beside : List ℕ} (k : ℕ) (stands : HoldsStore heap kind.Store word beside)
     → k < length beside → slice_get heap.words (store_at stands + (store_head + k)) ≡ slice_get beside k
-beside_read k IsBeside.none below = absurd (omega arith)
-beside_read {heap} k (IsBeside.store to cell words refers of_kind) below =
+beside_read k HoldsStore.none below = absurd (omega arith)
+beside_read {heap} k (HoldsStore.store to cell words refers of_kind) below =
     let beside : List ℕ = drop store_head words in
     let there : HasWord beside k (get_or beside k 0) = slice_get-get_or beside k 0 below in
     let here : HasWord words (store_head + k) (get_or beside k 0) =

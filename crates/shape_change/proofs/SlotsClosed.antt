@@ -8,10 +8,10 @@ use Rattle.tagged_word.specs.Cells.{plain_head, store_head}
 use Rattle.page_space.specs.Extents.{marks_start}
 use Rattle.object_graph.proofs.Lists.{slice_get-set_same, slice_get-set_other}
 use Rattle.heap_table.specs.Seats.{heap_words}
-use Rattle.heap_table.specs.Staying.{stays_beside_itself, stays_beside_again}
+use Rattle.heap_table.specs.Staying.{rest_stays_itself, rest_stays_again}
 use Rattle.heap_model.specs.Slots.{hole_word}
-use Rattle.write_barrier.specs.Mains.{Mutator, with_word}
-use Rattle.object_cells.proofs.WordsBeside.{put_beside}
+use Rattle.write_barrier.specs.MutatorState.{Mutator, with_word}
+use Rattle.object_cells.proofs.RestOfWords.{put_rest}
 use Rattle.shape_change.specs.Shifts.{KeepsRest, MovesDown, ClosesGap, ClosesSlots, slot_at}
 use Rattle.shape_change.proofs.SlotAddresses.{slot_at-own, slot_at-beside}
 
@@ -19,7 +19,7 @@ use Rattle.shape_change.proofs.SlotAddresses.{slot_at-own, slot_at-beside}
 pub rest_put : (old new : Mutator) (a word : ℕ) → new ≡ with_word old a word
     → heap_words new.seat ≡ slice_set (heap_words old.seat) a word → a < marks_start old.seat.space → KeepsRest old new
 rest_put old new a word is heap below = record {
-  beside = put_beside a word (stays_beside_itself old.seat) is below;
+  beside = put_rest a word (rest_stays_itself old.seat) is below;
   paths = ap (λ (main : Mutator). main.paths) is;
   young = ap (λ (main : Mutator). main.young) is;
   count = ap length heap ∙ length-set (heap_words old.seat) a word;
@@ -28,7 +28,7 @@ rest_put old new a word is heap below = record {
 -- words change after others
 pub rest_then : (old mid new : Mutator) → KeepsRest old mid → KeepsRest mid new → KeepsRest old new
 rest_then old mid new before then = record {
-  beside = stays_beside_again old.seat mid.seat new.seat before.beside then.beside;
+  beside = rest_stays_again old.seat mid.seat new.seat before.beside then.beside;
   paths = then.paths ∙ before.paths;
   young = then.young ∙ before.young;
   count = then.count ∙ before.count;
@@ -144,19 +144,20 @@ beside_closed old new object cap store slot last first behind order gap = record
 }
 
 -- the words of the object and those of its store have no address in common
-abbrev pub AreApart : ℕ → ℕ → ℕ → ℕ → Type 0
-AreApart object cap store last =
+abbrev pub RangesDisjoint : ℕ → ℕ → ℕ → ℕ → Type 0
+RangesDisjoint object cap store last =
     (object + (plain_head + cap) ≤ store) ⊎ (store + (store_head + (last - cap)) < object)
 
 -- an in-object slot is none of the store
-own_is_not_beside : (object cap store last one : ℕ) → AreApart object cap store last → one < cap
+own_is_not_beside : (object cap store last one : ℕ) → RangesDisjoint object cap store last → one < cap
     → (object + (plain_head + one) < store + (store_head + 0))
     ⊎ (store + (store_head + (last - cap)) + 1 ≤ object + (plain_head + one))
 own_is_not_beside object cap store last one (inl before) own = inl (omega arith)
 own_is_not_beside object cap store last one (inr behind) own = inr (omega arith)
 
 -- and a slot of the store none of the object
-beside_is_not_own : (object cap store last slot one : ℕ) → AreApart object cap store last → 0 < cap → one ≤ last - cap
+beside_is_not_own : (object cap store last slot one : ℕ) → RangesDisjoint object cap store last → 0 < cap
+    → one ≤ last - cap
     → (store + (store_head + one) < object + (plain_head + slot))
     ⊎ (object + (plain_head + (cap - 1)) + 1 ≤ store + (store_head + one))
 beside_is_not_own object cap store last slot one (inl before) some few = inr (omega arith)
@@ -165,7 +166,7 @@ beside_is_not_own object cap store last slot one (inr behind) some few = inl (om
 -- Where some stand in the object and some in the store, both gaps are closed, and the first of the store comes into the
 -- object as this word.
 pub both_closed : (old mid new : Mutator) (object cap store slot last first : ℕ) → slot < cap → cap ≤ last
-    → AreApart object cap store last
+    → RangesDisjoint object cap store last
     → ClosesGap old mid (object + (plain_head + slot)) (object + (plain_head + (cap - 1))) first
     → ClosesGap mid new (store + (store_head + 0)) (store + (store_head + (last - cap))) hole_word
     → ClosesSlots old new object cap store slot last first

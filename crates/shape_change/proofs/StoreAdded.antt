@@ -5,23 +5,20 @@ use Rattle.std.specs.Prelude.{ℤ, slice_set}
 use Rattle.std.proofs.lemmas.Bool.{false≢true}
 use Rattle.std.proofs.lemmas.Bool.Decides.{nat_tests}
 use Rattle.std.proofs.lemmas.List.Elements.{Contains-append_right}
-use Rattle.tagged_word.specs.declared.header.Header.{Header}
+use Rattle.heap_model.specs.Types.{Header, Value, Cell, Held}
 use Rattle.tagged_word.specs.Cells.{store_head, store_slot}
-use Rattle.object_graph.specs.declared.value.Value.{Value}
 use Rattle.object_graph.specs.Values.{rep_of}
 use Rattle.object_graph.specs.Objects.{with_field}
 use Rattle.object_graph.specs.Graphs.{Graph, PlainObject}
 use Rattle.page_space.specs.Extents.{Space, eden_start, segments_start, marks_start}
 use Rattle.page_space.proofs.Starts.{roots_start_is, layouts_start_is, marks_start_is}
 use Rattle.shape_tree.specs.Shapes.{shape_path}
-use Rattle.cell_layout.specs.declared.cell.Cell.{Cell}
-use Rattle.handle_roots.specs.declared.held.Held.{Held}
 use Rattle.heap_table.specs.Seats.{heap_words}
 use Rattle.heap_model.specs.Heaps.{HasCell, words_of_cell}
 use Rattle.heap_model.specs.Showing.{ShowsField}
 use Rattle.heap_model.proofs.CellsApart.{IsOfCell, first_of_cell}
-use Rattle.write_barrier.specs.Mains.{Mutator, heap_of}
-use Rattle.object_cells.specs.declared.content.Content.TheVariants as content
+use Rattle.write_barrier.specs.MutatorState.{Mutator, heap_of}
+use Rattle.object_cells.specs.declared.content.SlotContent.TheVariants as content
 use Rattle.object_cells.specs.declared.stores.Store.{Store}
 use Rattle.object_cells.specs.CellWrites.{reshaped}
 use Rattle.object_cells.specs.PlainObjects.{ShowsRefilled}
@@ -30,7 +27,7 @@ use Rattle.shape_change.specs.Additions.{AddsToStore, added_path, count_of, behi
 use Rattle.object_cells.specs.Made.{IsStoreAt, content_need}
 use Rattle.object_cells.specs.Made.{content_word}
 use Rattle.shape_change.specs.Additions.{with_shape}
-use Rattle.object_cells.specs.Made.{beside_content, with_content}
+use Rattle.object_cells.specs.Made.{store_content, with_content}
 use Rattle.shape_change.proofs.FullStores.{length-slots}
 use Rattle.object_cells.proofs.NumberedSlots.{IsNumbered}
 use Rattle.object_cells.proofs.OwnCells.{cell_below_layouts, beside_not_header}
@@ -70,11 +67,11 @@ store_place old header store = store.at + (store_head + behind_cap old.paths hea
 
 -- the words with the box made, if the field needs one
 abbrev boxed_words : Mutator → Mutator → Held → List ℕ
-boxed_words old mid value = with_content (heap_words mid.seat) (beside_content value) (next_at old)
+boxed_words old mid value = with_content (heap_words mid.seat) (store_content value) (next_at old)
 
 -- the word of the slot
 abbrev store_word : Mutator → Held → ℕ
-store_word old value = content_word (beside_content value) (next_at old)
+store_word old value = content_word (store_content value) (next_at old)
 
 module _ {old new : Mutator} {graph : Graph} {plain : PlainObject} {object : ℕ} {header : Header} {name : ℕ}
     {value : Held} {what : Value} {store : Store}
@@ -108,7 +105,7 @@ module _ {old new : Mutator} {graph : Graph} {plain : PlainObject} {object : ℕ
   -- the words that are put are one word, the header, and those of a box
   pub over : PutsOver old adding.adds.mid new (added_path old.paths header.shape name value) adding.known.cell
       adding.adds.next
-      (store_place old header store) (store_word old value) (content_need (beside_content value))
+      (store_place old header store) (store_word old value) (content_need (store_content value))
       (with_shape (slice_set (boxed_words old adding.adds.mid value) (store_place old header store)
       (store_word old value))
       object header adding.adds.next)
@@ -117,11 +114,11 @@ module _ {old new : Mutator} {graph : Graph} {plain : PlainObject} {object : ℕ
       let adds = adding.adds in
       let whole = known.shows.shows.whole in
       let words = heap_words adds.mid.seat in
-      over_last adds.next (store_place old header store) (store_word old value) (content_need (beside_content value))
+      over_last adds.next (store_place old header store) (store_word old value) (content_need (store_content value))
       object
       (boxed_words old adds.mid value) known.can.tied adds.room adds.path adds.words
-      (length-with_content words (beside_content value) (next_at old))
-      (λ a not_new. with_content_stays words (beside_content value) (next_at old) a not_new) known.stands known.headed
+      (length-with_content words (store_content value) (next_at old))
+      (λ a not_new. with_content_stays words (store_content value) (next_at old) a not_new) known.stands known.headed
       (λ same. beside_not_header (store_place old header store) whole known.has known.shown.of_kind
       there.found.refers.has
       (inl there.found.of_kind) of_store (sym same))
@@ -130,19 +127,19 @@ module _ {old new : Mutator} {graph : Graph} {plain : PlainObject} {object : ℕ
 
   -- no address of a cell is one of the words that are reserved
   apart_from_run : {cell : Cell} {words : List ℕ} (a b : ℕ) → HasCell (heap_of old) cell words → IsOfCell cell a
-      → next_at old ≤ b → b < next_at old + content_need (beside_content value) → b ≢ a
+      → next_at old ≤ b → b < next_at old + content_need (store_content value) → b ≢ a
   apart_from_run a b has of_cell from below same =
       cell_is_used adding.known.shows.shows.whole.rows has of_cell (omega (arith, from, same))
       (omega (
         arith,
         below,
         same,
-        next_before_segments old (content_need (beside_content value)) adding.known.can.tied
+        next_before_segments old (content_need (store_content value)) adding.known.can.tied
             adding.adds.room,
       ))
 
   -- a word of a box that is made stands in the new heap
-  run_word : (b : ℕ) → next_at old ≤ b → b < next_at old + content_need (beside_content value)
+  run_word : (b : ℕ) → next_at old ≤ b → b < next_at old + content_need (store_content value)
       → slice_get (heap_words new.seat) b ≡ slice_get (boxed_words old adding.adds.mid value) b
   run_word b from below =
       let known = adding.known in
@@ -154,18 +151,18 @@ module _ {old new : Mutator} {graph : Graph} {plain : PlainObject} {object : ℕ
       (apart_from_run (store_place old header store) b there.found.refers.has of_store from below)
 
   -- the box stands there
-  box_stands : BoxStands (heap_of new) (beside_content value) (next_at old)
+  box_stands : BoxStands (heap_of new) (store_content value) (next_at old)
   box_stands =
       let adds = adding.adds in
       let space : new.seat.space ≡ old.seat.space = over_space over in
-      let ends = next_before_segments old (content_need (beside_content value)) adding.known.can.tied adds.room in
+      let ends = next_before_segments old (content_need (store_content value)) adding.known.can.tied adds.room in
       let start = ap (λ (s : Space). eden_start s) space in
       let segments = ap (λ (s : Space). segments_start s) space in
       let count = adds.path.sized.words ∙ ap (λ (s : Space). marks_start s) adds.path.beside.space in
       let within : segments_start old.seat.space ≤ marks_start old.seat.space =
       omega (arith, roots_start_is old.seat.space, layouts_start_is old.seat.space, marks_start_is old.seat.space) in
-      let words = λ (v : ℤ) (boxed : beside_content value ≡ content.Boxed v).
-      with_content_box (heap_words adds.mid.seat) (beside_content value) (next_at old) v boxed
+      let words = λ (v : ℤ) (boxed : store_content value ≡ content.Boxed v).
+      with_content_box (heap_words adds.mid.seat) (store_content value) (next_at old) v boxed
       (omega (arith, count, ends, within, ap content_need boxed)) in
       record {
         header = λ v boxed. run_word (next_at old) (omega arith) (omega (arith, ap content_need boxed))
@@ -178,11 +175,11 @@ module _ {old new : Mutator} {graph : Graph} {plain : PlainObject} {object : ℕ
 
   -- so the field is added
   one : OneAdding (heap_of old) (heap_of new) adding.known.cell adding.adds.next (store_place old header store)
-      (store_word old value) (made_boxes (beside_content value) (next_at old)) plain.fields (new_field name what)
+      (store_word old value) (made_boxes (store_content value) (next_at old)) plain.fields (new_field name what)
   one =
       let known = adding.known in
-      one_adding (made_boxes (beside_content value) (next_at old)) known over
-      (made_row (heap_of new) (beside_content value) (next_at old) (over_sized over) box_stands) numbered
+      one_adding (made_boxes (store_content value) (next_at old)) known over
+      (made_row (heap_of new) (store_content value) (next_at old) (over_sized over) box_stands) numbered
       (omega (
         arith,
         known.count,
@@ -195,12 +192,12 @@ module _ {old new : Mutator} {graph : Graph} {plain : PlainObject} {object : ℕ
       ))
 
   -- the box stands in the new heap
-  made_has : (cell : Cell) → Contains (made_boxes (beside_content value) (next_at old)) cell
+  made_has : (cell : Cell) → Contains (made_boxes (store_content value) (next_at old)) cell
       → HasCell (heap_of new) cell (words_of_cell (heap_of new) cell)
   made_has cell there =
       let came = reshaped new.paths adding.known.cell adding.adds.next ∷ one.others in
       one.adds.puts.cells.comes cell
-      (Contains-append_right came (made_boxes (beside_content value) (next_at old)) cell there)
+      (Contains-append_right came (made_boxes (store_content value) (next_at old)) cell there)
 
   -- and the graph is shown in which the object has the field
   pub store_shown : ShowsRefilled new graph plain (with_field plain.fields name what)
@@ -209,7 +206,7 @@ module _ {old new : Mutator} {graph : Graph} {plain : PlainObject} {object : ℕ
       let count : ℕ = length graph.objects in
       let slot : ℕ = length plain.fields in
       let word : ℕ = store_word old value in
-      let holds_all = beside_content value in
+      let holds_all = store_content value in
       let box : ℕ = next_at old in
       let places = written_places_stay plain_owns known.shows.shows.whole one.writes in
       let holds = new_value_held false value what known.held.shows in
@@ -233,4 +230,4 @@ module _ {old new : Mutator} {graph : Graph} {plain : PlainObject} {object : ℕ
   store_keeps =
       one_keeps one.adds.puts
       (λ other among. (adding.known.cell.at + store_slot, (one.adds.place.stores other among).named))
-      (λ other there. inr (made_boxed (beside_content value) (next_at old) other there))
+      (λ other there. inr (made_boxed (store_content value) (next_at old) other there))

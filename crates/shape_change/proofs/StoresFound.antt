@@ -6,11 +6,9 @@ use Rattle.std.proofs.lemmas.Bool.{le-ltb}
 use Rattle.std.proofs.lemmas.Option.{slice_get-get_or, same_Some}
 use Rattle.tagged_word.specs.Cells.{plain_head, store_head, store_slot}
 use Rattle.page_space.specs.Extents.{roots_start}
-use Rattle.object_graph.specs.declared.path.PathField.{PathField}
-use Rattle.object_graph.specs.declared.value.Rep.{Rep}
+use Rattle.heap_model.specs.Types.{PathField, Rep, Cell}
 use Rattle.object_graph.specs.declared.value.Rep.TheVariants as rep
 use Rattle.shape_tree.specs.Shapes.{IsPathShape, shape_path}
-use Rattle.cell_layout.specs.declared.cell.Cell.{Cell}
 use Rattle.heap_model.specs.Heaps.{Heap, HasCell, words_of_cell}
 use Rattle.heap_model.specs.Slots.{RefersToBox, IsWideWord, IsFieldWord}
 use Rattle.heap_model.specs.Kinds.{HasWord, HasSlots}

@@ -2,13 +2,10 @@
 use Rattle.std.proofs.Common.{◌≡◌, ℕ, ◌<◌, List, length}
 use Rattle.std.proofs.Common.{sym, ap, arith, inl, inr}
 use Rattle.tagged_word.specs.declared.layout.Kind.TheVariants as kind
-use Rattle.object_graph.specs.declared.path.Path.{Path}
-use Rattle.object_graph.specs.declared.path.PathField.{PathField}
-use Rattle.object_graph.specs.declared.value.Rep.{Rep}
+use Rattle.heap_model.specs.Types.{Path, PathField, Rep, Cell}
 use Rattle.object_graph.specs.declared.value.Rep.TheVariants as rep
 use Rattle.shape_tree.specs.Shapes.{IsPathShape, shape_path, stepped}
 use Rattle.shape_tree.specs.ShapeLayouts.{layout_of}
-use Rattle.cell_layout.specs.declared.cell.Cell.{Cell}
 use Rattle.heap_model.specs.Heaps.{Heap, HasCell}
 use Rattle.heap_model.specs.Wholeness.{HasSizes}
 use Rattle.object_cells.specs.SlotChanges.{IsTaggedSlot}

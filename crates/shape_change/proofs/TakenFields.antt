@@ -1,19 +1,18 @@
 -- A field is taken out of a plain object, all fields of which stand in the object, or some in its store.
 use Rattle.std.proofs.Common.{◌≡◌, ℕ, suc, ◌+◌, ◌<◌, ◌≤◌, length, inl, inr, refl, sym, ap, subst, arith}
 use Rattle.std.specs.Prelude.{slice_set, Ok}
-use Rattle.tagged_word.specs.declared.header.Header.{Header}
+use Rattle.heap_model.specs.Types.{Header, Path}
 use Rattle.tagged_word.specs.Cells.{plain_head}
 use Rattle.page_space.specs.Extents.{marks_start}
 use Rattle.page_space.proofs.Starts.{layouts_start_is, marks_start_is}
-use Rattle.object_graph.specs.declared.path.Path.{Path}
 use Rattle.shape_tree.specs.Shapes.{shape_path}
 use Rattle.heap_table.specs.Seats.{heap_words}
 use Rattle.heap_model.specs.Slots.{hole_word}
 use Rattle.heap_model.specs.Wholeness.{Whole}
-use Rattle.write_barrier.specs.Mains.{Mutator, heap_of, with_word}
+use Rattle.write_barrier.specs.MutatorState.{Mutator, heap_of, with_word}
 use Rattle.object_cells.specs.CellsAt.{HasField}
 use Rattle.shape_change.specs.Shifts.{ClosesGap, ClosesSlots, SlotsWithin}
-use Rattle.shape_change.specs.Deletions.{HasStoreAt, DrawsInFirst, FindsWithout, shaped_bits, TakesOut}
+use Rattle.shape_change.specs.Deletions.{HasStoreAt, DrawsInFirst, FindsWithout, shaped_bits, TakesFieldOut}
 use Rattle.shape_change.proofs.SlotsClosed.{own_closed}
 use Rattle.shape_change.proofs.SlotAddresses.{SlotsStand}
 use Rattle.shape_change.proofs.StoresFound.{own_stands, fields_stand}
@@ -88,7 +87,7 @@ pub own_taken : (old mid closed new : Mutator) (object : ℕ) (header : Header) 
     (object + (plain_head + length (shape_path mid.paths next).fields)) hole_word
     → new ≡ with_word closed object (shaped_bits header next)
     → heap_words new.seat ≡ slice_set (heap_words closed.seat) object (shaped_bits header next)
-    → TakesOut old new object header slot
+    → TakesFieldOut old new object header slot
 own_taken old mid closed new object header slot next whole there own found gap is heap =
     let path = shape_path old.paths header.shape in
     let fewer = one_fewer old mid object header.shape slot next there found in
@@ -110,7 +109,7 @@ pub beside_taken : (old mid closed new : Mutator) (object : ℕ) (header : Heade
     (length (shape_path mid.paths next).fields) first
     → new ≡ with_word closed object (shaped_bits header next)
     → heap_words new.seat ≡ slice_set (heap_words closed.seat) object (shaped_bits header next)
-    → TakesOut old new object header slot
+    → TakesFieldOut old new object header slot
 beside_taken old mid closed new object header slot next store first whole there stored drawn found closes is heap =
     let path = shape_path old.paths header.shape in
     let fewer = one_fewer old mid object header.shape slot next there found in

@@ -4,20 +4,19 @@ use Rattle.std.proofs.Common.{slice_get, sym, ◌∙◌, ap, subst, arith, lengt
 use Rattle.std.proofs.Common.{drop}
 use Rattle.std.specs.Prelude.{slice_set}
 use Rattle.std.proofs.lemmas.Bool.{cases_lt}
-use Rattle.tagged_word.specs.declared.header.Header.{Header}
+use Rattle.heap_model.specs.Types.{Header, Path}
 use Rattle.tagged_word.specs.Cells.{plain_head, store_head}
 use Rattle.page_space.specs.Extents.{Space, layouts_start, marks_start}
 use Rattle.page_space.proofs.Starts.{layouts_start_is, marks_start_is}
-use Rattle.object_graph.specs.declared.path.Path.{Path}
 use Rattle.object_graph.proofs.Lists.{slice_get-set_same, slice_get-set_other}
 use Rattle.shape_tree.specs.Shapes.{shape_path, without, Leads, AreShapes}
 use Rattle.shape_tree.specs.ShapeLayouts.{layout_word}
 use Rattle.heap_table.specs.Seats.{heap_words}
-use Rattle.heap_table.specs.Staying.{stays_beside_again}
+use Rattle.heap_table.specs.Staying.{rest_stays_again}
 use Rattle.heap_model.specs.Wholeness.{HasSizes}
-use Rattle.write_barrier.specs.Mains.{Mutator, heap_of, with_word}
+use Rattle.write_barrier.specs.MutatorState.{Mutator, heap_of, with_word}
 use Rattle.shape_change.specs.Shifts.{KeepsRest, ClosesSlots, slot_at}
-use Rattle.shape_change.specs.Deletions.{AddsPaths, HasBeside, shaped_bits, TakesOut}
+use Rattle.shape_change.specs.Deletions.{AddsPaths, HasFirstInStore, shaped_bits, TakesFieldOut}
 use Rattle.shape_change.proofs.SlotsClosed.{rest_put, rest_then}
 use Rattle.shape_change.proofs.SlotAddresses.{SlotsStand, slot_at-own, slot_at-beside}
 
@@ -80,11 +79,11 @@ pub took_out : (old mid closed new : Mutator) (object : ℕ) (header : Header) (
     → AddsPaths old mid → (shape_path old.paths header.shape).cap ≡ cap
     → length (shape_path old.paths header.shape).fields ≡ suc last
     → SlotsStand (heap_of old) object cap store (suc last)
-    → (cap ≤ last → HasBeside (heap_of old) object header.shape store first)
+    → (cap ≤ last → HasFirstInStore (heap_of old) object header.shape store first)
     → ClosesSlots mid closed object cap store slot last first
     → new ≡ with_word closed object (shaped_bits header next)
     → heap_words new.seat ≡ slice_set (heap_words closed.seat) object (shaped_bits header next)
-    → TakesOut old new object header slot
+    → TakesFieldOut old new object header slot
 took_out old mid closed new object header slot next cap last store first leads sized adds caps counted stand has_beside
     closes is heap =
     let bits : ℕ = shaped_bits header next in
@@ -115,7 +114,7 @@ took_out old mid closed new object header slot next cap last store first leads s
           omega (arith, from, ap (λ (s : Space). layouts_start s) adds.beside.space) in
           stay at (λ same. omega (arith, same, before, behind))
           (λ one low high same. omega (arith, same, (stands one high).below, behind)));
-      beside = stays_beside_again old.seat mid.seat new.seat adds.beside rest.beside;
+      beside = rest_stays_again old.seat mid.seat new.seat adds.beside rest.beside;
       young = rest.young ∙ adds.young;
       cap = cap;
       caps = caps;

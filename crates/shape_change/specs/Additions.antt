@@ -1,33 +1,30 @@
 -- How a field of a new name comes to a plain object, behind its other fields: which words that puts.
 use Rattle.std.specs.Prelude.{◌≡◌, ℕ, ◌+◌, ◌-◌, ◌<◌, ◌≤◌, true, false, List}
 use Rattle.std.specs.Prelude.{length, slice_get, slice_set}
-use Rattle.tagged_word.specs.declared.header.Header.{Header}
+use Rattle.heap_model.specs.Types.{Header, Path, Cell, Held}
 use Rattle.tagged_word.specs.declared.layout.Kind.TheVariants as kind
 use Rattle.tagged_word.specs.Cells.{plain_head, store_head}
-use Rattle.object_graph.specs.declared.path.Path.{Path}
 use Rattle.object_graph.specs.Paths.{missing}
 use Rattle.object_graph.specs.Invariants.{fields_most}
 use Rattle.object_graph.specs.Limits.{paths_most}
 use Rattle.page_space.specs.Extents.{layouts_start, marks_start}
 use Rattle.nursery.specs.Young.{HasRoom}
-use Rattle.shape_tree.specs.Shapes.{IsPathShape, Leads, IsFullFor, shape_path, has_name, stepped}
+use Rattle.shape_tree.specs.Shapes.{IsPathShape, Leads, LacksPathsFor, shape_path, has_name, stepped}
 use Rattle.shape_tree.specs.Growth.{IsStep}
-use Rattle.cell_layout.specs.declared.cell.Cell.{Cell}
-use Rattle.handle_roots.specs.declared.held.Held.{Held}
-use Rattle.heap_table.specs.Seats.{heap_words, StaysBeside}
+use Rattle.heap_table.specs.Seats.{heap_words, RestStays}
 use Rattle.heap_model.specs.Heaps.{Heap, HasCell}
 use Rattle.heap_model.specs.Wholeness.{HasSizes}
 use Rattle.heap_model.specs.Needs.{grown}
-use Rattle.write_barrier.specs.Mains.{Mutator, heap_of, IsTied, reserved}
+use Rattle.write_barrier.specs.MutatorState.{Mutator, heap_of, IsTied, reserved}
 use Rattle.shape_change.specs.declared.add_field.NewField.{NewField}
 use Rattle.shape_change.specs.declared.stop.FieldStop.{FieldStop}
 use Rattle.shape_change.specs.declared.stop.FieldStop.TheVariants as stop
 use Rattle.shape_change.specs.Deletions.{shaped_bits}
-use Rattle.object_cells.specs.declared.content.Content.{Content}
+use Rattle.object_cells.specs.declared.content.SlotContent.{SlotContent}
 use Rattle.object_cells.specs.declared.stores.Store.{Store}
-use Rattle.object_cells.specs.CellsAt.{IsWhole}
+use Rattle.object_cells.specs.CellsAt.{IsQuietWhole}
 use Rattle.object_cells.specs.Made.{IsStoreAt, PutsWords, with_store, with_content, content_need}
-use Rattle.object_cells.specs.Made.{content_word, beside_content}
+use Rattle.object_cells.specs.Made.{content_word, store_content}
 use Rattle.object_cells.specs.Contents.{held_rep, content_of, next_at}
 
 -- there may be as many paths as these and those that the path lacks
@@ -63,7 +60,7 @@ pub record IsPlainCellAt (heap : Heap) (at : ℕ) : Type 0 where
 -- marks.
 pub record CanAdd (main : Mutator) (object : ℕ) (header : Header) (name : ℕ) (value : Held) : Type 0 where
   pub tied : IsTied main
-  pub whole : IsWhole main
+  pub whole : IsQuietWhole main
   pub there : IsPlainCellAt (heap_of main) object
   pub headed : there.cell.header ≡ header
   pub shape : IsPathShape main.paths header.shape
@@ -89,13 +86,13 @@ pub record IsNewField (paths : List Path) (shape name : ℕ) (value : Held) (new
 abbrev pub RefusesField : List Path → ℕ → ℕ → Held → FieldStop → Type 0
 RefusesField paths shape name value stop.FieldsFull = fields_most ≤ count_of paths shape
 RefusesField paths shape name value (stop.ShapesFull full) =
-    (count_of paths shape < fields_most) × IsFullFor paths paths (added_path paths shape name value) full
+    (count_of paths shape < fields_most) × LacksPathsFor paths paths (added_path paths shape name value) full
 RefusesField paths shape name value (stop.Full full) = ⊥
 
 -- The path was added with its missing prefixes, and their layout words were put; its shape is this one. Nothing
 -- else has changed.
 pub record AddsPath (old new : Mutator) (path : Path) (shape : ℕ) : Type 0 where
-  pub beside : StaysBeside old.seat new.seat
+  pub beside : RestStays old.seat new.seat
   pub young : new.young ≡ old.young
   pub leads : Leads old.paths new.paths path shape
   pub sized : HasSizes (heap_of new)
@@ -107,7 +104,7 @@ abbrev pub with_shape : List ℕ → ℕ → Header → ℕ → List ℕ
 with_shape words object header shape = slice_set words object (shaped_bits header shape)
 
 -- what an in-object slot comes to hold for a new field
-abbrev pub own_content : Held → Content
+abbrev pub own_content : Held → SlotContent
 own_content value = content_of true (held_rep value) value
 
 -- The field comes to the next in-object slot.
@@ -122,30 +119,30 @@ pub record AddsOwn (old new : Mutator) (object : ℕ) (header : Header) (name : 
 -- The field comes to the next slot of the property store; a box that it needs is made.
 pub record AddsToStore (old new : Mutator) (object : ℕ) (header : Header) (name : ℕ) (value : Held) (store : Store)
     : Type 0 where
-  pub room : HasRoom old.young (content_need (beside_content value))
+  pub room : HasRoom old.young (content_need (store_content value))
   pub next : ℕ
   pub mid : Mutator
-  pub path : AddsPath (reserved old (content_need (beside_content value))) mid
+  pub path : AddsPath (reserved old (content_need (store_content value))) mid
       (added_path old.paths header.shape name value) next
   pub words : let place = store.at + (store_head + behind_cap old.paths header.shape) in
-      let boxed = with_content (heap_words mid.seat) (beside_content value) (next_at old) in
-      let put = slice_set boxed place (content_word (beside_content value) (next_at old)) in
+      let boxed = with_content (heap_words mid.seat) (store_content value) (next_at old) in
+      let put = slice_set boxed place (content_word (store_content value) (next_at old)) in
       PutsWords mid new (with_shape put object header next)
 
 -- A store is made in place of the one before, and the field comes to its first slot behind the slots of that one; a
 -- box that it needs is made behind the store.
 pub record AddsToNewStore (old new : Mutator) (object : ℕ) (header : Header) (name : ℕ) (value : Held) (store : Store)
     : Type 0 where
-  pub room : HasRoom old.young (store_head + grown store.capacity + content_need (beside_content value))
+  pub room : HasRoom old.young (store_head + grown store.capacity + content_need (store_content value))
   pub next : ℕ
   pub mid : Mutator
-  pub path : AddsPath (reserved old (store_head + grown store.capacity + content_need (beside_content value))) mid
+  pub path : AddsPath (reserved old (store_head + grown store.capacity + content_need (store_content value))) mid
       (added_path old.paths header.shape name value) next
   pub words : let behind = next_at old + (store_head + grown store.capacity) in
       let place = next_at old + (store_head + store.capacity) in
       let stored = with_store (heap_words mid.seat) object store (grown store.capacity) (next_at old) in
-      let boxed = with_content stored (beside_content value) behind in
-      let put = slice_set boxed place (content_word (beside_content value) behind) in
+      let boxed = with_content stored (store_content value) behind in
+      let put = slice_set boxed place (content_word (store_content value) behind) in
       PutsWords mid new (with_shape put object header next)
 
 -- How the field comes to the object: to an in-object slot below the cap, and else to the property store, which is

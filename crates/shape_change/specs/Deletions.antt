@@ -1,23 +1,19 @@
 -- How a field is taken out of the cells of a plain object.
 use Rattle.std.specs.Prelude.{◌≡◌, ◌≢◌, ℕ, suc, ◌+◌, ◌<◌, ◌≤◌, List, length, Some, slice_get, ℤ}
 use Rattle.std.specs.Prelude.{false, Result, Ok, Err}
-use Rattle.tagged_word.specs.declared.header.Header.{Header}
+use Rattle.heap_model.specs.Types.{Header, PathField, Rep, ShapesFull, Cell}
 use Rattle.tagged_word.specs.declared.layout.Kind.TheVariants as kind
 use Rattle.tagged_word.specs.Headers.{header_bits}
 use Rattle.tagged_word.specs.Cells.{store_head, store_slot}
 use Rattle.page_space.specs.Extents.{layouts_start}
-use Rattle.object_graph.specs.declared.path.PathField.{PathField}
-use Rattle.object_graph.specs.declared.value.Rep.{Rep}
 use Rattle.object_graph.specs.declared.value.Rep.TheVariants.{Small, Wide, Tagged}
-use Rattle.shape_tree.specs.declared.full.ShapesFull.{ShapesFull}
-use Rattle.shape_tree.specs.Shapes.{IsPathShape, shape_path, without, Leads, IsFullFor}
-use Rattle.cell_layout.specs.declared.cell.Cell.{Cell}
-use Rattle.heap_table.specs.Seats.{heap_words, StaysBeside}
+use Rattle.shape_tree.specs.Shapes.{IsPathShape, shape_path, without, Leads, LacksPathsFor}
+use Rattle.heap_table.specs.Seats.{heap_words, RestStays}
 use Rattle.heap_model.specs.Heaps.{Heap, HasCell}
 use Rattle.heap_model.specs.Slots.{raw_word, hole_word, RefersTo, RefersToBox, IsFieldWord}
 use Rattle.heap_model.specs.Kinds.{HasWord}
 use Rattle.heap_model.specs.Wholeness.{HasSizes}
-use Rattle.write_barrier.specs.Mains.{Mutator, heap_of}
+use Rattle.write_barrier.specs.MutatorState.{Mutator, heap_of}
 use Rattle.shape_change.specs.Shifts.{slot_at}
 
 -- a plain object's cell stands at the address, and its property store at the other
@@ -59,7 +55,7 @@ DrawsInFirst heap store shape drawn =
 
 -- all words before the layout words are the same, and so is all but the paths
 pub record AddsPaths (old new : Mutator) : Type 0 where
-  pub beside : StaysBeside old.seat new.seat
+  pub beside : RestStays old.seat new.seat
   pub young : new.young ≡ old.young
   pub count : length (heap_words new.seat) ≡ length (heap_words old.seat)
   pub same : (at : ℕ) → at < layouts_start old.seat.space
@@ -72,11 +68,11 @@ FindsWithout old new shape slot (Ok next) =
     Leads old.paths new.paths (without (shape_path old.paths shape) slot) next × HasSizes (heap_of new)
     × AddsPaths old new
 FindsWithout old new shape slot (Err full) =
-    IsFullFor old.paths new.paths (without (shape_path old.paths shape) slot) full × (new ≡ old)
+    LacksPathsFor old.paths new.paths (without (shape_path old.paths shape) slot) full × (new ≡ old)
 
 -- what of the property store takes part, where not all fields stand in the object: its address, and what the word of
 -- its first field becomes in the object
-pub record HasBeside (heap : Heap) (object shape store first : ℕ) : Type 0 where
+pub record HasFirstInStore (heap : Heap) (object shape store first : ℕ) : Type 0 where
   pub at : HasStoreAt heap object store
   pub drawn : DrawsInFirst heap store shape first
 
@@ -88,11 +84,11 @@ shaped_bits header shape = header_bits (record header { shape = shape })
 -- it was added, and the header is of its shape. From the field on each slot holds the word of the next, up to the last
 -- field's, which holds nothing; what comes into the object from the store is drawn in. No other word before the layout
 -- words changed.
-pub record TakesOut (old new : Mutator) (object : ℕ) (header : Header) (slot : ℕ) : Type 0 where
+pub record TakesFieldOut (old new : Mutator) (object : ℕ) (header : Header) (slot : ℕ) : Type 0 where
   pub next : ℕ
   pub leads : Leads old.paths new.paths (without (shape_path old.paths header.shape) slot) next
   pub sized : HasSizes (heap_of new)
-  pub beside : StaysBeside old.seat new.seat
+  pub beside : RestStays old.seat new.seat
   pub young : new.young ≡ old.young
   pub cap : ℕ
   pub caps : (shape_path old.paths header.shape).cap ≡ cap
@@ -100,7 +96,7 @@ pub record TakesOut (old new : Mutator) (object : ℕ) (header : Header) (slot :
   pub counted : length (shape_path old.paths header.shape).fields ≡ suc last
   pub store : ℕ
   pub first : ℕ
-  pub has_beside : cap ≤ last → HasBeside (heap_of old) object header.shape store first
+  pub has_beside : cap ≤ last → HasFirstInStore (heap_of old) object header.shape store first
   pub moved : (one : ℕ) → slot ≤ one → one < last → suc one ≢ cap
       → slice_get (heap_words new.seat) (slot_at object cap store one)
       ≡ slice_get (heap_words old.seat) (slot_at object cap store (suc one))
@@ -114,6 +110,6 @@ pub record TakesOut (old new : Mutator) (object : ℕ) (header : Header) (slot :
 
 -- it is taken out; or there may not be as many paths, and nothing has changed
 abbrev pub TakingOut : Mutator → Mutator → ℕ → Header → ℕ → Result Unit ShapesFull → Type 0
-TakingOut old new object header slot (Ok _) = TakesOut old new object header slot
+TakingOut old new object header slot (Ok _) = TakesFieldOut old new object header slot
 TakingOut old new object header slot (Err full) =
-    IsFullFor old.paths new.paths (without (shape_path old.paths header.shape) slot) full × (new ≡ old)
+    LacksPathsFor old.paths new.paths (without (shape_path old.paths header.shape) slot) full × (new ≡ old)

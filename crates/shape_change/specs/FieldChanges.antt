@@ -1,19 +1,16 @@
 -- What the calls on the fields of an object do.
 use Rattle.std.specs.Prelude.{◌≡◌, ℕ, List, None, unwrap_or}
 use Rattle.std.specs.Prelude.{Result, Ok, Err}
-use Rattle.object_graph.specs.declared.value.Value.{Value}
+use Rattle.heap_model.specs.Types.{Value, Field, ShapesFull, Held}
 use Rattle.object_graph.specs.declared.value.Value.TheVariants.{Undefined}
-use Rattle.object_graph.specs.declared.object.Field.{Field}
 use Rattle.object_graph.specs.Objects.{field_value, with_field, without_field}
 use Rattle.object_graph.specs.Paths.{path_of}
 use Rattle.object_graph.specs.Graphs.{Graph, PlainObject}
-use Rattle.shape_tree.specs.Shapes.{IsFullFor}
-use Rattle.shape_tree.specs.declared.full.ShapesFull.{ShapesFull}
+use Rattle.shape_tree.specs.Shapes.{LacksPathsFor}
 use Rattle.nursery.specs.Young.{HasRoom}
-use Rattle.handle_roots.specs.declared.held.Held.{Held}
 use Rattle.heap_model.specs.Needs.{capacity_at}
 use Rattle.heap_model.specs.Rooms.{set_need, set_capacity}
-use Rattle.write_barrier.specs.Mains.{Mutator, heap_of, MainShows}
+use Rattle.write_barrier.specs.MutatorState.{Mutator, heap_of, MainShows}
 use Rattle.object_cells.specs.PlainObjects.{IsPlainAt, ShowsRefilled, LacksPaths, LacksFields}
 use Rattle.object_cells.specs.HeldValues.{IsValueHeld}
 use Rattle.object_cells.specs.Uses.{UsesMore}
@@ -45,7 +42,7 @@ pub record HasSetField (old new : Mutator) (graph : Graph) (at : ℕ) (plain : P
 -- There may not be as many paths as the object with these fields needs; the refusal says how many there are, and how
 -- many it lacks.
 abbrev pub IsFullOfPaths : Graph → PlainObject → List Field → ShapesFull → Type 0
-IsFullOfPaths graph plain fields full = IsFullFor graph.paths graph.paths (path_of plain.cap fields) full
+IsFullOfPaths graph plain fields full = LacksPathsFor graph.paths graph.paths (path_of plain.cap fields) full
 
 -- `set` of a field: the field has the value; or there are too many fields, too many paths, or no room, in this order,
 -- and nothing changes.

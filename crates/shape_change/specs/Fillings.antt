@@ -1,27 +1,26 @@
 -- What has changed once a slot of a plain object was filled.
 use Rattle.std.specs.Prelude.{◌≡◌, ℕ, ◌<◌, Some, None, List, Result, Ok, Err, slice_get, option_map, nat_lt}
-use Rattle.tagged_word.specs.declared.header.Header.{Header}
+use Rattle.heap_model.specs.Types.{Header, Path, Held}
 use Rattle.tagged_word.specs.Headers.{header_bits}
 use Rattle.page_space.specs.Extents.{layouts_start, marks_start}
-use Rattle.object_graph.specs.declared.path.Path.{Path}
 use Rattle.object_graph.specs.Paths.{with_path}
 use Rattle.object_graph.specs.Limits.{paths_most}
 use Rattle.object_graph.specs.Values.{join}
-use Rattle.shape_tree.specs.Shapes.{IsPathShape, shape_path, Leads, IsFullFor}
-use Rattle.handle_roots.specs.declared.held.Held.{Held}
-use Rattle.heap_table.specs.Seats.{StaysBeside}
+use Rattle.shape_tree.specs.Shapes.{IsPathShape, shape_path, Leads, LacksPathsFor}
+use Rattle.heap_table.specs.Seats.{RestStays}
 use Rattle.heap_model.specs.Heaps.{Heap}
 use Rattle.heap_model.specs.Needs.{word_at}
 use Rattle.heap_model.specs.Wholeness.{HasSizes}
-use Rattle.write_barrier.specs.Mains.{Mutator, heap_of, IsTied, with_word}
+use Rattle.write_barrier.specs.MutatorState.{Mutator, heap_of, IsTied, with_word}
 use Rattle.write_barrier.specs.Opening.{ChangesWithin}
-use Rattle.object_cells.specs.declared.content.Content.{Content}
+use Rattle.object_cells.specs.declared.content.SlotContent.{SlotContent}
 use Rattle.shape_change.specs.declared.set_field.SlotSetting.{SlotSetting}
 use Rattle.shape_change.specs.declared.stop.FieldStop.{FieldStop}
 use Rattle.shape_change.specs.declared.stop.FieldStop.TheVariants as stop
 use Rattle.shape_change.specs.Places.{place_at, IsPlaceOf}
-use Rattle.object_cells.specs.CellsAt.{IsWhole, IsHeaderAt, HasField}
-use Rattle.object_cells.specs.Contents.{held_rep, content_of, HoldsSlotWord, filling_at, filled, Allocates, LacksRoom}
+use Rattle.object_cells.specs.CellsAt.{IsQuietWhole, IsHeaderAt, HasField}
+use Rattle.object_cells.specs.Contents.{held_rep, content_of, HoldsSlotWord, filling_at, filled, AllocatesBox}
+use Rattle.object_cells.specs.Contents.{LacksRoom}
 
 -- How the slot of this number of the plain object at the address is set to the value: the place of the slot, the
 -- representation of its field before and after, and what the slot comes to hold. Where that is a reference to a box, it
@@ -36,7 +35,7 @@ pub record IsSlotSetting (heap : Heap) (object shape slot : ℕ) (value : Held) 
 
 -- The slot of this number of the plain object at the address, whose shape this is, may be set so.
 pub record CanSetSlot (main : Mutator) (object shape slot : ℕ) (setting : SlotSetting) : Type 0 where
-  pub whole : IsWhole main
+  pub whole : IsQuietWhole main
   pub tied : IsTied main
   pub there : HasField (heap_of main) object shape slot
   pub path : IsPathShape main.paths shape
@@ -50,9 +49,9 @@ with_paths main paths = record main { paths = paths }
 -- The slot at the address came to hold this, and the object has the shape of this path: the words that it needs are
 -- used, the paths were added with their layout words, the slot was filled, and then the header was put. The marks and
 -- the board are as they were.
-pub record FillsWider (old new : Mutator) (object at : ℕ) (path : Path) (content : Content) : Type 0 where
+pub record FillsWider (old new : Mutator) (object at : ℕ) (path : Path) (content : SlotContent) : Type 0 where
   pub between : Mutator
-  pub allocates : Allocates old between (filling_at old at content)
+  pub allocates : AllocatesBox old between (filling_at old at content)
   pub laid : Mutator
   pub changes : ChangesWithin (with_paths between laid.paths) laid (layouts_start old.seat.space)
       (marks_start old.seat.space)
@@ -63,15 +62,15 @@ pub record FillsWider (old new : Mutator) (object at : ℕ) (path : Path) (conte
   pub is_header : IsHeaderAt (heap_of old) object header
   pub fills : new ≡ with_word (filled laid at (filling_at old at content)) object
       (header_bits (record header { shape = next }))
-  pub beside : StaysBeside old.seat new.seat
+  pub beside : RestStays old.seat new.seat
 
 -- the slot came to hold this, with the object of another shape; or there are too many paths, or no room, in this
 -- order, and nothing has changed
-abbrev pub SetsWider : Mutator → Mutator → ℕ → ℕ → Path → Content → Result Unit FieldStop → Type 0
+abbrev pub SetsWider : Mutator → Mutator → ℕ → ℕ → Path → SlotContent → Result Unit FieldStop → Type 0
 SetsWider old new object at path content (Ok _) = FillsWider old new object at path content
 SetsWider old new object at path content (Err stop.FieldsFull) = ⊥
 SetsWider old new object at path content (Err (stop.ShapesFull full)) =
-    IsFullFor old.paths old.paths path full × (new ≡ old)
+    LacksPathsFor old.paths old.paths path full × (new ≡ old)
 SetsWider old new object at path content (Err (stop.Full full)) =
     (with_path (Some paths_most) old.paths path ≡ None → ⊥) × LacksRoom old (filling_at old at content) full
     × (new ≡ old)

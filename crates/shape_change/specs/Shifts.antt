@@ -3,15 +3,15 @@ use Rattle.std.specs.Prelude.{◌≡◌, ◌≢◌, ℕ, suc, ◌+◌, ◌-◌, 
 use Rattle.std.specs.Prelude.{slice_get, nat_lt, if◌then◌else◌}
 use Rattle.tagged_word.specs.Cells.{plain_head, store_head}
 use Rattle.page_space.specs.Extents.{marks_start}
-use Rattle.object_graph.specs.declared.path.Path.{Path}
+use Rattle.heap_model.specs.Types.{Path}
 use Rattle.shape_tree.specs.Shapes.{shape_path}
-use Rattle.heap_table.specs.Seats.{heap_words, StaysBeside}
+use Rattle.heap_table.specs.Seats.{heap_words, RestStays}
 use Rattle.heap_model.specs.Slots.{hole_word}
-use Rattle.write_barrier.specs.Mains.{Mutator}
+use Rattle.write_barrier.specs.MutatorState.{Mutator}
 
 -- of all that the mutator has, at most words before the marks have changed
 pub record KeepsRest (old new : Mutator) : Type 0 where
-  pub beside : StaysBeside old.seat new.seat
+  pub beside : RestStays old.seat new.seat
   pub paths : new.paths ≡ old.paths
   pub young : new.young ≡ old.young
   pub count : length (heap_words new.seat) ≡ length (heap_words old.seat)

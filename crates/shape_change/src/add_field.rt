@@ -11,7 +11,7 @@ ghost use Rattle.object_graph.specs.Objects.{field_value};
 ghost use Rattle.shape_tree.specs.Shapes.{IsPathShape, shape_path, has_name};
 ghost use Rattle.heap_table.specs.declared.phase.Phase.TheVariants.{Quiet};
 ghost use Rattle.heap_table.specs.Seats.{heap_words};
-ghost use Rattle.write_barrier.specs.Mains.{heap_of, MainShows};
+ghost use Rattle.write_barrier.specs.MutatorState.{heap_of, MainShows};
 ghost use Rattle.object_cells.specs.CellsAt.{IsHeaderAt};
 ghost use Rattle.object_cells.specs.PlainObjects.{IsPlainAt};
 ghost use Rattle.object_cells.specs.HeldValues.{IsValueHeld};
@@ -20,14 +20,14 @@ ghost use Rattle.shape_change.specs.Additions.{IsNewField, RefusesField, CanAdd,
 ghost use Rattle.shape_change.specs.Additions.{AddsToNewStore, AddsField, count_of, behind_cap};
 ghost use Rattle.shape_change.specs.Additions.{ComesBehind};
 ghost use Rattle.object_cells.specs.Made.{PutsWords, IsStoreAt, RefusesRoom, is_wide_held};
-ghost use Rattle.object_cells.specs.Made.{with_content, content_need, content_word, beside_content};
+ghost use Rattle.object_cells.specs.Made.{with_content, content_need, content_word, store_content};
 
 use crate::stop::FieldStop;
 use crate::transitions::{set_shape, step_to};
 use handle_roots::Held;
 use heap_model::cells::FIRST_CAPACITY;
 use object_cells::{
-    Content, Store, boxed_word, content_of, make_store, need_of, rep_of, room_for, store_of,
+    SlotContent, Store, boxed_word, content_of, make_store, need_of, rep_of, room_for, store_of,
 };
 use object_graph::PathField;
 use object_graph::limits::FIELDS_MOST;
@@ -50,10 +50,10 @@ pub(crate) struct NewField {
     pub(crate) step: Step,
 }
 
-// How a field of a new name comes to an object of a shape.
-//
-// # Errors
-// The object has 64 fields, or there may not be as many field paths.
+/// How a field of a new name comes to an object of a shape.
+///
+/// # Errors
+/// The object has 64 fields, or there may not be as many field paths.
 fn new_field(main: &Main, shape: u32, name: u32, value: Held) -> Result<NewField, FieldStop>
     requires path { IsPathShape main.now.paths shape }
     requires is_new { has_name (shape_path main.now.paths shape) name ≡ false }
@@ -108,7 +108,7 @@ pub(crate) fn add_there(
     Ok(())
 }
 
-// The slot that the field comes to, and how.
+/// The slot that the field comes to, and how.
 fn add_field(main: &mut Main, object: u32, header: Header, new: NewField) -> Result<(), NoRoom>
     requires can { CanAdd main.old object header new.field.name new.value }
     requires new { let paths = main.old.paths in
@@ -132,7 +132,7 @@ fn add_field(main: &mut Main, object: u32, header: Header, new: NewField) -> Res
     }
 }
 
-// The field comes to the next in-object slot.
+/// The field comes to the next in-object slot.
 fn add_own(main: &mut Main, object: u32, header: Header, new: NewField)
     requires can { CanAdd main.old object header new.field.name new.value }
     requires new { let paths = main.old.paths in
@@ -147,23 +147,23 @@ fn add_own(main: &mut Main, object: u32, header: Header, new: NewField)
     set_shape(main, object, header, next);
 }
 
-// Puts in an in-object slot what it comes to hold.
-fn put_own(main: &mut Main, object: u32, offset: u32, content: Content)
+/// Puts in an in-object slot what it comes to hold.
+fn put_own(main: &mut Main, object: u32, offset: u32, content: SlotContent)
     requires quiet { main.old.seat.phase ≡ Quiet }
     requires within { object + offset < marks_start main.old.seat.space }
-    requires own { (v : ℤ) → content ≡ Content.Boxed v → ⊥ }
+    requires own { (v : ℤ) → content ≡ SlotContent.Boxed v → ⊥ }
     ensures { let words = heap_words main.old.seat in
         PutsWords main.old main.new
         (slice_set words (object + offset) (content_word content 0)) }
 {
     match content {
-        Content::Tagged(word) => main.store(object, offset, word),
-        Content::Raw(word) => main.write_slot(object, offset, word),
-        Content::Boxed(_) => unreachable!(),
+        SlotContent::Tagged(word) => main.store(object, offset, word),
+        SlotContent::Raw(word) => main.write_slot(object, offset, word),
+        SlotContent::Boxed(_) => unreachable!(),
     }
 }
 
-// The field comes to the next slot of the property store.
+/// The field comes to the next slot of the property store.
 fn add_to_store(
     main: &mut Main,
     object: u32,
@@ -179,7 +179,7 @@ fn add_to_store(
     requires room { behind_cap main.old.paths header.shape < store.capacity }
     ensures ok { let name = new.field.name in
         OnOk result (AddsToStore main.old main.new object header name new.value store) }
-    ensures refused { let need = content_need (beside_content new.value) in
+    ensures refused { let need = content_need (store_content new.value) in
         IfErr result (RefusesRoom main.old main.new need) }
 {
     let content = content_of(false, new.field.rep, new.value);
@@ -191,7 +191,7 @@ fn add_to_store(
     Ok(())
 }
 
-// The field comes to the next slot of a store that takes the place of one that is full.
+/// The field comes to the next slot of a store that takes the place of one that is full.
 fn add_to_new_store(
     main: &mut Main,
     object: u32,
@@ -208,7 +208,7 @@ fn add_to_new_store(
     ensures ok { let name = new.field.name in
         OnOk result (AddsToNewStore main.old main.new object header name new.value store) }
     ensures refused { let words = store_head + needs.grown store.capacity in
-        let need = words + content_need (beside_content new.value) in
+        let need = words + content_need (store_content new.value) in
         IfErr result (RefusesRoom main.old main.new need) }
 {
     // The box stands behind the store.
@@ -225,7 +225,7 @@ fn add_to_new_store(
     Ok(())
 }
 
-// How many slots the store has that takes the place of one that is full: twice as many.
+/// How many slots the store has that takes the place of one that is full: twice as many.
 fn grown(capacity: u32) -> u32
     requires { store_head + capacity ≤ cell_words_most }
     ensures { result ≡ needs.grown capacity }

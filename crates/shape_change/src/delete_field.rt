@@ -1,10 +1,10 @@
 //! The call `delete`. How slots move down is in `shift_slots.rt`.
 ghost use Rattle.std.specs.Prelude.{◌≡◌, ℕ, ◌<◌, ◌≤◌, length, IfOk, IfErr, ℤ};
 ghost use Rattle.object_graph.specs.Graphs.{Graph, PlainObject};
-ghost use Rattle.shape_tree.specs.Shapes.{IsPathShape, shape_path, without, Leads, IsFullFor};
+ghost use Rattle.shape_tree.specs.Shapes.{IsPathShape, shape_path, without, Leads, LacksPathsFor};
 ghost use Rattle.heap_model.specs.Slots.{RefersToBox, raw_word};
-ghost use Rattle.write_barrier.specs.Mains.{heap_of, MainShows};
-ghost use Rattle.object_cells.specs.CellsAt.{IsWhole, HasField};
+ghost use Rattle.write_barrier.specs.MutatorState.{heap_of, MainShows};
+ghost use Rattle.object_cells.specs.CellsAt.{IsQuietWhole, HasField};
 ghost use Rattle.object_cells.specs.PlainObjects.{IsPlainAt, IsShownPlain};
 ghost use Rattle.shape_change.specs.FieldChanges.{DeletesField};
 ghost use Rattle.shape_change.specs.Deletions.{HasStoreAt, HasFirstBeside, DrawsInFirst};
@@ -18,23 +18,23 @@ use tagged_word::cell::{STORE_HEAD, STORE_SLOT};
 use tagged_word::{Header, Word};
 use write_barrier::Main;
 
-// Adds the path of a shape without one field. No other part changes.
+/// Adds the path of a shape without one field. No other part changes.
 fn path_without(main: &mut Main, shape: u32, slot: u32) -> Result<u32, ShapesFull>
     requires path { IsPathShape main.old.paths shape }
     requires there { slot < length (shape_path main.old.paths shape).fields }
     ensures taken_out { let path = without (shape_path main.old.paths shape) slot in
         IfOk result (λ next. Leads main.old.paths main.new.paths path next) }
     ensures full { let path = without (shape_path main.old.paths shape) slot in
-        IfErr result (λ full. IsFullFor main.old.paths main.new.paths path full) }
+        IfErr result (λ full. LacksPathsFor main.old.paths main.new.paths path full) }
     ensures rest { main.new ≡ record main.old { paths = main.new.paths } }
 {
     main.shapes_mut().without(shape, slot)
 }
 
-// The shape of the path of a shape without one field. The path, its missing prefixes and their
-// layout words are added; or there may not be as many paths, and nothing has changed.
+/// The shape of the path of a shape without one field. The path, its missing prefixes and their
+/// layout words are added; or there may not be as many paths, and nothing has changed.
 fn shape_without(main: &mut Main, shape: u32, slot: u32) -> Result<u32, ShapesFull>
-    requires whole { IsWhole main.old }
+    requires whole { IsQuietWhole main.old }
     requires path { IsPathShape main.old.paths shape }
     requires there { slot < length (shape_path main.old.paths shape).fields }
     ensures { FindsWithout main.old main.new shape slot result }
@@ -45,9 +45,9 @@ fn shape_without(main: &mut Main, shape: u32, slot: u32) -> Result<u32, ShapesFu
     Ok(next)
 }
 
-// The address of the property store of the plain object at an address.
+/// The address of the property store of the plain object at an address.
 fn store_of(main: &Main, object: u32) -> u32
-    requires whole { IsWhole main.now }
+    requires whole { IsQuietWhole main.now }
     requires there { (store : ℕ) × HasStoreAt (heap_of main.now) object store }
     ensures { HasStoreAt (heap_of main.now) object result }
 {
@@ -58,9 +58,9 @@ fn store_of(main: &Main, object: u32) -> u32
     }
 }
 
-// The raw word in the box to which a word refers.
+/// The raw word in the box to which a word refers.
 fn raw_in_box(main: &Main, word: Word) -> u64
-    requires whole { IsWhole main.now }
+    requires whole { IsQuietWhole main.now }
     requires boxed { (v : ℤ) × RefersToBox (heap_of main.now) word.0 v }
     ensures { (v : ℤ) → RefersToBox (heap_of main.now) word.0 v → result ≡ raw_word v }
 {
@@ -71,10 +71,10 @@ fn raw_in_box(main: &Main, word: Word) -> u64
     }
 }
 
-// The word that the first field in the property store has in the object: as it is, and of a wide
-// one the integer in its box.
+/// The word that the first field in the property store has in the object: as it is, and of a wide
+/// one the integer in its box.
 fn first_drawn_in(main: &Main, store: u32, shape: u32) -> u64
-    requires whole { IsWhole main.now }
+    requires whole { IsQuietWhole main.now }
     requires there { HasFirstBeside (heap_of main.now) store shape }
     ensures { DrawsInFirst (heap_of main.now) store shape result }
 {
@@ -88,9 +88,9 @@ fn first_drawn_in(main: &Main, store: u32, shape: u32) -> u64
     }
 }
 
-// Takes out a field of the plain object at an address, all fields of which stand in the object.
+/// Takes out a field of the plain object at an address, all fields of which stand in the object.
 fn take_out_own(main: &mut Main, object: u32, header: Header, slot: u32) -> Result<(), ShapesFull>
-    requires whole { IsWhole main.old }
+    requires whole { IsQuietWhole main.old }
     requires there { HasField (heap_of main.old) object header.shape slot }
     requires own { let path = shape_path main.old.paths header.shape in
         length path.fields ≤ path.cap }
@@ -103,15 +103,15 @@ fn take_out_own(main: &mut Main, object: u32, header: Header, slot: u32) -> Resu
     Ok(())
 }
 
-// Takes out a field of the plain object at an address, some fields of which stand in its property
-// store.
+/// Takes out a field of the plain object at an address, some fields of which stand in its property
+/// store.
 fn take_out_beside(
     main: &mut Main,
     object: u32,
     header: Header,
     slot: u32,
 ) -> Result<(), ShapesFull>
-    requires whole { IsWhole main.old }
+    requires whole { IsQuietWhole main.old }
     requires there { HasField (heap_of main.old) object header.shape slot }
     requires beside { let path = shape_path main.old.paths header.shape in
         path.cap < length path.fields }
@@ -128,9 +128,9 @@ fn take_out_beside(
     Ok(())
 }
 
-// Takes out a field of the plain object at an address.
+/// Takes out a field of the plain object at an address.
 fn take_out(main: &mut Main, object: u32, header: Header, slot: u32) -> Result<(), ShapesFull>
-    requires whole { IsWhole main.old }
+    requires whole { IsQuietWhole main.old }
     requires there { HasField (heap_of main.old) object header.shape slot }
     ensures { TakingOut main.old main.new object header slot result }
 {

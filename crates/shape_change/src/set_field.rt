@@ -1,14 +1,14 @@
 //! The call `set`. A name that is new to its object is in `add_field.rt`.
 ghost use Rattle.std.specs.Prelude.{◌≡◌, ◌+◌, ◌<◌, ◌≤◌, length, OnOk, IfErr, ℕ, Some, slice_get};
 ghost use Rattle.std.specs.Prelude.{option_map, OnErr};
-ghost use Rattle.write_barrier.specs.Mains.{heap_of, IsTied, MainShows};
+ghost use Rattle.write_barrier.specs.MutatorState.{heap_of, IsTied, MainShows};
 ghost use Rattle.shape_change.specs.FieldChanges.{IsShownSetting, SetsField};
-ghost use Rattle.object_cells.specs.CellsAt.{HasField, IsWhole, IsHeaderAt};
+ghost use Rattle.object_cells.specs.CellsAt.{HasField, IsQuietWhole, IsHeaderAt};
 ghost use Rattle.shape_change.specs.Fillings.{IsSlotSetting, with_paths, CanSetSlot, SetsWider};
 ghost use Rattle.page_space.specs.Extents.{layouts_start, marks_start};
 ghost use Rattle.object_graph.specs.Paths.{missing};
 ghost use Rattle.object_graph.specs.Limits.{paths_most};
-ghost use Rattle.shape_tree.specs.Shapes.{IsPathShape, shape_path, changed, Leads, IsFullFor};
+ghost use Rattle.shape_tree.specs.Shapes.{IsPathShape, shape_path, changed, Leads, LacksPathsFor};
 ghost use Rattle.heap_table.specs.declared.phase.Phase.TheVariants.{Quiet};
 ghost use Rattle.heap_model.specs.Wholeness.{HasSizes};
 ghost use Rattle.write_barrier.specs.Opening.{ChangesWithin};
@@ -21,11 +21,11 @@ ghost use Rattle.object_cells.specs.HeldValues.{IsValueHeld};
 ghost use Rattle.object_cells.specs.Contents.{HoldsSlotWord, LacksRoom, FillsSlot, filling_at};
 
 use crate::add_field::add_there;
-use crate::slots::{Place, fill, filling_of, place_of};
+use crate::slots::{Place, fill, filling_of, slot_place};
 use crate::stop::FieldStop;
 use crate::transitions::{put_new_layouts, set_shape};
 use handle_roots::Held;
-use object_cells::{Content, Filling, content_of, rep_of};
+use object_cells::{SlotContent, SlotWrite, content_of, rep_of};
 use object_graph::Rep;
 use shape_tree::ShapesFull;
 use tagged_word::Header;
@@ -41,10 +41,10 @@ pub(crate) struct SlotSetting {
     /// The representation of its field afterwards: it never narrows.
     pub(crate) rep: Rep,
     /// What it comes to hold.
-    pub(crate) content: Content,
+    pub(crate) content: SlotContent,
 }
 
-// How the slot of the field of this number of the plain object at an address is set to a value.
+/// How the slot of the field of this number of the plain object at an address is set to a value.
 #[inline(always)]
 fn setting_of(main: &Main, object: u32, shape: u32, slot: u32, value: Held) -> SlotSetting
     requires shown { IsShownSetting main.now object value }
@@ -52,7 +52,7 @@ fn setting_of(main: &Main, object: u32, shape: u32, slot: u32, value: Held) -> S
     ensures { IsSlotSetting (heap_of main.now) object shape slot value result }
 {
     let shapes = main.shapes();
-    let place = place_of(main, object, shapes.cap(shape), slot);
+    let place = slot_place(main, object, shapes.cap(shape), slot);
     let was = shapes.field(shape, slot).rep;
     let rep = was.join(rep_of(value));
     SlotSetting {
@@ -63,24 +63,24 @@ fn setting_of(main: &Main, object: u32, shape: u32, slot: u32, value: Held) -> S
     }
 }
 
-// There may be as many paths as another representation of a field needs.
-//
-// # Errors
-// There may not.
+/// There may be as many paths as another representation of a field needs.
+///
+/// # Errors
+/// There may not.
 fn room_for_change(main: &Main, shape: u32, slot: u32, rep: Rep) -> Result<(), ShapesFull>
     requires path { IsPathShape main.now.paths shape }
     requires there { slot < length (shape_path main.now.paths shape).fields }
     ensures room { let path = changed (shape_path main.now.paths shape) slot rep in
         OnOk result (length main.now.paths + length (missing main.now.paths path) ≤ paths_most) }
     ensures refused { let path = changed (shape_path main.now.paths shape) slot rep in
-        IfErr result (λ full. IsFullFor main.now.paths main.now.paths path full) }
+        IfErr result (λ full. LacksPathsFor main.now.paths main.now.paths path full) }
 {
     let shapes = main.shapes();
     shapes.room_for(shapes.missing_change(shape, slot, rep))
 }
 
-// The shape with another representation of a field. Its path is there from now on, with its
-// prefixes and their layout words: there may be as many paths.
+/// The shape with another representation of a field. Its path is there from now on, with its
+/// prefixes and their layout words: there may be as many paths.
 fn changed_shape(main: &mut Main, shape: u32, slot: u32, rep: Rep) -> u32
     requires quiet { main.old.seat.phase ≡ Quiet }
     requires sized { HasSizes (heap_of main.old) }
@@ -103,23 +103,23 @@ fn changed_shape(main: &mut Main, shape: u32, slot: u32, rep: Rep) -> u32
     next
 }
 
-// Tells the marking of an object one slot of which is about to become raw; of no other.
-fn blacken_for(main: &mut Main, object: u32, filling: Filling)
+/// Tells the marking of an object one slot of which is about to become raw; of no other.
+fn blacken_for(main: &mut Main, object: u32, filling: SlotWrite)
     requires quiet { main.old.seat.phase ≡ Quiet }
     requires within { object < marks_start main.old.seat.space }
     ensures { main.new ≡ main.old }
 {
     match filling {
-        Filling::Raw(_) => main.blacken(object),
-        Filling::Tagged(_) | Filling::NewBox { .. } | Filling::OldBox { .. } => {}
+        SlotWrite::Raw(_) => main.blacken(object),
+        SlotWrite::Tagged(_) | SlotWrite::NewBox { .. } | SlotWrite::OldBox { .. } => {}
     }
 }
 
-// Sets the slot of this number of the plain object at an address, whose field comes to have
-// another representation, and the object another shape.
-//
-// # Errors
-// There may not be as many paths; there is no room for a box. In this order; nothing has changed.
+/// Sets the slot of this number of the plain object at an address, whose field comes to have
+/// another representation, and the object another shape.
+///
+/// # Errors
+/// There may not be as many paths; there is no room for a box. In this order; nothing has changed.
 #[inline(never)]
 fn set_wider(
     main: &mut Main,
@@ -145,15 +145,15 @@ fn set_wider(
     Ok(())
 }
 
-// The slot at a place of a plain object comes to hold this, by a filling: a box is made or written.
+/// The slot at a place of a plain object comes to hold this, by a filling: a box is made or written.
 #[inline(never)]
 fn set_by_filling(
     main: &mut Main,
     object: u32,
     place: Place,
-    content: Content,
+    content: SlotContent,
 ) -> Result<(), NoRoom>
-    requires whole { IsWhole main.old }
+    requires whole { IsQuietWhole main.old }
     requires tied { IsTied main.old }
     requires within { place_at object place < marks_start main.old.seat.space }
     requires held { let word = word_at (heap_of main.old) (place_at object place) in
@@ -168,10 +168,10 @@ fn set_by_filling(
     Ok(())
 }
 
-// The slot at a place of a plain object comes to hold this; its shape stays.
+/// The slot at a place of a plain object comes to hold this; its shape stays.
 #[inline(always)]
-fn set_as_is(main: &mut Main, object: u32, place: Place, content: Content) -> Result<(), NoRoom>
-    requires whole { IsWhole main.old }
+fn set_as_is(main: &mut Main, object: u32, place: Place, content: SlotContent) -> Result<(), NoRoom>
+    requires whole { IsQuietWhole main.old }
     requires tied { IsTied main.old }
     requires within { place_at object place < marks_start main.old.seat.space }
     requires held { let word = word_at (heap_of main.old) (place_at object place) in
@@ -182,15 +182,15 @@ fn set_as_is(main: &mut Main, object: u32, place: Place, content: Content) -> Re
     ensures unchanged { OnErr result (main.new ≡ main.old) }
 {
     match content {
-        Content::Tagged(word) => fill(main, object, place, Filling::Tagged(word)),
-        Content::Raw(word) => fill(main, object, place, Filling::Raw(word)),
-        Content::Boxed(_) => return set_by_filling(main, object, place, content),
+        SlotContent::Tagged(word) => fill(main, object, place, SlotWrite::Tagged(word)),
+        SlotContent::Raw(word) => fill(main, object, place, SlotWrite::Raw(word)),
+        SlotContent::Boxed(_) => return set_by_filling(main, object, place, content),
     }
     Ok(())
 }
 
-// Gives the field of this number of the plain object at an address the value. Its representation
-// never narrows, and the object gets another shape where it widens.
+/// Gives the field of this number of the plain object at an address the value. Its representation
+/// never narrows, and the object gets another shape where it widens.
 #[inline(always)]
 fn set_there(
     main: &mut Main,

@@ -6,7 +6,7 @@ ghost use Rattle.shape_tree.specs.Shapes.{IsPathShape, shape_path};
 ghost use Rattle.heap_table.specs.declared.phase.Phase.TheVariants.{Quiet};
 ghost use Rattle.heap_table.specs.Seats.{heap_words};
 ghost use Rattle.heap_model.specs.Slots.{hole_word};
-ghost use Rattle.write_barrier.specs.Mains.{with_word};
+ghost use Rattle.write_barrier.specs.MutatorState.{with_word};
 ghost use Rattle.shape_change.specs.Shifts.{MovesDown, ClosesGap, ClosesSlots, SlotsWithin};
 
 use object_graph::Rep;
@@ -14,8 +14,8 @@ use tagged_word::cell::{PLAIN_HEAD, STORE_HEAD};
 use tagged_word::{Word, odd};
 use write_barrier::Main;
 
-// Puts a word in the in-object slot of a field: as it is where the field is wide, and else as a
-// value. No other word changes.
+/// Puts a word in the in-object slot of a field: as it is where the field is wide, and else as a
+/// value. No other word changes.
 fn put_own(main: &mut Main, object: u32, shape: u32, slot: u32, word: u64)
     requires quiet { main.old.seat.phase ≡ Quiet }
     requires path { IsPathShape main.old.paths shape }
@@ -33,7 +33,7 @@ fn put_own(main: &mut Main, object: u32, shape: u32, slot: u32, word: u64)
     }
 }
 
-// Moves in-object slots down by one: those from one slot up to another become the next.
+/// Moves in-object slots down by one: those from one slot up to another become the next.
 fn move_own(main: &mut Main, object: u32, shape: u32, from: u32, to: u32)
     requires quiet { main.old.seat.phase ≡ Quiet }
     requires path { IsPathShape main.old.paths shape }
@@ -50,8 +50,8 @@ fn move_own(main: &mut Main, object: u32, shape: u32, from: u32, to: u32)
     }
 }
 
-// Moves the slots of a property store down by one: those from one slot up to another become the
-// next.
+/// Moves the slots of a property store down by one: those from one slot up to another become the
+/// next.
 fn move_beside(main: &mut Main, store: u32, from: u32, to: u32)
     requires quiet { main.old.seat.phase ≡ Quiet }
     requires order { from ≤ to }
@@ -66,7 +66,7 @@ fn move_beside(main: &mut Main, store: u32, from: u32, to: u32)
     }
 }
 
-// Moves in-object slots down by one, and puts a word in the last, which is that of a field.
+/// Moves in-object slots down by one, and puts a word in the last, which is that of a field.
 fn draw_in(main: &mut Main, object: u32, shape: u32, from: u32, last: u32, word: u64)
     requires quiet { main.old.seat.phase ≡ Quiet }
     requires path { IsPathShape main.old.paths shape }
@@ -100,7 +100,7 @@ pub(crate) fn close_own(main: &mut Main, object: u32, shape: u32, from: u32)
     main.write_slot(object, PLAIN_HEAD + last, Word::odd(odd::HOLE).0);
 }
 
-// Moves the slots of a property store down by one; the last holds nothing then.
+/// Moves the slots of a property store down by one; the last holds nothing then.
 fn close_beside(main: &mut Main, store: u32, from: u32, last: u32)
     requires quiet { main.old.seat.phase ≡ Quiet }
     requires order { from ≤ last }

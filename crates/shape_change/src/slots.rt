@@ -10,14 +10,14 @@ ghost use Rattle.object_graph.specs.declared.value.Value.{Value};
 ghost use Rattle.shape_tree.specs.Shapes.{IsPathShape, shape_path};
 ghost use Rattle.heap_model.specs.Slots.{IsFieldWord};
 ghost use Rattle.heap_model.specs.Showing.{ShowsHeld, ShowsField};
-ghost use Rattle.write_barrier.specs.Mains.{heap_of, IsTied};
-ghost use Rattle.object_cells.specs.CellsAt.{IsWhole, HasPlainSlot, IsCapAt};
+ghost use Rattle.write_barrier.specs.MutatorState.{heap_of, IsTied};
+ghost use Rattle.object_cells.specs.CellsAt.{IsQuietWhole, HasPlainSlot, IsCapAt};
 ghost use Rattle.heap_table.specs.declared.phase.Phase.TheVariants.{Quiet};
 ghost use Rattle.heap_model.specs.Needs.{word_at};
-ghost use Rattle.object_cells.specs.Contents.{Allocates, LacksRoom, HoldsSlotWord, IsBeforeMarks};
+ghost use Rattle.object_cells.specs.Contents.{AllocatesBox, LacksRoom, HoldsSlotWord, IsBeforeMarks};
 
 use handle_roots::Held;
-use object_cells::{Content, Filling};
+use object_cells::{SlotContent, SlotWrite};
 use object_graph::Rep;
 use tagged_word::Word;
 use tagged_word::cell::{PLAIN_HEAD, STORE_HEAD, STORE_SLOT};
@@ -29,7 +29,7 @@ pub(crate) enum Place {
     /// In the object, at an offset.
     InObject(u32),
     /// In its property store, at an offset.
-    Beside { store: u32, offset: u32 },
+    InStore { store: u32, offset: u32 },
 }
 
 impl Place {
@@ -41,7 +41,7 @@ impl Place {
     }
 }
 
-// Whether a slot is raw, by where it stands and its representation.
+/// Whether a slot is raw, by where it stands and its representation.
 #[inline(always)]
 fn is_raw(own: bool, rep: Rep) -> bool
     ensures raw { result ≡ true → (own ≡ true) × (rep ≡ rep_of.Wide) }
@@ -57,7 +57,7 @@ fn is_raw(own: bool, rep: Rep) -> bool
 /// The value of a field, by its word.
 #[inline(always)]
 pub(crate) fn value_of_field(main: &Main, own: bool, rep: Rep, word: u64) -> Held
-    requires whole { IsWhole main.now }
+    requires whole { IsQuietWhole main.now }
     requires field { IsFieldWord (heap_of main.now) own rep word }
     ensures { (value : Value) → ShowsField (heap_of main.now) own word rep value
         → ShowsHeld (heap_of main.now) result (Some value) }
@@ -73,8 +73,8 @@ pub(crate) fn value_of_field(main: &Main, own: bool, rep: Rep, word: u64) -> Hel
 /// Where a slot of the plain object at an address stands: one of its own below its cap, or in its
 /// property store.
 #[inline(always)]
-pub(crate) fn place_of(main: &Main, object: u32, cap: u32, slot: u32) -> Place
-    requires whole { IsWhole main.now }
+pub(crate) fn slot_place(main: &Main, object: u32, cap: u32, slot: u32) -> Place
+    requires whole { IsQuietWhole main.now }
     requires there { HasPlainSlot (heap_of main.now) object slot }
     requires cap { IsCapAt (heap_of main.now) object cap }
     ensures stands { StandsSlot (heap_of main.now) object slot result }
@@ -87,7 +87,7 @@ pub(crate) fn place_of(main: &Main, object: u32, cap: u32, slot: u32) -> Place
         return Place::InObject(PLAIN_HEAD + slot);
     }
     match Word(main.slot(object, STORE_SLOT)).address() {
-        Some(store) => Place::Beside {
+        Some(store) => Place::InStore {
             store,
             offset: STORE_HEAD + (slot - cap),
         },
@@ -98,17 +98,17 @@ pub(crate) fn place_of(main: &Main, object: u32, cap: u32, slot: u32) -> Place
 /// The word at a place of an object.
 #[inline(always)]
 pub(crate) fn word_of_place(main: &Main, object: u32, place: Place) -> u64
-    requires whole { IsWhole main.now }
+    requires whole { IsQuietWhole main.now }
     requires within { place_at object place < marks_start main.now.seat.space }
     ensures { slice_get (heap_of main.now).words (place_at object place) ≡ Some result }
 {
     match place {
         Place::InObject(offset) => main.slot(object, offset),
-        Place::Beside { store, offset } => main.slot(store, offset),
+        Place::InStore { store, offset } => main.slot(store, offset),
     }
 }
 
-// The address of a place of an object.
+/// The address of a place of an object.
 #[inline(always)]
 fn address_of(main: &Main, object: u32, place: Place) -> u32
     requires within { place_at object place < marks_start main.now.seat.space }
@@ -117,7 +117,7 @@ fn address_of(main: &Main, object: u32, place: Place) -> u32
     main.addresses_fit();
     match place {
         Place::InObject(offset) => object + offset,
-        Place::Beside { store, offset } => store + offset,
+        Place::InStore { store, offset } => store + offset,
     }
 }
 
@@ -131,16 +131,16 @@ pub(crate) fn filling_of(
     main: &mut Main,
     object: u32,
     place: Place,
-    content: Content,
-) -> Result<Filling, NoRoom>
-    requires whole { IsWhole main.old }
+    content: SlotContent,
+) -> Result<SlotWrite, NoRoom>
+    requires whole { IsQuietWhole main.old }
     requires tied { IsTied main.old }
     requires within { place_at object place < marks_start main.old.seat.space }
     requires slot { let word = word_at (heap_of main.old) (place_at object place) in
         HoldsSlotWord (heap_of main.old) word content }
     ensures filling { IfOk result (λ filling.
         filling ≡ contents.filling_at main.old (place_at object place) content) }
-    ensures allocates { IfOk result (λ filling. Allocates main.old main.new filling) }
+    ensures allocates { IfOk result (λ filling. AllocatesBox main.old main.new filling) }
     ensures before_marks { IfOk result (IsBeforeMarks main.old.seat.space) }
     ensures refused { IfErr result (λ full.
         LacksRoom main.old (contents.filling_at main.old (place_at object place) content) full) }
@@ -152,7 +152,7 @@ pub(crate) fn filling_of(
 
 /// Fills the slot at a place of an object.
 #[inline(always)]
-pub(crate) fn fill(main: &mut Main, object: u32, place: Place, filling: Filling)
+pub(crate) fn fill(main: &mut Main, object: u32, place: Place, filling: SlotWrite)
     requires quiet { main.old.seat.phase ≡ Quiet }
     requires within { place_at object place < marks_start main.old.seat.space }
     requires room { IsBeforeMarks main.old.seat.space filling }
@@ -160,6 +160,6 @@ pub(crate) fn fill(main: &mut Main, object: u32, place: Place, filling: Filling)
 {
     match place {
         Place::InObject(offset) => object_cells::fill(main, object, offset, filling),
-        Place::Beside { store, offset } => object_cells::fill(main, store, offset, filling),
+        Place::InStore { store, offset } => object_cells::fill(main, store, offset, filling),
     }
 }

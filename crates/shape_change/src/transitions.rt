@@ -7,7 +7,7 @@ ghost use Rattle.heap_table.specs.declared.phase.Phase.TheVariants.{Quiet};
 ghost use Rattle.heap_model.specs.Wholeness.{HasSizes};
 ghost use Rattle.shape_tree.specs.Shapes.{IsPathShape, shape_path, has_name, stepped, Leads};
 ghost use Rattle.shape_tree.specs.Growth.{IsStep};
-ghost use Rattle.write_barrier.specs.Mains.{heap_of, with_word};
+ghost use Rattle.write_barrier.specs.MutatorState.{heap_of, with_word};
 ghost use Rattle.shape_change.specs.Deletions.{shaped_bits};
 ghost use Rattle.shape_change.specs.Additions.{AddsPath};
 ghost use Rattle.tagged_word.specs.Shapes.{shapes_most};
@@ -21,7 +21,7 @@ use shape_tree::Step;
 use tagged_word::{Header, shape};
 use write_barrier::Main;
 
-// The path with a field more alone: the layout words are still to be put.
+/// The path with a field more alone: the layout words are still to be put.
 fn add_path(main: &mut Main, shape: u32, field: PathField, step: Step) -> u32
     requires path { IsPathShape main.old.paths shape }
     requires is_new { has_name (shape_path main.old.paths shape) field.name ≡ false }

@@ -17,14 +17,14 @@ use Rattle.shape_tree.specs.declared.tree.ShapeTree.TheInside.{Inside}
 use Rattle.shape_tree.specs.Shapes.{AreShapes, shape_path}
 use Rattle.shape_tree.specs.Nodes.{same_transition, root_node_of, cache_entries, empty_entry, paths_in, IsNode}
 use Rattle.shape_tree.specs.Nodes.{IsTransition, FindsSteps, AreCached}
-use Rattle.shape_tree.specs.Trees.{HasRoom, IsTree, paths_of}
+use Rattle.shape_tree.specs.Trees.{HasCapacity, IsTree, paths_of}
 use Rattle.shape_tree.proofs.CachedSteps.{empty_cache}
 
 -- a tree with the fields, the nodes, the transitions and the cache of another
 pub copied_tree : (other new : Inside) → IsTree other → new.fields.items ≡ other.fields.items
     → new.nodes.items ≡ other.nodes.items
     → ((step : Transition) → get same_transition new.steps step ≡ get same_transition other.steps step)
-    → new.cache.items ≡ other.cache.items → HasRoom new → IsTree new
+    → new.cache.items ≡ other.cache.items → HasCapacity new → IsTree new
 copied_tree other new is fields nodes steps cache room =
     let shown : paths_of new ≡ paths_of other =
     ap (λ rs. paths_in rs new.nodes.items) fields ∙ ap (paths_in other.fields.items) nodes in
@@ -80,7 +80,7 @@ empty_finds look none = record {
 
 -- the first tree
 pub first_tree : (new : Inside) → new.fields.items ≡ [] → new.nodes.items ≡ root_nodes_of
-    → new.steps.entries ≡ [] → new.cache.items ≡ replicate cache_entries empty_entry → HasRoom new
+    → new.steps.entries ≡ [] → new.cache.items ≡ replicate cache_entries empty_entry → HasCapacity new
     → IsTree new
 first_tree new fields nodes steps cache room =
     let shown : paths_of new ≡ empty_paths =

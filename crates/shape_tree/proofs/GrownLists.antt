@@ -12,7 +12,7 @@ use Rattle.object_graph.specs.Invariants.{IsPath, ArePaths}
 use Rattle.object_graph.specs.Limits.{paths_most}
 use Rattle.object_graph.proofs.Prefixes.{prefixes_are_paths}
 use Rattle.shape_tree.specs.Shapes.{IsPathShape, IsShapeOf, shape_path}
-use Rattle.shape_tree.specs.Growth.{extended, IsFresh}
+use Rattle.shape_tree.specs.Growth.{extended, FirstIsMissing}
 use Rattle.shape_tree.specs.declared.walking.Walk.{Walk}
 use Rattle.shape_tree.specs.Walks.{WalksTo}
 use Rattle.shape_tree.proofs.ShapePaths.{has_shape_path, IsShapeOf-last}
@@ -20,13 +20,14 @@ use Rattle.shape_tree.proofs.GrownPaths.{extended-nil, extended-extended, is_pre
 use Rattle.shape_tree.proofs.GrownPaths.{length-growths}
 use Rattle.shape_tree.proofs.GrownPaths.{are_with_next, fresh_behind, missing-next}
 
--- the shape is that of the longest prefix so far of the path, and these fields are left; nothing was added but what was
+-- the shape is that of the longest prefix that is there of the path, and these fields are left; nothing was added but
+-- what was
 -- missing
 pub record Grows (old : List Path) (path : Path) (paths : List Path) (shape : ℕ) (rest : List PathField) : Type 0 where
   pub are : ArePaths paths
   pub at : IsPathShape paths shape
   pub same : extended (shape_path paths shape) rest ≡ path
-  pub fresh : IsFresh paths (shape_path paths shape) rest
+  pub fresh : FirstIsMissing paths (shape_path paths shape) rest
   pub added : paths ++ missing paths path ≡ old ++ missing old path
   pub room : length paths + length rest ≤ paths_most
 
@@ -65,7 +66,7 @@ grows_more old path paths new shape next field rest is grows added comes =
       are = are_with_next paths here field grows.are there grows.fresh may;
       at = last.is_shape;
       same = ap (λ p. extended p rest) last.of_path ∙ extended-extended here (field ∷ []) rest ∙ grows.same;
-      fresh = subst (λ p. IsFresh after p rest) (sym last.of_path) (fresh_behind paths more rest grows.are grows.fresh);
+      fresh = subst (λ p. FirstIsMissing after p rest) (sym last.of_path) (fresh_behind paths more rest grows.are grows.fresh);
       added = append_assoc paths (more ∷ []) (missing after path)
           ∙ ap (λ ps. paths ++ ps) (sym lacking) ∙ grows.added;
       room = omega (arith, grows.room, length-append paths (more ∷ []));
@@ -85,7 +86,7 @@ grows_end old path paths shape grows =
 -- as many paths are missing as fields are left of a walk
 pub length-missing : (paths : List Path) (path : Path) (shape : ℕ) (rest : List PathField) → ArePaths paths
     → IsPathShape paths shape → extended (shape_path paths shape) rest ≡ path
-    → IsFresh paths (shape_path paths shape) rest → length (missing paths path) ≡ length rest
+    → FirstIsMissing paths (shape_path paths shape) rest → length (missing paths path) ≡ length rest
 length-missing paths path shape rest are at same fresh =
     let here = shape_path paths shape in
     ap (λ p. length (missing paths p)) (sym same)

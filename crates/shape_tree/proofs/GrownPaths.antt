@@ -17,7 +17,7 @@ use Rattle.object_graph.specs.Invariants.{IsPath, ArePaths}
 use Rattle.object_graph.proofs.EqualPaths.{Decides-same_path}
 use Rattle.object_graph.proofs.Prefixes.{length-prefixes, get_or-prefixes, has_itself}
 use Rattle.object_graph.proofs.AddedPaths.{adds_missing}
-use Rattle.shape_tree.specs.Growth.{extended, IsMissing, IsFresh}
+use Rattle.shape_tree.specs.Growth.{extended, IsMissing, FirstIsMissing}
 use Rattle.shape_tree.proofs.ShapePaths.{has_its_path, IsShapeOf-last}
 use Rattle.shape_tree.proofs.MissingPaths.{found_if_there, missing_not_there, missing_if_not}
 
@@ -90,7 +90,7 @@ has_prefix_of paths path fields are there =
 
 -- where a path is missing, it is missing with a field more
 pub fresh_on : (paths : List Path) (path : Path) (fields : List PathField) → ArePaths paths → IsMissing paths path
-    → IsFresh paths path fields
+    → FirstIsMissing paths path fields
 fresh_on paths path [] are missed = tt
 fresh_on paths path (field ∷ fields) are missed =
     missing_if_not paths (extended path (field ∷ [])) (λ there.
@@ -98,7 +98,7 @@ fresh_on paths path (field ∷ fields) are missed =
 
 -- where the next path is missing, so are all that follow
 growths_missing : (paths : List Path) (path : Path) (fields : List PathField) → ArePaths paths
-    → IsFresh paths path fields → All (IsMissing paths) (growths path fields)
+    → FirstIsMissing paths path fields → All (IsMissing paths) (growths path fields)
 growths_missing paths path [] are fresh = All-nil (IsMissing paths)
 growths_missing paths path (field ∷ fields) are fresh =
     let more = extended path (field ∷ []) in
@@ -121,7 +121,8 @@ filter_none test (x ∷ xs) all =
 
 -- where a path is there and the next is missing, what it grows through is what is missing
 pub missing-extended : (paths : List Path) (path : Path) (fields : List PathField) → ArePaths paths
-    → Contains paths path → IsFresh paths path fields → missing paths (extended path fields) ≡ growths path fields
+    → Contains paths path → FirstIsMissing paths path fields
+    → missing paths (extended path fields) ≡ growths path fields
 missing-extended paths path fields are there fresh =
     let is_missing = λ (p : Path). not (list_any (same_path p) paths) in
     let before : All (λ p. is_missing p ≡ false) (prefixes path) = λ k d below.
@@ -164,7 +165,7 @@ longer_differs path field =
 
 -- once a missing path was added, the next after it is missing
 pub fresh_behind : (paths : List Path) (path : Path) (fields : List PathField) → ArePaths paths → IsMissing paths path
-    → IsFresh (paths ++ path ∷ []) path fields
+    → FirstIsMissing (paths ++ path ∷ []) path fields
 fresh_behind paths path [] are missed = tt
 fresh_behind paths path (field ∷ fields) are missed =
     let more = extended path (field ∷ []) in

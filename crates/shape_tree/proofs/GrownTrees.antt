@@ -16,7 +16,7 @@ use Rattle.shape_tree.specs.Shapes.{AreShapes, IsPathShape, shape_path}
 use Rattle.shape_tree.specs.Growth.{extended, IsMissing}
 use Rattle.shape_tree.specs.Nodes.{same_transition, transition_by, paths_in, IsNode, IsCached}
 use Rattle.shape_tree.specs.Nodes.{AreCached, FindsSteps}
-use Rattle.shape_tree.specs.Trees.{HasRoom, IsTree, paths_of}
+use Rattle.shape_tree.specs.Trees.{HasCapacity, IsTree, paths_of}
 use Rattle.shape_tree.proofs.ShapePaths.{has_shape_path}
 use Rattle.shape_tree.proofs.GrownPaths.{are_with_next}
 use Rattle.shape_tree.proofs.FoundSteps.{AddsStep, last_step, finds_more}
@@ -39,7 +39,7 @@ pub record IsMore (tree new : Inside) (parent : ℕ) (field : PathField) (node g
   pub steps :
       AddsStep (paths_of tree) (transition_by parent field) (get same_transition tree.steps)
       (get same_transition new.steps)
-  pub room : HasRoom new
+  pub room : HasCapacity new
 
 -- it shows the paths with that path, and is a tree
 pub record Became (paths : List Path) (path : Path) (new : Inside) : Type 0 where

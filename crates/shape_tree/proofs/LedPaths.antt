@@ -15,7 +15,7 @@ use Rattle.object_graph.specs.Limits.{paths_most}
 use Rattle.object_graph.specs.Invariants.{IsPath}
 use Rattle.object_graph.proofs.AddedPaths.{adds}
 use Rattle.shape_tree.specs.declared.full.ShapesFull.{ShapesFull}
-use Rattle.shape_tree.specs.Shapes.{AreShapes, IsPathShape, IsShapeOf, shape_path, Leads, IsFullFor}
+use Rattle.shape_tree.specs.Shapes.{AreShapes, IsPathShape, IsShapeOf, shape_path, Leads, LacksPathsFor}
 use Rattle.shape_tree.specs.Growth.{extended, IsMissing}
 use Rattle.shape_tree.proofs.ShapePaths.{has_its_path, has_shape_path, IsShapeOf-last}
 use Rattle.shape_tree.proofs.GrownPaths.{missing-there, missing-extended}
@@ -55,7 +55,7 @@ with_path-refused old path many =
     (lt-leb (length old + length more) paths_most many)
 
 -- so a change is not refused where there may be so many
-pub not_refused : (old new : List Path) (path : Path) (full : ShapesFull) → IsFullFor old new path full
+pub not_refused : (old new : List Path) (path : Path) (full : ShapesFull) → LacksPathsFor old new path full
     → length old + length (missing old path) ≤ paths_most → ⊥
 not_refused old new path full is few =
     let added = with_path-added old (old ++ missing old path) path refl few in

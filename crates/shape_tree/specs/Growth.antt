@@ -18,9 +18,9 @@ abbrev pub IsMissing : List Path → Path → Type 0
 IsMissing paths path = list_any (same_path path) paths ≡ false
 
 -- the path with the first of these fields more, if there is one, is not among these paths
-abbrev pub IsFresh : List Path → Path → List PathField → Type 0
-IsFresh paths path [] = Unit {0}
-IsFresh paths path (field ∷ fields) = IsMissing paths (extended path (field ∷ []))
+abbrev pub FirstIsMissing : List Path → Path → List PathField → Type 0
+FirstIsMissing paths path [] = Unit {0}
+FirstIsMissing paths path (field ∷ fields) = IsMissing paths (extended path (field ∷ []))
 
 -- Where the step to the path leads: it is there, and this is its shape; or it alone is missing, and there may be one
 -- path more.

@@ -58,7 +58,7 @@ pub record Leads (old new : List Path) (path : Path) (shape : ℕ) : Type 0 wher
   pub shape_is : IsShapeOf new path shape
 
 -- there may not be as many paths as this one and its missing prefixes would make; nothing was added
-pub record IsFullFor (old new : List Path) (path : Path) (full : ShapesFull) : Type 0 where
+pub record LacksPathsFor (old new : List Path) (path : Path) (full : ShapesFull) : Type 0 where
   pub refused : with_path (Some paths_most) old path ≡ None
   pub counted : full.paths ≡ length old
   pub lacking : full.missing ≡ length (missing old path)

@@ -10,7 +10,7 @@ use Rattle.shape_tree.specs.Shapes.{AreShapes}
 use Rattle.shape_tree.specs.Nodes.{same_transition, paths_in, IsNode, FindsSteps, AreCached}
 
 -- there is room for all the paths that there may be
-pub record HasRoom (tree : Inside) : Type 0 where
+pub record HasCapacity (tree : Inside) : Type 0 where
   pub fields : fields_most * paths_most ≤ vec_capacity tree.fields
   pub nodes : paths_most ≤ vec_capacity tree.nodes
   pub steps : paths_most ≤ hash_map_len tree.steps + spare tree.steps
@@ -27,4 +27,4 @@ pub record IsTree (tree : Inside) : Type 0 where
   pub each : All (IsNode tree.fields.items (paths_of tree)) tree.nodes.items
   pub finds : FindsSteps (paths_of tree) (get same_transition tree.steps)
   pub cached : AreCached (paths_of tree) tree.cache.items
-  pub room : HasRoom tree
+  pub room : HasCapacity tree

@@ -5,7 +5,7 @@ ghost use Rattle.object_graph.specs.Paths.{missing};
 ghost use Rattle.object_graph.specs.Invariants.{fields_most};
 ghost use Rattle.object_graph.specs.Limits.{paths_most};
 ghost use Rattle.shape_tree.specs.Shapes.{IsPathShape, shape_path, has_name, stepped, changed};
-ghost use Rattle.shape_tree.specs.Shapes.{without, IsShapeOf, Leads, IsFullFor};
+ghost use Rattle.shape_tree.specs.Shapes.{without, IsShapeOf, Leads, LacksPathsFor};
 ghost use Rattle.shape_tree.specs.Growth.{extended, IsStep};
 
 use crate::full::ShapesFull;
@@ -96,7 +96,7 @@ impl ShapeTree {
         ensures room { let path = stepped (shape_path self.now shape) field.name field.rep in
             OnOk result (length self.now + length (missing self.now path) ≤ paths_most) }
         ensures full { let path = stepped (shape_path self.now shape) field.name field.rep in
-            IfErr result (λ full. IsFullFor self.now self.now path full) }
+            IfErr result (λ full. LacksPathsFor self.now self.now path full) }
     {
         // Opens the tree: the proof needs what holds of each.
         let _ = &self.nodes;
@@ -138,7 +138,7 @@ impl ShapeTree {
         ensures changed { let path = changed (shape_path self.old shape) at rep in
             IfOk result (λ next. Leads self.old self.new path next) }
         ensures full { let path = changed (shape_path self.old shape) at rep in
-            IfErr result (λ full. IsFullFor self.old self.new path full) }
+            IfErr result (λ full. LacksPathsFor self.old self.new path full) }
     {
         // Opens the tree: the proof needs what holds of each.
         let _ = &self.nodes;
@@ -159,7 +159,7 @@ impl ShapeTree {
         ensures taken_out { let path = without (shape_path self.old shape) at in
             IfOk result (λ next. Leads self.old self.new path next) }
         ensures full { let path = without (shape_path self.old shape) at in
-            IfErr result (λ full. IsFullFor self.old self.new path full) }
+            IfErr result (λ full. LacksPathsFor self.old self.new path full) }
     {
         // Opens the tree: the proof needs what holds of each.
         let _ = &self.nodes;
@@ -177,7 +177,7 @@ impl ShapeTree {
     pub fn room_for(&self, more: u32) -> Result<(), ShapesFull>
         ensures room { OnOk result (length self.now + more ≤ paths_most) }
         ensures full { IfErr result (λ full. (path : Path) → length (missing self.now path) ≡ more
-            → IsFullFor self.now self.now path full) }
+            → LacksPathsFor self.now self.now path full) }
     {
         let paths = self.paths();
         if more <= PATHS_MOST - paths {

@@ -7,9 +7,9 @@ ghost use Rattle.object_graph.specs.Paths.{missing};
 ghost use Rattle.object_graph.specs.Invariants.{IsPath, cap_most, fields_most};
 ghost use Rattle.object_graph.specs.Limits.{paths_most};
 ghost use Rattle.shape_tree.specs.Shapes.{AreShapes, IsPathShape, IsShapeOf, shape_path, Leads};
-ghost use Rattle.shape_tree.specs.Shapes.{IsFullFor};
+ghost use Rattle.shape_tree.specs.Shapes.{LacksPathsFor};
 ghost use Rattle.shape_tree.specs.ShapeLayouts.{raw_bit};
-ghost use Rattle.shape_tree.specs.Growth.{extended, IsMissing, IsFresh};
+ghost use Rattle.shape_tree.specs.Growth.{extended, IsMissing, FirstIsMissing};
 
 use crate::cached::{Cached, cache_index};
 use crate::full::ShapesFull;
@@ -99,7 +99,7 @@ impl ShapeTree {
     fn grow(&mut self, from: u32, tail: &[PathField]) -> u32
         requires good { AreShapes self.old }
         requires path { IsPathShape self.old from }
-        requires fresh { IsFresh self.old (shape_path self.old from) tail.now }
+        requires fresh { FirstIsMissing self.old (shape_path self.old from) tail.now }
         requires is { IsPath (extended (shape_path self.old from) tail.now) }
         requires room { length self.old + length tail.now ≤ paths_most }
         ensures added { let path = extended (shape_path self.old from) tail.now in
@@ -123,7 +123,7 @@ impl ShapeTree {
         ensures led { let path = extended (shape_path self.old from) tail.now in
             IfOk result (λ next. Leads self.old self.new path next) }
         ensures full { let path = extended (shape_path self.old from) tail.now in
-            IfErr result (λ full. IsFullFor self.old self.new path full) }
+            IfErr result (λ full. LacksPathsFor self.old self.new path full) }
     {
         let walk = self.walk(from, tail);
         // Nothing may have been added by the time of a refusal.

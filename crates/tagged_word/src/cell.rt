@@ -75,8 +75,8 @@ impl Kind {
         }
     }
 
-    // How many words a cell of this kind has. A length of more words than a cell may have will do
-    // for any greater one.
+    /// How many words a cell of this kind has. A length of more words than a cell may have will do
+    /// for any greater one.
     fn words(self, cap: u32, length: u64) -> u64
         requires { length ≤ cell_words_most + 1 }
         ensures { result ≡ words_of self cap length }
@@ -93,7 +93,7 @@ impl Kind {
         }
     }
 
-    // The fewest words of a cell of this kind.
+    /// The fewest words of a cell of this kind.
     fn words_least(self) -> u64
         ensures { result ≡ words_least self }
     {
@@ -143,7 +143,7 @@ impl LayoutWord {
         }
     }
 
-    // Whether marking visits the slot at an offset of a plain cell.
+    /// Whether marking visits the slot at an offset of a plain cell.
     fn is_plain_tagged(self, offset: u32) -> bool
         ensures { IsTrue result ↔ Contains (store_slot ∷ in_object_offsets self) offset }
     {
@@ -153,7 +153,7 @@ impl LayoutWord {
         self.is_in_object_tagged(offset)
     }
 
-    // Whether an in-object slot that is used and not raw stands at an offset.
+    /// Whether an in-object slot that is used and not raw stands at an offset.
     fn is_in_object_tagged(self, offset: u32) -> bool
         ensures { IsTrue result ↔ Contains (in_object_offsets self) offset }
     {
@@ -167,7 +167,7 @@ impl LayoutWord {
         !self.is_raw(slot)
     }
 
-    // Whether an in-object slot is raw.
+    /// Whether an in-object slot is raw.
     #[tactic(auto, using(crate::proofs::Masks::no_bit_above))]
     fn is_raw(self, slot: u32) -> bool
         ensures { result ≡ is_raw self slot }
@@ -176,7 +176,7 @@ impl LayoutWord {
     }
 }
 
-// Whether one of so many slots of a store stands at an offset.
+/// Whether one of so many slots of a store stands at an offset.
 fn is_slot_of(slots: u64, offset: u32) -> bool
     ensures { IsTrue result ↔ Contains (range_with_len store_head slots) offset }
 {
@@ -186,7 +186,7 @@ fn is_slot_of(slots: u64, offset: u32) -> bool
     ((offset - STORE_HEAD) as u64) < slots
 }
 
-// Whether a half of one of so many pairs of a table stands at an offset.
+/// Whether a half of one of so many pairs of a table stands at an offset.
 fn is_of_pairs(pairs: u64, offset: u32) -> bool
     ensures { IsTrue result ↔ Contains (range_with_len store_head (2 * pairs)) offset }
 {

@@ -12,7 +12,7 @@ pub struct Header {
     pub object: u32,
 }
 
-// The first number that 16 bits are too few for. There are fewer shapes: `shape::COUNT`.
+/// The first number that 16 bits are too few for. There are fewer shapes: `shape::COUNT`.
 const SHAPE_LIMIT: u32 = 65536;
 
 impl Header {

@@ -42,7 +42,7 @@ pub struct LayoutWord {
 const IN_OBJECT_MOST: u32 = 8;
 
 impl Kind {
-    // The number of the kind in a layout word.
+    /// The number of the kind in a layout word.
     fn number(self) -> u64
         ensures { result ≡ kind_number self }
     {
@@ -58,7 +58,7 @@ impl Kind {
         }
     }
 
-    // The kind that has a number, if one has it.
+    /// The kind that has a number, if one has it.
     fn of_number(number: u64) -> Option<Kind>
         ensures value { result ≡ kind_in number }
         ensures cases { MatchOption result ((kind : Kind) → number ≢ kind_number kind)
@@ -124,7 +124,7 @@ impl LayoutWord {
         }
     }
 
-    // Whether only a plain one has in-object slots, and they are as many as they may be.
+    /// Whether only a plain one has in-object slots, and they are as many as they may be.
     fn is_layout(self) -> bool
         ensures { IsTrue result ↔ IsLayout self }
     {
@@ -134,7 +134,7 @@ impl LayoutWord {
         }
     }
 
-    // Whether there are at most 8 in-object slots, used ones among them, and a bit of the mask for those.
+    /// Whether there are at most 8 in-object slots, used ones among them, and a bit of the mask for those.
     #[tactic(auto, using(crate::proofs::Masks::shifted_out))]
     fn has_in_object_slots(self) -> bool
         ensures { IsTrue result ↔ HasInObjectSlots self }

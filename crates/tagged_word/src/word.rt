@@ -107,7 +107,7 @@ impl Word {
     }
 }
 
-// What stands above the two lowest bits, if 32 bits hold it.
+/// What stands above the two lowest bits, if 32 bits hold it.
 #[inline(always)]
 fn payload(bits: u64) -> Option<u32>
     ensures { SomeIff result (bits / 4 < 4294967296) (bits / 4) }
@@ -115,7 +115,7 @@ fn payload(bits: u64) -> Option<u32>
     u32::try_from(bits / 4).ok()
 }
 
-// The small integer whose bits an even word has, if it has one's.
+/// The small integer whose bits an even word has, if it has one's.
 #[inline(always)]
 fn small_class(bits: u64) -> Option<Class>
     requires { bits % 2 ≡ 0 }

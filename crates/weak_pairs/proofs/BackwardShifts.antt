@@ -6,7 +6,7 @@ use Rattle.std.specs.Option.{option_and_then}
 use Rattle.std.proofs.lemmas.Bool.{cases_lt}
 use Rattle.std.proofs.lemmas.List.{map-set, set-set}
 use Rattle.std.proofs.lemmas.Option.{same_Some, slice_get_within, none-some}
-use Rattle.tagged_word.specs.declared.header.Header.{Header}
+use Rattle.heap_model.specs.Types.{Header}
 use Rattle.tagged_word.specs.Cells.{store_head}
 use Rattle.tagged_word.specs.Readings.{reference_in, header_in}
 use Rattle.object_graph.proofs.Lists.{slice_get-set_same, slice_get-set_other}
@@ -19,8 +19,9 @@ use Rattle.heap_model.specs.Heaps.{Heap}
 use Rattle.heap_model.specs.Kinds.{Pair, free_pair}
 use Rattle.weak_pairs.specs.Pairs.{IsFilledAt}
 use Rattle.weak_pairs.specs.Removals.{IsRemoved, StaysBelow}
-use Rattle.weak_pairs.specs.Tables.{key_in, value_in, number_at, KeysBeside, IsKeyBeside, IsBesidePairs, numbers}
-use Rattle.weak_pairs.specs.Tables.{number_of, pairs_of, with_pair, made_pair}
+use Rattle.weak_pairs.specs.Tables.{key_in, value_in, number_at, KeysOutsidePairs, IsKeyOutside, IsOutsidePairs}
+use Rattle.weak_pairs.specs.Tables.{numbers}
+use Rattle.weak_pairs.specs.Tables.{key_number, pairs_of, with_pair, made_pair}
 use Rattle.weak_pairs.specs.declared.table.Table.{Table}
 use Rattle.weak_pairs.proofs.FirstRounds.{IsFirstRound, IsFreeAfter, round_begins, round_passes, round_moves}
 use Rattle.weak_pairs.proofs.PairLists.{pairs_read}
@@ -56,7 +57,7 @@ module _ (old now : Heap) (table : Table) {place hole passed : ℕ}
     (within : table.at + (store_head + 2 * table.capacity) ≤ length old.words)
     (long : length now.words ≡ length old.words)
     (shifting : HasShifted old (pairs_of old.words table) (pairs_of now.words table) place hole passed) where
-  -- the pairs before and so far
+  -- the pairs before, and those that are done
   abbrev before : List Pair
   before = pairs_of old.words table
 
@@ -137,10 +138,10 @@ module _ (old now : Heap) (table : Table) {place hole passed : ℕ}
         (sym (ap (option_map (number_at old)) none)
         ∙ sym (number_read old far next read.pair read.there) ∙ is))
 
-    module _ (beside : (at : ℕ) → IsBesidePairs table at → slice_get now.words at ≡ slice_get old.words at) (key : ℕ)
-        (refers : reference_in read.pair.key ≡ Some key) (keys : KeysBeside old table) where
+    module _ (beside : (at : ℕ) → IsOutsidePairs table at → slice_get now.words at ≡ slice_get old.words at) (key : ℕ)
+        (refers : reference_in read.pair.key ≡ Some key) (keys : KeysOutsidePairs old table) where
       -- the pair stood in the table before
-      pub key_beside : IsKeyBeside old table key
+      pub key_beside : IsKeyOutside old table key
       key_beside =
           let filled : IsFilledAt (slice_set far hole free_pair) next read.pair =
           record { stands = still_there; filled = keyed_filled read.pair key refers } in
@@ -189,7 +190,7 @@ module _ (old now : Heap) (table : Table) {place hole passed : ℕ}
 
           numbers_new : numbers old (pairs_of new table) ≡ slice_set (numbers old far) hole (Some number)
           numbers_new =
-              ap (numbers old) pairs_new ∙ map-set (number_of old) far hole read.pair
+              ap (numbers old) pairs_new ∙ map-set (key_number old) far hole read.pair
               ∙ ap (λ item. slice_set (numbers old far) hole item)
               (sym (number_read old far next read.pair read.there) ∙ holds)
 

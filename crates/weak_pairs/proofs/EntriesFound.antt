@@ -3,8 +3,7 @@ use Rattle.std.proofs.Common.{◌≡◌, ◌≢◌, ℕ, zero, suc, Bool, true, 
 use Rattle.std.proofs.Common.{refl, sym, ◌∙◌, ap, ◌==◌}
 use Rattle.std.proofs.lemmas.Bool.{eqb-true, eq-eqb, false≢true}
 use Rattle.std.proofs.lemmas.Option.{none-some, same_Some}
-use Rattle.object_graph.specs.declared.value.Value.{Value}
-use Rattle.object_graph.specs.declared.object.Entry.{Entry}
+use Rattle.heap_model.specs.Types.{Value, Entry}
 use Rattle.object_graph.specs.Objects.{entry_value}
 
 -- the value of an entry is that of one with its key, by whether the first has it

@@ -13,7 +13,7 @@ use Rattle.linear_probing.proofs.Rounds.{place_after_within}
 use Rattle.heap_model.specs.Heaps.{Heap}
 use Rattle.heap_model.specs.Kinds.{Pair, free_pair}
 use Rattle.weak_pairs.specs.Probes.{HasFree, IsFirstFree}
-use Rattle.weak_pairs.specs.Tables.{key_in, number_at, numbers, number_of, pairs_of}
+use Rattle.weak_pairs.specs.Tables.{key_in, number_at, numbers, key_number, pairs_of}
 use Rattle.weak_pairs.specs.declared.table.Table.{Table}
 use Rattle.weak_pairs.proofs.CountedPairs.{count_filled}
 use Rattle.weak_pairs.proofs.FreePairs.{one_is_free}
@@ -36,7 +36,7 @@ has_free heap table within fewer =
 module _ {now : Heap} {table : Table} {number place : ℕ}
     (within : table.at + (store_head + 2 * table.capacity) ≤ length now.words)
     (keys : HaveKeys (pairs_of now.words table)) (first : IsFirstFree now table number place) where
-  -- the pairs so far
+  -- the pairs that are done
   abbrev far : List Pair
   far = pairs_of now.words table
 
@@ -82,10 +82,10 @@ module _ {now : Heap} {table : Table} {number place : ℕ}
         }
 
     -- probing finds all again once the pair stands there
-    pub inserted_found : (pair : Pair) → number_of heap pair ≡ Some number → FindsAll (numbers heap far)
+    pub inserted_found : (pair : Pair) → key_number heap pair ≡ Some number → FindsAll (numbers heap far)
         → FindsAll (numbers heap (slice_set far place pair))
     inserted_found pair is all =
         let numbers_new : numbers heap (slice_set far place pair) ≡ slice_set (numbers heap far) place (Some number) =
-        map-set (number_of heap) far place pair ∙ ap (λ item. slice_set (numbers heap far) place item) is in
+        map-set (key_number heap) far place pair ∙ ap (λ item. slice_set (numbers heap far) place item) is in
         subst FindsAll (sym numbers_new) (put_is_probed (numbers heap far) number place all inserted_probed
         (omega (arith, inserted_below, far_long, length-numbers heap far)))

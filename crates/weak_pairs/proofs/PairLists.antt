@@ -10,7 +10,7 @@ use Rattle.tagged_word.specs.Cells.{store_head}
 use Rattle.heap_model.specs.Kinds.{Pair, pairs_in}
 use Rattle.heap_model.proofs.CellWords.{slice_get-take, slice_get-drop}
 use Rattle.heap_model.proofs.ObjectSlots.{pair_words}
-use Rattle.weak_pairs.specs.Tables.{ArePairsIn, key_offset, value_offset, pairs_of, IsBesidePairs}
+use Rattle.weak_pairs.specs.Tables.{ArePairsIn, key_offset, value_offset, pairs_of, IsOutsidePairs}
 use Rattle.weak_pairs.specs.declared.table.Table.{Table}
 
 -- there are half as many pairs as words
@@ -97,7 +97,7 @@ pairs_stay words others table within long stay =
 
 -- what is not in a run of words that begins with a table is beside the table's pairs
 pub beside_run : (table : Table) (a : ℕ) → (table.at ≤ a → a < table.at + (store_head + 2 * table.capacity) → ⊥)
-    → IsBesidePairs table a
+    → IsOutsidePairs table a
 beside_run table a beside = elim (cases_lt a (table.at + store_head)) [
   | inl low ↦ inl low
   | inr from ↦ elim (cases_lt a (table.at + (store_head + 2 * table.capacity))) [

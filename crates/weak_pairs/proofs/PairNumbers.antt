@@ -9,21 +9,21 @@ use Rattle.tagged_word.specs.Cells.{store_head}
 use Rattle.tagged_word.specs.Readings.{reference_in}
 use Rattle.heap_model.specs.Heaps.{Heap}
 use Rattle.heap_model.specs.Kinds.{Pair, free_pair}
-use Rattle.weak_pairs.specs.Tables.{key_in, value_in, numbers, number_of}
+use Rattle.weak_pairs.specs.Tables.{key_in, value_in, numbers, key_number}
 use Rattle.weak_pairs.specs.Tables.{pairs_of}
 use Rattle.weak_pairs.specs.declared.table.Table.{Table}
 use Rattle.weak_pairs.proofs.PairLists.{pairs_read}
 
 -- there are as many numbers as pairs
 pub length-numbers : (heap : Heap) (pairs : List Pair) → length (numbers heap pairs) ≡ length pairs
-length-numbers heap pairs = length-map pairs (number_of heap)
+length-numbers heap pairs = length-map pairs (key_number heap)
 
 -- the number of a pair that is read
 pub number_read : (heap : Heap) (pairs : List Pair) (place : ℕ) (pair : Pair) → slice_get pairs place ≡ Some pair
-    → get_or (numbers heap pairs) place None ≡ number_of heap pair
+    → get_or (numbers heap pairs) place None ≡ key_number heap pair
 number_read heap pairs place pair there =
-    get_or_from_slice_get (numbers heap pairs) place (number_of heap pair) None
-    (slice_get-map (number_of heap) pairs place ∙ ap (option_map (number_of heap)) there)
+    get_or_from_slice_get (numbers heap pairs) place (key_number heap pair) None
+    (slice_get-map (key_number heap) pairs place ∙ ap (option_map (key_number heap)) there)
 
 -- a pair as it is read at a place
 pub record ReadsPair (heap : Heap) (table : Table) (place : ℕ) : Type 0 where
@@ -63,6 +63,6 @@ number_there f (Some pair) item is = (pair, refl, same_Some (f pair) item is)
 -- the number at a place is that of the pair there
 pub number_place : (heap : Heap) (pairs : List Pair) (at : ℕ) (item : Option ℕ)
     → slice_get (numbers heap pairs) at ≡ Some item
-    → (pair : Pair) × (slice_get pairs at ≡ Some pair) × (number_of heap pair ≡ item)
+    → (pair : Pair) × (slice_get pairs at ≡ Some pair) × (key_number heap pair ≡ item)
 number_place heap pairs at item there =
-    number_there (number_of heap) (slice_get pairs at) item (sym (slice_get-map (number_of heap) pairs at) ∙ there)
+    number_there (key_number heap) (slice_get pairs at) item (sym (slice_get-map (key_number heap) pairs at) ∙ there)

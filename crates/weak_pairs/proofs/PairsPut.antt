@@ -7,13 +7,13 @@ use Rattle.std.proofs.lemmas.Option.{same_Some, slice_get_within}
 use Rattle.tagged_word.specs.Cells.{store_head}
 use Rattle.object_graph.proofs.Lists.{slice_get-set_same, slice_get-set_other}
 use Rattle.heap_model.specs.Kinds.{Pair}
-use Rattle.weak_pairs.specs.Tables.{ArePairsIn, key_offset, value_offset, pairs_of, with_pair, IsBesidePairs}
+use Rattle.weak_pairs.specs.Tables.{ArePairsIn, key_offset, value_offset, pairs_of, with_pair, IsOutsidePairs}
 use Rattle.weak_pairs.specs.declared.table.Table.{Table}
 use Rattle.weak_pairs.proofs.PairLists.{pairs_read, pairs_are, pairs_stay}
 
 -- the words beside the pairs stay
 pub beside_put : (words : List ℕ) (table : Table) (place at : ℕ) (pair : Pair) → place < table.capacity
-    → IsBesidePairs table at → slice_get (with_pair words table.at place pair) at ≡ slice_get words at
+    → IsOutsidePairs table at → slice_get (with_pair words table.at place pair) at ≡ slice_get words at
 beside_put words table place at pair below beside =
     let first : List ℕ = slice_set words (table.at + key_offset place) pair.key in
     let not_key : at ≢ table.at + key_offset place = λ same. elim beside [
@@ -117,7 +117,7 @@ pairs_now words table place pair within below =
 -- the pairs stay where a word beside them is put
 pub pairs_beside : (words : List ℕ) (table : Table) (at word : ℕ)
     → table.at + (store_head + 2 * table.capacity) ≤ length words
-    → IsBesidePairs table at → pairs_of (slice_set words at word) table ≡ pairs_of words table
+    → IsOutsidePairs table at → pairs_of (slice_set words at word) table ≡ pairs_of words table
 pairs_beside words table at word within beside =
     pairs_stay words (slice_set words at word) table within (length-set words at word) (λ a from below.
     slice_get-set_other words at a word (λ same. elim beside [

@@ -1,7 +1,6 @@
 -- The entries of a weak map where that of one key was put, or removed.
 use Rattle.std.specs.Prelude.{ℕ, List, Option, Some, None}
-use Rattle.object_graph.specs.declared.value.Value.{Value}
-use Rattle.object_graph.specs.declared.object.Entry.{Entry}
+use Rattle.heap_model.specs.Types.{Value, Entry}
 use Rattle.object_graph.specs.Objects.{with_entry, without_entry}
 
 -- the entries with that of one key put, or removed

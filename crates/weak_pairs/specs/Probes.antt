@@ -17,7 +17,7 @@ PassesBefore heap table number key steps =
     (before : ℕ) → before < steps → IsPassed heap table key (place_after table.capacity number before)
 
 -- probing comes to the place, and passes all before it
-pub record ComesTo (heap : Heap) (table : Table) (number key place : ℕ) : Type 0 where
+pub record ProbesTo (heap : Heap) (table : Table) (number key place : ℕ) : Type 0 where
   pub steps : ℕ
   pub few : steps < table.capacity
   pub comes : place ≡ place_after table.capacity number steps

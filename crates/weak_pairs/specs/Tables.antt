@@ -27,8 +27,8 @@ abbrev pub value_in : Heap → ℕ → ℕ → ℕ
 value_in heap table place = word_at heap (table + value_offset place)
 
 -- the words of a table end before the marks
-abbrev pub IsWithin : Heap → Table → Type 0
-IsWithin heap table = table.at + (store_head + 2 * table.capacity) ≤ marks_start heap.space
+abbrev pub TableIsWithin : Heap → Table → Type 0
+TableIsWithin heap table = table.at + (store_head + 2 * table.capacity) ≤ marks_start heap.space
 
 -- the words of the pairs stand in the table
 pub record ArePairsIn (words : List ℕ) (table : Table) (pairs : List Pair) : Type 0 where
@@ -53,40 +53,40 @@ with_pair words table place pair =
     slice_set (slice_set words (table + key_offset place) pair.key) (table + value_offset place) pair.value
 
 -- the address is not one of the table's pairs
-abbrev pub IsBesidePairs : Table → ℕ → Type 0
-IsBesidePairs table at = (at < table.at + store_head) ⊎ (table.at + (store_head + 2 * table.capacity) ≤ at)
+abbrev pub IsOutsidePairs : Table → ℕ → Type 0
+IsOutsidePairs table at = (at < table.at + store_head) ⊎ (table.at + (store_head + 2 * table.capacity) ≤ at)
 
 -- no word of the one table's pairs is one of the other's
-abbrev pub IsBesideTable : Table → Table → Type 0
-IsBesideTable from to =
-    (at : ℕ) → from.at + store_head ≤ at → at < from.at + (store_head + 2 * from.capacity) → IsBesidePairs to at
+abbrev pub TablesDisjoint : Table → Table → Type 0
+TablesDisjoint from to =
+    (at : ℕ) → from.at + store_head ≤ at → at < from.at + (store_head + 2 * from.capacity) → IsOutsidePairs to at
 
 -- the number in the header at an address; 0 where there is no header
 abbrev pub number_at : Heap → ℕ → ℕ
 number_at heap at = unwrap_or (option_map (λ header. header.object) (header_at heap.words at)) 0
 
 -- the number of a pair's key, if it has one
-abbrev pub number_of : Heap → Pair → Option ℕ
-number_of heap pair = option_map (number_at heap) (reference_in pair.key)
+abbrev pub key_number : Heap → Pair → Option ℕ
+key_number heap pair = option_map (number_at heap) (reference_in pair.key)
 
 -- the numbers of the keys of all pairs
 abbrev pub numbers : Heap → List Pair → List (Option ℕ)
-numbers heap pairs = map (number_of heap) pairs
+numbers heap pairs = map (key_number heap) pairs
 
 -- the address is one before the marks, and not that of a word of the table's pairs
-pub record IsKeyBeside (heap : Heap) (table : Table) (at : ℕ) : Type 0 where
+pub record IsKeyOutside (heap : Heap) (table : Table) (at : ℕ) : Type 0 where
   pub within : at < marks_start heap.space
-  pub beside : IsBesidePairs table at
+  pub beside : IsOutsidePairs table at
 
 -- each key of the table is such an address
-abbrev pub KeysBeside : Heap → Table → Type 0
-KeysBeside heap table =
+abbrev pub KeysOutsidePairs : Heap → Table → Type 0
+KeysOutsidePairs heap table =
     (place at : ℕ) (pair : Pair) → slice_get (pairs_of heap.words table) place ≡ Some pair
-    → reference_in pair.key ≡ Some at → IsKeyBeside heap table at
+    → reference_in pair.key ≡ Some at → IsKeyOutside heap table at
 
 -- each pair of the one table that holds something has the word of an address as its key, which is one before the marks
 -- and not that of a word of the other's pairs
 abbrev pub KeysMovable : Heap → Table → Table → Type 0
 KeysMovable heap from to =
     (place : ℕ) (pair : Pair) → IsFilledAt (pairs_of heap.words from) place pair
-    → (at : ℕ) × (reference_in pair.key ≡ Some at) × IsKeyBeside heap to at
+    → (at : ℕ) × (reference_in pair.key ≡ Some at) × IsKeyOutside heap to at

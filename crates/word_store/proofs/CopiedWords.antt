@@ -4,7 +4,7 @@ use Rattle.std.proofs.Common.{subst, ◌∙◌, inl, inr, arith, rules, ⊎_elim
 use Rattle.std.proofs.lemmas.Bool.{cases_lt}
 use Rattle.std.proofs.lemmas.Option.{get_or_from_slice_get}
 use Rattle.std.proofs.lemmas.List.{places, same_lists, ext_get_or, length-set, get_or-set_same, get_or-set_other}
-use Rattle.word_store.specs.Copies.{AreApart, copied}
+use Rattle.word_store.specs.Copies.{AreDisjoint, copied}
 
 -- the copied stretch is as long as it should be
 pub length-piece : (words : List ℕ) (from count : ℕ) → from + count ≤ length words →
@@ -38,7 +38,7 @@ copied_none words from to room =
 
 -- after a copy of the first so many words the next of them still stands where it stood
 pub get_or-copied_next : (words : List ℕ) (from to count i d : ℕ) → from + count ≤ length words →
-    to + count ≤ length words → AreApart from to count → i < count →
+    to + count ≤ length words → AreDisjoint from to count → i < count →
     get_or (copied words from to i) (from + i) d ≡ get_or words (from + i) d
 get_or-copied_next words from to count i d within room (inl before) below =
     get_or-copied_before words from to i (from + i) d (omega arith) (omega arith) (omega arith)
@@ -47,7 +47,7 @@ get_or-copied_next words from to count i d within room (inr behind) below =
 
 -- so the word that is read there is the one that stood there
 pub slice_get-copied_next : (words : List ℕ) (from to count i word : ℕ) → from + count ≤ length words →
-    to + count ≤ length words → AreApart from to count → i < count →
+    to + count ≤ length words → AreDisjoint from to count → i < count →
     slice_get (copied words from to i) (from + i) ≡ Some word → get_or words (from + i) 0 ≡ word
 slice_get-copied_next words from to count i word within room apart below read =
     sym (get_or-copied_next words from to count i 0 within room apart below)

@@ -1,6 +1,6 @@
 //! Copies of words among the words of one place.
 ghost use Rattle.std.specs.Prelude.{◌≡◌, ◌+◌, ◌≤◌, length};
-ghost use Rattle.word_store.specs.Copies.{AreApart, copied};
+ghost use Rattle.word_store.specs.Copies.{AreDisjoint, copied};
 
 use crate::words::Words;
 
@@ -9,7 +9,7 @@ pub fn copy<W: Words>(words: &mut W, from: u32, to: u32, count: u32)
     requires steady { W.IsSteady words.old }
     requires within { from + count ≤ length (W.words words.old) }
     requires room { to + count ≤ length (W.words words.old) }
-    requires apart { AreApart from to count }
+    requires apart { AreDisjoint from to count }
     ensures copied { W.words words.new ≡ copied (W.words words.old) from to count }
     ensures rest { W.Rest words.old words.new }
 {

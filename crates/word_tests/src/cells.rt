@@ -130,7 +130,7 @@ fn cells_between<W: Reads>(
 #[test]
 fn a_page_is_walked_from_cell_to_cell(rt: HostRuntime) -> Result<(), Fail> {
     let mut place = heap(rt.alloc(), 0, &[6, 13, 0, 14, 0, 30, 2_043])?;
-    // From address to address: the cells between them, and how many words are loaded so far.
+    // From address to address: the cells between them, and how many words were loaded.
     for (from, end, cells, loads) in [
         (0, 2_048, 3, 8),
         (3, 2_048, 2, 14),

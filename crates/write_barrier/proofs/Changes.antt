@@ -11,10 +11,10 @@ use Rattle.page_space.specs.Extents.{Space, marks_start, words_count}
 use Rattle.page_space.proofs.Starts.{roots_start_is, layouts_start_is, marks_start_is, board_start_is, words_count_is}
 use Rattle.object_graph.proofs.Lists.{slice_get-set_same, slice_get-set_other}
 use Rattle.handle_roots.specs.Roots.{root_at}
-use Rattle.heap_table.specs.Seats.{StaysBeside, heap_words, fresh}
-use Rattle.heap_table.specs.Staying.{stays_beside_itself, stays_beside_again}
+use Rattle.heap_table.specs.Seats.{RestStays, heap_words, fresh}
+use Rattle.heap_table.specs.Staying.{rest_stays_itself, rest_stays_again}
 use Rattle.heap_table.proofs.HeapWords.{slice_get-heap_words, stays_beside-put}
-use Rattle.write_barrier.specs.Mains.{Mutator, with_word, IsOneGap, gap_header}
+use Rattle.write_barrier.specs.MutatorState.{Mutator, with_word, IsOneGap, gap_header}
 use Rattle.write_barrier.specs.Opening.{ChangesWithin, AreZero}
 
 -- one word that is put changes no other
@@ -23,7 +23,7 @@ pub put_changes : (old new : Mutator) (a word from to : ℕ) → new ≡ with_wo
     → from ≤ a → a < to → to ≤ marks_start old.seat.space
     → ChangesWithin old new from to
 put_changes old new a word from to is heap low high before = record {
-  seat = subst (λ (main : Mutator). StaysBeside old.seat main.seat) (sym is)
+  seat = subst (λ (main : Mutator). RestStays old.seat main.seat) (sym is)
       (stays_beside-put old.seat a word (omega arith));
   paths = ap (λ (main : Mutator). main.paths) is;
   young = ap (λ (main : Mutator). main.young) is;
@@ -36,7 +36,7 @@ put_changes old new a word from to is heap low high before = record {
 -- nothing has changed
 pub changes_none : (main : Mutator) (from to : ℕ) → ChangesWithin main main from to
 changes_none main from to =
-    record { seat = stays_beside_itself main.seat; paths = refl; young = refl; count = refl; beside = λ at out. refl }
+    record { seat = rest_stays_itself main.seat; paths = refl; young = refl; count = refl; beside = λ at out. refl }
 
 -- what is beside a stretch is beside a part of it
 still_out : (at from to start end : ℕ) → from ≤ start → end ≤ to → (at < from) ⊎ (to ≤ at)
@@ -48,7 +48,7 @@ still_out at from to start end low high (inr behind) = inr (omega arith)
 pub changes_then : (first old new : Mutator) (from to start end : ℕ) → ChangesWithin first old from to
     → ChangesWithin old new start end → from ≤ start → end ≤ to → ChangesWithin first new from to
 changes_then first old new from to start end before then low high = record {
-  seat = stays_beside_again first.seat old.seat new.seat before.seat then.seat;
+  seat = rest_stays_again first.seat old.seat new.seat before.seat then.seat;
   paths = then.paths ∙ before.paths;
   young = then.young ∙ before.young;
   count = then.count ∙ before.count;

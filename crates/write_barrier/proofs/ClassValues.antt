@@ -4,7 +4,7 @@ use Rattle.std.specs.Prelude.{ℤ, FitsSigned, pos, negsuc, Option, Some}
 use Rattle.std.specs.Int.{w32, w64, cast_signed, cast_unsigned}
 use Rattle.std.proofs.lemmas.Int.{to_z-of_z}
 use Rattle.std.proofs.lemmas.Option.{same_Some}
-use Rattle.tagged_word.specs.declared.word.Class.{Class}
+use Rattle.heap_model.specs.Types.{Class}
 use Rattle.tagged_word.specs.Words.{small}
 use Rattle.heap_model.specs.Heaps.{Heap}
 use Rattle.write_barrier.specs.Values.{held_of_class}

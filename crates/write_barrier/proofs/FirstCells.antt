@@ -3,9 +3,8 @@ use Rattle.std.proofs.Common.{◌≡◌, ℕ, ◌+◌, ◌*◌, ◌<◌, ◌≤�
 use Rattle.std.proofs.Common.{Contains, refl, sym, ◌∙◌, ap, subst, arith, ⊎_elim, inr}
 use Rattle.std.proofs.lemmas.Bool.{false≢true}
 use Rattle.tagged_word.specs.declared.layout.Kind.TheVariants as kind
-use Rattle.tagged_word.specs.declared.layout.LayoutWord.{LayoutWord}
+use Rattle.heap_model.specs.Types.{LayoutWord, Region, Cell}
 use Rattle.tagged_word.specs.Shapes.{gap_shape}
-use Rattle.page_space.specs.declared.region.Region.{Region}
 use Rattle.page_space.specs.declared.region.Region.TheVariants.{Page, Eden, Segment, Root, Layout, Mark, Board, Outside}
 use Rattle.page_space.specs.Sizes.{page_words}
 use Rattle.page_space.specs.Extents.{Space, Extent, IsRegion, is_cell_region, eden_start}
@@ -17,7 +16,6 @@ use Rattle.page_space.proofs.Standing.{start_of, extent_of, pages, eden, to_eden
 use Rattle.page_space.proofs.Placed.{placed}
 use Rattle.page_space.proofs.CellAddresses.{cells_end, page_ends, segment_ends}
 use Rattle.nursery.specs.Young.{Young}
-use Rattle.cell_layout.specs.declared.cell.Cell.{Cell}
 use Rattle.cell_layout.specs.Cells.{IsCell}
 use Rattle.cell_layout.specs.Cells.IsRow.{none, next}
 use Rattle.cell_layout.proofs.CellsThere.{slice_get-layouts_in}
@@ -25,7 +23,7 @@ use Rattle.heap_table.specs.Seats.{heap_words}
 use Rattle.heap_model.specs.Heaps.{Row, IsUsedRow, HasCell, cell_extents}
 use Rattle.heap_model.proofs.CellsApart.{cell_extent_stands}
 use Rattle.heap_model.proofs.RowEnds.{one_used_row}
-use Rattle.write_barrier.specs.Mains.{Mutator, gap_header, heap_of}
+use Rattle.write_barrier.specs.MutatorState.{Mutator, gap_header, heap_of}
 use Rattle.write_barrier.specs.Opening.{IsStarted}
 
 -- the layout of a gap

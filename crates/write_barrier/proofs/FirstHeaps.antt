@@ -9,7 +9,7 @@ use Rattle.std.proofs.lemmas.List.{map-id}
 use Rattle.std.proofs.lemmas.List.Elements.{All-nil, All-map, All-contains_itself}
 use Rattle.std.proofs.lemmas.List.Sums.{sum_by-cons}
 use Rattle.std.proofs.lemmas.Simd.{map-map}
-use Rattle.page_space.specs.declared.region.Region.{Region}
+use Rattle.heap_model.specs.Types.{Region, Cell}
 use Rattle.page_space.specs.declared.region.Region.TheVariants.{Page, Eden, Segment, Root, Layout, Mark, Board, Outside}
 use Rattle.page_space.specs.Extents.{Extent}
 use Rattle.nursery.specs.Young.{Young}
@@ -18,16 +18,15 @@ use Rattle.object_graph.specs.Graphs.{start}
 use Rattle.object_graph.specs.Invariants.{IsObject, HasItsPath, IsGraph}
 use Rattle.object_graph.proofs.FirstPaths.{empty_paths_are, length-empty_paths}
 use Rattle.shape_tree.specs.Shapes.{AreShapes}
-use Rattle.cell_layout.specs.declared.cell.Cell.{Cell}
 use Rattle.handle_roots.specs.declared.held.Held.TheVariants as held
 use Rattle.handle_roots.specs.Roots.{Holds}
 use Rattle.heap_model.specs.Heaps.{Row, IsUsedRow, AreRows, HasCell, cell_extents, survivors_in, survivors_of}
 use Rattle.heap_model.specs.Slots.{is_object_kind, IsPlace}
-use Rattle.heap_model.specs.Kinds.{IsSound}
+use Rattle.heap_model.specs.Kinds.{IsSoundCell}
 use Rattle.heap_model.specs.Wholeness.{Whole, HasSizes, HasRows}
 use Rattle.heap_model.specs.Showing.{Shows, ShowsHeld}
 use Rattle.heap_model.specs.Showing.ShowsHeld.{unbound}
-use Rattle.write_barrier.specs.Mains.{Mutator, MainShows, IsOpened, heap_of}
+use Rattle.write_barrier.specs.MutatorState.{Mutator, MainShows, IsOpened, heap_of}
 use Rattle.write_barrier.specs.Opening.{IsStarted}
 use Rattle.write_barrier.proofs.FirstCells.{first_row, first_end, first_row_stands, has_gaps}
 
@@ -111,7 +110,7 @@ first_is_whole main is = record {
   rows = has_rows main is;
   roots = λ variable below. record { held = held.Unbound; holds = holds_nothing main variable is below; is = tt };
   sound = λ cell words has. let gap = has_gaps main cell words is has in
-      subst (λ (c : Cell). IsSound (heap_of main) c words) gap.1 refl;
+      subst (λ (c : Cell). IsSoundCell (heap_of main) c words) gap.1 refl;
   owned = λ owner another slot other named names names_too.
       absurd (no_objects main owner names.words is names.has names.object);
 }

@@ -4,7 +4,7 @@ use Rattle.std.specs.Option.{option_and_then}
 use Rattle.tagged_word.specs.Headers.{header_bits}
 use Rattle.tagged_word.specs.Readings.{header_in}
 use Rattle.tagged_word.proofs.Readings.{header_to}
-use Rattle.cell_layout.specs.declared.cell.Cell.{Cell}
+use Rattle.heap_model.specs.Types.{Cell}
 use Rattle.heap_model.specs.Heaps.{Heap, HasCell}
 use Rattle.heap_model.proofs.CellsApart.{has_is_cell}
 use Rattle.write_barrier.specs.Reading.{HasHeader}

@@ -6,14 +6,13 @@ use Rattle.page_space.proofs.Starts.{roots_start_is, layouts_start_is, marks_sta
 use Rattle.nursery.specs.Young.{Young, HasRoom}
 use Rattle.shape_tree.specs.Shapes.{AreShapes}
 use Rattle.shape_tree.specs.ShapeLayouts.{IsInUse}
-use Rattle.object_graph.specs.declared.path.Path.{Path}
+use Rattle.heap_model.specs.Types.{Path, Held}
 use Rattle.std.specs.Prelude.{List, slice_set}
-use Rattle.handle_roots.specs.declared.held.Held.{Held}
 use Rattle.handle_roots.specs.Roots.{Holds, root_at, with_root, first_word, second_word}
 use Rattle.handle_roots.proofs.RootWords.{root_before_layouts}
 use Rattle.heap_table.specs.Seats.{Seat, heap_words}
 use Rattle.heap_table.proofs.HeapWords.{slice_get-heap_words, heap_words-put}
-use Rattle.write_barrier.specs.Mains.{IsNextRun}
+use Rattle.write_barrier.specs.MutatorState.{IsNextRun}
 
 -- words that eden has room for end in eden, so before the marks
 pub next_run : (young : Young) (n at : ℕ) → at ≡ eden_start young.space + young.used → HasRoom young n

@@ -10,11 +10,11 @@ use Rattle.tagged_word.specs.Layouts.{layout_bits}
 use Rattle.tagged_word.specs.Shapes.{shapes_most, first_path_shape, fixed_layout_words}
 use Rattle.page_space.specs.Extents.{Space, layouts_start, marks_start}
 use Rattle.page_space.proofs.Starts.{marks_start_is}
-use Rattle.object_graph.specs.declared.path.Path.{Path}
+use Rattle.heap_model.specs.Types.{Path}
 use Rattle.object_graph.proofs.Lists.{slice_get-set_same, slice_get-set_other}
 use Rattle.shape_tree.specs.ShapeLayouts.{layout_of, layout_word, layout_words}
 use Rattle.heap_table.specs.Seats.{heap_words}
-use Rattle.write_barrier.specs.Mains.{Mutator, with_word}
+use Rattle.write_barrier.specs.MutatorState.{Mutator, with_word}
 use Rattle.write_barrier.specs.Opening.{AreZero, HasLayouts, LayoutsBelow}
 
 -- before any is put, shape 0 has its word, which is 0

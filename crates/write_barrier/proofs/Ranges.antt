@@ -7,7 +7,7 @@ use Rattle.std.proofs.lemmas.List.{places, same_lists, length-replicate, length-
 use Rattle.page_space.specs.Extents.{marks_start, words_count}
 use Rattle.word_store.specs.Copies.{copied}
 use Rattle.heap_table.specs.Seats.{heap_words}
-use Rattle.write_barrier.specs.Mains.{Mutator, with_table, with_word}
+use Rattle.write_barrier.specs.MutatorState.{Mutator, with_table, with_word}
 use Rattle.write_barrier.specs.Values.{with_range}
 use Rattle.write_barrier.proofs.Places.{marks_within}
 

@@ -12,8 +12,7 @@ use Rattle.tagged_word.proofs.Readings.{reference_from}
 use Rattle.page_space.specs.Extents.{marks_start}
 use Rattle.page_space.specs.RegionLaws.{IsSpace}
 use Rattle.object_graph.specs.declared.value.Value.TheVariants.{Int, Ref}
-use Rattle.cell_layout.specs.declared.cell.Cell.{Cell}
-use Rattle.handle_roots.specs.declared.held.Held.{Held}
+use Rattle.heap_model.specs.Types.{Cell, Held}
 use Rattle.handle_roots.specs.declared.held.Held.TheVariants as held
 use Rattle.handle_roots.specs.Roots.{FitsHeld}
 use Rattle.heap_model.specs.Heaps.{Heap, HasCell}

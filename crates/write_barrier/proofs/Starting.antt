@@ -6,9 +6,9 @@ use Rattle.page_space.specs.Extents.{Space, eden_start, segments_start, roots_st
 use Rattle.page_space.proofs.Starts.{roots_start_is, layouts_start_is, marks_start_is}
 use Rattle.handle_roots.specs.declared.held.Held.TheVariants.{Unbound}
 use Rattle.handle_roots.specs.Roots.{root_at, first_word}
-use Rattle.heap_table.specs.Seats.{StaysBeside, fresh, heap_words}
-use Rattle.heap_table.specs.Staying.{stays_beside_again}
-use Rattle.write_barrier.specs.Mains.{Mutator, IsOneGap}
+use Rattle.heap_table.specs.Seats.{RestStays, fresh, heap_words}
+use Rattle.heap_table.specs.Staying.{rest_stays_again}
+use Rattle.write_barrier.specs.MutatorState.{Mutator, IsOneGap}
 use Rattle.write_barrier.specs.Opening.{ChangesWithin, AreZero, AreGaps, AreUnbound, HasLayouts, IsStarted, blank}
 use Rattle.write_barrier.proofs.Changes.{blank_zero}
 
@@ -132,11 +132,11 @@ all_seconds {space} all variable below =
 
 -- behind the heap words all is as in words of 0
 all_beside : {space : Space} {first gaps bound last : Mutator} → IsPutAll space first gaps bound last
-    → StaysBeside (fresh space) last.seat
+    → RestStays (fresh space) last.seat
 all_beside {first = first} {gaps = gaps} {bound = bound} {last = last} all =
-    subst (λ (main : Mutator). StaysBeside main.seat last.seat) all.put.is
-    (stays_beside_again first.seat bound.seat last.seat
-    (stays_beside_again first.seat gaps.seat bound.seat all.put.pages.seat all.put.roots.seat) all.layouts.seat)
+    subst (λ (main : Mutator). RestStays main.seat last.seat) all.put.is
+    (rest_stays_again first.seat bound.seat last.seat
+    (rest_stays_again first.seat gaps.seat bound.seat all.put.pages.seat all.put.roots.seat) all.layouts.seat)
 
 -- all that a heap begins with is there
 pub all_started : (space : Space) (first gaps bound last : Mutator) → IsPutAll space first gaps bound last
@@ -146,7 +146,7 @@ all_started space first gaps bound last all within counted =
     let same : space ≡ last.seat.space = sym (all.layouts.seat.space ∙ put_space all.put) in
     let words = heap_words last.seat in
     record {
-      beside = subst (λ (s : Space). StaysBeside (fresh s) last.seat) same (all_beside all);
+      beside = subst (λ (s : Space). RestStays (fresh s) last.seat) same (all_beside all);
       paths = all.layouts.paths ∙ all.put.roots.paths ∙ all.put.pages.paths
           ∙ ap (λ (main : Mutator). main.paths) all.put.is;
       young = all.layouts.young ∙ all.put.roots.young ∙ all.put.pages.young

@@ -1,6 +1,6 @@
 -- What the mutator keeps in its fields.
 use Rattle.write_barrier.specs.declared.main_side.Main.TheInside.{Inside}
-use Rattle.write_barrier.specs.Mains.{Mutator}
+use Rattle.write_barrier.specs.MutatorState.{Mutator}
 
 -- the seat, the field paths, and the young generation
 abbrev pub mutator_of : Inside → Mutator

@@ -1,12 +1,12 @@
 -- What the mutator is after one of its parts was lent.
 use Rattle.std.specs.Prelude.{List}
 use Rattle.std.specs.Borrow.{Lends, MutBor, Fml}
-use Rattle.object_graph.specs.declared.path.Path.{Path}
+use Rattle.heap_model.specs.Types.{Path}
 use Rattle.nursery.specs.Young.{Young}
 use Rattle.shape_tree.specs.contracts.tree.ShapeTree.{the_row as tree_row}
 use Rattle.nursery.specs.contracts.Nursery.{the_row as nursery_row}
 use Rattle.write_barrier.specs.contracts.main_side.Main.{the_row}
-use Rattle.write_barrier.specs.Mains.{Mutator}
+use Rattle.write_barrier.specs.MutatorState.{Mutator}
 
 -- the mutator ends with the last paths behind the reference
 abbrev pub LendsShapes : MutBor Mutator → MutBor (List Path) → Fml

@@ -1,4 +1,4 @@
-pub mod Mains
+pub mod MutatorState
 pub mod Kept
 pub mod Lending
 pub mod Reading

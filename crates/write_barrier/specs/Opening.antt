@@ -8,12 +8,12 @@ use Rattle.object_graph.specs.Paths.{empty_paths}
 use Rattle.shape_tree.specs.ShapeLayouts.{layout_word}
 use Rattle.handle_roots.specs.declared.held.Held.TheVariants.{Unbound}
 use Rattle.handle_roots.specs.Roots.{root_at, first_word}
-use Rattle.heap_table.specs.Seats.{StaysBeside, fresh, heap_words}
-use Rattle.write_barrier.specs.Mains.{Mutator, IsOneGap}
+use Rattle.heap_table.specs.Seats.{RestStays, fresh, heap_words}
+use Rattle.write_barrier.specs.MutatorState.{Mutator, IsOneGap}
 
 -- of all that the mutator has, only heap words from an address to another have changed
 pub record ChangesWithin (old new : Mutator) (from to : ℕ) : Type 0 where
-  pub seat : StaysBeside old.seat new.seat
+  pub seat : RestStays old.seat new.seat
   pub paths : new.paths ≡ old.paths
   pub young : new.young ≡ old.young
   pub count : length (heap_words new.seat) ≡ length (heap_words old.seat)
@@ -51,7 +51,7 @@ blank space = record { seat = fresh space; paths = empty_paths; young = new_youn
 -- Nothing is used, each page is one gap, segments hold 0, each variable is bound to nothing, the layout words are there,
 -- and all behind them is as in words of 0.
 pub record IsStarted (main : Mutator) : Type 0 where
-  pub beside : StaysBeside (fresh main.seat.space) main.seat
+  pub beside : RestStays (fresh main.seat.space) main.seat
   pub paths : main.paths ≡ empty_paths
   pub young : main.young ≡ new_young main.seat.space
   pub within : AreWithin main.seat.space.sizes main.seat.space.variables

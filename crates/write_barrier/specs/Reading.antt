@@ -1,12 +1,11 @@
 -- What is read of a heap, and what reading leaves.
 use Rattle.std.specs.Prelude.{◌≡◌, ℕ, List, Some}
 use Rattle.std.proofs.Common.{◌∙◌, ap}
-use Rattle.tagged_word.specs.declared.header.Header.{Header}
+use Rattle.heap_model.specs.Types.{Header, Cell}
 use Rattle.tagged_word.specs.Readings.{header_at}
-use Rattle.cell_layout.specs.declared.cell.Cell.{Cell}
 use Rattle.heap_table.specs.declared.phase.Phase.TheVariants.{Quiet}
 use Rattle.heap_model.specs.Heaps.{Heap, HasCell}
-use Rattle.write_barrier.specs.Mains.{Mutator}
+use Rattle.write_barrier.specs.MutatorState.{Mutator}
 
 -- a header stands at the address
 pub record HasHeader (heap : Heap) (at : ℕ) : Type 0 where

@@ -1,11 +1,10 @@
 -- Laws of words that show values.
 use Rattle.std.specs.Prelude.{◌≡◌, ℕ, ◌+◌, ◌<◌, Some}
-use Rattle.tagged_word.specs.declared.word.Class.{Class}
+use Rattle.heap_model.specs.Types.{Class, Value}
 use Rattle.tagged_word.specs.Words.{IsClass, bits_of}
 use Rattle.tagged_word.specs.Readings.{reference_in}
 use Rattle.page_space.specs.Extents.{marks_start}
 use Rattle.page_space.specs.RegionLaws.{IsSpace}
-use Rattle.object_graph.specs.declared.value.Value.{Value}
 use Rattle.handle_roots.specs.Roots.{FitsHeld}
 use Rattle.heap_model.specs.Heaps.{Heap}
 use Rattle.heap_model.specs.Wholeness.{HasSizes}

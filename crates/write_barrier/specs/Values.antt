@@ -2,9 +2,8 @@
 use Rattle.std.specs.Prelude.{ℕ, ◌+◌, Bool, true, false, List, ◌++◌, length, take, drop}
 use Rattle.std.specs.Prelude.{Some}
 use Rattle.std.specs.Int.{cast_signed, w64}
-use Rattle.tagged_word.specs.declared.word.Class.{Class}
+use Rattle.heap_model.specs.Types.{Class, Held}
 use Rattle.tagged_word.specs.declared.word.Class.TheVariants as of_class
-use Rattle.handle_roots.specs.declared.held.Held.{Held}
 use Rattle.handle_roots.specs.declared.held.Held.TheVariants.{Undefined, Int, Ref}
 use Rattle.heap_model.specs.Heaps.{Heap}
 use Rattle.heap_model.specs.Needs.{word_at, is_box_at}

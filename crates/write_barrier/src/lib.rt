@@ -1,19 +1,19 @@
 //! The mutator's side of a heap: stores with their barrier, and room for new cells.
 //!
-//! Model: a `Mutator` of `specs/Mains.antt`: the seat with its words, the field paths, and the
+//! Model: a `Mutator` of `specs/MutatorState.antt`: the seat with its words, the field paths, and the
 //! young generation. `heap_of` is the heap that stands in the words.
-//! Invariant: none over its parts, which it lends. `MainShows` of `specs/Mains.antt` is what holds
+//! Invariant: none over its parts, which it lends. `MainShows` of `specs/MutatorState.antt` is what holds
 //! between two commands; each call here says what it changes, in the middle of a change too.
 #![tactic(auto)]
 
-mod blocks;
+mod fills;
 mod laws;
 mod main_side;
 mod opening;
 mod room;
 mod roots;
-mod stores;
 mod values;
+mod writes;
 
 pub use laws::laws_of_values;
 pub use main_side::Main;

@@ -1,4 +1,4 @@
-//! What the thread that runs commands has, and what it reads. Stores are in `stores.rt`, room for
+//! What the thread that runs commands has, and what it reads. Stores are in `writes.rt`, room for
 //! new cells in `room.rt`, variables in `roots.rt`.
 ghost use Rattle.std.specs.Prelude.{◌≡◌, ◌+◌, ◌<◌, ◌^◌, length, slice_get, Some, refl};
 ghost use Rattle.std.specs.Borrow.{sem};
@@ -11,7 +11,7 @@ ghost use Rattle.nursery.specs.Young.{IsYoung};
 ghost use Rattle.heap_table.specs.declared.phase.Phase.TheVariants.{Quiet};
 ghost use Rattle.heap_table.specs.Seats.{heap_words};
 ghost use Rattle.write_barrier.specs.Lending.{LendsShapes, LendsNursery};
-ghost use Rattle.write_barrier.specs.Mains.{heap_of};
+ghost use Rattle.write_barrier.specs.MutatorState.{heap_of};
 ghost use Rattle.write_barrier.specs.Reading.{HasHeader, IsHeaderAt, stays_quiet};
 
 use heap_table::MainSeat;
@@ -31,7 +31,7 @@ pub struct Main {
 }
 
 impl Model for Main {
-    ghost use Rattle.write_barrier.specs.Mains.{Mutator};
+    ghost use Rattle.write_barrier.specs.MutatorState.{Mutator};
 
     ghost Value = { Mutator };
 

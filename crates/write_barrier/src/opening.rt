@@ -6,7 +6,7 @@ ghost use Rattle.object_graph.specs.Graphs.{start};
 ghost use Rattle.handle_roots.specs.Roots.{root_at};
 ghost use Rattle.heap_table.specs.declared.phase.Phase.TheVariants.{Quiet};
 ghost use Rattle.heap_table.specs.Seats.{fresh, heap_words};
-ghost use Rattle.write_barrier.specs.Mains.{IsOneGap, MainShows, IsOpened};
+ghost use Rattle.write_barrier.specs.MutatorState.{IsOneGap, MainShows, IsOpened};
 ghost use Rattle.write_barrier.specs.Opening.{ChangesWithin, AreZero, AreGaps, AreUnbound};
 ghost use Rattle.write_barrier.specs.Opening.{HasLayouts, IsStarted, blank};
 
@@ -40,7 +40,7 @@ impl Main {
         Ok(main)
     }
 
-    // Puts all that is not 0 in a heap that was just opened.
+    /// Puts all that is not 0 in a heap that was just opened.
     fn start(&mut self, regions: &Regions)
         requires { self.old ≡ blank regions.now }
         ensures started { IsStarted self.new }
@@ -53,7 +53,7 @@ impl Main {
         self.addresses_fit();
     }
 
-    // Makes a page one gap.
+    /// Makes a page one gap.
     fn put_gap(&mut self, page: u32)
         requires quiet { self.old.seat.phase ≡ Quiet }
         requires there { page < self.old.seat.space.sizes.pages }
@@ -72,7 +72,7 @@ impl Main {
         self.write_slot(at, LENGTH, PAGE_WORDS as u64);
     }
 
-    // Makes each page one gap.
+    /// Makes each page one gap.
     fn put_gaps(&mut self)
         requires quiet { self.old.seat.phase ≡ Quiet }
         ensures gaps { AreGaps self.new }
@@ -84,7 +84,7 @@ impl Main {
         }
     }
 
-    // Binds each variable to nothing. The second words stay.
+    /// Binds each variable to nothing. The second words stay.
     fn put_unbound(&mut self)
         requires quiet { self.old.seat.phase ≡ Quiet }
         ensures firsts { AreUnbound self.new }
@@ -101,7 +101,7 @@ impl Main {
         }
     }
 
-    // Puts the layout words of the shapes in use.
+    /// Puts the layout words of the shapes in use.
     fn put_layouts(&mut self)
         requires quiet { self.old.seat.phase ≡ Quiet }
         requires zero { let space = self.old.seat.space in

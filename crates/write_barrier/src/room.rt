@@ -2,7 +2,7 @@
 ghost use Rattle.std.specs.Prelude.{◌≡◌, ◌≤◌, ◌↔◌, IsTrue, IfOk, OnOk, IfErr, OnErr, is_ok, false};
 ghost use Rattle.tagged_word.specs.Cells.{cell_words_most};
 ghost use Rattle.nursery.specs.Young.{HasRoom};
-ghost use Rattle.write_barrier.specs.Mains.{reserved, IsNextRun};
+ghost use Rattle.write_barrier.specs.MutatorState.{reserved, IsNextRun};
 
 use crate::main_side::Main;
 use page_space::Run;

@@ -4,13 +4,13 @@ ghost use Rattle.heap_table.specs.declared.phase.Phase.TheVariants.{Quiet};
 ghost use Rattle.heap_table.specs.Seats.{heap_words};
 ghost use Rattle.handle_roots.specs.declared.held.Held.TheVariants.{Unbound};
 ghost use Rattle.handle_roots.specs.Roots.{Holds, IsRoot, with_root};
-ghost use Rattle.write_barrier.specs.Mains.{with_variable};
+ghost use Rattle.write_barrier.specs.MutatorState.{with_variable};
 
 use crate::main_side::Main;
 use handle_roots::{Held, held_by};
 use heap_table::MainSeat;
 
-// Both root words of a variable become those of a value.
+/// Both root words of a variable become those of a value.
 #[inline(always)]
 fn hold_in(seat: &mut MainSeat, variable: u32, value: Held)
     requires quiet { seat.old.phase ≡ Quiet }
@@ -24,7 +24,7 @@ fn hold_in(seat: &mut MainSeat, variable: u32, value: Held)
     handle_roots::hold(&mut paused, &regions, variable, value);
 }
 
-// Both root words of a variable become those of another one.
+/// Both root words of a variable become those of another one.
 fn copy_in(seat: &mut MainSeat, from: u32, to: u32)
     requires quiet { seat.old.phase ≡ Quiet }
     requires known { from < seat.old.space.variables }

@@ -6,7 +6,7 @@ ghost use Rattle.tagged_word.specs.Readings.{reference_in};
 ghost use Rattle.page_space.specs.Extents.{marks_start};
 ghost use Rattle.heap_table.specs.declared.phase.Phase.TheVariants.{Quiet};
 ghost use Rattle.heap_model.specs.Needs.{is_box_at, is_box_word};
-ghost use Rattle.write_barrier.specs.Mains.{heap_of};
+ghost use Rattle.write_barrier.specs.MutatorState.{heap_of};
 ghost use Rattle.write_barrier.specs.Values as values;
 
 use crate::main_side::Main;
@@ -45,7 +45,7 @@ impl Main {
         }
     }
 
-    // Whether the header of a box stands at an address.
+    /// Whether the header of a box stands at an address.
     fn has_box(&self, at: u32) -> bool
         requires quiet { self.now.seat.phase ≡ Quiet }
         requires within { at < marks_start self.now.seat.space }
@@ -57,7 +57,7 @@ impl Main {
         }
     }
 
-    // What a reference to an address stands for.
+    /// What a reference to an address stands for.
     #[inline(never)]
     fn value_at(&self, at: u32) -> Held
         requires quiet { self.now.seat.phase ≡ Quiet }

@@ -3,7 +3,7 @@ ghost use Rattle.std.specs.Prelude.{[]};
 ghost use Rattle.heap_command.specs.declared.command.Command.{Command};
 ghost use Rattle.object_graph.specs.Graphs.{make};
 ghost use Rattle.object_graph.specs.Meaning.{done};
-ghost use Rattle.ideal_graph.specs.Steps.{ComesTo, Steps};
+ghost use Rattle.ideal_graph.specs.Steps.{StepsTo, Steps};
 
 use super::{Ideal, IdealStop, Said};
 use heap_command::{FaultWord, Operand};
@@ -37,7 +37,7 @@ impl Ideal {
 
     /// Binds `x` to the object, as one more.
     fn make(&mut self, x: u32, object: Object) -> Result<Said, IdealStop>
-        ensures { ComesTo self.old self.new (done (make self.old.graph x object) []) result }
+        ensures { StepsTo self.old self.new (done (make self.old.graph x object) []) result }
     {
         let Ok(number) = u32::try_from(self.objects.len()) else {
             return Err(IdealStop::NoMemory);

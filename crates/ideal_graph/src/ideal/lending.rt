@@ -16,7 +16,7 @@ impl Ideal {
         &self.objects
     }
 
-    /// The field paths so far, in the order in which they came.
+    /// The field paths, in the order in which they came.
     pub fn paths(&self) -> &[Path]
         ensures { result.now ≡ self.now.graph.paths }
     {

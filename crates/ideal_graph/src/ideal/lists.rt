@@ -4,7 +4,7 @@ ghost use Rattle.heap_command.specs.declared.command.Command.{Command};
 ghost use Rattle.object_graph.specs.declared.object.Object.{Object};
 ghost use Rattle.object_graph.specs.Graphs.{replace};
 ghost use Rattle.object_graph.specs.Meaning.{done};
-ghost use Rattle.ideal_graph.specs.Steps.{ComesTo, Steps};
+ghost use Rattle.ideal_graph.specs.Steps.{StepsTo, Steps};
 
 use super::{Ideal, IdealStop, Said};
 use heap_command::{FaultWord, Operand};
@@ -89,7 +89,7 @@ impl Ideal {
     /// Gives the list of this number these elements.
     fn relist(&mut self, number: u32, elements: Vec<Value>) -> Result<Said, IdealStop>
         requires { number < length self.old.graph.objects }
-        ensures { ComesTo self.old self.new
+        ensures { StepsTo self.old self.new
             (done (replace self.old.graph number (Object.List elements.items)) []) result }
     {
         let elements = Elements::from_vec(elements);

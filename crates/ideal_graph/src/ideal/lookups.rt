@@ -5,7 +5,7 @@
 ghost use Rattle.std.specs.Prelude.{◌<◌, IfOk, length};
 ghost use Rattle.std.specs.FinMap.{get};
 ghost use Rattle.object_graph.specs.Graphs.{value_of, plain_at, list_at, weak_at};
-ghost use Rattle.ideal_parts.specs.Lookups.{Finds, FindsAs, seen_plain, seen_list, seen_weak};
+ghost use Rattle.ideal_parts.specs.Lookups.{IsLookup, FindsAs, seen_plain, seen_list, seen_weak};
 
 use super::Ideal;
 use heap_command::{FaultWord, Operand};
@@ -15,14 +15,14 @@ use object_graph::Value;
 impl Ideal {
     /// What the variable is bound to.
     pub(crate) fn bound(&self, x: u32) -> Result<Value, FaultWord>
-        ensures { Finds FaultWord.Unbound (get self.now.graph.bindings x) result }
+        ensures { IsLookup FaultWord.Unbound (get self.now.graph.bindings x) result }
     {
         self.bindings.get(&x).copied().ok_or(FaultWord::Unbound)
     }
 
     /// The value that the operand stands for.
     pub(crate) fn value(&self, operand: Operand) -> Result<Value, FaultWord>
-        ensures { Finds FaultWord.Unbound (value_of self.now.graph operand) result }
+        ensures { IsLookup FaultWord.Unbound (value_of self.now.graph operand) result }
     {
         match operand {
             Operand::Int(v) => Ok(Value::Int(v)),

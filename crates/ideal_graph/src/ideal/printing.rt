@@ -3,7 +3,7 @@ ghost use Rattle.std.specs.Prelude.{◌≡◌, []};
 ghost use Rattle.heap_command.specs.declared.command.Command.{Command};
 ghost use Rattle.object_graph.specs.Meaning.{done, same_value};
 ghost use Rattle.object_graph.specs.Texts.{line, truth_text};
-ghost use Rattle.ideal_graph.specs.Steps.{ComesTo, Steps};
+ghost use Rattle.ideal_graph.specs.Steps.{StepsTo, Steps};
 
 use super::{Ideal, IdealStop, Said};
 use heap_command::Operand;
@@ -32,7 +32,7 @@ impl Ideal {
 
     /// Writes `true` or `false`, and a line feed.
     pub(crate) fn truth(&mut self, truth: bool) -> Result<Said, IdealStop>
-        ensures { ComesTo self.old self.new (done self.old.graph (line (truth_text truth))) result }
+        ensures { StepsTo self.old self.new (done self.old.graph (line (truth_text truth))) result }
     {
         let line: &[u8] = if truth { b"true\n" } else { b"false\n" };
         let text = Vec::from_slice(self.alloc, line)?;
@@ -50,7 +50,7 @@ impl Ideal {
 
     /// Collects nothing, for every object stays.
     pub(crate) fn collect(&mut self) -> Result<Said, IdealStop>
-        ensures { ComesTo self.old self.new (done self.old.graph []) result }
+        ensures { StepsTo self.old self.new (done self.old.graph []) result }
     {
         Ok(Said::nothing(self.alloc))
     }

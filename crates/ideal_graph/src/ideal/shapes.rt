@@ -3,8 +3,8 @@ ghost use Rattle.std.specs.Prelude.{◌<◌, length};
 ghost use Rattle.heap_command.specs.declared.command.Command.{Command};
 ghost use Rattle.object_graph.specs.Meaning.{reshape};
 ghost use Rattle.object_graph.specs.Limits.{ideal_limits};
-ghost use Rattle.ideal_graph.specs.Steps.{ComesTo, Steps};
-ghost use Rattle.ideal_graph.specs.Lookups.{AddsPath};
+ghost use Rattle.ideal_graph.specs.Steps.{StepsTo, Steps};
+ghost use Rattle.ideal_graph.specs.Lookups.{LearnsPath};
 
 use super::{Ideal, IdealStop, Said};
 use heap_command::{FaultWord, Operand};
@@ -60,7 +60,7 @@ impl Ideal {
     /// Gives the plain object of this number these fields, and adds its path.
     fn reshape(&mut self, number: u32, cap: u32, fields: Vec<Field>) -> Result<Said, IdealStop>
         requires { number < length self.old.graph.objects }
-        ensures { ComesTo self.old self.new
+        ensures { StepsTo self.old self.new
             (reshape ideal_limits self.old.graph
             (record { number = number; cap = cap; fields = fields.items }) fields.items) result }
     {
@@ -99,7 +99,7 @@ impl Ideal {
 
 /// Adds the path, and those of its prefixes that are not there, shortest first.
 fn add_path(alloc: Global, paths: &mut Vec<Path>, path: &Path) -> Result<(), IdealStop>
-    ensures { AddsPath ideal_limits.paths paths.old.items paths.new.items path.now result }
+    ensures { LearnsPath ideal_limits.paths paths.old.items paths.new.items path.now result }
 {
     let mut more = missing(alloc, paths, path)?;
     if paths.len() + more.len() > PATHS_MOST as usize {

@@ -2,7 +2,7 @@
 ghost use Rattle.std.specs.Prelude.{◌≡◌, ◌<◌, [], length};
 ghost use Rattle.heap_command.specs.declared.command.Command.{Command};
 ghost use Rattle.object_graph.specs.Limits.{ideal_limits};
-ghost use Rattle.ideal_graph.specs.Steps.{ComesTo, Steps};
+ghost use Rattle.ideal_graph.specs.Steps.{StepsTo, Steps};
 ghost use Rattle.object_graph.specs.declared.object.Object.{Object};
 ghost use Rattle.object_graph.specs.Graphs.{replace};
 ghost use Rattle.object_graph.specs.Meaning.{no_entry_for, done};
@@ -59,7 +59,7 @@ impl Ideal {
     /// Gives the weak map of this number these entries.
     fn reweave(&mut self, number: u32, entries: Vec<Entry>) -> Result<Said, IdealStop>
         requires { number < length self.old.graph.objects }
-        ensures { ComesTo self.old self.new
+        ensures { StepsTo self.old self.new
             (done (replace self.old.graph number (Object.Weak entries.items)) []) result }
     {
         let entries = Entries::from_vec(entries);

@@ -13,8 +13,8 @@ count_of-count-requires-clause-there c = shown_there (list_shown c.requires.show
 pub returns-in_default : goal.returns-in_default
 returns-in_default c graph one shows is =
     let fits : FitsSigned w64 c.args.n = search rules in (
-      number_named one c.count_of-count.result c.args.n c.place_of.result shows is c.count_of-count.ensures.counted
-          fits c.place_of.ensures ∙ c.in_default.is,
+      number_named one c.count_of-count.result c.args.n c.checked_index.result shows is c.count_of-count.ensures.counted
+          fits c.checked_index.ensures ∙ c.in_default.is,
       refl,
     )
 
@@ -27,10 +27,10 @@ returns-then-gone-ne0 c graph one shows is =
     let fits : FitsSigned w64 c.args.n = search rules in
     let gone : ℕ = c.in-Some.gone in
     let counted = c.count_of-count.ensures.counted ∙ count_shown (list_shown shows is) in
-    let within = place_below (c.count_of-count.result + 1) gone _ (sym c.place_of.ensures ∙ c.in-Some.is) in (
+    let within = place_below (c.count_of-count.result + 1) gone _ (sym c.checked_index.ensures ∙ c.in-Some.is) in (
       gone,
-      number_named one c.count_of-count.result c.args.n c.place_of.result shows is c.count_of-count.ensures.counted
-          fits c.place_of.ensures ∙ c.in-Some.is,
+      number_named one c.count_of-count.result c.args.n c.checked_index.result shows is c.count_of-count.ensures.counted
+          fits c.checked_index.ensures ∙ c.in-Some.is,
       some_shifted one c.count_of-count.result gone c.laws_of_trims.ensures.shift c.addresses_fit.ensures.within
           shows is counted (omega (arith, c.if-gone-ne0.true)) (omega (arith, within)) c.shift_store.ensures,
     )
@@ -39,7 +39,7 @@ pub returns-else-gone-ne0 : goal.returns-else-gone-ne0
 returns-else-gone-ne0 c graph one shows is =
     let fits : FitsSigned w64 c.args.n = search rules in (
       c.in-Some.gone,
-      number_named one c.count_of-count.result c.args.n c.place_of.result shows is c.count_of-count.ensures.counted
-          fits c.place_of.ensures ∙ c.in-Some.is,
+      number_named one c.count_of-count.result c.args.n c.checked_index.result shows is c.count_of-count.ensures.counted
+          fits c.checked_index.ensures ∙ c.in-Some.is,
       none_shifted one c.in-Some.gone shows is (omega (arith, c.if-gone-ne0.false)),
     )

@@ -13,8 +13,8 @@ count_of-count-requires-clause-there c = shown_there (list_shown c.requires.show
 pub returns-in_default : goal.returns-in_default
 returns-in_default c graph one shows is =
     let fits : FitsSigned w64 c.args.n = search rules in (
-      number_named one c.count_of-count.result c.args.n c.place_of.result shows is c.count_of-count.ensures.counted
-          fits c.place_of.ensures ∙ c.in_default.is,
+      number_named one c.count_of-count.result c.args.n c.checked_index.result shows is c.count_of-count.ensures.counted
+          fits c.checked_index.ensures ∙ c.in_default.is,
       refl,
     )
 
@@ -28,10 +28,10 @@ returns-then-kept-count c graph one shows is =
     let count : ℕ = c.count_of-count.result in
     let kept : ℕ = c.in-Some.kept in
     let counted = c.count_of-count.ensures.counted ∙ count_shown (list_shown shows is) in
-    let within = place_below (count + 1) kept _ (sym c.place_of.ensures ∙ c.in-Some.is) in (
+    let within = place_below (count + 1) kept _ (sym c.checked_index.ensures ∙ c.in-Some.is) in (
       kept,
-      number_named one c.count_of-count.result c.args.n c.place_of.result shows is c.count_of-count.ensures.counted
-          fits c.place_of.ensures ∙ c.in-Some.is,
+      number_named one c.count_of-count.result c.args.n c.checked_index.result shows is c.count_of-count.ensures.counted
+          fits c.checked_index.ensures ∙ c.in-Some.is,
       some_truncated one kept c.laws_of_trims.ensures.truncate c.addresses_fit.ensures.within shows is
           (omega (arith, counted, within, c.if-kept-count.true)) c.truncate_store.ensures,
     )
@@ -42,7 +42,7 @@ returns-else-kept-count c graph one shows is =
     let count : ℕ = c.count_of-count.result in
     let counted = c.count_of-count.ensures.counted ∙ count_shown (list_shown shows is) in (
       c.in-Some.kept,
-      number_named one c.count_of-count.result c.args.n c.place_of.result shows is c.count_of-count.ensures.counted
-          fits c.place_of.ensures ∙ c.in-Some.is,
+      number_named one c.count_of-count.result c.args.n c.checked_index.result shows is c.count_of-count.ensures.counted
+          fits c.checked_index.ensures ∙ c.in-Some.is,
       none_truncated one c.in-Some.kept shows is (omega (arith, counted, c.if-kept-count.false)),
     )

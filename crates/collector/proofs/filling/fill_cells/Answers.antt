@@ -1,6 +1,6 @@
 use Rattle.std.proofs.Common.{◌≡◌, ◌≤◌, ℕ, refl, sym, ◌∙◌, subst, arith}
 use Rattle.page_space.specs.Extents.{Space, roots_start}
-use Rattle.write_barrier.specs.Mains.{Mutator, heap_of}
+use Rattle.write_barrier.specs.MutatorState.{Mutator, heap_of}
 use Rattle.collector.specs.Filling.{StandsBetween, FillsWithin}
 use Rattle.collector.proofs.CellRegions.{begins_first, begins_behind, begins_roots, told_stands}
 use Rattle.collector.proofs.FilledWords.{fills_none, fills_more}

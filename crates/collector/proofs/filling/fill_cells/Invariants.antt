@@ -1,6 +1,6 @@
 use Rattle.std.proofs.Common.{◌≡◌, ◌-◌}
 use Rattle.page_space.specs.Extents.{words_count}
-use Rattle.write_barrier.specs.Mains.{heap_of}
+use Rattle.write_barrier.specs.MutatorState.{heap_of}
 use Rattle.collector.specs.Filling.{FillsWithin}
 use Rattle.collector.proofs.CellRegions.{BeginsAt}
 use Rattle.collector.proofs.filling.fill_cells.Given as goal

@@ -1,7 +1,7 @@
 use Rattle.std.proofs.Common.{ℕ, ap, subst, arith}
 use Rattle.page_space.specs.Extents.{marks_start}
 use Rattle.heap_table.specs.Seats.{heap_words}
-use Rattle.write_barrier.specs.Mains.{Mutator, heap_of}
+use Rattle.write_barrier.specs.MutatorState.{Mutator, heap_of}
 use Rattle.collector.specs.Filling.{CopiesWithin}
 use Rattle.collector.proofs.FilledWords.{row_lies_between, region_filled}
 use Rattle.collector.proofs.filling.fill_region.Goals as goal

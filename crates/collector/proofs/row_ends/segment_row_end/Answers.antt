@@ -2,7 +2,7 @@ use Rattle.std.proofs.Common.{inl, inr, refl, ◌∙◌, subst, arith}
 use Rattle.page_space.specs.Extents.{Space}
 use Rattle.cell_layout.specs.Cells.{IsCell, HasNoCell}
 use Rattle.heap_table.specs.Seats.{heap_words}
-use Rattle.write_barrier.specs.Mains.{Mutator, heap_of}
+use Rattle.write_barrier.specs.MutatorState.{Mutator, heap_of}
 use Rattle.collector.proofs.RowWalks.{WalksOn, walk_begins, walk_on, walk_ends}
 use Rattle.collector.proofs.row_ends.segment_row_end.Goals as goal
 

@@ -1,5 +1,5 @@
 use Rattle.std.proofs.Common.{◌≡◌, ◌-◌}
-use Rattle.write_barrier.specs.Mains.{heap_of}
+use Rattle.write_barrier.specs.MutatorState.{heap_of}
 use Rattle.collector.proofs.RowWalks.{Walking}
 use Rattle.collector.proofs.row_ends.segment_row_end.Given as goal
 

@@ -4,12 +4,12 @@ use Rattle.std.specs.Prelude.{slice_set}
 use Rattle.std.proofs.lemmas.List.{length-replicate}
 use Rattle.tagged_word.specs.Headers.{header_bits}
 use Rattle.page_space.specs.Extents.{Space, marks_start}
-use Rattle.heap_table.specs.Seats.{heap_words, StaysBeside}
-use Rattle.heap_table.specs.Staying.{stays_beside_itself, stays_beside_again}
+use Rattle.heap_table.specs.Seats.{heap_words, RestStays}
+use Rattle.heap_table.specs.Staying.{rest_stays_itself, rest_stays_again}
 use Rattle.heap_model.specs.Slots.{hole_word}
-use Rattle.write_barrier.specs.Mains.{Mutator}
+use Rattle.write_barrier.specs.MutatorState.{Mutator}
 use Rattle.write_barrier.specs.Values.{with_range}
-use Rattle.object_cells.proofs.WordsBeside.{put_beside, range_beside}
+use Rattle.object_cells.proofs.RestOfWords.{put_rest, range_beside}
 use Rattle.ephemeron_table.specs.Puttings.{table_header}
 use Rattle.ephemeron_table.proofs.growing.begin_table.Goals as goal
 
@@ -22,10 +22,10 @@ returns c =
     let at = c.args.table.at in
     let capacity = c.args.table.capacity in
     let holes = replicate (2 * capacity) hole_word in
-    let first : StaysBeside old.seat headed.seat =
-    put_beside at _ (stays_beside_itself old.seat) c.set_header.ensures.written (omega (arith, c.requires.within)) in
-    let then : StaysBeside old.seat sized.seat =
-    put_beside (at + 1) _ first c.write_slot.ensures.written
+    let first : RestStays old.seat headed.seat =
+    put_rest at _ (rest_stays_itself old.seat) c.set_header.ensures.written (omega (arith, c.requires.within)) in
+    let then : RestStays old.seat sized.seat =
+    put_rest (at + 1) _ first c.write_slot.ensures.written
     (omega (arith, c.requires.within, ap (λ (s : Space). marks_start s) first.space)) in
     let marks = ap (λ (s : Space). marks_start s) then.space in
     let words = c.write_slot.ensures.heap ∙ ap (λ all. slice_set all (at + 1) capacity) c.set_header.ensures.heap in
@@ -33,12 +33,12 @@ returns c =
     ap length c.write_slot.ensures.heap ∙ length-set (heap_words headed.seat) (at + 1) capacity
     ∙ ap length c.set_header.ensures.heap ∙ length-set (heap_words old.seat) at (header_bits table_header)
     ∙ c.addresses_fit.ensures.heap_counted ∙ sym marks in
-    let last : StaysBeside sized.seat filled.seat =
-    subst (λ (main : Mutator). StaysBeside sized.seat main.seat) (sym c.fill_holes.ensures.filled)
+    let last : RestStays sized.seat filled.seat =
+    subst (λ (main : Mutator). RestStays sized.seat main.seat) (sym c.fill_holes.ensures.filled)
     (range_beside sized (at + 2) holes long
     (omega (arith, length-replicate (2 * capacity) hole_word, c.requires.within, marks))) in
     record {
-      beside = stays_beside_again old.seat sized.seat filled.seat then last;
+      beside = rest_stays_again old.seat sized.seat filled.seat then last;
       paths = ap (λ (main : Mutator). main.paths) c.fill_holes.ensures.filled
           ∙ ap (λ (main : Mutator). main.paths) c.write_slot.ensures.written
           ∙ ap (λ (main : Mutator). main.paths) c.set_header.ensures.written;

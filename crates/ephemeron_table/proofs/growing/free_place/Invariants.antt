@@ -1,5 +1,5 @@
--- No pair so far is free.
-use Rattle.write_barrier.specs.Mains.{heap_of}
+-- No pair before is free.
+use Rattle.write_barrier.specs.MutatorState.{heap_of}
 use Rattle.weak_pairs.specs.Probes.{FilledBefore}
 use Rattle.ephemeron_table.proofs.growing.free_place.Given as goal
 

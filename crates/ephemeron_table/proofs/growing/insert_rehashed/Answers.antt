@@ -1,6 +1,6 @@
 -- A pair is free, so probing ends at one.
 use Rattle.std.proofs.Common.{sym, ap, ◌∙◌}
-use Rattle.write_barrier.specs.Mains.{heap_of}
+use Rattle.write_barrier.specs.MutatorState.{heap_of}
 use Rattle.linear_probing.proofs.Findings.{comes_everywhere}
 use Rattle.weak_pairs.specs.Tables.{key_in}
 use Rattle.ephemeron_table.proofs.growing.insert_rehashed.Goals as goal

@@ -2,11 +2,11 @@
 use Rattle.std.proofs.Common.{◌≡◌, ℕ, ◌+◌, ◌*◌, ◌<◌, ◌≤◌, sym, ap, subst, ◌∙◌, arith, rules}
 use Rattle.tagged_word.specs.Cells.{store_head}
 use Rattle.page_space.specs.Extents.{Space, marks_start}
-use Rattle.heap_table.specs.Seats.{StaysBeside}
-use Rattle.heap_table.specs.Staying.{stays_beside_again}
-use Rattle.write_barrier.specs.Mains.{Mutator}
+use Rattle.heap_table.specs.Seats.{RestStays}
+use Rattle.heap_table.specs.Staying.{rest_stays_again}
+use Rattle.write_barrier.specs.MutatorState.{Mutator}
 use Rattle.object_cells.specs.Made.{content_need}
-use Rattle.object_cells.proofs.WordsBeside.{same_beside, reserved_beside, put_beside}
+use Rattle.object_cells.proofs.RestOfWords.{same_rest, reserved_rest, put_rest}
 use Rattle.ephemeron_table.proofs.GrowingTables.{begun_within, boxed_free, grown_apart, grown_before_marks}
 use Rattle.ephemeron_table.proofs.GrowingTables.{grown_keys, grown_more, grown_nothing}
 use Rattle.ephemeron_table.proofs.growing.put_in_new_table.Goals as goal
@@ -193,17 +193,17 @@ returns-clause-ok c =
     let inserted : Mutator = c.insert_rehashed.new.main in
     let told : Mutator = c.made.new.self in
     let linked : Mutator = c.store.new.self in
-    let reached : StaysBeside old.seat inserted.seat =
-    stays_beside_again old.seat boxed.seat inserted.seat
-    (stays_beside_again old.seat moved.seat boxed.seat
-    (stays_beside_again old.seat begun.seat moved.seat
-    (stays_beside_again old.seat c.room_for.new.main.seat begun.seat
-    (reserved_beside old _ c.in_ok-at.ensures.reserved) c.begin_table.ensures.beside)
+    let reached : RestStays old.seat inserted.seat =
+    rest_stays_again old.seat boxed.seat inserted.seat
+    (rest_stays_again old.seat moved.seat boxed.seat
+    (rest_stays_again old.seat begun.seat moved.seat
+    (rest_stays_again old.seat c.room_for.new.main.seat begun.seat
+    (reserved_rest old _ c.in_ok-at.ensures.reserved) c.begin_table.ensures.beside)
     c.rehash.ensures.changes.rest) c.boxed_word-word.ensures.made.beside) c.insert_rehashed.ensures.words.beside in
-    let still : StaysBeside inserted.seat told.seat = same_beside c.made.ensures.same in
+    let still : RestStays inserted.seat told.seat = same_rest c.made.ensures.same in
     let marks = ap (λ (s : Space). marks_start s) reached.space in
-    let named : StaysBeside inserted.seat linked.seat =
-    put_beside (c.args.map + 1) _ still c.store.ensures.stored
+    let named : RestStays inserted.seat linked.seat =
+    put_rest (c.args.map + 1) _ still c.store.ensures.stored
     (omega (arith, c.requires.can.map_within, marks, ap (λ (s : Space). marks_start s) still.space)) in
     record {
       room = search rules;
@@ -216,7 +216,7 @@ returns-clause-ok c =
       inserted = inserted;
       inserts = search rules;
       words = record {
-        beside = put_beside (c.args.map + 2) _ named c.write_slot.ensures.written
+        beside = put_rest (c.args.map + 2) _ named c.write_slot.ensures.written
             (omega (arith, c.requires.can.map_within, marks, ap (λ (s : Space). marks_start s) named.space));
         paths = search rules;
         young = search rules;

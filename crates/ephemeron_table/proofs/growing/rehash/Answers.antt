@@ -1,7 +1,7 @@
 -- Pair by pair comes to the other table.
 use Rattle.std.proofs.Common.{◌+◌, unwrap_or, sym, ◌∙◌, ap, subst}
 use Rattle.tagged_word.specs.Readings.{reference_in}
-use Rattle.write_barrier.specs.Mains.{Mutator}
+use Rattle.write_barrier.specs.MutatorState.{Mutator}
 use Rattle.ephemeron_table.specs.Rehashing.{RehashesPairs}
 use Rattle.ephemeron_table.proofs.RehashedTables.{rehashing_begins, rehashing_free, rehashing_key, rehashing_passes}
 use Rattle.ephemeron_table.proofs.RehashedTables.{rehashing_inserts}

@@ -1,4 +1,4 @@
--- The pairs so far stand in the other table.
+-- The pairs before stand in the other table.
 use Rattle.ephemeron_table.specs.Rehashing.{RehashesPairs}
 use Rattle.ephemeron_table.proofs.growing.rehash.Given as goal
 

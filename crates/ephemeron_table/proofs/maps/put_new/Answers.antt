@@ -2,7 +2,7 @@
 use Rattle.std.proofs.Common.{◌≡◌, Some, unwrap_or, ap, subst, arith}
 use Rattle.heap_model.specs.Needs.{count_at}
 use Rattle.heap_model.specs.Slots.{reference_word}
-use Rattle.write_barrier.specs.Mains.{heap_of}
+use Rattle.write_barrier.specs.MutatorState.{heap_of}
 use Rattle.weak_pairs.specs.Tables as tables
 use Rattle.ephemeron_table.specs.Probes.{EndsNew}
 use Rattle.ephemeron_table.proofs.FullTables.{put_known, over_nowhere, counted_within}

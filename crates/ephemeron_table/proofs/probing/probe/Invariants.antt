@@ -1,5 +1,5 @@
--- All pairs so far hold something, and have other keys.
-use Rattle.write_barrier.specs.Mains.{heap_of}
+-- All pairs before hold something, and have other keys.
+use Rattle.write_barrier.specs.MutatorState.{heap_of}
 use Rattle.weak_pairs.specs.Probes.{PassesBefore}
 use Rattle.ephemeron_table.proofs.probing.probe.Given as goal
 

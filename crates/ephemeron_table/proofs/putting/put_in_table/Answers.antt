@@ -1,6 +1,6 @@
 -- The box that is made stands in the words that were reserved.
 use Rattle.std.proofs.Common.{◌≡◌, ap, ◌∙◌, arith}
-use Rattle.write_barrier.specs.Mains.{Mutator}
+use Rattle.write_barrier.specs.MutatorState.{Mutator}
 use Rattle.object_cells.specs.Made.{content_need}
 use Rattle.object_cells.proofs.UnusedWords.{run_before_marks}
 use Rattle.ephemeron_table.proofs.putting.put_in_table.Goals as goal

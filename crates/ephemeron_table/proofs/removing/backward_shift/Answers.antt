@@ -4,7 +4,7 @@ use Rattle.page_space.specs.Extents.{Space, marks_start}
 use Rattle.heap_table.specs.Seats.{heap_words}
 use Rattle.tagged_word.specs.Readings.{reference_in}
 use Rattle.linear_probing.proofs.Turns.{ends_at_last}
-use Rattle.write_barrier.specs.Mains.{heap_of}
+use Rattle.write_barrier.specs.MutatorState.{heap_of}
 use Rattle.object_cells.proofs.CellsRead.{fits_address}
 use Rattle.weak_pairs.specs.Tables.{numbers, pairs_of}
 use Rattle.weak_pairs.proofs.PairLists.{pairs_read}

@@ -4,7 +4,7 @@ use Rattle.std.proofs.lemmas.Option.{same_Some}
 use Rattle.page_space.specs.Extents.{marks_start}
 use Rattle.cell_layout.proofs.OneCell.{cells_have_words}
 use Rattle.heap_model.proofs.CellsApart.{has_is_cell}
-use Rattle.write_barrier.specs.Mains.{heap_of}
+use Rattle.write_barrier.specs.MutatorState.{heap_of}
 use Rattle.object_cells.proofs.CellsRead.{cell_before_marks}
 use Rattle.ephemeron_table.proofs.TablesRead.{weak_sound, weak_pairs, slot_within, read_table, table_is}
 use Rattle.ephemeron_table.proofs.TablesRead.{table_is_none}

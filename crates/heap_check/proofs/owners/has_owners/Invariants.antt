@@ -1,7 +1,7 @@
 use Rattle.std.proofs.Common.{◌-◌}
 use Rattle.page_space.specs.Extents.{roots_start}
 use Rattle.heap_model.specs.Images.{image_heap}
-use Rattle.heap_check.specs.Onward.{IsBoundary}
+use Rattle.heap_check.specs.NextCell.{IsBoundary}
 use Rattle.heap_check.proofs.NamedOnce.{AreOwnedTo}
 use Rattle.heap_check.proofs.owners.has_owners.Given as goal
 

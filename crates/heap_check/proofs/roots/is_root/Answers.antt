@@ -1,7 +1,7 @@
 use Rattle.std.proofs.Common.{sym, ◌∙◌, subst, refl}
 use Rattle.std.proofs.lemmas.Bool.{false≢true}
 use Rattle.std.proofs.lemmas.Option.{same_Some}
-use Rattle.tagged_word.specs.declared.word.Class.{Class}
+use Rattle.heap_model.specs.Types.{Class}
 use Rattle.heap_model.specs.Images.{image_heap}
 use Rattle.heap_check.specs.Roots.{IsRootBy}
 use Rattle.heap_check.proofs.RootReadings.{root_from_class, class_of_root}

@@ -1,6 +1,6 @@
 use Rattle.std.proofs.Common.{◌∙◌, ap, sym, arith, eq-eqb}
 use Rattle.std.proofs.lemmas.Bool.{eqb-true}
-use Rattle.page_space.specs.declared.sizes.Sizes.{Sizes}
+use Rattle.heap_model.specs.Types.{Sizes}
 use Rattle.heap_model.specs.Images.{image_heap}
 use Rattle.heap_check.proofs.CountedRows.{one_count}
 use Rattle.heap_check.proofs.rows.has_rows.Goals as goal

@@ -1,5 +1,5 @@
 use Rattle.std.proofs.Common.{sym, subst}
-use Rattle.tagged_word.specs.declared.word.Class.{Class}
+use Rattle.heap_model.specs.Types.{Class}
 use Rattle.tagged_word.specs.Words.{bits_of}
 use Rattle.heap_model.specs.Images.{image_heap}
 use Rattle.heap_check.specs.Sorts.{IsSort}

@@ -4,7 +4,7 @@ use Rattle.heap_model.specs.Slots.{IsSlotWord}
 use Rattle.heap_model.proofs.SlotWords.{All-slice_get}
 use Rattle.heap_check.specs.Spans.{EachWord}
 use Rattle.heap_check.proofs.SpanWords.{all_from_each}
-use Rattle.heap_check.proofs.SlotsBeside.{store_has_head}
+use Rattle.heap_check.proofs.StoreSlots.{store_has_head}
 use Rattle.heap_check.proofs.stores.is_store.Goals as goal
 
 pub behind_head-requires-clause-long : goal.behind_head-requires-clause-long

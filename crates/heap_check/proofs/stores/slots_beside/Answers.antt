@@ -3,7 +3,7 @@ use denote.Enum.Bare.{same_true, same_false}
 use Rattle.tagged_word.specs.contracts.layout.Kind.{the_type}
 use Rattle.heap_model.specs.Images.{image_heap}
 use Rattle.heap_check.specs.Spans.{IsStoreKind}
-use Rattle.heap_check.proofs.SlotsBeside.{store_has_head, none_beside, store_beside, wrong_beside, no_beside}
+use Rattle.heap_check.proofs.StoreSlots.{store_has_head, none_beside, store_beside, wrong_beside, no_beside}
 use Rattle.heap_check.proofs.stores.slots_beside.Goals as goal
 
 pub behind_head-requires-clause-long : goal.behind_head-requires-clause-long

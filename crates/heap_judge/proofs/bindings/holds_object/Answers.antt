@@ -1,6 +1,6 @@
 use Rattle.std.proofs.Common.{Some, sym, subst}
 use Rattle.object_graph.specs.declared.value.Value.TheVariants.{Ref}
-use Rattle.handle_roots.specs.declared.held.Held.{Held}
+use Rattle.heap_model.specs.Types.{Held}
 use Rattle.heap_model.specs.Images.{image_heap}
 use Rattle.heap_model.specs.Showing.{ShowsHeld}
 use Rattle.heap_judge.proofs.HeldValues.{object_held}

@@ -1,6 +1,5 @@
 use Rattle.std.proofs.Common.{Option, None, sym, subst}
-use Rattle.object_graph.specs.declared.value.Value.{Value}
-use Rattle.handle_roots.specs.declared.held.Held.{Held}
+use Rattle.heap_model.specs.Types.{Value, Held}
 use Rattle.heap_model.specs.Images.{image_heap}
 use Rattle.heap_model.specs.Showing.{ShowsHeld}
 use Rattle.heap_judge.proofs.HeldValues.{unbound_held}

@@ -1,5 +1,5 @@
 use Rattle.std.proofs.Common.{◌≡◌, ℕ, ◌<◌, Some, slice_get}
-use Rattle.object_graph.specs.declared.object.Entry.{Entry}
+use Rattle.heap_model.specs.Types.{Entry}
 use Rattle.heap_judge.proofs.entries.has_entry.Given as goal
 
 abbrev pub invariant-loop-entry : goal.invariant-loop-entry

@@ -2,7 +2,7 @@ use Rattle.std.proofs.Common.{ℕ, get_or, refl, sym, ◌∙◌, arith}
 use Rattle.std.specs.Prelude.{pos}
 use Rattle.std.proofs.lemmas.Bool.{false≢true}
 use Rattle.std.proofs.lemmas.Option.{slice_get_within, slice_get-get_or}
-use Rattle.object_graph.specs.declared.object.Entry.{Entry}
+use Rattle.heap_model.specs.Types.{Entry}
 use Rattle.object_graph.specs.declared.value.Value.TheVariants.{Int}
 use Rattle.heap_model.specs.Images.{image_heap}
 use Rattle.heap_check.specs.TablePairs.{table_pairs}

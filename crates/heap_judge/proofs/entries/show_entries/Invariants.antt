@@ -1,5 +1,5 @@
 use Rattle.std.proofs.Common.{◌≡◌, ℕ, ◌<◌, Some, slice_get}
-use Rattle.object_graph.specs.declared.object.Entry.{Entry}
+use Rattle.heap_model.specs.Types.{Entry}
 use Rattle.heap_model.specs.Images.{image_heap}
 use Rattle.heap_check.specs.TablePairs.{table_pairs}
 use Rattle.heap_judge.specs.KeyPairs.{ShowsIfReached}

@@ -1,6 +1,6 @@
 use Rattle.std.proofs.Common.{ℕ, Some, refl, sym, ap, ◌∙◌, arith}
 use Rattle.std.proofs.lemmas.Option.{slice_get_within, slice_get-get_or}
-use Rattle.object_graph.specs.declared.object.Object.{Object}
+use Rattle.heap_model.specs.Types.{Object}
 use Rattle.heap_model.specs.Images.{image_heap}
 use Rattle.heap_judge.specs.Reached.{ShowsMarked}
 use Rattle.heap_judge.proofs.EachItem.{each_item_more}

@@ -1,5 +1,5 @@
 use Rattle.std.proofs.Common.{◌≡◌, ℕ, ◌<◌, Some, slice_get}
-use Rattle.object_graph.specs.declared.object.Object.{Object}
+use Rattle.heap_model.specs.Types.{Object}
 use Rattle.heap_model.specs.Images.{image_heap}
 use Rattle.heap_judge.specs.Reached.{ShowsMarked}
 use Rattle.heap_judge.proofs.objects.show_reached.Given as goal

@@ -1,5 +1,5 @@
 use Rattle.std.proofs.Common.{List, Bool, length, sym, ◌∙◌, subst, arith}
-use Rattle.object_graph.specs.declared.object.Object.{Object}
+use Rattle.heap_model.specs.Types.{Object}
 use Rattle.heap_model.specs.Images.{image_heap}
 use Rattle.heap_judge.specs.Places.{AreMade}
 use Rattle.heap_judge.specs.Reached.{ShowReached}

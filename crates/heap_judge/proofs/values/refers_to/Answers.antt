@@ -1,5 +1,5 @@
 use Rattle.std.proofs.Common.{subst}
-use Rattle.heap_check.specs.declared.slots.Sort.{Sort}
+use Rattle.heap_check.specs.declared.slots.Referent.{Referent}
 use Rattle.heap_model.specs.Images.{image_heap}
 use Rattle.heap_check.specs.Sorts.{IsSort}
 use Rattle.heap_check.proofs.WordSorts.{object_sort}
@@ -8,7 +8,7 @@ use Rattle.heap_judge.proofs.values.refers_to.Goals as goal
 pub returns : goal.returns
 returns c =
     let heap = image_heap c.args.image.now in
-    let Is : Sort → Type 0 = λ of. IsSort heap c.args.word of in (
+    let Is : Referent → Type 0 = λ of. IsSort heap c.args.word of in (
       λ yes. subst Is (c.is_object_of.ensures.0 yes) c.sort_of.ensures,
       λ to. c.is_object_of.ensures.1 (object_sort heap c.args.word c.args.number c.sort_of.result to c.sort_of.ensures),
     )

@@ -2,8 +2,8 @@ use Rattle.std.proofs.Common.{◌≡◌, ◌↔◌, ℤ, IsTrue, rules, subst}
 use Rattle.std.proofs.lemmas.Int.{to_z-of_z}
 use Rattle.std.specs.Prelude.{FitsSigned}
 use Rattle.std.specs.Int.{w64}
-use Rattle.heap_check.specs.declared.slots.Sort.{Sort}
-use Rattle.heap_check.specs.declared.slots.Sort.TheVariants as sort
+use Rattle.heap_check.specs.declared.slots.Referent.{Referent}
+use Rattle.heap_check.specs.declared.slots.Referent.TheVariants as sort
 use Rattle.heap_model.specs.Images.{image_heap}
 use Rattle.heap_check.specs.Sorts.{IsSort}
 use Rattle.heap_check.proofs.WordSorts.{box_sort}
@@ -13,7 +13,7 @@ pub returns : goal.returns
 returns c =
     let heap = image_heap c.args.image.now in
     let fits : FitsSigned w64 c.args.v = search rules in
-    let Is : Sort → Type 0 = λ of. IsSort heap c.args.word of in
+    let Is : Referent → Type 0 = λ of. IsSort heap c.args.word of in
     let Told : ℤ → Type 0 = λ n. IsTrue c.is_box_of.result ↔ (c.sort_of.result ≡ sort.Boxed n) in
     let told : Told c.args.v = subst Told (to_z-of_z w64 c.args.v fits) c.is_box_of.ensures in (
       λ yes. subst Is (told.0 yes) c.sort_of.ensures,

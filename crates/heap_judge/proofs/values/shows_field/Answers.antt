@@ -1,5 +1,5 @@
 use Rattle.std.proofs.Common.{sym, subst}
-use Rattle.object_graph.specs.declared.value.Rep.{Rep}
+use Rattle.heap_model.specs.Types.{Rep}
 use Rattle.heap_model.specs.Images.{image_heap}
 use Rattle.heap_model.specs.Showing.{ShowsField}
 use Rattle.heap_judge.proofs.ShownValues.{tagged_field_shown}

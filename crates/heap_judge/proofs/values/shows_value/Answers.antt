@@ -1,5 +1,5 @@
 use Rattle.std.proofs.Common.{sym, subst}
-use Rattle.object_graph.specs.declared.value.Value.{Value}
+use Rattle.heap_model.specs.Types.{Value}
 use Rattle.heap_model.specs.Images.{image_heap}
 use Rattle.heap_model.specs.Showing.{ShowsValue}
 use Rattle.heap_judge.proofs.ShownValues.{undefined_shown, object_shown}

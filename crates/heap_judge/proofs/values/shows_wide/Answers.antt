@@ -2,7 +2,7 @@ use Rattle.std.proofs.Common.{◌↔◌, ℤ, IsTrue, rules, sym, subst}
 use Rattle.std.proofs.lemmas.Int.{to_z-of_z}
 use Rattle.std.specs.Prelude.{FitsSigned}
 use Rattle.std.specs.Int.{w64}
-use Rattle.object_graph.specs.declared.value.Value.{Value}
+use Rattle.heap_model.specs.Types.{Value}
 use Rattle.object_graph.specs.declared.value.Rep.TheVariants as rep
 use Rattle.heap_model.specs.Images.{image_heap}
 use Rattle.heap_model.specs.Showing.{ShowsField, ShowsWide}

@@ -2,7 +2,7 @@ use Rattle.std.proofs.Common.{ℕ, ◌∙◌, ap}
 use Rattle.std.proofs.lemmas.Bool.{cases_eq}
 use Rattle.heap_model.specs.Heaps.{Heap}
 use Rattle.heap_model.specs.Images.{image_heap}
-use Rattle.write_barrier.specs.Mains.{heap_of}
+use Rattle.write_barrier.specs.MutatorState.{heap_of}
 use Rattle.collector.proofs.ImagesShow.{images_show, images_are_blank}
 use Rattle.collector.proofs.ImageStores.{images_keep_stores, images_have_rooms}
 use Rattle.heap_run.proofs.Concluding.{IsKeepable, Runs-finished}

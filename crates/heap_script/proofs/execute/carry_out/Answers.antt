@@ -1,7 +1,7 @@
 use Rattle.std.proofs.Common.{◌∙◌, ap, refl}
-use Rattle.write_barrier.specs.Mains.{MainShows}
+use Rattle.write_barrier.specs.MutatorState.{MainShows}
 use Rattle.collector.specs.States.{HeapState}
-use Rattle.mutator.specs.Carries.{field_numbers}
+use Rattle.mutator.specs.CarriesOut.{field_numbers}
 use Rattle.heap_script.proofs.Carrying.{refused, still_lacks}
 use Rattle.heap_script.proofs.Running.{same_heap}
 use Rattle.heap_script.proofs.execute.carry_out.Goals as goal

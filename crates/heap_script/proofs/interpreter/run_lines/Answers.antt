@@ -4,13 +4,13 @@ use Rattle.std.specs.Prelude.{slice_get, None}
 use Rattle.object_graph.specs.Run.{lines_most}
 use Rattle.script_text.specs.Unrolled.{executed_lines}
 use Rattle.script_text.proofs.Left.{at_most_four}
-use Rattle.write_barrier.specs.Mains.{heap_of}
+use Rattle.write_barrier.specs.MutatorState.{heap_of}
 use Rattle.heap_script.proofs.Ways.{goes_on, past_end}
-use Rattle.heap_script.specs.Runs.{Holds, IsDue}
+use Rattle.heap_script.specs.Runs.{OutputHolds, IsDue}
 use Rattle.heap_script.proofs.Handing.{CutsOff-handed}
 use Rattle.heap_script.proofs.Running.{next-drop, same_heap, same_space, Running-start, Running-handed}
 use Rattle.heap_script.proofs.Running.{Running-line, TellsAt-line}
-use Rattle.heap_script.proofs.Ending.{ComesTo-end, ComesTo-limit, ComesTo-line, Pauses-stopped, same-line}
+use Rattle.heap_script.proofs.Ending.{EndsRun-end, EndsRun-limit, EndsRun-line, Pauses-stopped, same-line}
 use Rattle.heap_script.proofs.interpreter.run_lines.Goals as goal
 
 pub loop-at-init : goal.loop-at-init
@@ -21,7 +21,7 @@ loop-at-init g c =
       running = rw (c.requires.empty, c.new-turns.ensures)
           (Running-start c.args.script.now c.args.heap.now taken (rw lines.all at lines.placed) c.requires.shown
           c.requires.opened c.requires.variables);
-      holds = rw c.requires.empty Holds.nothing;
+      holds = rw c.requires.empty OutputHolds.nothing;
       space = refl;
       steady = refl;
     }
@@ -48,7 +48,7 @@ returns-then-executed-eq-LINES_MOST-clause-pauses g c =
       reached = r.reached;
       spends = r.spends;
       halts = (
-        ComesTo-limit script (heap_of c.loop-at.heap.main) _ c.loop-at.executed line.number _ _ r.reached goes
+        EndsRun-limit script (heap_of c.loop-at.heap.main) _ c.loop-at.executed line.number _ _ r.reached goes
             c.if-executed-eq-LINES_MOST.true,
         r.handed,
         c.loop-at.invariant.steady,
@@ -72,7 +72,7 @@ returns-clause-pauses g c =
       reached = r.reached;
       spends = r.spends;
       halts = (
-        ComesTo-end c.args.script.now (heap_of c.loop-at.heap.main) c.loop-at.at c.loop-at.executed c.loop-at.turns
+        EndsRun-end c.args.script.now (heap_of c.loop-at.heap.main) c.loop-at.at c.loop-at.executed c.loop-at.turns
             r.reached r.left past,
         r.handed,
         c.loop-at.invariant.steady,
@@ -117,7 +117,7 @@ returns-in-Err g c =
     let lines = c.lines-lines.result.now in
     let line = get_or lines c.loop-at.at past_end in
     let heap = c.loop-at.heap in
-    let r = Running-handed script heap _ _ c.make_room.new.out _ _ _ _ _ _ before c.in-Ok.ensures.handed in
+    let r = Running-handed script heap _ _ c.flush_if_full.new.out _ _ _ _ _ _ before c.in-Ok.ensures.handed in
     let goes = goes_on lines script.lines c.loop-at.at c.loop-at.turns _ c.lines-lines.ensures.all c.loop-at-test.true
     r.left in
     let below : n < lines_most = omega (arith, r.reached.few) in
@@ -126,12 +126,12 @@ returns-in-Err g c =
     let (text, carries, out-is) = c.in-Err.ensures.carried graph r.shown r.made in
     let same = same_heap heap after (same-line script.fields heap.main after.main graph _ text c.in-Err.stop carries)
     c.in-Err.ensures.spare in
-    let comes = ComesTo-line script heap.main after.main _ n line.number _ _ text c.in-Err.stop r.shown.main.tied
+    let comes = EndsRun-line script heap.main after.main _ n line.number _ _ text c.in-Err.stop r.shown.main.tied
     r.reached
     below goes carries in
     record {
       pauses = rw (same, out-is, c.stopped.ensures)
-          (Pauses-stopped script (heap_of heap.main) c.make_room.new.out n line.number c.in-Err.stop _ _ _ _ r.reached
+          (Pauses-stopped script (heap_of heap.main) c.flush_if_full.new.out n line.number c.in-Err.stop _ _ _ _ r.reached
           r.spends comes
           r.handed (c.in-Ok.ensures.steady ∙ c.loop-at.invariant.steady));
       shows = rw same (graph, r.shown);
@@ -146,19 +146,19 @@ loop-at-preserved g c =
     let lines = c.lines-lines.result.now in
     let line = get_or lines c.loop-at.at past_end in
     let heap = c.loop-at.heap in
-    let r = Running-handed script heap _ _ c.make_room.new.out _ _ _ _ _ _ before c.in-Ok.ensures.handed in
+    let r = Running-handed script heap _ _ c.flush_if_full.new.out _ _ _ _ _ _ before c.in-Ok.ensures.handed in
     let goes = goes_on lines script.lines c.loop-at.at c.loop-at.turns _ c.lines-lines.ensures.all c.loop-at-test.true
     r.left in
     let below : n < lines_most = omega (arith, r.reached.few) in
     let ran = c.in-Ok-execute_line.ensures in
     let (text, carries, out-is) = ran.carried r.reached.so_far.graph r.shown r.made in
     let tells = TellsAt-line script (heap_of heap.main) _ _ _ _ n line.number _ text r.reached goes carries in
-    let holds : Holds script (n + 1) (c.make_room.new.out ++ text) =
-    subst (λ (waiting : List ℕ). Holds script (n + 1) (waiting ++ text)) (sym c.in-Ok.ensures.waits)
-    (Holds.one_more n c.loop-at.out text c.loop-at.invariant.holds tells) in
+    let holds : OutputHolds script (n + 1) (c.flush_if_full.new.out ++ text) =
+    subst (λ (waiting : List ℕ). OutputHolds script (n + 1) (waiting ++ text)) (sym c.in-Ok.ensures.waits)
+    (OutputHolds.one_more n c.loop-at.out text c.loop-at.invariant.holds tells) in
     record {
       running = rw (ran.place, ran.turned, ran.counted, out-is)
-          (Running-line script heap c.execute_line.new.heap c.loop-at.objects c.make_room.new.out _ _
+          (Running-line script heap c.execute_line.new.heap c.loop-at.objects c.flush_if_full.new.out _ _
           c.loop-at.at _ c.loop-at.turns _ n line.number _ text r below goes ran.spare carries);
       holds = rw out-is holds;
       space = same_space heap c.execute_line.new.heap _ _ script.fields text r.shown.main carries ∙ c.loop-at.invariant.space;

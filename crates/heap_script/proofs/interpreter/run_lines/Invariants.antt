@@ -1,6 +1,6 @@
 use Rattle.std.proofs.Common.{◌≡◌, ◌-◌}
 use Rattle.object_graph.specs.Run.{lines_most}
-use Rattle.heap_script.specs.Runs.{Holds}
+use Rattle.heap_script.specs.Runs.{OutputHolds}
 use Rattle.heap_script.proofs.Running.{Running}
 use Rattle.heap_script.proofs.interpreter.run_lines.Given as goal
 
@@ -8,7 +8,7 @@ abbrev pub invariant-loop-at : goal.invariant-loop-at
 invariant-loop-at g l = record {
   running : Running l.script l.heap l.objects l.out (g.K.Sink.HasTaken l.initial.sink) (g.K.Sink.HasTaken l.sink)
       l.at l.turns l.executed;
-  holds : Holds l.script l.executed l.out;
+  holds : OutputHolds l.script l.executed l.out;
   space : l.heap.main.seat.space ≡ l.initial.heap.main.seat.space;
   steady : g.K.Sink.faults l.sink ≡ g.K.Sink.faults l.initial.sink;
 }

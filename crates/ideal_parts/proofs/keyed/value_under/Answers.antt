@@ -8,7 +8,7 @@ returns-in-Some g c =
     let k = g.T.Keyed.keying in
     let items = c.args.items.now in
     let item = c.index-items-place.result in
-    let place = sym c.place_of.ensures ∙ c.in-Some.is in
+    let place = sym c.position_of_key.ensures ∙ c.in-Some.is in
     ap (λ value. Some value) (c.value.ensures ∙ ap k.value c.index-items-place.is)
     ∙ sym (value_under-position k g.met.T.Keyed.by_keys items c.args.key item ∙ ap (value_at k items item) place)
 
@@ -17,5 +17,5 @@ returns-in-None g c =
     let k = g.T.Keyed.keying in
     let items = c.args.items.now in
     let unread = k.made c.args.key Undefined in
-    let none = sym c.place_of.ensures ∙ c.in-None.is in
+    let none = sym c.position_of_key.ensures ∙ c.in-None.is in
     sym (value_under-position k g.met.T.Keyed.by_keys items c.args.key unread ∙ ap (value_at k items unread) none)

@@ -11,11 +11,11 @@ returns g c =
     let key = c.args.key in
     let value = c.args.value in
     let same = c.in_ok-copied.ensures.items in
-    elim c.match-place_of.branch [
+    elim c.match-position_of_key.branch [
       | in-Some w ↦
           let place = w.in-Some.place in
           let item = w.index-items-place.result in
-          let found = sym c.place_of.ensures ∙ w.in-Some.is in
+          let found = sym c.position_of_key.ensures ∙ w.in-Some.is in
           let new = w.revalued.ensures ∙ ap (λ it. k.revalued it value) w.index-items-place.is in
           ap (λ v. v.items) w.copied-is
           ∙ ap (λ xs. set xs place w.revalued.result) same
@@ -23,7 +23,7 @@ returns g c =
           ∙ sym (with_value-position k by items key value item ∙ ap (with_value_at k items key value item) found)
       | in-None+in_ok-push-in-None w ↦
           let item = w.new.result in
-          let none = sym c.place_of.ensures ∙ w.in-None.is in
+          let none = sym c.position_of_key.ensures ∙ w.in-None.is in
           ap (λ v. v.items) w.copied-is
           ∙ w.in_ok-push-in-None.ensures.items
           ∙ ap (λ xs. xs ++ item ∷ []) same

@@ -3,7 +3,7 @@ use Rattle.std.proofs.Common.{◌<◌, length, refl, ◌∙◌, subst, rules, ar
 use Rattle.object_graph.specs.Meaning.{list_most}
 use Rattle.nursery.specs.Young.{HasRoom}
 use Rattle.handle_roots.specs.Roots.{FitsHeld}
-use Rattle.write_barrier.specs.Mains.{heap_of}
+use Rattle.write_barrier.specs.MutatorState.{heap_of}
 use Rattle.heap_model.specs.Needs.{capacity_at}
 use Rattle.object_cells.proofs.ListCells.{list_shown, shown_there, shown_ready, count_shown}
 use Rattle.object_cells.proofs.ListChanging.{changing}

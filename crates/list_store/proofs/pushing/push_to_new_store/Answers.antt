@@ -3,11 +3,11 @@ use Rattle.std.proofs.Common.{◌≡◌, ℕ, ◌+◌, ◌<◌, ◌≤◌, refl,
 use Rattle.page_space.specs.Extents.{Space, marks_start}
 use Rattle.object_graph.specs.Meaning.{list_most}
 use Rattle.heap_model.specs.Needs.{grown_list}
-use Rattle.heap_table.specs.Seats.{StaysBeside}
-use Rattle.heap_table.specs.Staying.{stays_beside_again}
-use Rattle.write_barrier.specs.Mains.{Mutator}
+use Rattle.heap_table.specs.Seats.{RestStays}
+use Rattle.heap_table.specs.Staying.{rest_stays_again}
+use Rattle.write_barrier.specs.MutatorState.{Mutator}
 use Rattle.object_cells.specs.Made.{content_need}
-use Rattle.object_cells.proofs.WordsBeside.{same_beside, put_beside, reserved_beside}
+use Rattle.object_cells.proofs.RestOfWords.{same_rest, put_rest, reserved_rest}
 use Rattle.object_cells.proofs.UnusedWords.{run_before_marks, run_apart, marks_fit}
 use Rattle.object_cells.proofs.ListCells.{count_within, slot_within}
 use Rattle.list_store.proofs.pushing.push_to_new_store.Goals as goal
@@ -143,24 +143,24 @@ returns-clause-ok c =
     let at = c.in_ok-at.at in
     let need = 2 + c.grown-capacity.result + c.need_of.result in
     let ready = c.requires.can.ready in
-    let first : StaysBeside old.seat boxed.seat =
-    stays_beside_again old.seat begun.seat boxed.seat
-    (stays_beside_again old.seat c.room_for.new.main.seat begun.seat (reserved_beside old _ c.in_ok-at.ensures.reserved)
+    let first : RestStays old.seat boxed.seat =
+    rest_stays_again old.seat begun.seat boxed.seat
+    (rest_stays_again old.seat c.room_for.new.main.seat begun.seat (reserved_rest old _ c.in_ok-at.ensures.reserved)
     c.begin_store.ensures.beside) c.boxed_word-word.ensures.made.beside in
     let before = run_before_marks old need at boxed.seat.space ready.tied c.in_ok-at.ensures.room
     (c.in_ok-at.ensures.at (omega arith)) first.space in
-    let filled : StaysBeside old.seat put.seat =
-    put_beside (at + (2 + c.args.count)) c.boxed_word-word.result.0 first c.store.ensures.stored
+    let filled : RestStays old.seat put.seat =
+    put_rest (at + (2 + c.args.count)) c.boxed_word-word.result.0 first c.store.ensures.stored
     (omega (arith, before, c.grown-capacity.ensures, c.requires.few)) in
-    let still : StaysBeside old.seat told.seat =
-    stays_beside_again old.seat put.seat told.seat filled (same_beside c.made.ensures.same) in
-    let named : StaysBeside old.seat linked.seat =
-    put_beside (c.args.list + 1) _ still c.store-2.ensures.stored
+    let still : RestStays old.seat told.seat =
+    rest_stays_again old.seat put.seat told.seat filled (same_rest c.made.ensures.same) in
+    let named : RestStays old.seat linked.seat =
+    put_rest (c.args.list + 1) _ still c.store-2.ensures.stored
     (omega (arith, slot_within ready.whole.whole ready.there, ap (λ (s : Space). marks_start s) still.space)) in
     record {
       room = search rules;
       words = record {
-        beside = put_beside (c.args.list + 2) _ named c.write_slot.ensures.written
+        beside = put_rest (c.args.list + 2) _ named c.write_slot.ensures.written
             (omega (arith, count_within ready.whole.whole ready.there, ap (λ (s : Space). marks_start s) named.space));
         paths = search rules;
         young = search rules;

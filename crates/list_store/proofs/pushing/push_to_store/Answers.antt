@@ -1,11 +1,11 @@
 -- The box that is made stands in the words that were reserved, and the length in the list's cell.
 use Rattle.std.proofs.Common.{◌≡◌, ◌+◌, ap, ◌∙◌, arith, rules}
 use Rattle.page_space.specs.Extents.{Space, marks_start}
-use Rattle.heap_table.specs.Seats.{StaysBeside}
-use Rattle.heap_table.specs.Staying.{stays_beside_again}
-use Rattle.write_barrier.specs.Mains.{Mutator}
+use Rattle.heap_table.specs.Seats.{RestStays}
+use Rattle.heap_table.specs.Staying.{rest_stays_again}
+use Rattle.write_barrier.specs.MutatorState.{Mutator}
 use Rattle.object_cells.specs.Made.{content_need}
-use Rattle.object_cells.proofs.WordsBeside.{put_beside, reserved_beside}
+use Rattle.object_cells.proofs.RestOfWords.{put_rest, reserved_rest}
 use Rattle.object_cells.proofs.UnusedWords.{run_before_marks}
 use Rattle.object_cells.proofs.ListCells.{count_within}
 use Rattle.list_store.proofs.pushing.push_to_store.Goals as goal
@@ -33,11 +33,11 @@ returns-clause-ok c =
     let put : Mutator = c.store.new.self in
     let store = c.args.store in
     let ready = c.requires.can.ready in
-    let first : StaysBeside old.seat boxed.seat =
-    stays_beside_again old.seat c.room_for.new.main.seat boxed.seat (reserved_beside old _ c.in_ok-at.ensures.reserved)
+    let first : RestStays old.seat boxed.seat =
+    rest_stays_again old.seat c.room_for.new.main.seat boxed.seat (reserved_rest old _ c.in_ok-at.ensures.reserved)
     c.boxed_word-word.ensures.made.beside in
-    let filled : StaysBeside old.seat put.seat =
-    put_beside (store.at + (2 + c.args.count)) c.boxed_word-word.result.0 first c.store.ensures.stored
+    let filled : RestStays old.seat put.seat =
+    put_rest (store.at + (2 + c.args.count)) c.boxed_word-word.result.0 first c.store.ensures.stored
     (omega (
       arith,
       c.requires.can.is.within,
@@ -47,7 +47,7 @@ returns-clause-ok c =
     record {
       room = search rules;
       words = record {
-        beside = put_beside (c.args.list + 2) _ filled c.write_slot.ensures.written
+        beside = put_rest (c.args.list + 2) _ filled c.write_slot.ensures.written
             (omega (arith, count_within ready.whole.whole ready.there, ap (λ (s : Space). marks_start s) filled.space));
         paths = search rules;
         young = search rules;

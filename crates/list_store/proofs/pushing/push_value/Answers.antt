@@ -2,7 +2,7 @@
 use Rattle.std.proofs.Common.{◌≡◌, sym, ◌∙◌, subst, arith}
 use Rattle.std.proofs.lemmas.Result.{on_ok_weaker, IfErr-weaker}
 use Rattle.heap_model.specs.Needs.{capacity_at}
-use Rattle.write_barrier.specs.Mains.{heap_of}
+use Rattle.write_barrier.specs.MutatorState.{heap_of}
 use Rattle.object_cells.specs.Made.{RefusesRoom}
 use Rattle.list_store.specs.Pushes.{PushesAt}
 use Rattle.object_cells.proofs.ListCells.{list_beside, store_has_room}

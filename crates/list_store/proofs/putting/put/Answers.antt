@@ -4,9 +4,9 @@ use Rattle.std.specs.Prelude.{FitsSigned}
 use Rattle.std.specs.Int.{w64}
 use Rattle.handle_roots.specs.Roots.{FitsHeld}
 use Rattle.heap_model.specs.Slots.{IsSlotWord}
-use Rattle.write_barrier.specs.Mains.{heap_of}
+use Rattle.write_barrier.specs.MutatorState.{heap_of}
 use Rattle.object_cells.specs.Contents.{filling_at}
-use Rattle.object_cells.specs.Made.{beside_content}
+use Rattle.object_cells.specs.Made.{store_content}
 use Rattle.object_cells.proofs.NothingUsed.{room_for_none}
 use Rattle.object_cells.proofs.HeldNeeds.{new_value_held}
 use Rattle.object_cells.proofs.SlotBoxes.{lacks_need}
@@ -25,8 +25,8 @@ count_of-requires-clause-there c = shown_there (list_shown c.requires.shows c.re
 pub returns-in_default : goal.returns-in_default
 returns-in_default c graph one what shows is holds =
     let fits : FitsSigned w64 c.args.index = search rules in (
-      index_named c.count_of.result c.args.index c.place_of.result (list_shown shows is) c.count_of.ensures.counted fits
-          c.place_of.ensures ∙ c.in_default.is,
+      index_named c.count_of.result c.args.index c.checked_index.result (list_shown shows is) c.count_of.ensures.counted fits
+          c.checked_index.ensures ∙ c.in_default.is,
       refl,
     )
 
@@ -36,7 +36,7 @@ store_of-store-requires-clause-there c = shown_beside (list_shown c.requires.sho
 pub fill_slot-requires-clause-within : goal.fill_slot-requires-clause-within
 fill_slot-requires-clause-within c =
     let ready = shown_ready c.requires.shows (list_shown c.requires.shows c.requires.is) c.count_of.ensures.counted in
-    let below = place_below c.count_of.result c.in-Some.place _ (sym c.place_of.ensures ∙ c.in-Some.is) in
+    let below = place_below c.count_of.result c.in-Some.place _ (sym c.checked_index.ensures ∙ c.in-Some.is) in
     (place_stands c.store_of-store.result c.in-Some.place ready c.store_of-store.ensures below).within
 
 pub fill_slot-requires-clause-held : goal.fill_slot-requires-clause-held
@@ -44,12 +44,12 @@ fill_slot-requires-clause-held c =
     let heap = heap_of c.args.main.now in
     let shown = list_shown c.requires.shows c.requires.is in
     let ready = shown_ready c.requires.shows shown c.count_of.ensures.counted in
-    let below = place_below c.count_of.result c.in-Some.place _ (sym c.place_of.ensures ∙ c.in-Some.is) in
+    let below = place_below c.count_of.result c.in-Some.place _ (sym c.checked_index.ensures ∙ c.in-Some.is) in
     let room = (place_stands c.store_of-store.result c.in-Some.place ready c.store_of-store.ensures below).below in
     let read = slot_read c.args.list shown.shows.store c.in-Some.place shown.shows.slots c.store_of-store.result
     c.requires.shows.shows.whole c.store_of-store.ensures shown.has shown.stands shown.shows.slot shown.shows.has
     room in
-    held_before heap _ (beside_content c.args.value)
+    held_before heap _ (store_content c.args.value)
     (subst (IsSlotWord heap) (sym (ap (λ found. unwrap_or found 0) read.stands)) read.is)
 
 pub returns-in-Ok : goal.returns-in-Ok
@@ -62,7 +62,7 @@ returns-in-Ok c graph one what shows is holds =
     let ready = shown_ready shows shown c.count_of.ensures.counted in
     let place : ℕ = c.in-Some.place in
     let store = c.store_of-store.result in
-    let below = place_below c.count_of.result place _ (sym c.place_of.ensures ∙ c.in-Some.is) in
+    let below = place_below c.count_of.result place _ (sym c.checked_index.ensures ∙ c.in-Some.is) in
     let stands = place_stands store place ready c.store_of-store.ensures below in
     let known = changing c.args.value shows is holds fits in
     let fills = c.in-Ok.ensures in
@@ -70,8 +70,8 @@ returns-in-Ok c graph one what shows is holds =
     (room_for_none old shows.tied shows.shows.whole)
     (λ w. no_raw w (new_value_held false c.args.value what holds.shows)) in (
       place,
-      index_named c.count_of.result c.args.index c.place_of.result shown c.count_of.ensures.counted index
-          c.place_of.ensures ∙ c.in-Some.is,
+      index_named c.count_of.result c.args.index c.checked_index.result shown c.count_of.ensures.counted index
+          c.checked_index.ensures ∙ c.in-Some.is,
       has_put store place known c.store_of-store.ensures stands.below (omega (arith, below, counted))
           (omega (arith, counted, c.count_of.ensures.few))
           (omega (arith, counted, store_has_room store ready c.store_of-store.ensures))
@@ -87,15 +87,15 @@ returns-in-Err c graph one what shows is holds =
     let ready = shown_ready shows shown c.count_of.ensures.counted in
     let place : ℕ = c.in-Some.place in
     let store = c.store_of-store.result in
-    let below = place_below c.count_of.result place _ (sym c.place_of.ensures ∙ c.in-Some.is) in
+    let below = place_below c.count_of.result place _ (sym c.checked_index.ensures ∙ c.in-Some.is) in
     let stands = place_stands store place ready c.store_of-store.ensures below in
     let known = changing c.args.value shows is holds fits in
     let at : ℕ = store.at + (2 + place) in
-    let lacks = lacks_need old (filling_at old at (beside_content c.args.value)) c.in-Err.no_room
+    let lacks = lacks_need old (filling_at old at (store_content c.args.value)) c.in-Err.no_room
     c.in-Err.ensures.0 in (
       place,
-      index_named c.count_of.result c.args.index c.place_of.result shown c.count_of.ensures.counted index
-          c.place_of.ensures ∙ c.in-Some.is,
+      index_named c.count_of.result c.args.index c.checked_index.result shown c.count_of.ensures.counted index
+          c.checked_index.ensures ∙ c.in-Some.is,
       lacks.0 ∙ need_to_put store place known c.store_of-store.ensures stands.below c.addresses_fit.ensures.within
           (omega (arith, below, c.count_of.ensures.counted, count_shown shown)),
       lacks.1,

@@ -4,9 +4,9 @@ use Rattle.std.specs.Prelude.{Some, FitsSigned}
 use Rattle.std.specs.Int.{w64}
 use Rattle.std.proofs.lemmas.Option.{slice_get-get_or}
 use Rattle.object_graph.specs.declared.value.Value.TheVariants.{Undefined}
-use Rattle.handle_roots.specs.declared.held.Held.{Held}
+use Rattle.heap_model.specs.Types.{Held}
 use Rattle.heap_model.specs.Showing.{ShowsHeld}
-use Rattle.write_barrier.specs.Mains.{heap_of}
+use Rattle.write_barrier.specs.MutatorState.{heap_of}
 use Rattle.object_cells.proofs.ListCells.{list_shown, shown_there, shown_beside, count_shown, shown_ready}
 use Rattle.object_cells.proofs.ElementsRead.{place_below}
 use Rattle.object_cells.proofs.NamedPlaces.{index_named, place_stands, element_shown}
@@ -18,8 +18,8 @@ count_of-requires-clause-there c = shown_there (list_shown c.requires.shows c.re
 pub returns-in_default : goal.returns-in_default
 returns-in_default c graph one shows is =
     let fits : FitsSigned w64 c.args.index = search rules in
-    index_named c.count_of.result c.args.index c.place_of.result (list_shown shows is) c.count_of.ensures.counted
-    fits c.place_of.ensures ∙ c.in_default.is
+    index_named c.count_of.result c.args.index c.checked_index.result (list_shown shows is) c.count_of.ensures.counted
+    fits c.checked_index.ensures ∙ c.in_default.is
 
 pub store_of-store-requires-clause-there : goal.store_of-store-requires-clause-there
 store_of-store-requires-clause-there c = shown_beside (list_shown c.requires.shows c.requires.is)
@@ -27,7 +27,7 @@ store_of-store-requires-clause-there c = shown_beside (list_shown c.requires.sho
 pub slot-word-requires-clause-within : goal.slot-word-requires-clause-within
 slot-word-requires-clause-within c =
     let ready = shown_ready c.requires.shows (list_shown c.requires.shows c.requires.is) c.count_of.ensures.counted in
-    let below = place_below c.count_of.result c.in-Some.place _ (sym c.place_of.ensures ∙ c.in-Some.is) in
+    let below = place_below c.count_of.result c.in-Some.place _ (sym c.checked_index.ensures ∙ c.in-Some.is) in
     (place_stands c.store_of-store.result c.in-Some.place ready c.store_of-store.ensures below).within
 
 pub value_of_word-requires-clause-within : goal.value_of_word-requires-clause-within
@@ -36,7 +36,7 @@ value_of_word-requires-clause-within c =
     let shown = list_shown shows c.requires.is in
     let ready = shown_ready shows shown c.count_of.ensures.counted in
     let place : ℕ = c.in-Some.place in
-    let below = place_below c.count_of.result place _ (sym c.place_of.ensures ∙ c.in-Some.is) in
+    let below = place_below c.count_of.result place _ (sym c.checked_index.ensures ∙ c.in-Some.is) in
     let room = (place_stands c.store_of-store.result place ready c.store_of-store.ensures below).below in
     let few : place < length c.requires.list.elements =
     omega (arith, below, c.count_of.ensures.counted, count_shown shown) in
@@ -53,7 +53,7 @@ returns c graph one shows is =
     let shown = list_shown shows is in
     let ready = shown_ready shows shown c.count_of.ensures.counted in
     let place : ℕ = c.in-Some.place in
-    let below = place_below c.count_of.result place _ (sym c.place_of.ensures ∙ c.in-Some.is) in
+    let below = place_below c.count_of.result place _ (sym c.checked_index.ensures ∙ c.in-Some.is) in
     let room = (place_stands c.store_of-store.result place ready c.store_of-store.ensures below).below in
     let few : place < length one.elements = omega (arith, below, c.count_of.ensures.counted, count_shown shown) in
     let value = get_or one.elements place Undefined in
@@ -64,8 +64,8 @@ returns c graph one shows is =
       value,
       record {
         place = place;
-        names = index_named c.count_of.result c.args.index c.place_of.result shown c.count_of.ensures.counted
-            fits c.place_of.ensures ∙ c.in-Some.is;
+        names = index_named c.count_of.result c.args.index c.checked_index.result shown c.count_of.ensures.counted
+            fits c.checked_index.ensures ∙ c.in-Some.is;
         stands = slice_get-get_or one.elements place Undefined few;
       },
       subst (λ (held : Held). ShowsHeld heap held (Some value))

@@ -1,6 +1,6 @@
 use Rattle.std.proofs.Common.{below_more, false, ◌≡◌, arith}
 use Rattle.mark_world.specs.Pages.{is_inside}
-use Rattle.mark_world.specs.Covering.{cell_of}
+use Rattle.mark_world.specs.Coverage.{cell_of}
 use Rattle.mark_core.proofs.FreeStarts.{all_passed}
 use Rattle.mark_core.proofs.cells.is_outside.Goals as goal
 use Rattle.mark_core.proofs.cells.is_outside.Goals.{else-is_free-via-then-is_free+else-is_inside}

@@ -1,6 +1,6 @@
 use Rattle.std.proofs.Common.{◌≡◌, false}
 use Rattle.mark_world.specs.Pages.{is_inside}
-use Rattle.mark_world.specs.Covering.{cell_of}
+use Rattle.mark_world.specs.Coverage.{cell_of}
 use Rattle.mark_core.proofs.FreeStarts.{FreeBelow}
 use Rattle.mark_core.proofs.cells.is_outside.Given as goal
 

@@ -1,6 +1,6 @@
 use Rattle.std.proofs.Common.{below_more, true, ◌≡◌, arith}
 use Rattle.mark_world.specs.Pages.{leaves_alone}
-use Rattle.mark_world.specs.Covering.{cell_of}
+use Rattle.mark_world.specs.Coverage.{cell_of}
 use Rattle.mark_core.proofs.FreeStarts.{all_passed}
 use Rattle.mark_core.proofs.cells.leaves_all_alone.Goals as goal
 use Rattle.mark_core.proofs.cells.leaves_all_alone.Goals.{else-is_free-via-then-is_free+else-not-leaves_alone}

@@ -1,6 +1,6 @@
 use Rattle.std.proofs.Common.{◌≡◌, true}
 use Rattle.mark_world.specs.Pages.{leaves_alone}
-use Rattle.mark_world.specs.Covering.{cell_of}
+use Rattle.mark_world.specs.Coverage.{cell_of}
 use Rattle.mark_core.proofs.FreeStarts.{FreeBelow}
 use Rattle.mark_core.proofs.cells.leaves_all_alone.Given as goal
 

@@ -1,6 +1,6 @@
 use Rattle.std.proofs.Common.{refl, arith}
 use Rattle.mark_world.specs.Safety.{plain_slots}
-use Rattle.mark_core.specs.Sureness.{IsSureSlot}
+use Rattle.mark_core.specs.HeaderChange.{IsSureSlot}
 use Rattle.mark_core.proofs.Passing.{pass_more, all_pass, passes_each, plain_short}
 use Rattle.mark_core.proofs.conditions.are_sure.Goals as goal
 use Rattle.mark_core.proofs.conditions.are_sure.Goals.{else-is_tagged-via-then-is_tagged+else-not-is_sure_slot}

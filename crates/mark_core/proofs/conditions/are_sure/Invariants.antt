@@ -1,5 +1,5 @@
 use Rattle.mark_world.specs.Safety.{plain_slots}
-use Rattle.mark_core.specs.Sureness.{IsSureSlot}
+use Rattle.mark_core.specs.HeaderChange.{IsSureSlot}
 use Rattle.mark_core.proofs.Passing.{PassBelow}
 use Rattle.mark_core.proofs.conditions.are_sure.Given as goal
 

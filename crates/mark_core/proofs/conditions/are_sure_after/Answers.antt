@@ -1,5 +1,5 @@
 use Rattle.std.proofs.Common.{◌≡◌, ◌↔◌, IsTrue, Option, Some, sym, subst, slice_index}
-use Rattle.mark_world.specs.declared.laid.Laid.{Laid}
+use Rattle.mark_laws.specs.Types.{Laid}
 use Rattle.mark_world.specs.Safety.{laid_in, slots_by}
 use Rattle.mark_world.specs.Conditions.{AreSure}
 use Rattle.mark_core.proofs.conditions.are_sure_after.Goals as goal

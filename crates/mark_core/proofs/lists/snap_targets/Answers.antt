@@ -1,5 +1,5 @@
 use Rattle.std.proofs.Common.{List, ℕ, ◌+◌, ◌∙◌, ap, drop, map, arith}
-use Rattle.mark_world.specs.declared.snap.SnapSlot.{SnapSlot}
+use Rattle.mark_laws.specs.Types.{SnapSlot}
 use Rattle.mark_world.specs.Pages.{targets_joined}
 use Rattle.mark_core.proofs.JoinedLists.{next_slot_joins}
 use Rattle.mark_core.proofs.lists.snap_targets.Goals as goal

@@ -1,5 +1,5 @@
 use Rattle.std.proofs.Common.{◌≡◌, drop, [], map}
-use Rattle.mark_world.specs.declared.snap.SnapSlot.{SnapSlot}
+use Rattle.mark_laws.specs.Types.{SnapSlot}
 use Rattle.mark_world.specs.Pages.{targets_joined}
 use Rattle.mark_world.specs.Naming.{read_words}
 use Rattle.mark_core.proofs.lists.snap_targets.Given as goal

@@ -1,15 +1,14 @@
 use Rattle.std.proofs.Common.{ℕ, ◌≡◌, ◌∙◌, List, Some, ap, sym, subst, arith, get_or, slice_get, length, ◌<◌}
 use Rattle.std.proofs.Common.{◌≤◌}
 use Rattle.std.proofs.lemmas.Option.{slice_get-get_or}
-use Rattle.mark_world.specs.declared.event.Event.{Event}
+use Rattle.mark_laws.specs.Types.{Event, World}
 use Rattle.mark_world.specs.declared.event.Event.TheVariants.{Look}
-use Rattle.mark_world.specs.declared.world.World.{World}
-use Rattle.mark_world.specs.Moments.{after, Possible, WerePossible}
+use Rattle.mark_world.specs.AfterEvents.{after, Possible, WerePossible}
 use Rattle.mark_laws.proofs.Moments.{next_moment, one_more_possible}
 use Rattle.mark_laws.proofs.Drained.{reached_is_black}
 use Rattle.mark_laws.proofs.OneLayouts.{one_layout}
 use Rattle.mark_laws.proofs.SoundRuns.{whole_along}
-use Rattle.mark_laws.specs.Runs.{IsWhole}
+use Rattle.mark_laws.specs.Runs.{IsSoundAndBorn}
 use Rattle.mark_core.proofs.runs.replay.Goals as goal
 
 pub loop-at-preserved : goal.loop-at-preserved
@@ -49,7 +48,7 @@ returns-clause-whole c = λ whole.
     let start : World = c.args.start.now in
     let events : List Event = c.args.events.now in
     let within : c.loop-at.at ≤ length events = omega arith in
-    subst IsWhole (sym c.loop-at.invariant.reached)
+    subst IsSoundAndBorn (sym c.loop-at.invariant.reached)
     (whole_along start events c.loop-at.at whole within c.loop-at.invariant.possible c.loop-at.at (omega arith))
 
 -- so each old cell that is reached at its end is black

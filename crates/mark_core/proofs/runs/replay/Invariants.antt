@@ -1,5 +1,5 @@
 use Rattle.std.proofs.Common.{◌≡◌}
-use Rattle.mark_world.specs.Moments.{moment, WerePossible}
+use Rattle.mark_world.specs.AfterEvents.{moment, WerePossible}
 use Rattle.mark_core.proofs.runs.replay.Given as goal
 
 abbrev pub invariant-loop-at : goal.invariant-loop-at

@@ -2,7 +2,7 @@ use Rattle.std.proofs.Common.{◌≡◌, ◌∙◌, ap, List}
 use Rattle.std.proofs.Math.ListN.{set}
 use Rattle.std.proofs.lemmas.List.{set-set}
 use Rattle.tagged_word.proofs.Cells.{some_same}
-use Rattle.mark_world.specs.declared.views.HelperView.{HelperView}
+use Rattle.mark_laws.specs.Types.{HelperView}
 use Rattle.mark_world.specs.Steps.{helper_learns}
 use Rattle.mark_core.proofs.steps.step_view.Goals as goal
 

@@ -3,7 +3,7 @@ use Rattle.std.proofs.Common.{[], Ok, subst}
 use Rattle.heap_command.specs.declared.command.Command.TheVariants.{Del}
 use Rattle.heap_command.specs.declared.command.FaultWord.TheVariants.{ShapesFull}
 use Rattle.mutator.specs.declared.stop.Stop.TheVariants.{Fault}
-use Rattle.mutator.specs.Carries.{Carries}
+use Rattle.mutator.specs.CarriesOut.{Carries}
 use Rattle.mutator.proofs.FieldsTaken.{taking_known, del_carried, del_stopped}
 use Rattle.mutator.proofs.StoppedBy.{stopped_with}
 use Rattle.mutator.proofs.StillShown.{shows_still, stands_still, value_still}

@@ -3,10 +3,10 @@ use Rattle.std.proofs.Common.{◌<◌, [], Ok, refl, sym, subst}
 use Rattle.heap_command.specs.declared.command.Command.TheVariants.{Get}
 use Rattle.object_graph.specs.Graphs.{bind}
 use Rattle.shape_change.specs.FieldChanges.{value_or_undefined}
-use Rattle.write_barrier.specs.Mains.{Mutator, heap_of}
+use Rattle.write_barrier.specs.MutatorState.{Mutator, heap_of}
 use Rattle.heap_model.specs.Showing.{ShowsHeld}
 use Rattle.heap_model.proofs.AnewBindings.{get-insert_same, binds_anew}
-use Rattle.mutator.specs.Carries.{Carries}
+use Rattle.mutator.specs.CarriesOut.{Carries}
 use Rattle.mutator.proofs.Meanings.{get_done}
 use Rattle.mutator.proofs.Rebinding.{binds_after, binding_carried}
 use Rattle.mutator.proofs.StillShown.{shows_still, stands_still, value_still}

@@ -3,7 +3,7 @@ use Rattle.std.proofs.Common.{[], Ok, subst}
 use Rattle.heap_command.specs.declared.command.Command.TheVariants.{Set}
 use Rattle.heap_command.specs.declared.command.Operand.TheVariants.{Var}
 use Rattle.mutator.specs.Stops.{stop_of}
-use Rattle.mutator.specs.Carries.{Carries}
+use Rattle.mutator.specs.CarriesOut.{Carries}
 use Rattle.mutator.proofs.FieldsSet.{setting_known, setting_shown, set_carried, set_stopped}
 use Rattle.mutator.proofs.StoppedBy.{stopped_with}
 use Rattle.mutator.proofs.StillShown.{shows_still, stands_still, first_still}

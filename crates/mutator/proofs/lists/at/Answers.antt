@@ -5,19 +5,19 @@ use Rattle.heap_command.specs.declared.command.Command.TheVariants.{At}
 use Rattle.heap_command.specs.declared.command.Operand.TheVariants.{Var}
 use Rattle.object_graph.specs.declared.value.Value.TheVariants.{Ref}
 use Rattle.object_graph.specs.Graphs.{bind}
-use Rattle.write_barrier.specs.Mains.{Mutator, heap_of}
+use Rattle.write_barrier.specs.MutatorState.{Mutator, heap_of}
 use Rattle.heap_model.specs.Showing.{ShowsHeld}
 use Rattle.heap_model.proofs.AnewBindings.{get-insert_same, binds_anew}
 use Rattle.list_store.specs.ListChanges.{TellsElement}
-use Rattle.mutator.specs.Carries.{Carries}
+use Rattle.mutator.specs.CarriesOut.{Carries}
 use Rattle.mutator.proofs.IndexedLists.{indexed_read, indexed_shown}
 use Rattle.mutator.proofs.ListMeanings.{at_done}
 use Rattle.mutator.proofs.Rebinding.{binds_after, binding_carried}
 use Rattle.mutator.proofs.StillShown.{first_still}
 use Rattle.mutator.proofs.lists.at.Goals as goal
 
-pub list_found-requires : goal.list_found-requires
-list_found-requires c =
+pub find_list-requires : goal.find_list-requires
+find_list-requires c =
     first_still (Var c.args.x) c.args.i c.operands.ensures.same c.requires.shown c.in_ok-target.ensures.found
 
 pub at-requires : goal.at-requires

@@ -3,14 +3,14 @@ use Rattle.std.proofs.Common.{[], Ok, subst}
 use Rattle.heap_command.specs.declared.command.Command.TheVariants.{Push}
 use Rattle.heap_command.specs.declared.command.Operand.TheVariants.{Var}
 use Rattle.mutator.specs.Stops.{stop_of_push}
-use Rattle.mutator.specs.Carries.{Carries}
+use Rattle.mutator.specs.CarriesOut.{Carries}
 use Rattle.mutator.proofs.ElementsSet.{putting_read, putting_shown, push_carried, push_stopped}
 use Rattle.mutator.proofs.StoppedBy.{stopped_with}
 use Rattle.mutator.proofs.StillShown.{first_still}
 use Rattle.mutator.proofs.lists.push.Goals as goal
 
-pub list_found-requires : goal.list_found-requires
-list_found-requires c =
+pub find_list-requires : goal.find_list-requires
+find_list-requires c =
     first_still (Var c.args.x) c.args.v c.operands.ensures.same c.requires.shown c.in_ok-target.ensures.found
 
 pub push-requires : goal.push-requires

@@ -14,8 +14,8 @@ use Rattle.mutator.proofs.lists.put.Goals as goal
 pub operand-requires-clause-shown : goal.operand-requires-clause-shown
 operand-requires-clause-shown c = some_still c.operands.ensures.same c.requires.shown
 
-pub list_found-requires : goal.list_found-requires
-list_found-requires c =
+pub find_list-requires : goal.find_list-requires
+find_list-requires c =
     first_still (Var c.args.x) c.args.i (c.operand.ensures.same ∙ c.operands.ensures.same) c.requires.shown
     c.in_ok-target.ensures.found
 

@@ -4,7 +4,7 @@ use Rattle.tagged_word.specs.Headers.{header_bits}
 use Rattle.page_space.proofs.Starts.{marks_start_is, board_start_is, words_count_is}
 use Rattle.heap_model.specs.Slots.{undefined_word}
 use Rattle.heap_table.specs.Seats.{heap_words}
-use Rattle.write_barrier.specs.Mains.{Mutator, with_word, with_table}
+use Rattle.write_barrier.specs.MutatorState.{Mutator, with_word, with_table}
 use Rattle.mutator.proofs.PutWords.{three_in_a_row}
 use Rattle.mutator.proofs.making.fill_counted.Goals as goal
 

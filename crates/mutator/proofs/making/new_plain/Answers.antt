@@ -1,6 +1,6 @@
 -- The new object: its cell is put and bound, or there is no room for it.
 use Rattle.std.proofs.Common.{[], refl, ap, subst, arith}
-use Rattle.tagged_word.specs.declared.header.Header.{Header}
+use Rattle.heap_model.specs.Types.{Header}
 use Rattle.object_graph.specs.declared.object.Object.TheVariants.{Plain}
 use Rattle.object_graph.specs.Graphs.{make}
 use Rattle.page_space.specs.Extents.{Space}

@@ -1,7 +1,7 @@
 -- The line of the shape.
 use Rattle.std.proofs.Common.{ℕ, List, refl, ◌∙◌, ap, sym, subst}
 use Rattle.heap_command.specs.declared.command.Command.TheVariants.{Shape}
-use Rattle.object_graph.specs.declared.path.Path.{Path}
+use Rattle.heap_model.specs.Types.{Path}
 use Rattle.object_graph.specs.Texts.{line, shape_text}
 use Rattle.shape_tree.specs.Shapes.{IsPathShape, shape_path}
 use Rattle.mutator.proofs.StillShown.{shows_still, stands_still, value_still}

@@ -11,8 +11,8 @@ use Rattle.mutator.proofs.StoppedBy.{stopped_with}
 use Rattle.mutator.proofs.StillShown.{first_still}
 use Rattle.mutator.proofs.trims.trunc.Goals as goal
 
-pub list_found-requires : goal.list_found-requires
-list_found-requires c =
+pub find_list-requires : goal.find_list-requires
+find_list-requires c =
     first_still (Var c.args.x) c.args.n c.operands.ensures.same c.requires.shown c.in_ok-target.ensures.found
 
 pub truncate-requires : goal.truncate-requires

@@ -3,7 +3,7 @@ use Rattle.std.proofs.Common.{◌≡◌, ℕ, ap, subst, unwrap_or}
 use Rattle.tagged_word.proofs.Readings.{reference_from}
 use Rattle.heap_model.specs.Slots.{IsSlotWord}
 use Rattle.heap_model.specs.Needs.{word_at}
-use Rattle.write_barrier.specs.Mains.{heap_of}
+use Rattle.write_barrier.specs.MutatorState.{heap_of}
 use Rattle.object_cells.specs.Contents.{HoldsSlotWord}
 use Rattle.object_cells.proofs.SlotTargets.{target_before_marks}
 use Rattle.object_cells.proofs.boxes.filling_of.Goals as goal

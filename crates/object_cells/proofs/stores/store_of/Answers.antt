@@ -5,7 +5,7 @@ use Rattle.page_space.specs.Extents.{marks_start}
 use Rattle.cell_layout.proofs.OneCell.{cells_have_words}
 use Rattle.heap_model.proofs.CellsApart.{has_is_cell}
 use Rattle.heap_model.proofs.CellWords.{words_are_size}
-use Rattle.write_barrier.specs.Mains.{heap_of}
+use Rattle.write_barrier.specs.MutatorState.{heap_of}
 use Rattle.object_cells.proofs.CellsRead.{cell_before_marks}
 use Rattle.object_cells.proofs.StoresRead.{read_store, store_is, store_is_none}
 use Rattle.object_cells.proofs.stores.store_of.Goals as goal

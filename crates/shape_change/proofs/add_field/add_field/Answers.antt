@@ -5,7 +5,7 @@ use Rattle.shape_change.specs.Additions.{AddsField}
 use Rattle.shape_tree.specs.Shapes.{shape_path}
 use Rattle.heap_model.specs.Needs.{capacity_at}
 use Rattle.heap_model.specs.Rooms.{new_field_need}
-use Rattle.write_barrier.specs.Mains.{heap_of}
+use Rattle.write_barrier.specs.MutatorState.{heap_of}
 use Rattle.object_cells.specs.Made.{RefusesRoom, is_wide_held}
 use Rattle.object_cells.proofs.PlainFields.{plain_sound}
 use Rattle.shape_change.proofs.NewNeeds.{need_to_store, need_to_new_store}

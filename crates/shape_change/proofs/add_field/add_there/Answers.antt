@@ -6,7 +6,7 @@ use Rattle.heap_model.specs.Needs.{capacity_at}
 use Rattle.heap_model.specs.Rooms.{new_field_need}
 use Rattle.nursery.specs.Young.{HasRoom}
 use Rattle.shape_tree.proofs.LedPaths.{refused_with}
-use Rattle.write_barrier.specs.Mains.{heap_of}
+use Rattle.write_barrier.specs.MutatorState.{heap_of}
 use Rattle.object_cells.specs.Made.{RefusesRoom, is_wide_held}
 use Rattle.object_cells.proofs.HeldNeeds.{held_is_value}
 use Rattle.shape_change.specs.FieldChanges.{SetsField}

@@ -1,10 +1,10 @@
 -- The store and the box that are made stand in the words that were reserved.
 use Rattle.std.proofs.Common.{◌≡◌, ◌+◌, ◌<◌, refl, ap, ◌∙◌, arith, rules}
 use Rattle.page_space.specs.Extents.{Space, marks_start}
-use Rattle.heap_table.specs.Staying.{stays_beside_again}
-use Rattle.write_barrier.specs.Mains.{Mutator}
+use Rattle.heap_table.specs.Staying.{rest_stays_again}
+use Rattle.write_barrier.specs.MutatorState.{Mutator}
 use Rattle.object_cells.specs.Made.{content_need}
-use Rattle.object_cells.proofs.WordsBeside.{put_beside}
+use Rattle.object_cells.proofs.RestOfWords.{put_rest}
 use Rattle.object_cells.proofs.UnusedWords.{run_before_marks, run_apart, marks_fit}
 use Rattle.shape_change.proofs.NewNeeds.{content_need_few}
 use Rattle.shape_change.proofs.add_field.add_to_new_store.Goals as goal
@@ -129,9 +129,9 @@ returns-clause-ok c =
       mid = mid;
       path = search rules;
       words = record {
-        beside = put_beside c.args.object _
-            (put_beside (c.in_ok-at.at + (2 + c.args.store.capacity)) c.boxed_word-word.result.0
-            (stays_beside_again mid.seat stored.seat boxed.seat c.make_store.ensures.beside
+        beside = put_rest c.args.object _
+            (put_rest (c.in_ok-at.at + (2 + c.args.store.capacity)) c.boxed_word-word.result.0
+            (rest_stays_again mid.seat stored.seat boxed.seat c.make_store.ensures.beside
             c.boxed_word-word.ensures.made.beside) c.store.ensures.stored below) c.set_shape.ensures.put
             (omega (
               arith,

@@ -1,10 +1,10 @@
 -- The box that is made stands in the words that were reserved.
 use Rattle.std.proofs.Common.{◌≡◌, ◌+◌, ◌-◌, ◌<◌, ap, ◌∙◌, arith, rules}
 use Rattle.page_space.specs.Extents.{Space, marks_start}
-use Rattle.write_barrier.specs.Mains.{Mutator}
+use Rattle.write_barrier.specs.MutatorState.{Mutator}
 use Rattle.object_cells.specs.Made.{content_need}
 use Rattle.object_cells.proofs.UnusedWords.{run_before_marks}
-use Rattle.object_cells.proofs.WordsBeside.{put_beside}
+use Rattle.object_cells.proofs.RestOfWords.{put_rest}
 use Rattle.shape_change.proofs.NewNeeds.{content_need_few}
 use Rattle.shape_change.proofs.add_field.add_to_store.Goals as goal
 
@@ -89,8 +89,8 @@ returns-clause-ok c =
       mid = mid;
       path = search rules;
       words = record {
-        beside = put_beside c.args.object _
-            (put_beside place c.boxed_word-word.result.0 c.boxed_word-word.ensures.made.beside c.store.ensures.stored
+        beside = put_rest c.args.object _
+            (put_rest place c.boxed_word-word.result.0 c.boxed_word-word.ensures.made.beside c.store.ensures.stored
             below) c.set_shape.ensures.put
             (omega (
               arith,

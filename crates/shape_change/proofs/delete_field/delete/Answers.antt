@@ -1,6 +1,6 @@
 -- A field is taken out of what the heap shows.
 use Rattle.std.proofs.Common.{sym, ◌∙◌, ap, subst, refl, List}
-use Rattle.object_graph.specs.declared.path.Path.{Path}
+use Rattle.heap_model.specs.Types.{Path}
 use Rattle.shape_tree.specs.Shapes.{IsPathShape, shape_path, has_name}
 use Rattle.write_barrier.proofs.Headers.{has_header}
 use Rattle.object_cells.proofs.PlainFields.{plain_shown}

@@ -1,8 +1,8 @@
 -- The path is added, and then its layout words.
 use Rattle.std.proofs.Common.{List, length, sym, ◌∙◌, ap, subst}
-use Rattle.object_graph.specs.declared.path.Path.{Path}
+use Rattle.heap_model.specs.Types.{Path}
 use Rattle.shape_tree.specs.Shapes.{Leads, shape_path, without}
-use Rattle.write_barrier.specs.Mains.{Mutator}
+use Rattle.write_barrier.specs.MutatorState.{Mutator}
 use Rattle.shape_change.proofs.NewLayouts.{led_longer, led_layouts, led_paths}
 use Rattle.shape_change.proofs.delete_field.shape_without.Goals as goal
 

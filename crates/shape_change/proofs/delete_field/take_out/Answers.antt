@@ -1,6 +1,6 @@
 -- Whether all fields stand in the object.
 use Rattle.std.proofs.Common.{List, length, sym, ◌∙◌, ap, subst, arith}
-use Rattle.object_graph.specs.declared.path.Path.{Path}
+use Rattle.heap_model.specs.Types.{Path}
 use Rattle.shape_tree.specs.Shapes.{IsPathShape, shape_path}
 use Rattle.shape_change.proofs.StoresFound.{field_shape}
 use Rattle.shape_change.proofs.delete_field.take_out.Goals as goal

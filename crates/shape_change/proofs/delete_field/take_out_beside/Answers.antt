@@ -2,9 +2,9 @@
 use Rattle.std.proofs.Common.{sym, ◌∙◌, ap, subst, arith, List}
 use Rattle.std.specs.Prelude.{Ok}
 use Rattle.page_space.specs.Extents.{Space, marks_start}
-use Rattle.object_graph.specs.declared.path.Path.{Path}
+use Rattle.heap_model.specs.Types.{Path}
 use Rattle.shape_tree.specs.Shapes.{IsPathShape}
-use Rattle.write_barrier.specs.Mains.{Mutator}
+use Rattle.write_barrier.specs.MutatorState.{Mutator}
 use Rattle.shape_change.specs.Deletions.{FindsWithout}
 use Rattle.shape_change.proofs.StoresFound.{store_there, first_there, field_shape}
 use Rattle.shape_change.proofs.TakenFields.{one_fewer, own_before_marks, slots_within, beside_taken}

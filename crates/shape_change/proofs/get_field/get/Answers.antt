@@ -3,10 +3,7 @@ use Rattle.std.proofs.Common.{◌≡◌, ℕ, ◌<◌, false, ap, sym, ◌∙◌
 use Rattle.std.proofs.Common.{get_or, nat_lt, length, arith}
 use Rattle.std.specs.Prelude.{List, Option, unwrap_or}
 use Rattle.std.proofs.lemmas.Option.{slice_get_within, slice_get-get_or}
-use Rattle.tagged_word.specs.declared.header.Header.{Header}
-use Rattle.object_graph.specs.declared.path.Path.{Path}
-use Rattle.object_graph.specs.declared.path.PathField.{PathField}
-use Rattle.object_graph.specs.declared.value.Value.{Value}
+use Rattle.heap_model.specs.Types.{Header, Path, PathField, Value}
 use Rattle.object_graph.specs.declared.value.Value.TheVariants.{Undefined}
 use Rattle.object_graph.specs.Objects.{field_value}
 use Rattle.object_graph.specs.Paths.{path_of}
@@ -14,7 +11,7 @@ use Rattle.shape_tree.specs.Shapes.{IsPathShape, shape_path, has_name}
 use Rattle.handle_roots.specs.declared.held.Held.TheVariants as held
 use Rattle.heap_model.specs.Kinds.{HasWord}
 use Rattle.heap_model.specs.Showing.{ShowsHeld, ShowsField}
-use Rattle.write_barrier.specs.Mains.{heap_of}
+use Rattle.write_barrier.specs.MutatorState.{heap_of}
 use Rattle.object_cells.proofs.FieldsFound.{no_value, value_found, named_at, field_at}
 use Rattle.object_cells.proofs.PlainFields.{plain_sound, plain_shown, names_distinct}
 use Rattle.object_cells.proofs.SlotPlaces.{one_slots}

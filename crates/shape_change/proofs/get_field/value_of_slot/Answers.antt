@@ -2,21 +2,19 @@
 use Rattle.std.proofs.Common.{◌≡◌, ℕ, Bool, ap, sym, ◌∙◌, subst, Some, slice_get, nat_lt}
 use Rattle.std.specs.Prelude.{List}
 use Rattle.std.proofs.lemmas.Option.{same_Some}
-use Rattle.object_graph.specs.declared.path.Path.{Path}
-use Rattle.object_graph.specs.declared.path.PathField.{PathField}
-use Rattle.object_graph.specs.declared.value.Rep.{Rep}
+use Rattle.heap_model.specs.Types.{Path, PathField, Rep}
 use Rattle.shape_tree.specs.Shapes.{shape_path}
 use Rattle.heap_model.specs.Kinds.{HasWord}
 use Rattle.heap_model.specs.Showing.{ShowsField}
-use Rattle.write_barrier.specs.Mains.{heap_of}
+use Rattle.write_barrier.specs.MutatorState.{heap_of}
 use Rattle.object_cells.proofs.PlainFields.{field_slot_there, shape_there, cap_there, field_word_there}
 use Rattle.shape_change.proofs.get_field.value_of_slot.Goals as goal
 
-pub place_of-place-requires-clause-there : goal.place_of-place-requires-clause-there
-place_of-place-requires-clause-there c = field_slot_there c.requires.whole.whole c.requires.there
+pub slot_place-place-requires-clause-there : goal.slot_place-place-requires-clause-there
+slot_place-place-requires-clause-there c = field_slot_there c.requires.whole.whole c.requires.there
 
-pub place_of-place-requires-clause-cap : goal.place_of-place-requires-clause-cap
-place_of-place-requires-clause-cap c =
+pub slot_place-place-requires-clause-cap : goal.slot_place-place-requires-clause-cap
+slot_place-place-requires-clause-cap c =
     cap_there c.cap.result c.requires.whole.whole c.requires.there
     (c.cap.ensures.cap ∙ ap (λ (paths : List Path). (shape_path paths c.args.shape).cap) c.shapes-shapes.ensures)
 
@@ -25,14 +23,14 @@ value_of_field-requires-clause-field c =
     let whole = c.requires.whole.whole in
     let there = field_slot_there whole c.requires.there in
     let own : c.is_own.result ≡ nat_lt c.args.slot (shape_path c.args.main.now.paths c.args.shape).cap =
-    c.is_own.ensures ∙ c.place_of-place.ensures.own ∙ ap (nat_lt c.args.slot)
+    c.is_own.ensures ∙ c.slot_place-place.ensures.own ∙ ap (nat_lt c.args.slot)
     (c.cap.ensures.cap ∙ ap (λ (paths : List Path). (shape_path paths c.args.shape).cap) c.shapes-shapes.ensures) in
     let field =
     ap (λ (paths : List Path). slice_get (shape_path paths c.args.shape).fields c.args.slot)
     (sym c.shapes-shapes.ensures)
     ∙ c.field-rep.ensures in
     let word : HasWord there.slots c.args.slot c.word_of_place-word.result =
-    sym (c.place_of-place.ensures.stands there.cell there.words there.slots there.has there.stands there.are)
+    sym (c.slot_place-place.ensures.stands there.cell there.words there.slots there.has there.stands there.are)
     ∙ c.word_of_place-word.ensures in
     field_word_there whole c.requires.there c.is_own.result c.field-rep.result
     c.word_of_place-word.result own field word
@@ -42,7 +40,7 @@ returns c cell words slots field word value has stands are there slot shows =
     let shape = shape_there c.requires.there has stands in
     let own : nat_lt c.args.slot (shape_path c.args.main.now.paths cell.header.shape).cap ≡ c.is_own.result =
     ap (λ s. nat_lt c.args.slot (shape_path c.args.main.now.paths s).cap) shape ∙ sym (
-    c.is_own.ensures ∙ c.place_of-place.ensures.own ∙ ap (nat_lt c.args.slot)
+    c.is_own.ensures ∙ c.slot_place-place.ensures.own ∙ ap (nat_lt c.args.slot)
     (c.cap.ensures.cap ∙ ap (λ (paths : List Path). (shape_path paths c.args.shape).cap) c.shapes-shapes.ensures)) in
     let found : slice_get (shape_path c.args.main.now.paths c.args.shape).fields c.args.slot ≡ Some c.field-rep.result =
     ap (λ (paths : List Path). slice_get (shape_path paths c.args.shape).fields c.args.slot)
@@ -51,7 +49,7 @@ returns c cell words slots field word value has stands are there slot shows =
     let one : field ≡ c.field-rep.result = same_Some field c.field-rep.result
     (sym there ∙ ap (λ s. slice_get (shape_path c.args.main.now.paths s).fields c.args.slot) shape ∙ found) in
     let read : word ≡ c.word_of_place-word.result = same_Some word c.word_of_place-word.result
-    (sym slot ∙ sym (c.place_of-place.ensures.stands cell words slots has stands are) ∙ c.word_of_place-word.ensures) in
+    (sym slot ∙ sym (c.slot_place-place.ensures.stands cell words slots has stands are) ∙ c.word_of_place-word.ensures) in
     let heap = heap_of c.args.main.now in
     let P : Bool → Type 0 = λ o. ShowsField heap o word field.rep value in
     let Q : ℕ → Type 0 = λ w. ShowsField heap c.is_own.result w field.rep value in

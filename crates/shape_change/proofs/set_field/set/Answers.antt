@@ -1,13 +1,11 @@
 -- A field's name is sought among those of the object's path.
 use Rattle.std.proofs.Common.{◌≡◌, ℕ, false, List, refl, sym, ◌∙◌, ap, subst, Some, None}
 use Rattle.std.specs.Prelude.{option_map}
-use Rattle.tagged_word.specs.declared.header.Header.{Header}
-use Rattle.object_graph.specs.declared.object.Field.{Field}
-use Rattle.object_graph.specs.declared.path.Path.{Path}
+use Rattle.heap_model.specs.Types.{Header, Field, Path}
 use Rattle.object_graph.specs.Graphs.{Graph, PlainObject}
 use Rattle.object_graph.specs.Objects.{field_value}
 use Rattle.shape_tree.specs.Shapes.{IsPathShape, shape_path, has_name}
-use Rattle.write_barrier.specs.Mains.{Mutator, heap_of, MainShows}
+use Rattle.write_barrier.specs.MutatorState.{Mutator, heap_of, MainShows}
 use Rattle.object_cells.specs.CellsAt.{IsHeaderAt}
 use Rattle.object_cells.specs.PlainObjects.{IsPlainAt}
 use Rattle.object_cells.proofs.FieldsFound.{no_value}

@@ -1,14 +1,14 @@
 -- A slot comes to hold a word that needs no box.
 use Rattle.std.proofs.Common.{◌≡◌, ◌<◌, ℕ, refl, sym, subst}
-use Rattle.tagged_word.specs.declared.word.Word.{Word}
+use Rattle.heap_model.specs.Types.{Word}
 use Rattle.page_space.specs.Extents.{marks_start}
-use Rattle.heap_table.specs.Seats.{StaysBeside}
-use Rattle.write_barrier.specs.Mains.{Mutator, with_word}
-use Rattle.object_cells.specs.declared.content.Content.{Content}
-use Rattle.object_cells.specs.declared.content.Content.TheVariants as content
-use Rattle.object_cells.specs.declared.content.Filling.TheVariants as filling
+use Rattle.heap_table.specs.Seats.{RestStays}
+use Rattle.write_barrier.specs.MutatorState.{Mutator, with_word}
+use Rattle.object_cells.specs.declared.content.SlotContent.{SlotContent}
+use Rattle.object_cells.specs.declared.content.SlotContent.TheVariants as content
+use Rattle.object_cells.specs.declared.content.SlotWrite.TheVariants as filling
 use Rattle.object_cells.specs.Contents.{FillsSlot}
-use Rattle.object_cells.proofs.WordsBeside.{filled_beside}
+use Rattle.object_cells.proofs.RestOfWords.{filled_beside}
 use Rattle.shape_change.specs.Places.{place_at}
 use Rattle.shape_change.proofs.set_field.set_as_is.Goals as goal
 
@@ -19,7 +19,7 @@ tagged_fills old new at word below is = record {
   between = old;
   allocates = refl;
   fills = is;
-  beside = subst (λ (main : Mutator). StaysBeside old.seat main.seat) (sym is)
+  beside = subst (λ (main : Mutator). RestStays old.seat main.seat) (sym is)
       (filled_beside old at (filling.Tagged word) below tt);
 }
 
@@ -30,18 +30,18 @@ raw_fills old new at word below is = record {
   between = old;
   allocates = refl;
   fills = is;
-  beside = subst (λ (main : Mutator). StaysBeside old.seat main.seat) (sym is)
+  beside = subst (λ (main : Mutator). RestStays old.seat main.seat) (sym is)
       (filled_beside old at (filling.Raw word) below tt);
 }
 
 pub returns-in-Tagged-clause-fills : goal.returns-in-Tagged-clause-fills
 returns-in-Tagged-clause-fills c =
     let at = place_at c.args.object c.args.place in
-    subst (λ (holds : Content). FillsSlot c.args.main.now c.fill.new.main at holds) (sym c.in-Tagged.is)
+    subst (λ (holds : SlotContent). FillsSlot c.args.main.now c.fill.new.main at holds) (sym c.in-Tagged.is)
     (tagged_fills c.args.main.now c.fill.new.main at c.in-Tagged.word c.requires.within c.fill.ensures)
 
 pub returns-in-Raw-clause-fills : goal.returns-in-Raw-clause-fills
 returns-in-Raw-clause-fills c =
     let at = place_at c.args.object c.args.place in
-    subst (λ (holds : Content). FillsSlot c.args.main.now c.fill-in-Raw.new.main at holds) (sym c.in-Raw.is)
+    subst (λ (holds : SlotContent). FillsSlot c.args.main.now c.fill-in-Raw.new.main at holds) (sym c.in-Raw.is)
     (raw_fills c.args.main.now c.fill-in-Raw.new.main at c.in-Raw.word c.requires.within c.fill-in-Raw.ensures)

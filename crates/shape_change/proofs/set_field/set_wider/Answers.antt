@@ -1,12 +1,12 @@
 -- The regions stay, and so what is before the marks.
 use Rattle.std.proofs.Common.{◌≡◌, ◌<◌, ℕ, sym, ◌∙◌, ap, subst, rules}
 use Rattle.page_space.specs.Extents.{Space, marks_start}
-use Rattle.heap_table.specs.Seats.{Seat, StaysBeside}
-use Rattle.write_barrier.specs.Mains.{Mutator}
+use Rattle.heap_table.specs.Seats.{Seat, RestStays}
+use Rattle.write_barrier.specs.MutatorState.{Mutator}
 use Rattle.shape_change.specs.Places.{place_at}
 use Rattle.object_cells.specs.Contents.{IsBeforeMarks, filled}
 use Rattle.object_cells.proofs.CellsRead.{cell_at_before_marks}
-use Rattle.object_cells.proofs.WordsBeside.{put_beside, filled_still, allocates_seat}
+use Rattle.object_cells.proofs.RestOfWords.{put_rest, filled_still, allocates_seat}
 use Rattle.shape_change.proofs.Filled.{allocates_sized, laid_space, filled_space}
 use Rattle.shape_change.proofs.set_field.set_wider.Goals as goal
 
@@ -87,7 +87,7 @@ returns c =
     c.fill.ensures ∙ ap (λ (main : Mutator). filled main at filling) c.blacken_for.ensures in
     let still = filled_still old between laid at filling c.in_ok-filling.ensures.allocates
     c.changed_shape-next.ensures.changes.seat c.requires.can.within c.in_ok-filling.ensures.before_marks in
-    let stays = subst (λ (main : Mutator). StaysBeside old.seat main.seat) (sym put) still in
+    let stays = subst (λ (main : Mutator). RestStays old.seat main.seat) (sym put) still in
     let below = subst (λ (space : Space). c.args.object < marks_start space) (sym stays.space)
     (subst (λ at. at < marks_start old.seat.space) there.stands
     (cell_at_before_marks c.requires.can.whole.whole.sized there.has)) in
@@ -102,5 +102,5 @@ returns c =
       header = c.args.header;
       is_header = c.requires.headed;
       fills = search rules;
-      beside = put_beside c.args.object _ stays c.set_shape.ensures.put below;
+      beside = put_rest c.args.object _ stays c.set_shape.ensures.put below;
     }

@@ -1,11 +1,10 @@
 -- How a slot is set.
 use Rattle.std.proofs.Common.{◌≡◌, List, slice_get, get_or, nat_lt, sym, ◌∙◌, ap, subst, rules}
 use Rattle.std.specs.Prelude.{option_map}
-use Rattle.object_graph.specs.declared.path.Path.{Path}
-use Rattle.object_graph.specs.declared.path.PathField.{PathField}
+use Rattle.heap_model.specs.Types.{Path, PathField}
 use Rattle.object_graph.specs.Values.{join}
 use Rattle.handle_roots.specs.Roots.{FitsHeld}
-use Rattle.write_barrier.specs.Mains.{heap_of}
+use Rattle.write_barrier.specs.MutatorState.{heap_of}
 use Rattle.object_cells.specs.Contents.{content_of}
 use Rattle.shape_change.specs.Places.{IsPlaceOf}
 use Rattle.shape_change.proofs.SetThere.{is_read, fills_at, held_there, shown_setting}
@@ -13,32 +12,32 @@ use Rattle.shape_tree.specs.Shapes.{shape_path}
 use Rattle.object_cells.proofs.PlainFields.{field_slot_there, cap_there}
 use Rattle.shape_change.proofs.set_field.setting_of.Goals as goal
 
-pub place_of-place-requires-clause-there : goal.place_of-place-requires-clause-there
-place_of-place-requires-clause-there c = field_slot_there c.requires.shown.shows.shows.whole c.requires.there
+pub slot_place-place-requires-clause-there : goal.slot_place-place-requires-clause-there
+slot_place-place-requires-clause-there c = field_slot_there c.requires.shown.shows.shows.whole c.requires.there
 
-pub place_of-place-requires-clause-cap : goal.place_of-place-requires-clause-cap
-place_of-place-requires-clause-cap c =
+pub slot_place-place-requires-clause-cap : goal.slot_place-place-requires-clause-cap
+slot_place-place-requires-clause-cap c =
     cap_there c.cap.result c.requires.shown.shows.shows.whole c.requires.there
     (c.cap.ensures.cap ∙ ap (λ (paths : List Path). (shape_path paths c.args.shape).cap) c.shapes-shapes.ensures)
 
 pub returns : goal.returns
 returns c =
     let old = c.args.main.now in
-    let place = c.place_of-place.result in
+    let place = c.slot_place-place.result in
     let fits : FitsHeld c.args.value = search rules in
     let s = shown_setting c.requires.shown c.requires.there fits in
     let read = is_read c.shapes-shapes.result.now c.args.shape c.cap.result place c.is_own.result c.field-was.result s
-    c.requires.there c.shapes-shapes.ensures c.cap.ensures.cap c.place_of-place.ensures.place
-    (c.is_own.ensures ∙ c.place_of-place.ensures.own) c.field-was.ensures in
+    c.requires.there c.shapes-shapes.ensures c.cap.ensures.cap c.slot_place-place.ensures.place
+    (c.is_own.ensures ∙ c.slot_place-place.ensures.own) c.field-was.ensures in
     let joins = c.join-rep.ensures ∙ ap (join c.field-was.result.rep) c.rep_of.ensures in
     let fills = fills_at place c.is_own.result c.field-was.result.rep c.join-rep.result c.args.value c.content_of.result
     s read c.requires.shown.is_held.shows joins c.content_of.ensures in
     let cap : c.cap.result ≡ (shape_path old.paths c.args.shape).cap =
     c.cap.ensures.cap ∙ ap (λ (paths : List Path). (shape_path paths c.args.shape).cap) c.shapes-shapes.ensures in
-    let own = c.is_own.ensures ∙ c.place_of-place.ensures.own ∙ ap (nat_lt c.args.slot) cap in
+    let own = c.is_own.ensures ∙ c.slot_place-place.ensures.own ∙ ap (nat_lt c.args.slot) cap in
     record {
-      place = subst (λ n. IsPlaceOf (heap_of old) c.args.object n c.args.slot place) cap c.place_of-place.ensures.place;
-      within = c.place_of-place.ensures.within;
+      place = subst (λ n. IsPlaceOf (heap_of old) c.args.object n c.args.slot place) cap c.slot_place-place.ensures.place;
+      within = c.slot_place-place.ensures.within;
       was = ap (option_map (λ (field : PathField). field.rep))
           (ap (λ (paths : List Path). slice_get (shape_path paths c.args.shape).fields c.args.slot)
           (sym c.shapes-shapes.ensures)

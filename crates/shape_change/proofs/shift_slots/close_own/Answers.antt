@@ -2,11 +2,11 @@
 use Rattle.std.proofs.Common.{◌≡◌, ℕ, ◌+◌, ◌<◌, length, ◌∙◌, ap, subst, arith, rules, List}
 use Rattle.tagged_word.specs.Cells.{plain_head}
 use Rattle.page_space.specs.Extents.{marks_start}
-use Rattle.object_graph.specs.declared.path.Path.{Path}
+use Rattle.heap_model.specs.Types.{Path}
 use Rattle.shape_tree.specs.Shapes.{shape_path}
 use Rattle.heap_table.specs.Seats.{heap_words}
 use Rattle.heap_model.specs.Slots.{hole_word}
-use Rattle.write_barrier.specs.Mains.{Mutator}
+use Rattle.write_barrier.specs.MutatorState.{Mutator}
 use Rattle.shape_change.specs.Shifts.{ClosesGap}
 use Rattle.shape_change.proofs.SlotsClosed.{gap_closed}
 use Rattle.shape_change.proofs.shift_slots.close_own.Goals as goal

@@ -3,7 +3,7 @@ use Rattle.std.proofs.Common.{◌≡◌, ◌+◌, ◌<◌, ℕ, Some, length, ap
 use Rattle.tagged_word.specs.Cells.{plain_head}
 use Rattle.page_space.specs.Extents.{marks_start}
 use Rattle.heap_table.specs.Seats.{heap_words}
-use Rattle.write_barrier.specs.Mains.{Mutator}
+use Rattle.write_barrier.specs.MutatorState.{Mutator}
 use Rattle.shape_change.specs.Shifts.{MovesDown}
 use Rattle.shape_change.proofs.SlotsClosed.{moved_more}
 use Rattle.shape_change.proofs.shift_slots.move_own.Goals as goal

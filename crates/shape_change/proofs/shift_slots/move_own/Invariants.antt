@@ -1,4 +1,4 @@
--- The slots so far have moved.
+-- The slots before have moved.
 use Rattle.std.proofs.Common.{◌+◌}
 use Rattle.tagged_word.specs.Cells.{plain_head}
 use Rattle.shape_change.specs.Shifts.{MovesDown}

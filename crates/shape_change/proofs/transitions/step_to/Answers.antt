@@ -1,7 +1,7 @@
 -- The path is added, and then its layout words.
 use Rattle.std.proofs.Common.{List, length, ◌∙◌, ap}
-use Rattle.object_graph.specs.declared.path.Path.{Path}
-use Rattle.write_barrier.specs.Mains.{Mutator}
+use Rattle.heap_model.specs.Types.{Path}
+use Rattle.write_barrier.specs.MutatorState.{Mutator}
 use Rattle.shape_change.proofs.NewLayouts.{led_longer, led_layouts, path_led}
 use Rattle.shape_change.proofs.transitions.step_to.Goals as goal
 

@@ -5,7 +5,7 @@ use Rattle.script_text.proofs.Scanning.{blanks, no_next, next}
 use Rattle.script_text.proofs.cursor.Tokens.take_next.Goals as goal
 use Rattle.script_text.proofs.cursor.Tokens.take_next.Goals.{then-end-eq0, else-end-eq0}
 
--- what has not been read so far, without the blanks that it begins with
+-- what has not been read, without the blanks that it begins with
 text : goal.Joined-end-eq0 → List ℕ
 text c = take (length c.self.inside.rest.now - c.blanks.result) (drop c.blanks.result c.self.inside.rest.now)
 

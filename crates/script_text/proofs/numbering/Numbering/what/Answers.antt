@@ -2,19 +2,19 @@ use Rattle.std.proofs.Common.{◌≤◌, length, map, take, ap, ◌∙◌, arith
 use Rattle.std.proofs.lemmas.List.{length-map, length-take}
 use Rattle.script_text.specs.Table.{places_of}
 use Rattle.script_text.specs.Scripts.{what_of, argument_of, argument_at}
-use Rattle.script_text.specs.Shown.{shown, phrase_shown}
+use Rattle.script_text.specs.Shown.{shown, statement_shown}
 use Rattle.script_text.proofs.Staying.{few_places, AllEnter, three_enter}
 use Rattle.script_text.proofs.numbering.Numbering.what.Goals as goal
 
--- the operands of the phrase were entered
+-- the operands of the statement were entered
 entered : (c : goal.After-what_of)
-    → AllEnter (phrase_shown c.args.phrase.now).operands c.args.self.now.variables c.args.self.now.fields
+    → AllEnter (statement_shown c.args.statement.now).operands c.args.self.now.variables c.args.self.now.fields
     c.argument-3.new.self.variables c.argument-3.new.self.fields c.in_ok-a.a c.in_ok-b.b c.in_ok-c.c
 entered c =
-    let k = c.args.phrase.now.keyword in
-    let some = take (length (places_of k)) c.args.phrase.now.operands in
+    let k = c.args.statement.now.keyword in
+    let some = take (length (places_of k)) c.args.statement.now.operands in
     let few : length (map shown some) ≤ 3 =
-    omega (arith, few_places k, length-map some shown, length-take (length (places_of k)) c.args.phrase.now.operands) in
+    omega (arith, few_places k, length-map some shown, length-take (length (places_of k)) c.args.statement.now.operands) in
     three_enter _ _ _ _ _ _ _ _ _ _ _ _ few
     (record {
       variables_are = c.in_ok-a.ensures.variables;
@@ -41,10 +41,10 @@ returns-clause-fields c = (entered c).fields_are
 pub returns-clause-what : goal.returns-clause-what
 returns-clause-what c =
     let all = entered c in
-    let k = c.args.phrase.now.keyword in
+    let k = c.args.statement.now.keyword in
     let arguments =
     map (argument_of c.argument-3.new.self.variables c.argument-3.new.self.fields)
-    (phrase_shown c.args.phrase.now).operands in
+    (statement_shown c.args.statement.now).operands in
     c.what_of.ensures
     ∙ ap (λ a. what_of c.args.end_at c.args.repeat_at k a c.in_ok-b.b c.in_ok-c.c) all.first
     ∙ ap (λ b. what_of c.args.end_at c.args.repeat_at k (argument_at arguments 0) b c.in_ok-c.c) all.second

@@ -8,7 +8,7 @@ use Rattle.shape_tree.specs.declared.tree.ShapeTree.TheInside.{Inside}
 use Rattle.shape_tree.specs.Shapes.{IsPathShape, shape_path}
 use Rattle.shape_tree.specs.Growth.{extended}
 use Rattle.shape_tree.specs.Nodes.{same_transition, transition_by, path_at}
-use Rattle.shape_tree.specs.Trees.{HasRoom, paths_of}
+use Rattle.shape_tree.specs.Trees.{HasCapacity, paths_of}
 use Rattle.shape_tree.proofs.HeldNodes.{IsNodeOf-shown, IsNode-at, length-path_at, length-paths_in}
 use Rattle.shape_tree.proofs.GrownNodes.{IsGrown, length-grown_fields}
 use Rattle.shape_tree.proofs.GrownTrees.{Became, more_shown}
@@ -67,7 +67,7 @@ node_is c =
     }
 
 -- there is room left
-has_room : (c : goal.After-put_cached) → HasRoom (new_tree c)
+has_room : (c : goal.After-put_cached) → HasCapacity (new_tree c)
 has_room c =
     let tree = c.self.inside in
     let node = c.index-node.result.now in

@@ -1,6 +1,6 @@
 -- Of the path with the field more either nothing is missing or it alone is.
 use Rattle.std.proofs.Common.{IfErr, arith, subst}
-use Rattle.shape_tree.specs.Shapes.{AreShapes, IsFullFor, shape_path, stepped}
+use Rattle.shape_tree.specs.Shapes.{AreShapes, LacksPathsFor, shape_path, stepped}
 use Rattle.shape_tree.proofs.LedPaths.{refused_with, none_missing, one_missing}
 use Rattle.shape_tree.proofs.tree.ShapeTree.can_step.Goals as goal
 
@@ -8,7 +8,7 @@ pub returns-in_err-room_for-in-None-clause-full : goal.returns-in_err-room_for-i
 returns-in_err-room_for-in-None-clause-full c =
     let paths = c.args.self.now in
     let path = stepped (shape_path paths c.args.shape) c.args.field.name c.args.field.rep in
-    refused_with (λ answer. IfErr answer (IsFullFor paths paths path)) c.from_residual.result
+    refused_with (λ answer. IfErr answer (LacksPathsFor paths paths path)) c.from_residual.result
     c.in_err-room_for-in-None.field-0.0 c.from_residual.ensures.1
     (c.in_err-room_for-in-None.ensures.full path
     (one_missing paths c.args.shape c.args.field (subst AreShapes c.self.view_is c.self.invariant.shapes)

@@ -4,7 +4,7 @@ use Rattle.page_space.specs.Extents.{marks_start}
 use Rattle.word_store.specs.Copies.{copied}
 use Rattle.word_store.proofs.CopiedWords.{slice_get-copied_next, copied_more}
 use Rattle.heap_table.specs.Seats.{heap_words}
-use Rattle.write_barrier.specs.Mains.{Mutator}
+use Rattle.write_barrier.specs.MutatorState.{Mutator}
 use Rattle.write_barrier.proofs.Places.{marks_within}
 use Rattle.write_barrier.proofs.Ranges.{put_more, heap_copied}
 use Rattle.write_barrier.proofs.main_side.Main.copy_slots.Goals as goal

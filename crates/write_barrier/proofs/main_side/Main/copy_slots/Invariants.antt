@@ -1,7 +1,7 @@
 -- So many words are copied.
 use Rattle.std.proofs.Common.{◌≡◌}
 use Rattle.word_store.specs.Copies.{copied}
-use Rattle.write_barrier.specs.Mains.{with_table}
+use Rattle.write_barrier.specs.MutatorState.{with_table}
 use Rattle.write_barrier.proofs.main_side.Main.copy_slots.Given as goal
 
 abbrev pub invariant-loop-i : goal.invariant-loop-i

@@ -4,7 +4,7 @@ use Rattle.std.proofs.lemmas.List.{length-replicate}
 use Rattle.page_space.specs.Extents.{marks_start}
 use Rattle.heap_table.specs.Seats.{heap_words}
 use Rattle.heap_model.specs.Slots.{hole_word}
-use Rattle.write_barrier.specs.Mains.{with_word}
+use Rattle.write_barrier.specs.MutatorState.{with_word}
 use Rattle.write_barrier.specs.Values.{with_range}
 use Rattle.write_barrier.proofs.Places.{marks_within}
 use Rattle.write_barrier.proofs.Ranges.{fill_more, put_more, heap_with_range}

@@ -1,7 +1,7 @@
 -- So many words are holes.
 use Rattle.std.proofs.Common.{◌≡◌, replicate}
 use Rattle.heap_model.specs.Slots.{hole_word}
-use Rattle.write_barrier.specs.Mains.{with_table}
+use Rattle.write_barrier.specs.MutatorState.{with_table}
 use Rattle.write_barrier.specs.Values.{with_range}
 use Rattle.write_barrier.proofs.main_side.Main.fill_holes.Given as goal
 

@@ -4,7 +4,7 @@ use Rattle.tagged_word.specs.Headers.{header_bits}
 use Rattle.page_space.specs.Sizes.{page_words}
 use Rattle.page_space.specs.Extents.{marks_start}
 use Rattle.heap_table.specs.Seats.{heap_words}
-use Rattle.write_barrier.specs.Mains.{Mutator, gap_header}
+use Rattle.write_barrier.specs.MutatorState.{Mutator, gap_header}
 use Rattle.write_barrier.proofs.Changes.{page_before_marks, gap_put, put_changes, changes_then}
 use Rattle.write_barrier.proofs.main_side.Main.put_gap.Goals as goal
 

@@ -1,4 +1,4 @@
--- The variables so far are bound to nothing, the second words stay, and only root words have changed.
+-- The variables before are bound to nothing, the second words stay, and only root words have changed.
 use Rattle.std.proofs.Common.{◌≡◌, ℕ, ◌+◌, ◌<◌, Some, slice_get}
 use Rattle.page_space.specs.Extents.{roots_start, layouts_start}
 use Rattle.handle_roots.specs.declared.held.Held.TheVariants.{Unbound}

@@ -1,7 +1,7 @@
 -- The run that eden has room for.
 use Rattle.std.proofs.Common.{subst}
-use Rattle.page_space.specs.declared.run.Run.{Run}
-use Rattle.write_barrier.specs.Mains.{Mutator, IsNextRun}
+use Rattle.heap_model.specs.Types.{Run}
+use Rattle.write_barrier.specs.MutatorState.{Mutator, IsNextRun}
 use Rattle.write_barrier.proofs.Places.{next_run}
 use Rattle.write_barrier.proofs.main_side.Main.reserve.Goals as goal
 

@@ -3,7 +3,7 @@ use Rattle.std.proofs.Common.{◌≡◌, ◌+◌, ◌<◌, ap, arith, length, Li
 use Rattle.tagged_word.specs.Shapes.{shapes_most}
 use Rattle.page_space.specs.Extents.{layouts_start, marks_start}
 use Rattle.page_space.proofs.Starts.{marks_start_is}
-use Rattle.object_graph.specs.declared.path.Path.{Path}
+use Rattle.heap_model.specs.Types.{Path}
 use Rattle.shape_tree.specs.ShapeLayouts.{layout_word}
 use Rattle.heap_table.specs.Seats.{heap_words}
 use Rattle.write_barrier.proofs.Changes.{changes_none, put_changes, changes_then}

@@ -1,4 +1,4 @@
--- The layout words so far are those of the shapes, the others are 0, and only layout words have changed.
+-- The layout words that were put are those of the shapes, the others are 0, and only layout words have changed.
 use Rattle.page_space.specs.Extents.{layouts_start, marks_start}
 use Rattle.write_barrier.specs.Opening.{ChangesWithin, LayoutsBelow}
 use Rattle.write_barrier.proofs.main_side.Main.set_layouts.Given as goal

@@ -2,7 +2,7 @@
 use Rattle.std.proofs.Common.{subst, ap, ◌∙◌}
 use Rattle.page_space.specs.Sizes.{AreWithin}
 use Rattle.page_space.specs.Extents.{Space}
-use Rattle.write_barrier.specs.Mains.{Mutator}
+use Rattle.write_barrier.specs.MutatorState.{Mutator}
 use Rattle.write_barrier.proofs.Starting.{put_to, put_all, layouts_zero, all_started}
 use Rattle.write_barrier.proofs.main_side.Main.start.Goals as goal
 

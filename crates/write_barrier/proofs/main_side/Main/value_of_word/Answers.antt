@@ -5,7 +5,7 @@ use Rattle.tagged_word.specs.declared.word.Class.TheVariants.{Small, Ref}
 use Rattle.tagged_word.specs.Words.{IsClass, bits_of}
 use Rattle.tagged_word.proofs.Readings.{reference_to}
 use Rattle.handle_roots.specs.declared.held.Held.TheVariants as held
-use Rattle.write_barrier.specs.Mains.{heap_of}
+use Rattle.write_barrier.specs.MutatorState.{heap_of}
 use Rattle.write_barrier.proofs.ClassValues.{held_by_class, small_back}
 use Rattle.write_barrier.proofs.main_side.Main.value_of_word.Goals as goal
 

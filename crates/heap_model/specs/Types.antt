@@ -1,0 +1,22 @@
+-- The types of the crates below that the cells and the graph of a heap are told by, for this crate and those above.
+pub use Rattle.tagged_word.specs.declared.header.Header.{Header}
+pub use Rattle.tagged_word.specs.declared.layout.Kind.{Kind}
+pub use Rattle.tagged_word.specs.declared.layout.LayoutWord.{LayoutWord}
+pub use Rattle.tagged_word.specs.declared.word.Class.{Class}
+pub use Rattle.tagged_word.specs.declared.word.Word.{Word}
+pub use Rattle.page_space.specs.declared.region.Region.{Region}
+pub use Rattle.page_space.specs.declared.run.Run.{Run}
+pub use Rattle.page_space.specs.declared.sizes.Sizes.{Sizes}
+pub use Rattle.cell_layout.specs.declared.cell.Cell.{Cell}
+pub use Rattle.handle_roots.specs.declared.held.Held.{Held}
+pub use Rattle.heap_command.specs.declared.command.Command.{Command}
+pub use Rattle.heap_command.specs.declared.command.FaultWord.{FaultWord}
+pub use Rattle.heap_command.specs.declared.command.Operand.{Operand}
+pub use Rattle.object_graph.specs.declared.object.Entry.{Entry}
+pub use Rattle.object_graph.specs.declared.object.Field.{Field}
+pub use Rattle.object_graph.specs.declared.object.Object.{Object}
+pub use Rattle.object_graph.specs.declared.path.Path.{Path}
+pub use Rattle.object_graph.specs.declared.path.PathField.{PathField}
+pub use Rattle.object_graph.specs.declared.value.Rep.{Rep}
+pub use Rattle.object_graph.specs.declared.value.Value.{Value}
+pub use Rattle.shape_tree.specs.declared.full.ShapesFull.{ShapesFull}

@@ -1,0 +1,89 @@
+//! The turns left of open blocks. Where a run goes on is `next_of` of `specs/LoopCounters.antt`; that this
+//! is the order of execution is kept in `interpreter`.
+ghost use Rattle.std.specs.Prelude.{◌≡◌, ◌<◌, ◌≤◌, ◌^◌, [], ◌∷◌, length};
+ghost use Rattle.script_text.specs.Limits.{open_most};
+ghost use Rattle.heap_script.specs.LoopCounters.{next_of, closed};
+
+use script_text::What;
+use std::marker::Model;
+
+/// How many blocks may be open at once.
+pub(crate) const DEEPEST: usize = 4;
+
+/// For each open block, the innermost first, how many turns are left after the present one.
+#[derive(Drop)]
+pub(crate) struct LoopCounters {
+    left: [u32; DEEPEST],
+    open: usize,
+}
+
+impl Model for LoopCounters {
+    ghost use Rattle.std.specs.Prelude.{ℕ, List, take, ◌≤◌};
+
+    ghost Value = { List ℕ };
+
+    ghost view = { λ turns. take turns.open turns.left };
+
+    ghost invariant = { λ turns. turns.open ≤ 4 };
+}
+
+impl LoopCounters {
+    /// No block is open.
+    pub(crate) fn new() -> LoopCounters
+        ensures { result ≡ [] }
+    {
+        LoopCounters {
+            left: [0; DEEPEST],
+            open: 0,
+        }
+    }
+
+    /// Where the run goes on after the line at this place. It is a call, so that the turns stay in
+    /// memory and take no registers from the loop over lines.
+    #[inline(never)]
+    pub(crate) fn next(&mut self, at: usize, what: &What) -> usize
+        requires small { at < 2 ^ 63 }
+        requires deep { length (next_of at self.old what.now).turns ≤ open_most }
+        ensures place { result ≡ (next_of at self.old what.now).at }
+        ensures turns { self.new ≡ (next_of at self.old what.now).turns }
+    {
+        match *what {
+            What::Run(_) => at + 1,
+            What::Repeat { times: 0, end_at } => end_at as usize + 1,
+            What::Repeat { times, .. } => {
+                self.enter(times - 1);
+                at + 1
+            }
+            What::End { repeat_at } => self.end(at, repeat_at),
+        }
+    }
+
+    /// One block more is open, with so many turns left.
+    fn enter(&mut self, turns: u32)
+        requires room { length self.old < 4 }
+        ensures { self.new ≡ turns ∷ self.old }
+    {
+        let [first, second, third, _] = self.left;
+        self.left = [turns, first, second, third];
+        self.open += 1;
+    }
+
+    /// Where the run goes on after the `end` at this place, of the `repeat` at the other.
+    fn end(&mut self, at: usize, repeat_at: u32) -> usize
+        requires small { at < 2 ^ 63 }
+        ensures place { result ≡ (closed at self.old repeat_at).at }
+        ensures turns { self.new ≡ (closed at self.old repeat_at).turns }
+    {
+        if self.open == 0 {
+            return at + 1;
+        }
+        if self.left[0] > 0 {
+            self.left[0] -= 1;
+            return repeat_at as usize + 1;
+        }
+        let [_, second, third, fourth] = self.left;
+        self.left = [second, third, fourth, 0];
+        self.open -= 1;
+        at + 1
+    }
+}

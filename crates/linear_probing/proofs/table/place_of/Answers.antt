@@ -1,6 +1,0 @@
-use Rattle.std.proofs.Common.{arith}
-use Rattle.linear_probing.proofs.Searches.{has_no_end}
-use Rattle.linear_probing.proofs.table.place_of.Goals as goal
-
-pub returns : goal.returns
-returns c = has_no_end c.args.table.now c.args.number c.loop-step.step (omega arith) c.loop-step.invariant

@@ -1,0 +1,34 @@
+-- The entry goes.
+use Rattle.std.proofs.Common.{[], Ok, subst}
+use Rattle.heap_command.specs.declared.command.Command.TheVariants.{WDel}
+use Rattle.heap_command.specs.declared.command.Operand.TheVariants.{Var}
+use Rattle.mutator.specs.CarriesOut.{Carries}
+use Rattle.mutator.proofs.EntriesSet.{entering_read, entering_shown, wdel_carried}
+use Rattle.mutator.proofs.StillShown.{first_still}
+use Rattle.mutator.proofs.weak_maps.wdel.Goals as goal
+
+pub find_weak_map-requires : goal.find_weak_map-requires
+find_weak_map-requires c =
+    first_still (Var c.args.m) c.args.k c.operands.ensures.same c.requires.shown c.in_ok-target.ensures.found
+
+pub delete-requires : goal.delete-requires
+delete-requires c =
+    let (graph, shows) = c.requires.shown in
+    record {
+      shown = entering_shown (entering_read c.args.m c.args.k c.operands.ensures.same shows
+          (c.in_ok-target.ensures.found graph shows) (c.in_ok-found.ensures graph)
+          (c.in_ok-gone.ensures c.operands.new.main graph) c.requires.within.0 c.requires.within.1);
+    }
+
+pub returns : goal.returns
+returns c = record {
+  carried = λ graph names shows.
+      let same = c.operands.ensures.same in
+      let entering = entering_read c.args.m c.args.k same shows (c.in_ok-target.ensures.found graph shows)
+      (c.in_ok-found.ensures graph) (c.in_ok-gone.ensures c.operands.new.main graph) c.requires.within.0
+      c.requires.within.1 in
+      let deletes = c.delete.ensures.entry graph entering.weak entering.number entering.shows entering.stands
+      entering.key_stands in
+      subst (λ main. Carries names main c.delete.new.main graph (WDel c.args.m c.args.k) [] (Ok tt)) same
+      (wdel_carried names entering deletes);
+}

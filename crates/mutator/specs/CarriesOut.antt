@@ -1,0 +1,39 @@
+-- What a call of the mutator does.
+use Rattle.std.specs.Prelude.{◌≡◌, ℕ, ◌^◌, List, Result, Ok, Err}
+use Rattle.heap_model.specs.Types.{Command}
+use Rattle.object_graph.specs.Graphs.{Graph}
+use Rattle.object_graph.specs.Meaning.{done, fault, does}
+use Rattle.object_graph.specs.Limits.{ideal_limits}
+use Rattle.nursery.specs.Young.{HasRoom}
+use Rattle.heap_model.specs.Rooms.{Room, HasRooms, need_of}
+use Rattle.write_barrier.specs.MutatorState.{Mutator, heap_of, MainShows}
+use Rattle.object_cells.specs.Uses.{UsesMore}
+use Rattle.mutator.specs.Capacities.{KeepsStores}
+use Rattle.mutator.specs.declared.stop.Stop.{Stop}
+use Rattle.mutator.specs.declared.stop.Stop.TheVariants.{Fault, NoRoom, NoClear}
+
+-- field names are numbered below this
+abbrev pub field_numbers : ℕ
+field_numbers = 2 ^ 32
+
+-- Where objects have these rooms, as many words more are used as the command needs, for which there was room, and the
+-- objects come to have the rooms that the command gives them.
+pub record TakesRoom (old new : Mutator) (graph after : Graph) (command : Command) (rooms : ℕ → Room) : Type 0 where
+  pub room : HasRoom old.young (need_of graph rooms command)
+  pub uses : UsesMore old new (need_of graph rooms command)
+  pub stores : KeepsStores (heap_of old) (heap_of new) graph after command rooms
+
+-- The call carried the command out, and wrote the text: the heap then shows what the command means, and the words that
+-- it needs were taken. It stops exactly where the meaning is a fault, or where there is none and eden has not the words;
+-- both change nothing. `NoClear` never comes: no entry waits to be cleared.
+abbrev pub Carries : List (List ℕ) → Mutator → Mutator → Graph → Command → List ℕ → Result Unit Stop → Type 0
+Carries names old new graph command text (Ok _) =
+    (after : Graph) × (does ideal_limits names graph command ≡ done after text) × MainShows new after
+    × ((rooms : ℕ → Room) → HasRooms (heap_of old) graph rooms → TakesRoom old new graph after command rooms)
+Carries names old new graph command text (Err (Fault word)) =
+    (does ideal_limits names graph command ≡ fault word) × (new ≡ old)
+Carries names old new graph command text (Err (NoRoom need)) =
+    (after : Graph) × (written : List ℕ) × (does ideal_limits names graph command ≡ done after written)
+    × ((rooms : ℕ → Room) → HasRooms (heap_of old) graph rooms → need ≡ need_of graph rooms command)
+    × (HasRoom old.young need → ⊥) × (new ≡ old)
+Carries names old new graph command text (Err (NoClear entries)) = ⊥

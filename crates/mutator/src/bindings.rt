@@ -1,0 +1,77 @@
+//! The commands `let`, `drop` and `add`, on what variables are bound to. How a variable is bound to
+//! a field is said in `fields.rt`, and to a new object in `making.rt`.
+ghost use Rattle.std.specs.Prelude.{ℕ, List, [], OnOk};
+ghost use Rattle.heap_command.specs.Commands.{IsWithin};
+ghost use Rattle.object_graph.specs.Graphs.{Graph};
+ghost use Rattle.write_barrier.specs.MutatorState.{MainShows};
+ghost use Rattle.mutator.specs.Binding.{Binds};
+ghost use Rattle.mutator.specs.CarriesOut.{Carries, field_numbers};
+
+use crate::lookups::{bound, integer, operands};
+use crate::stop::Stop;
+use handle_roots::Held;
+use heap_command::{Command, FaultWord, Operand};
+use write_barrier::Main;
+
+/// Binds `x` to the value. What another variable is bound to is copied, whatever it is.
+///
+/// Stops with `unbound`.
+#[inline(always)]
+pub fn let_value(main: &mut Main, x: u32, v: Operand) -> Result<(), Stop>
+    requires shown { (graph : Graph) × MainShows main.old graph }
+    requires within { IsWithin main.old.seat.space.variables field_numbers (Command.LetValue x v) }
+    ensures carried { (graph : Graph) (names : List (List ℕ)) → MainShows main.old graph →
+        Carries names main.old main.new graph (Command.LetValue x v) [] result }
+    ensures binds { OnOk result (Binds main.old main.new x) }
+{
+    match v {
+        Operand::Int(v) => main.hold(x, Held::Int(v)),
+        Operand::Undefined => main.hold(x, Held::Undefined),
+        Operand::Var(from) => {
+            // Judged before the write: a command that stops leaves `x` as it was.
+            if !main.is_bound(from) {
+                return Err(Stop::Fault(FaultWord::Unbound));
+            }
+            main.copy(from, x);
+        }
+    }
+    Ok(())
+}
+
+/// Unbinds `x`. The words of what it was bound to stay used.
+///
+/// Stops with `unbound` where it is bound to nothing.
+#[inline(always)]
+pub fn drop_var(main: &mut Main, x: u32) -> Result<(), Stop>
+    requires shown { (graph : Graph) × MainShows main.old graph }
+    requires within { IsWithin main.old.seat.space.variables field_numbers (Command.DropVar x) }
+    ensures carried { (graph : Graph) (names : List (List ℕ)) → MainShows main.old graph →
+        Carries names main.old main.new graph (Command.DropVar x) [] result }
+    ensures binds { OnOk result (Binds main.old main.new x) }
+{
+    // Judged before the write: an unbound variable does not tell whether it was bound.
+    bound(main, x)?;
+    main.hold(x, Held::Unbound);
+    Ok(())
+}
+
+/// Binds `x` to the sum of its integer and the value.
+///
+/// Stops with `unbound`, `notint`, or `overflow` where the sum is outside 64 bits.
+#[inline(always)]
+pub fn add(main: &mut Main, x: u32, v: Operand) -> Result<(), Stop>
+    requires shown { (graph : Graph) × MainShows main.old graph }
+    requires within { IsWithin main.old.seat.space.variables field_numbers (Command.Add x v) }
+    ensures carried { (graph : Graph) (names : List (List ℕ)) → MainShows main.old graph →
+        Carries names main.old main.new graph (Command.Add x v) [] result }
+    ensures binds { OnOk result (Binds main.old main.new x) }
+{
+    let (bound, added) = operands(main, Operand::Var(x), v)?;
+    let first = integer(bound)?;
+    let second = integer(added)?;
+    let Some(sum) = first.checked_add(second) else {
+        return Err(Stop::Fault(FaultWord::Overflow));
+    };
+    main.hold(x, Held::Int(sum));
+    Ok(())
+}

@@ -1,0 +1,173 @@
+//! What a command reads: variables, operands, and the objects that values refer to. A read changes
+//! nothing. The fields of an object are read by `shape_change`.
+ghost use Rattle.std.specs.Prelude.{◌≡◌, ℕ, ◌<◌};
+ghost use Rattle.std.specs.FinMap.{get};
+ghost use Rattle.heap_command.specs.Commands.{NamesBelow};
+ghost use Rattle.object_graph.specs.Graphs.{Graph, value_of};
+ghost use Rattle.object_graph.specs.declared.value.Value.{Value};
+ghost use Rattle.write_barrier.specs.MutatorState.{Mutator, MainShows};
+ghost use Rattle.mutator.specs.Reading.{StandsFor, Finds, FindsBoth, IsShownValue, FindsPlain};
+ghost use Rattle.mutator.specs.Reading.{FindsInteger, FindsKey, FindsList, FindsWeak};
+
+use handle_roots::Held;
+use heap_command::{FaultWord, Operand};
+use tagged_word::shape;
+use write_barrier::Main;
+
+/// A plain object: where its cell stands, and its shape.
+#[derive(Clone, Copy)]
+pub(crate) struct Found {
+    pub(crate) at: u32,
+    pub(crate) shape: u32,
+}
+
+/// What the variable is bound to.
+#[inline(always)]
+pub(crate) fn bound(main: &mut Main, x: u32) -> Result<Held, FaultWord>
+    requires shown { (graph : Graph) × MainShows main.old graph }
+    requires within { x < main.old.seat.space.variables }
+    ensures found { (graph : Graph) → MainShows main.old graph →
+        Finds main.old graph (get graph.bindings x) result }
+    ensures same { main.new ≡ main.old }
+{
+    match main.held(x) {
+        Held::Unbound => Err(FaultWord::Unbound),
+        held => Ok(held),
+    }
+}
+
+/// The value that the operand stands for.
+#[inline(always)]
+pub(crate) fn operand(main: &mut Main, v: Operand) -> Result<Held, FaultWord>
+    requires shown { (graph : Graph) × MainShows main.old graph }
+    requires within { NamesBelow main.old.seat.space.variables v }
+    ensures found { (graph : Graph) → MainShows main.old graph →
+        Finds main.old graph (value_of graph v) result }
+    ensures same { main.new ≡ main.old }
+{
+    match v {
+        Operand::Int(v) => Ok(Held::Int(v)),
+        Operand::Undefined => Ok(Held::Undefined),
+        Operand::Var(x) => bound(main, x),
+    }
+}
+
+/// The values that two operands stand for. Both are read before either is judged: `unbound` comes
+/// before all other faults.
+#[inline(always)]
+pub(crate) fn operands(main: &mut Main, a: Operand, b: Operand) -> Result<(Held, Held), FaultWord>
+    requires shown { (graph : Graph) × MainShows main.old graph }
+    requires first { NamesBelow main.old.seat.space.variables a }
+    requires second { NamesBelow main.old.seat.space.variables b }
+    ensures found { (graph : Graph) → MainShows main.old graph →
+        FindsBoth main.old graph (value_of graph a) (value_of graph b) result }
+    ensures same { main.new ≡ main.old }
+{
+    let first = operand(main, a)?;
+    let second = operand(main, b)?;
+    Ok((first, second))
+}
+
+/// The plain object that the value refers to.
+#[inline(always)]
+pub(crate) fn plain(main: &Main, held: Held) -> Result<Found, FaultWord>
+    requires { IsShownValue main.now held }
+    ensures { (graph : Graph) (value : Value) → MainShows main.now graph →
+        StandsFor main.now graph value held → FindsPlain main.now graph value result }
+{
+    match held {
+        Held::Ref(at) => plain_at(main, at),
+        Held::Unbound | Held::Undefined | Held::Int(_) => Err(FaultWord::NotObject),
+    }
+}
+
+/// The plain object whose cell stands at an address.
+#[inline(always)]
+fn plain_at(main: &Main, at: u32) -> Result<Found, FaultWord>
+    requires { IsShownValue main.now (Held.Ref at) }
+    ensures { (graph : Graph) (value : Value) → MainShows main.now graph →
+        StandsFor main.now graph value (Held.Ref at) → FindsPlain main.now graph value result }
+{
+    let shape = main.header(at).shape;
+    // The shapes before those of the paths are those of lists, weak maps and cells of no object.
+    if shape < shape::PATHS {
+        return Err(FaultWord::NotObject);
+    }
+    Ok(Found { at, shape })
+}
+
+/// Where the cell of the list stands that the value refers to.
+#[inline(always)]
+pub(crate) fn find_list(main: &Main, held: Held) -> Result<u32, FaultWord>
+    requires { IsShownValue main.now held }
+    ensures { (graph : Graph) (value : Value) → MainShows main.now graph →
+        StandsFor main.now graph value held → FindsList main.now graph value result }
+{
+    match held {
+        Held::Ref(at) => list_found_at(main, at),
+        Held::Unbound | Held::Undefined | Held::Int(_) => Err(FaultWord::NotList),
+    }
+}
+
+/// The address, where the cell of a list stands there.
+#[inline(always)]
+fn list_found_at(main: &Main, at: u32) -> Result<u32, FaultWord>
+    requires { IsShownValue main.now (Held.Ref at) }
+    ensures { (graph : Graph) (value : Value) → MainShows main.now graph →
+        StandsFor main.now graph value (Held.Ref at) → FindsList main.now graph value result }
+{
+    if main.header(at).shape != shape::LIST {
+        return Err(FaultWord::NotList);
+    }
+    Ok(at)
+}
+
+/// Where the cell of the weak map stands that the value refers to.
+#[inline(always)]
+pub(crate) fn find_weak_map(main: &Main, held: Held) -> Result<u32, FaultWord>
+    requires { IsShownValue main.now held }
+    ensures { (graph : Graph) (value : Value) → MainShows main.now graph →
+        StandsFor main.now graph value held → FindsWeak main.now graph value result }
+{
+    match held {
+        Held::Ref(at) => weak_found_at(main, at),
+        Held::Unbound | Held::Undefined | Held::Int(_) => Err(FaultWord::NotWeak),
+    }
+}
+
+/// The address, where the cell of a weak map stands there.
+#[inline(always)]
+fn weak_found_at(main: &Main, at: u32) -> Result<u32, FaultWord>
+    requires { IsShownValue main.now (Held.Ref at) }
+    ensures { (graph : Graph) (value : Value) → MainShows main.now graph →
+        StandsFor main.now graph value (Held.Ref at) → FindsWeak main.now graph value result }
+{
+    if main.header(at).shape != shape::WEAK {
+        return Err(FaultWord::NotWeak);
+    }
+    Ok(at)
+}
+
+/// Where the cell of the object stands that is the key.
+#[inline(always)]
+pub(crate) fn key(held: Held) -> Result<u32, FaultWord>
+    ensures { (main : Mutator) (graph : Graph) (value : Value) → StandsFor main graph value held →
+        FindsKey main graph value result }
+{
+    match held {
+        Held::Ref(at) => Ok(at),
+        Held::Unbound | Held::Undefined | Held::Int(_) => Err(FaultWord::BadKey),
+    }
+}
+
+/// The integer that the value is.
+#[inline(always)]
+pub(crate) fn integer(held: Held) -> Result<i64, FaultWord>
+    ensures { (main : Mutator) (graph : Graph) (value : Value) → StandsFor main graph value held →
+        FindsInteger value result }
+{
+    match held {
+        Held::Int(v) => Ok(v),
+        Held::Unbound | Held::Undefined | Held::Ref(_) => Err(FaultWord::NotInt),
+    }
+}

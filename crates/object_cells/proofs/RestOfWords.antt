@@ -1,0 +1,134 @@
+-- What is written before the marks leaves all words from the marks on.
+use Rattle.std.proofs.Common.{◌≡◌, ℕ, ◌+◌, ◌-◌, ◌≤◌, ◌<◌, List, ◌++◌, length, take, drop}
+use Rattle.std.proofs.Common.{refl, sym, ◌∙◌, ap, subst, arith, length-append, length-take}
+use Rattle.std.specs.Prelude.{ℤ, slice_range}
+use Rattle.std.proofs.Math.Seq.{drop-append-add, drop-drop}
+use Rattle.std.proofs.lemmas.List.{length-take-le}
+use Rattle.tagged_word.specs.Headers.{header_bits}
+use Rattle.page_space.specs.Extents.{Space, marks_start}
+use Rattle.page_space.proofs.Starts.{layouts_start_is, marks_start_is}
+use Rattle.heap_model.specs.Types.{Held}
+use Rattle.handle_roots.specs.Roots.{root_at, first_word, second_word}
+use Rattle.word_store.specs.Copies.{copied}
+use Rattle.word_store.proofs.CopiedWords.{length-piece}
+use Rattle.heap_table.specs.Seats.{Seat, heap_words, RestStays}
+use Rattle.heap_table.specs.Staying.{rest_stays_itself, rest_stays_again}
+use Rattle.heap_table.proofs.HeapWords.{stays_beside-put}
+use Rattle.heap_model.specs.Slots.{raw_word, reference_word}
+use Rattle.write_barrier.specs.MutatorState.{Mutator, with_word, with_table, with_variable, reserved}
+use Rattle.write_barrier.specs.Values.{with_range}
+use Rattle.object_cells.specs.Formats.{box_header}
+use Rattle.object_cells.specs.declared.content.SlotWrite.{SlotWrite}
+use Rattle.object_cells.specs.declared.content.SlotWrite.TheVariants as filling
+use Rattle.object_cells.specs.Contents.{filled, with_box, AllocatesBox, IsBeforeMarks}
+use Rattle.object_cells.proofs.PutRanges.{copied_is}
+
+-- where nothing has changed, all these words stay
+pub same_rest : {old new : Mutator} → new ≡ old → RestStays old.seat new.seat
+same_rest {old} same =
+    subst (λ (main : Mutator). RestStays old.seat main.seat) (sym same) (rest_stays_itself old.seat)
+
+-- and where words of eden were reserved
+pub reserved_rest : {new : Mutator} (old : Mutator) (need : ℕ) → new ≡ reserved old need
+    → RestStays old.seat new.seat
+reserved_rest old need same =
+    subst (λ (main : Mutator). RestStays old.seat main.seat) (sym same) (rest_stays_itself old.seat)
+
+-- where they stayed, and then a word before the marks was put, they have stayed
+pub put_rest : {seat : Seat} {mid new : Mutator} (a word : ℕ) → RestStays seat mid.seat → new ≡ with_word mid a word
+    → a < marks_start mid.seat.space → RestStays seat new.seat
+put_rest {seat} {mid} {new} a word first same below =
+    rest_stays_again seat mid.seat new.seat first
+    (subst (λ (main : Mutator). RestStays mid.seat main.seat) (sym same) (stays_beside-put mid.seat a word below))
+
+-- words behind a stretch stay where others are put in its place
+drop-with_range : (words others : List ℕ) (at from : ℕ) → at ≤ length words → at + length others ≤ from
+    → drop from (with_range words at others) ≡ drop from words
+drop-with_range words others at from within behind =
+    let front : List ℕ = take at words ++ others in
+    let end : ℕ = at + length others in
+    let more : ℕ = from - end in
+    let past : from ≡ length front + more =
+    omega (arith, length-append (take at words) others, length-take-le at words within, behind) in
+    let last : end + more ≡ from = omega (arith, behind) in
+    ap (λ n. drop n (front ++ drop end words)) past
+    ∙ drop-append-add front (drop end words) more
+    ∙ drop-drop more end words
+    ∙ ap (λ n. drop n words) last
+
+-- the table has as many words as stand before the marks, or more
+table_long : (seat : Seat) → length (heap_words seat) ≡ marks_start seat.space
+    → marks_start seat.space ≤ length seat.table
+table_long seat counted = omega (arith, counted, length-take (marks_start seat.space) seat.table)
+
+-- so those from the marks on stay where a stretch before the marks is put
+pub range_beside : (main : Mutator) (at : ℕ) (others : List ℕ)
+    → length (heap_words main.seat) ≡ marks_start main.seat.space
+    → at + length others ≤ marks_start main.seat.space
+    → RestStays main.seat (with_table main (with_range main.seat.table at others)).seat
+range_beside main at others counted within =
+    let space : Space = main.seat.space in
+    let below : at ≤ length main.seat.table = omega (arith, within, table_long main.seat counted) in
+    record {
+      space = refl;
+      phase = refl;
+      behind = drop-with_range main.seat.table others at (marks_start space) below within;
+    }
+
+-- and where words are copied to one
+pub copy_beside : (main : Mutator) (from to count : ℕ)
+    → length (heap_words main.seat) ≡ marks_start main.seat.space → from + count ≤ marks_start main.seat.space
+    → to + count ≤ marks_start main.seat.space
+    → RestStays main.seat (with_table main (copied main.seat.table from to count)).seat
+copy_beside main from to count counted within room =
+    let table : List ℕ = main.seat.table in
+    let piece : List ℕ = slice_range table from (from + count) in
+    let inside : from + count ≤ length table = omega (arith, within, table_long main.seat counted) in
+    subst (λ words. RestStays main.seat (with_table main words).seat) (sym (copied_is table from to count inside))
+    (range_beside main to piece counted (omega (arith, room, length-piece table from count inside)))
+
+-- they stay where a box is made before the marks
+pub box_beside : (main : Mutator) (at : ℕ) (v : ℤ) → at + 1 < marks_start main.seat.space
+    → RestStays main.seat (with_box main at v).seat
+box_beside main at v within =
+    put_rest {mid = with_word main at (header_bits box_header)} (at + 1) (raw_word v)
+    (stays_beside-put main.seat at (header_bits box_header) (omega arith)) refl within
+
+-- where a slot before the marks is filled
+pub filled_beside : (main : Mutator) (at : ℕ) (filling : SlotWrite) → at < marks_start main.seat.space
+    → IsBeforeMarks main.seat.space filling → RestStays main.seat (filled main at filling).seat
+filled_beside main at (filling.Tagged word) below room = stays_beside-put main.seat at word.0 below
+filled_beside main at (filling.Raw word) below room = stays_beside-put main.seat at word below
+filled_beside main at (filling.NewBox box v) below room =
+    put_rest {mid = with_box main box v} at (reference_word box) (box_beside main box v (omega (arith, room))) refl
+    below
+filled_beside main at (filling.OldBox box v) below room =
+    stays_beside-put main.seat (box + 1) (raw_word v) (omega (arith, room))
+
+-- where words are used, the seat stays
+pub allocates_seat : (old new : Mutator) (filling : SlotWrite) → AllocatesBox old new filling → new.seat ≡ old.seat
+allocates_seat old new (filling.Tagged word) same = ap (λ (main : Mutator). main.seat) same
+allocates_seat old new (filling.Raw word) same = ap (λ (main : Mutator). main.seat) same
+allocates_seat old new (filling.NewBox at v) more = ap (λ (main : Mutator). main.seat) more.1
+allocates_seat old new (filling.OldBox at v) same = ap (λ (main : Mutator). main.seat) same
+
+-- where words are used, others before the marks may change, and a slot before the marks is filled
+pub filled_still : (old between laid : Mutator) (at : ℕ) (filling : SlotWrite) → AllocatesBox old between filling
+    → RestStays between.seat laid.seat → at < marks_start old.seat.space → IsBeforeMarks old.seat.space filling
+    → RestStays old.seat (filled laid at filling).seat
+filled_still old between laid at filling allocates stays below room =
+    let first : RestStays old.seat laid.seat =
+    subst (λ (seat : Seat). RestStays seat laid.seat) (allocates_seat old between filling allocates) stays in
+    rest_stays_again old.seat laid.seat (filled laid at filling).seat first
+    (filled_beside laid at filling (subst (λ (s : Space). at < marks_start s) (sym first.space) below)
+    (subst (λ (s : Space). IsBeforeMarks s filling) (sym first.space) room))
+
+-- and where a variable comes to hold something
+pub variable_beside : (main : Mutator) (variable : ℕ) (held : Held) → variable < main.seat.space.variables
+    → RestStays main.seat (with_variable main variable held).seat
+variable_beside main variable held known =
+    let space : Space = main.seat.space in
+    let at : ℕ = root_at space variable in
+    let below : at + 1 < marks_start space = omega (arith, known, layouts_start_is space, marks_start_is space) in
+    put_rest {mid = with_word main at (first_word held)} (at + 1) (second_word held)
+    (stays_beside-put main.seat at (first_word held) (omega (arith, below))) refl below

@@ -1,0 +1,86 @@
+-- The mutator's side of a heap as those above it see it.
+use Rattle.std.specs.Prelude.{◌≡◌, ℕ, ◌+◌, ◌*◌, ◌<◌, ◌≤◌, List, Some, slice_get, slice_set}
+use Rattle.heap_model.specs.Types.{Path, Header, Run, Held}
+use Rattle.object_graph.specs.Graphs.{Graph}
+use Rattle.object_graph.specs.Invariants.{IsGraph}
+use Rattle.tagged_word.specs.Headers.{header_bits}
+use Rattle.tagged_word.specs.Shapes.{gap_shape}
+use Rattle.tagged_word.specs.Cells.{length_offset}
+use Rattle.page_space.specs.Sizes.{page_words}
+use Rattle.page_space.specs.Extents.{Space, eden_start, segments_start, marks_start}
+use Rattle.handle_roots.specs.Roots.{with_root}
+use Rattle.nursery.specs.Young.{Young, new_young}
+use Rattle.heap_table.specs.declared.phase.Phase.TheVariants.{Quiet}
+use Rattle.heap_table.specs.Seats.{Seat, RestStays, fresh, heap_words}
+use Rattle.heap_model.specs.Heaps.{Heap}
+use Rattle.heap_model.specs.Showing.{Shows}
+use Rattle.heap_model.specs.Counting.{CountsEntries}
+
+-- the seat, the shapes, and the young generation
+pub record Mutator : Type 0 where
+  pub seat : Seat
+  pub paths : List Path
+  pub young : Young
+
+-- the heap that stands in the words
+abbrev pub heap_of : Mutator → Heap
+heap_of main = record {
+  space = main.seat.space;
+  used = main.young.used;
+  survivors = main.young.survivors;
+  paths = main.paths;
+  words = heap_words main.seat;
+}
+
+-- the seat and the nursery are of the same regions
+abbrev pub IsTied : Mutator → Type 0
+IsTied main = main.young.space ≡ main.seat.space
+
+-- The parts agree, only the mutator runs, and the heap shows the graph, which is one that a script makes. No entry of a
+-- weak map was cleared.
+pub record MainShows (main : Mutator) (graph : Graph) : Type 0 where
+  pub tied : IsTied main
+  pub is_graph : IsGraph graph
+  pub quiet : main.seat.phase ≡ Quiet
+  pub shows : Shows (heap_of main) graph
+  pub counts : CountsEntries (heap_of main) graph
+
+-- one word of the table is another
+abbrev pub with_word : Mutator → ℕ → ℕ → Mutator
+with_word main at word = record main { seat = record main.seat { table = slice_set main.seat.table at word } }
+
+-- so many words more are used
+abbrev pub reserved : Mutator → ℕ → Mutator
+reserved main more = record main { young = record main.young { used = main.young.used + more } }
+
+-- The run is the next so many words of eden: it stands behind the used ones, and ends in eden, so before the marks.
+pub record IsNextRun (space : Space) (used n : ℕ) (run : Run) : Type 0 where
+  pub at : run.at ≡ eden_start space + used
+  pub words : run.words ≡ n
+  pub in_eden : run.at + run.words ≤ segments_start space
+  pub before_marks : run.at + run.words ≤ marks_start space
+
+-- the table has other words
+abbrev pub with_table : Mutator → List ℕ → Mutator
+with_table main table = record main { seat = record main.seat { table = table } }
+
+-- both root words of a variable are those of a value
+abbrev pub with_variable : Mutator → ℕ → Held → Mutator
+with_variable main variable held =
+    record main { seat = record main.seat { table = with_root main.seat.space main.seat.table variable held } }
+
+-- the header of a gap
+abbrev pub gap_header : Header
+gap_header = record { shape = gap_shape; object = 0 }
+
+-- a page is one gap
+pub record IsOneGap (words : List ℕ) (page : ℕ) : Type 0 where
+  pub header : slice_get words (page_words * page) ≡ Some (header_bits gap_header)
+  pub size : slice_get words (page_words * page + length_offset) ≡ Some page_words
+
+-- A heap that was just opened: nothing is used and nothing has survived, each page is one gap, and the phase is quiet,
+-- each mark white and each place of the board empty, as in words of 0.
+pub record IsOpened (main : Mutator) : Type 0 where
+  pub young : main.young ≡ new_young main.seat.space
+  pub beside : RestStays (fresh main.seat.space) main.seat
+  pub pages : (page : ℕ) → page < main.seat.space.sizes.pages → IsOneGap (heap_words main.seat) page

@@ -1,0 +1,137 @@
+//! Stores: the calls by which the words of the heap change.
+ghost use Rattle.std.specs.Prelude.{◌≡◌, ◌+◌, ◌<◌, ◌≤◌, ◌⊎◌, length, slice_get, slice_set, Some};
+ghost use Rattle.tagged_word.specs.Headers.{IsHeader, header_bits};
+ghost use Rattle.page_space.specs.Extents.{layouts_start, marks_start};
+ghost use Rattle.heap_table.specs.declared.phase.Phase.TheVariants.{Quiet};
+ghost use Rattle.heap_table.specs.Seats.{heap_words};
+ghost use Rattle.shape_tree.specs.ShapeLayouts.{IsInUse, layout_word};
+ghost use Rattle.tagged_word.specs.Shapes.{first_path_shape};
+ghost use Rattle.write_barrier.specs.MutatorState.{with_word};
+ghost use Rattle.write_barrier.specs.Opening.{ChangesWithin, HasLayouts, LayoutsBelow};
+
+use crate::main_side::Main;
+use tagged_word::{Header, Word, shape};
+
+impl Main {
+    /// Puts a word at an address before the marks: one that is no slot of a cell that marking may
+    /// have seen. No other word changes.
+    #[inline]
+    pub fn write(&mut self, a: u32, word: u64)
+        requires quiet { self.old.seat.phase ≡ Quiet }
+        requires within { a < marks_start self.old.seat.space }
+        ensures written { self.new ≡ with_word self.old a word }
+        ensures heap { let words = heap_words self.old.seat in
+            heap_words self.new.seat ≡ slice_set words a word }
+    {
+        self.seat.put(a, word);
+    }
+
+    /// Puts a word at an offset of a cell, before the marks: in no slot that marking may have seen. No
+    /// other word changes.
+    #[inline]
+    pub fn write_slot(&mut self, cell: u32, offset: u32, word: u64)
+        requires quiet { self.old.seat.phase ≡ Quiet }
+        requires within { cell + offset < marks_start self.old.seat.space }
+        ensures written { self.new ≡ with_word self.old (cell + offset) word }
+        ensures heap { let words = heap_words self.old.seat in
+            heap_words self.new.seat ≡ slice_set words (cell + offset) word }
+    {
+        self.addresses_fit();
+        self.write(cell + offset, word);
+    }
+
+    /// Puts a value in the slot of a cell at an offset. No other word changes.
+    #[inline]
+    pub fn store(&mut self, cell: u32, offset: u32, value: Word)
+        requires quiet { self.old.seat.phase ≡ Quiet }
+        requires within { cell + offset < marks_start self.old.seat.space }
+        ensures stored { self.new ≡ with_word self.old (cell + offset) value.0 }
+        ensures heap { let words = heap_words self.old.seat in
+            heap_words self.new.seat ≡ slice_set words (cell + offset) value.0 }
+    {
+        self.write_slot(cell, offset, value.0);
+    }
+
+    /// Puts a value in the slot of a weak table at an offset. No other word changes. It keeps nothing
+    /// alive: marking never looks at what a pair of a table refers to.
+    #[inline]
+    pub fn store_weak(&mut self, cell: u32, offset: u32, value: Word)
+        requires quiet { self.old.seat.phase ≡ Quiet }
+        requires within { cell + offset < marks_start self.old.seat.space }
+        ensures stored { self.new ≡ with_word self.old (cell + offset) value.0 }
+        ensures heap { let words = heap_words self.old.seat in
+            heap_words self.new.seat ≡ slice_set words (cell + offset) value.0 }
+    {
+        self.write_slot(cell, offset, value.0);
+    }
+
+    /// Puts the header of a cell at an address. No other word changes.
+    #[inline]
+    pub fn set_header(&mut self, a: u32, header: Header)
+        requires quiet { self.old.seat.phase ≡ Quiet }
+        requires within { a < marks_start self.old.seat.space }
+        requires is { IsHeader header }
+        ensures written { self.new ≡ with_word self.old a (header_bits header) }
+        ensures heap { let words = heap_words self.old.seat in
+            heap_words self.new.seat ≡ slice_set words a (header_bits header) }
+    {
+        self.write(a, header.word().0);
+    }
+
+    /// Makes the layout word of a shape in use that of the shapes. It was 0, or that already: a
+    /// layout word never becomes another.
+    pub fn set_layout(&mut self, shape: u32)
+        requires quiet { self.old.seat.phase ≡ Quiet }
+        requires in_use { IsInUse self.old.paths shape }
+        requires free { let at = layouts_start self.old.seat.space + shape in
+            let stands = slice_get (heap_words self.old.seat) at in
+            (stands ≡ Some 0) ⊎ (stands ≡ Some (layout_word self.old.paths shape)) }
+        ensures written { let at = layouts_start self.old.seat.space + shape in
+            self.new ≡ with_word self.old at (layout_word self.old.paths shape) }
+        ensures heap { let at = layouts_start self.old.seat.space + shape in
+            let words = heap_words self.old.seat in
+            heap_words self.new.seat ≡ slice_set words at (layout_word self.old.paths shape) }
+    {
+        self.paths_fit();
+        let word = self.shapes.layout(shape).word();
+        let at = self.regions().layout_at(shape);
+        self.write(at, word);
+    }
+
+    /// Puts the layout words of the shapes from one on: those of the shapes below it are there, and
+    /// from it on they are 0. No other word changes.
+    pub fn set_layouts(&mut self, first: u32)
+        requires quiet { self.old.seat.phase ≡ Quiet }
+        requires from { 1 ≤ first }
+        requires below { first ≤ first_path_shape + length self.old.paths }
+        requires layouts { LayoutsBelow self.old first }
+        ensures layouts { HasLayouts self.new }
+        ensures changes { let space = self.old.seat.space in
+            ChangesWithin self.old self.new (layouts_start space) (marks_start space) }
+    {
+        // There are as many words as addresses before the marks.
+        self.addresses_fit();
+        let paths = self.shapes().paths();
+        for shape in first..shape::PATHS + paths {
+            self.set_layout(shape);
+        }
+    }
+
+    /// Tells the marking that a cell was made whole and needs no look: nothing while the phase is
+    /// quiet.
+    #[inline]
+    pub fn made(&mut self, a: u32)
+        requires quiet { self.old.seat.phase ≡ Quiet }
+        requires within { a < marks_start self.old.seat.space }
+        ensures same { self.new ≡ self.old }
+    {}
+
+    /// Tells the marking that the slots of a cell are about to move or go: nothing while the phase
+    /// is quiet.
+    #[inline]
+    pub fn blacken(&mut self, cell: u32)
+        requires quiet { self.old.seat.phase ≡ Quiet }
+        requires within { cell < marks_start self.old.seat.space }
+        ensures same { self.new ≡ self.old }
+    {}
+}
