@@ -1,6 +1,5 @@
 -- What `set`, `push`, `put` and `wput` need, where the object is known.
-use Rattle.std.proofs.Common.{◌≡◌, ℕ, length, ℤ, Some}
-use Rattle.std.proofs.Common.{sym, ◌∙◌, ap}
+use Rattle.std.proofs.Common.{◌≡◌, ℕ, length, ℤ, Some, sym, ◌∙◌, ap}
 use Rattle.std.specs.Prelude.{option_and_then}
 use Rattle.heap_model.specs.Types.{Operand, Value}
 use Rattle.heap_command.specs.declared.command.Command.TheVariants as command

@@ -1,6 +1,5 @@
 -- Which rooms commands on a plain object or a list give it, where the object is known.
-use Rattle.std.proofs.Common.{◌≡◌, ◌≢◌, ℕ, suc, ◌-◌, List, length, ℤ, Some}
-use Rattle.std.proofs.Common.{sym, ◌∙◌, ap}
+use Rattle.std.proofs.Common.{◌≡◌, ◌≢◌, ℕ, suc, ◌-◌, List, length, ℤ, Some, sym, ◌∙◌, ap}
 use Rattle.std.specs.Prelude.{slice_set}
 use Rattle.heap_model.specs.Types.{Operand, Command, Value, Field}
 use Rattle.heap_command.specs.declared.command.Command.TheVariants as command
@@ -10,10 +9,8 @@ use Rattle.object_graph.specs.Graphs.{Graph, PlainObject, ListObject}
 use Rattle.object_graph.specs.Meaning.{below}
 use Rattle.heap_model.specs.Laws.{ReachesNoMore}
 use Rattle.heap_model.specs.Needs.{capacity_at}
-use Rattle.heap_model.specs.Rooms.{Room, number_of}
-use Rattle.heap_model.specs.Rooms.{with_room, with_capacity}
-use Rattle.heap_model.specs.Rooms.{changed, set_capacity, push_capacity, truncated_capacity}
-use Rattle.heap_model.specs.Rooms.{rooms_after}
+use Rattle.heap_model.specs.Rooms.{Room, list_of, number_of, with_room, with_capacity, changed, rooms_after}
+use Rattle.heap_model.specs.Rooms.{set_capacity, push_capacity, truncated_capacity}
 use Rattle.write_barrier.specs.MutatorState.{Mutator, heap_of}
 use Rattle.object_cells.specs.Capacities.{ChangesObject}
 use Rattle.object_cells.specs.PlainObjects.{IsPlainAt}
@@ -115,6 +112,27 @@ module _ {old new : Mutator} {graph after : Graph} {rooms : ℕ → Room} (one :
       (record room { capacity = push_capacity room.capacity (length list.elements) }))
       (one.has list.number at _ stands.object stands.reached stands.place)) changes
 
+  -- which rooms a command gives that takes the number of some elements of a list
+  counted_gives : {x at count : ℕ} {list : ListObject} {k : ℤ} (n : Operand) (after_it : ℕ → ℕ → ℕ → ℕ)
+      → IsKnownList graph x (Ref list.number) list → IsIndex graph n k
+      → below (suc (length list.elements)) k ≡ Some count → IsListAt old graph at list
+      → changed rooms (list_of graph x) (λ (one : ListObject).
+      changed rooms (number_of graph (suc (length one.elements)) n) (λ count.
+      with_capacity rooms one.number (after_it (rooms one.number).capacity (length one.elements) count)))
+      ≡ with_room rooms list.number
+      (store_room (after_it (capacity_at (heap_of old) at) (length list.elements) count))
+  counted_gives {x} {at} {count} {list} n after_it known index is stands =
+      ap (λ found. changed rooms found (λ (one : ListObject).
+      changed rooms (number_of graph (suc (length one.elements)) n) (λ count.
+      with_capacity rooms one.number (after_it (rooms one.number).capacity (length one.elements) count))))
+      (list_is known)
+      ∙ ap (λ found. changed rooms found (λ count.
+      with_capacity rooms list.number (after_it (rooms list.number).capacity (length list.elements) count)))
+      (number_is _ index is)
+      ∙ ap (λ (room : Room). with_room rooms list.number
+      (record room { capacity = after_it room.capacity (length list.elements) count }))
+      (one.has list.number at _ stands.object stands.reached stands.place)
+
   -- `shift`
   pub keeps_shift : {x at gone : ℕ} {list : ListObject} {k : ℤ} (n : Operand) (elements : List Value)
       → IsKnownList graph x (Ref list.number) list → IsIndex graph n k
@@ -122,15 +140,9 @@ module _ {old new : Mutator} {graph after : Graph} {rooms : ℕ → Room} (one :
       → IsListAt old graph at list → after.objects ≡ slice_set graph.objects list.number (ListOf elements)
       → ChangesObject (heap_of old) (heap_of new) at (capacity_at (heap_of old) at - gone)
       → KeepsStores (heap_of old) (heap_of new) graph after (command.Shift x n) rooms
-  keeps_shift {x} {at} {gone} {list} n elements known index is stands objects changes =
+  keeps_shift {x} n elements known index is stands objects changes =
       keeps_list_by (command.Shift x n) elements _ stands objects
-      (ap (λ found. changed rooms found (λ (one : ListObject).
-      changed rooms (number_of graph (suc (length one.elements)) n) (λ gone.
-      with_capacity rooms one.number ((rooms one.number).capacity - gone)))) (list_is known)
-      ∙ ap (λ found. changed rooms found (λ gone.
-      with_capacity rooms list.number ((rooms list.number).capacity - gone))) (number_is _ index is)
-      ∙ ap (λ (room : Room). with_room rooms list.number (record room { capacity = room.capacity - gone }))
-      (one.has list.number at _ stands.object stands.reached stands.place)) changes
+      (counted_gives n (λ capacity many gone. capacity - gone) known index is stands) changes
 
   -- `trunc`
   pub keeps_trunc : {x at kept : ℕ} {list : ListObject} {k : ℤ} (n : Operand) (elements : List Value)
@@ -140,15 +152,6 @@ module _ {old new : Mutator} {graph after : Graph} {rooms : ℕ → Room} (one :
       → ChangesObject (heap_of old) (heap_of new) at
       (truncated_capacity (capacity_at (heap_of old) at) (length list.elements) kept)
       → KeepsStores (heap_of old) (heap_of new) graph after (command.Trunc x n) rooms
-  keeps_trunc {x} {at} {kept} {list} n elements known index is stands objects changes =
+  keeps_trunc {x} n elements known index is stands objects changes =
       keeps_list_by (command.Trunc x n) elements _ stands objects
-      (ap (λ found. changed rooms found (λ (one : ListObject).
-      changed rooms (number_of graph (suc (length one.elements)) n) (λ kept.
-      with_capacity rooms one.number (truncated_capacity (rooms one.number).capacity (length one.elements) kept))))
-      (list_is known)
-      ∙ ap (λ found. changed rooms found (λ kept.
-      with_capacity rooms list.number (truncated_capacity (rooms list.number).capacity (length list.elements) kept)))
-      (number_is _ index is)
-      ∙ ap (λ (room : Room). with_room rooms list.number
-      (record room { capacity = truncated_capacity room.capacity (length list.elements) kept }))
-      (one.has list.number at _ stands.object stands.reached stands.place)) changes
+      (counted_gives n truncated_capacity known index is stands) changes

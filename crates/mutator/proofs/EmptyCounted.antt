@@ -1,17 +1,21 @@
--- The cell of a list without elements, or of a weak map without entries, that was just made: its words.
-use Rattle.std.proofs.Common.{◌≡◌, ℕ, ◌+◌, ◌≤◌, ◌<◌, false, [], ◌∷◌, Some, refl, sym, ◌∙◌, ap, subst}
-use Rattle.heap_model.specs.Types.{Header, Kind}
+-- The cell of a list without elements, or of a weak map without entries, that was just made: its words, and what it is.
+use Rattle.std.proofs.Common.{◌≡◌, ℕ, ◌+◌, ◌≤◌, ◌<◌, Bool, false, List, [], ◌∷◌, Some, refl, sym, ◌∙◌, ap, subst, arith}
+use Rattle.std.proofs.lemmas.Option.{none-some}
+use Rattle.heap_model.specs.Types.{Header, Kind, Cell}
 use Rattle.tagged_word.specs.declared.layout.Kind.TheVariants as kind
 use Rattle.tagged_word.specs.Headers.{IsHeader}
 use Rattle.tagged_word.specs.Layouts.{IsLayout, layout_bits}
 use Rattle.tagged_word.specs.Shapes.{shapes_most}
 use Rattle.tagged_word.specs.Cells.{cell_size, has_length, scavenge_offsets, store_slot}
 use Rattle.shape_tree.specs.ShapeLayouts.{layout_word}
-use Rattle.heap_model.specs.Heaps.{Heap}
+use Rattle.heap_model.specs.Heaps.{Heap, words_of_cell}
+use Rattle.heap_model.specs.Slots.{undefined_word, HoldsStore}
+use Rattle.heap_model.specs.Kinds.{HasTable, IsListCell, IsWeakCell}
+use Rattle.heap_model.specs.Showing.{ShowsList, ShowsWeak}
 use Rattle.heap_model.specs.Wholeness.{HasSizes}
 use Rattle.object_cells.proofs.EdenCells.{bare_layout}
 use Rattle.mutator.specs.Making.{empty_counted}
-use Rattle.mutator.proofs.NewCells.{NewCell, RefersNowhere}
+use Rattle.mutator.proofs.NewCells.{NewCell, cell_of, RefersNowhere}
 use Rattle.mutator.proofs.PutCells.{HasRoomFor}
 
 -- what such a cell is made of
@@ -69,3 +73,65 @@ counted_fits {heap} {header = header} shape is sized is_header same known laid r
   laid = ap (layout_word heap.paths) same ∙ laid;
   room = room;
 }
+
+-- the cell at an address that is made of this
+abbrev cell_at : ℕ → Kind → Header → Cell
+cell_at at k header = cell_of at (counted_cell k header)
+
+module _ {heap : Heap} (at : ℕ) (header : Header) where
+  -- the cell of a list that was just made is sound
+  pub list_is_sound : words_of_cell heap (cell_at at kind.List header) ≡ empty_counted header
+      → IsListCell heap (words_of_cell heap (cell_at at kind.List header))
+  list_is_sound are = subst (IsListCell heap) (sym are) (record {
+    store = undefined_word;
+    slot = refl;
+    beside = [];
+    stands = HoldsStore.none;
+    count = 0;
+    counted = refl;
+    few = omega arith;
+    hold = record {
+      room = omega arith;
+      each = λ place word below there. absurd (none-some word there);
+      rest = λ place word from there. absurd (none-some word there);
+    };
+  })
+
+  -- and shows a list without elements
+  pub list_shows : words_of_cell heap (cell_at at kind.List header) ≡ empty_counted header
+      → ShowsList heap (cell_at at kind.List header) (words_of_cell heap (cell_at at kind.List header)) []
+  list_shows are = subst (λ words. ShowsList heap (cell_at at kind.List header) words []) (sym are) (record {
+    of_kind = refl;
+    counted = refl;
+    store = undefined_word;
+    slot = refl;
+    slots = [];
+    has = HoldsStore.none;
+    each = λ place value word there stands. absurd (none-some value there);
+  })
+
+  -- the cell of a weak map that was just made is sound
+  pub weak_is_sound : words_of_cell heap (cell_at at kind.Weak header) ≡ empty_counted header
+      → IsWeakCell heap (words_of_cell heap (cell_at at kind.Weak header))
+  weak_is_sound are = subst (IsWeakCell heap) (sym are) (record {
+    store = undefined_word;
+    slot = refl;
+    pairs = [];
+    table = HasTable.none;
+    each = λ place pair there. absurd (none-some pair there);
+    counted = refl;
+  })
+
+  -- and shows a weak map without entries
+  pub weak_shows : (marks : List Bool) → words_of_cell heap (cell_at at kind.Weak header) ≡ empty_counted header
+      → ShowsWeak heap marks (cell_at at kind.Weak header) (words_of_cell heap (cell_at at kind.Weak header)) []
+  weak_shows marks are =
+      subst (λ words. ShowsWeak heap marks (cell_at at kind.Weak header) words []) (sym are) (record {
+        of_kind = refl;
+        store = undefined_word;
+        slot = refl;
+        pairs = [];
+        table = HasTable.none;
+        each = λ place entry there marked. absurd (none-some entry there);
+        others = λ place pair there filled. absurd (none-some pair there);
+      })

@@ -1,6 +1,5 @@
 -- Which rooms `wput` and `wdel` give a weak map, where the map is known.
-use Rattle.std.proofs.Common.{◌≡◌, ◌≢◌, ℕ, List, length, Option, Some, None}
-use Rattle.std.proofs.Common.{refl, sym, ◌∙◌, ap, subst, arith}
+use Rattle.std.proofs.Common.{◌≡◌, ◌≢◌, ℕ, List, length, Option, Some, None, refl, sym, ◌∙◌, ap, subst, arith}
 use Rattle.std.specs.Prelude.{option_and_then, slice_set}
 use Rattle.heap_model.specs.Types.{Operand, Command, Value, Entry}
 use Rattle.heap_command.specs.declared.command.Command.TheVariants as command
@@ -10,10 +9,7 @@ use Rattle.object_graph.specs.Graphs.{Graph, WeakObject, value_of, object_in}
 use Rattle.object_graph.specs.Objects.{entry_value, with_entry, without_entry}
 use Rattle.heap_model.specs.Laws.{ReachesNoMore}
 use Rattle.heap_model.specs.Needs.{capacity_at}
-use Rattle.heap_model.specs.Rooms.{Room, key_of}
-use Rattle.heap_model.specs.Rooms.{with_room}
-use Rattle.heap_model.specs.Rooms.{changed, room_put, room_without}
-use Rattle.heap_model.specs.Rooms.{rooms_after}
+use Rattle.heap_model.specs.Rooms.{Room, key_of, with_room, changed, room_put, room_without, rooms_after}
 use Rattle.write_barrier.specs.MutatorState.{Mutator, heap_of}
 use Rattle.object_cells.specs.Capacities.{ChangesObject}
 use Rattle.ephemeron_table.specs.WeakObjects.{IsWeakAt}

@@ -12,7 +12,6 @@ pub mod PutWords
 pub mod NewCells
 pub mod EmptyCells
 pub mod EmptyCounted
-pub mod EmptyLists
 pub mod PutCells
 pub mod MadeObjects
 pub mod MadeCells
@@ -30,7 +29,6 @@ pub mod IndexedLists
 pub mod ElementsSet
 pub mod TrimMeanings
 pub mod ElementsTrimmed
-pub mod EmptyWeaks
 pub mod WeakMeanings
 pub mod EntriesSet
 mod KeptStores

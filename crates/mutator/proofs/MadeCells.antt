@@ -1,6 +1,5 @@
 -- The commands that make objects, and the cells of the objects that they make.
-use Rattle.std.proofs.Common.{◌≡◌, ℕ, ◌+◌, ◌≤◌, List, [], length, slice_get}
-use Rattle.std.proofs.Common.{refl, ap, arith}
+use Rattle.std.proofs.Common.{◌≡◌, ℕ, ◌+◌, ◌≤◌, List, [], length, slice_get, refl, ap, arith}
 use Rattle.heap_model.specs.Types.{Header}
 use Rattle.tagged_word.specs.declared.layout.Kind.TheVariants as kind
 use Rattle.tagged_word.specs.Headers.{IsHeader}
@@ -17,8 +16,7 @@ use Rattle.heap_model.specs.Wholeness.{HasSizes}
 use Rattle.mutator.proofs.EmptyCells.{no_fields, plain_cell, plain_fresh, plain_laid, IsEmptyCell, empty_is_sound}
 use Rattle.mutator.proofs.EmptyCells.{empty_shows}
 use Rattle.mutator.proofs.EmptyCounted.{counted_cell, counted_fits, list_is_counted, weak_is_counted}
-use Rattle.mutator.proofs.EmptyLists.{list_is_sound, list_shows}
-use Rattle.mutator.proofs.EmptyWeaks.{weak_is_sound, weak_shows}
+use Rattle.mutator.proofs.EmptyCounted.{list_is_sound, list_shows, weak_is_sound, weak_shows}
 use Rattle.mutator.proofs.PutCells.{next_at, with_cell, with_cell_words, HasRoomFor}
 use Rattle.heap_command.specs.declared.command.Command.TheVariants as command
 use Rattle.mutator.proofs.MadeObjects.{IsMaking, IsSoundNewCell}
@@ -88,7 +86,7 @@ weak_made {heap} {graph} {header} x sized is_header shape room carries =
     record {
       fits = fits;
       sound = weak_is_sound (next_at heap) header words;
-      shows = weak_shows (reach (make graph x (Weak []))) (next_at heap) header words;
+      shows = weak_shows (next_at heap) header (reach (make graph x (Weak []))) words;
       counts = ap (λ (all : List ℕ). slice_get all count_offset) words;
       carries = carries;
     }
