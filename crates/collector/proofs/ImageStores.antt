@@ -1,5 +1,5 @@
 -- Objects, their stores and their rooms in an image: those of a heap, moved.
-use Rattle.std.proofs.Common.{◌≡◌, ℕ, ◌↔◌, refl, sym, subst}
+use Rattle.std.proofs.Common.{◌≡◌, ◌↔◌, refl, sym, subst}
 use Rattle.heap_model.specs.Heaps.{Heap}
 use Rattle.heap_model.specs.Changes.{written}
 use Rattle.heap_model.specs.Slots.{IsPlace}
