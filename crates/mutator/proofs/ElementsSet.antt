@@ -26,7 +26,8 @@ use Rattle.mutator.proofs.GivenValues.{IsGiven}
 use Rattle.mutator.proofs.IndexedLists.{IsIndexedList}
 use Rattle.mutator.proofs.ListMeanings.{IsKnownList, push_done, push_full, put_done, put_outside}
 use Rattle.heap_model.specs.Needs.{capacity_at}
-use Rattle.mutator.proofs.CommandRooms.{keeps_list, keeps_push, push_need_is, put_need_is}
+use Rattle.mutator.proofs.CommandNeeds.{push_need_is, put_need_is}
+use Rattle.mutator.proofs.CommandRooms.{keeps_list, keeps_push}
 use Rattle.mutator.proofs.Rebinding.{reaches_no_more}
 use Rattle.mutator.proofs.StillShown.{shows_still, stands_still}
 

@@ -28,13 +28,21 @@ pub record IsCountedKind (k : Kind) : Type 0 where
 
 -- so it is with lists
 pub list_is_counted : IsCountedKind kind.List
-list_is_counted =
-    record { is_layout = record { cap = refl; used = refl; raw = refl }; no_length = refl; sized = refl; offsets = refl }
+list_is_counted = record {
+  is_layout = record { cap = refl; used = refl; raw = refl };
+  no_length = refl;
+  sized = refl;
+  offsets = refl;
+}
 
 -- and with weak maps
 pub weak_is_counted : IsCountedKind kind.Weak
-weak_is_counted =
-    record { is_layout = record { cap = refl; used = refl; raw = refl }; no_length = refl; sized = refl; offsets = refl }
+weak_is_counted = record {
+  is_layout = record { cap = refl; used = refl; raw = refl };
+  no_length = refl;
+  sized = refl;
+  offsets = refl;
+}
 
 -- then it is the cell of an object without a store or a table
 counted_fresh : {k : Kind} (header : Header) → IsCountedKind k → IsHeader header → RefersNowhere (counted_cell k header)

@@ -22,7 +22,8 @@ use Rattle.mutator.proofs.GivenValues.{IsGiven}
 use Rattle.mutator.proofs.Rebinding.{reaches_no_more, room_for_none}
 use Rattle.mutator.proofs.StillShown.{shows_still, stands_still}
 use Rattle.mutator.proofs.WeakMeanings.{IsKnownWeak, wput_done, wput_full, wdel_done}
-use Rattle.mutator.proofs.CommandRooms.{keeps_wput, keeps_wdel, wput_need_is}
+use Rattle.mutator.proofs.CommandNeeds.{wput_need_is}
+use Rattle.mutator.proofs.EntryRooms.{keeps_wput, keeps_wdel}
 
 -- what is known once the weak map of a command and the key were found
 pub record IsEntering (main : Mutator) (graph : Graph) (m : ℕ) (k : Operand) (at key : ℕ) : Type 0 where

@@ -24,7 +24,8 @@ use Rattle.mutator.specs.declared.lookups.Found.{Found}
 use Rattle.mutator.specs.CarriesOut.{Carries}
 use Rattle.mutator.specs.Reading.{StandForBoth, IsFound}
 use Rattle.mutator.proofs.FieldMeanings.{IsKnown, reshape_done, reshape_full, paths_there, set_room, set_full}
-use Rattle.mutator.proofs.CommandRooms.{keeps_set, set_need_is}
+use Rattle.mutator.proofs.CommandNeeds.{set_need_is}
+use Rattle.mutator.proofs.CommandRooms.{keeps_set}
 use Rattle.mutator.proofs.Rebinding.{reaches_no_more}
 use Rattle.mutator.proofs.StillShown.{shows_still, stands_still}
 

@@ -1,37 +1,29 @@
--- Which rooms objects have after each command.
-use Rattle.std.proofs.Common.{◌≡◌, ◌≢◌, ℕ, suc, ◌<◌, List, [], ◌∷◌, ◌++◌, length, inl, inr, Some}
+-- Which rooms objects have after a command that leaves them, or changes one of them.
+use Rattle.std.proofs.Common.{◌≡◌, ◌≢◌, ℕ, suc, ◌<◌, List, [], inl, inr, Some}
 use Rattle.std.proofs.Common.{IsTrue, slice_get, refl, cond, sym, ◌∙◌, ap, subst, arith, eq-eqb}
 use Rattle.std.specs.Prelude.{slice_set}
 use Rattle.std.proofs.lemmas.Bool.{cases_eq, ne_eqb}
 use Rattle.std.proofs.lemmas.Option.{slice_get_within, same_Some}
-use Rattle.tagged_word.specs.Cells.{store_slot}
-use Rattle.tagged_word.proofs.Members.{one_in, first_in}
 use Rattle.heap_model.specs.Types.{Command, Object, Cell, Held}
 use Rattle.object_graph.specs.declared.object.Object.TheVariants.{Plain, Weak, List as ListOf}
 use Rattle.object_graph.specs.Graphs.{Graph}
 use Rattle.object_graph.specs.Reach.{is_marked, reach}
 use Rattle.object_graph.proofs.Lists.{slice_get-set_same, slice_get-set_other}
-use Rattle.heap_model.specs.Heaps.{Heap, words_of_cell}
-use Rattle.heap_model.specs.Slots.{undefined_word, IsPlace}
-use Rattle.heap_model.specs.Kinds.{HasWord}
+use Rattle.heap_model.specs.Heaps.{Heap}
+use Rattle.heap_model.specs.Slots.{IsPlace}
 use Rattle.heap_model.specs.Wholeness.{Whole}
 use Rattle.heap_model.specs.Needs.{capacity_at}
-use Rattle.heap_model.specs.Rooms.{Room, no_room, room_at, HasRooms, with_room, rooms_after}
+use Rattle.heap_model.specs.Rooms.{Room, room_at, HasRooms, with_room, rooms_after}
 use Rattle.heap_model.specs.Laws.{ReachesNoMore, bound}
 use Rattle.heap_model.proofs.BoundHeaps.{none_in, bound_moves}
-use Rattle.heap_model.proofs.CellWords.{slice_get-append_left, slice_get-append_right}
 use Rattle.heap_model.proofs.CountsStay.{place_of}
-use Rattle.heap_model.proofs.CellOutcomes.{CellsMove, cells_move, places_stay}
+use Rattle.heap_model.proofs.CellOutcomes.{CellsMove, places_stay}
 use Rattle.heap_model.proofs.PlacesBefore.{place_before}
-use Rattle.heap_model.proofs.ReachedStays.{reach_below}
 use Rattle.heap_model.proofs.ShownObjects.{object_of_shown}
 use Rattle.write_barrier.specs.MutatorState.{Mutator, heap_of, MainShows}
 use Rattle.object_cells.specs.Capacities.{ChangesObject}
-use Rattle.object_cells.proofs.CellsRead.{word_stands}
-use Rattle.object_cells.proofs.KeptCapacities.{kept_where_none_went, capacity_of_none}
+use Rattle.object_cells.proofs.KeptCapacities.{kept_where_none_went}
 use Rattle.mutator.specs.Capacities.{KeepsStores}
-use Rattle.mutator.proofs.NewCells.{NewCell, cell_of, RefersNowhere}
-use Rattle.mutator.proofs.PutCells.{next_at, IsPutCell}
 use Rattle.mutator.proofs.SameHeld.{one_address, one_number}
 
 -- each object stands where it stood
@@ -47,14 +39,14 @@ pub record IsAfter (old new : Mutator) (graph after : Graph) (rooms : ℕ → Ro
   pub stays : PlacesStay (heap_of old) (heap_of new)
 
 -- an object that is in both graphs and can be reached in both
-record InBoth (graph after : Graph) (number : ℕ) (what : Object) : Type 0 where
-  was : slice_get graph.objects number ≡ Some what
-  marked_was : IsTrue (is_marked (reach graph) number)
-  is : slice_get after.objects number ≡ Some what
-  marked : IsTrue (is_marked (reach after) number)
+pub record InBoth (graph after : Graph) (number : ℕ) (what : Object) : Type 0 where
+  pub was : slice_get graph.objects number ≡ Some what
+  pub marked_was : IsTrue (is_marked (reach graph) number)
+  pub is : slice_get after.objects number ≡ Some what
+  pub marked : IsTrue (is_marked (reach after) number)
 
 -- its place is the one that it had
-stood : {old new : Mutator} {graph after : Graph} {rooms : ℕ → Room} (number at : ℕ) (what : Object)
+pub stood : {old new : Mutator} {graph after : Graph} {rooms : ℕ → Room} (number at : ℕ) (what : Object)
     → IsAfter old new graph after rooms → InBoth graph after number what → IsPlace (heap_of new) number at
     → IsPlace (heap_of old) number at
 stood {old} {graph = graph} number at what one both place =
@@ -66,7 +58,7 @@ stood {old} {graph = graph} number at what one both place =
     before
 
 -- and it has the room that it had, where it keeps its capacity
-room_stays : {old new : Mutator} {graph after : Graph} {rooms : ℕ → Room} (number at : ℕ) (what : Object)
+pub room_stays : {old new : Mutator} {graph after : Graph} {rooms : ℕ → Room} (number at : ℕ) (what : Object)
     → IsAfter old new graph after rooms → InBoth graph after number what → IsPlace (heap_of old) number at
     → IsPlace (heap_of new) number at → capacity_at (heap_of new) at ≡ capacity_at (heap_of old) at
     → room_at (heap_of new) at what ≡ room_at (heap_of old) at what
@@ -174,12 +166,12 @@ with_room-other rooms number room other apart =
     ap (λ t. cond t room (rooms other)) (ne_eqb other number apart)
 
 -- a place stays where no cell went
-none_went : {old new : Heap} {made : List Cell} (number at : ℕ) → CellsMove old new [] [] made → IsPlace old number at
-    → IsPlace new number at
+pub none_went : {old new : Heap} {made : List Cell} (number at : ℕ) → CellsMove old new [] [] made
+    → IsPlace old number at → IsPlace new number at
 none_went number at cells place = places_stay cells (λ cell there. absurd (none_in cell there)) number at place
 
 -- an object stood where no cell changed but the roots
-stood_before : {heap : Heap} {number at : ℕ} (x : ℕ) (one : Held) → x < heap.space.variables → Whole heap
+pub stood_before : {heap : Heap} {number at : ℕ} (x : ℕ) (one : Held) → x < heap.space.variables → Whole heap
     → IsPlace (bound heap x one) number at → IsPlace heap number at
 stood_before {heap} {number} x one below whole place =
     place_before (suc number) (bound_moves heap x one below whole) (λ cell there. absurd (none_in cell there))
@@ -217,111 +209,3 @@ keeps_bound {old} command x one below is shows shown has fewer objects rooms_sta
     }) fewer objects rooms_stay
     (λ number at place. ap (λ heap. capacity_at heap at) is ∙ kept_where_none_went at whole cells place)
     (λ number at place. stood_before x one below whole (subst (λ heap. IsPlace heap number at) is place))
-
--- a cell that was put has no store
-put_has_none : {heap now : Heap} {one : NewCell} → RefersNowhere one → IsPutCell heap now one
-    → capacity_at now (next_at heap) ≡ 0
-put_has_none {heap} {now} {one} fresh put =
-    let cell : Cell = cell_of (next_at heap) one in
-    let has = put.cells.comes cell (first_in cell []) in
-    let slot : HasWord (words_of_cell now cell) store_slot undefined_word =
-    subst (λ (words : List ℕ). HasWord words store_slot undefined_word) (sym put.words) fresh.slot in
-    capacity_of_none now (next_at heap) (word_stands store_slot undefined_word has slot)
-
--- an object of the new heap stood, or it is the one that was put
-put_or_stood : {heap now : Heap} {one : NewCell} {number at : ℕ} → IsPutCell heap now one
-    → IsPlace now number at → (IsPlace heap number at → ⊥) → next_at heap ≡ at
-put_or_stood {heap} {one = one} put place apart =
-    elim (put.cells.back place.cell place.words place.has) [
-      | inl made ↦
-          ap (λ (cell : Cell). cell.at) (one_in (cell_of (next_at heap) one) place.cell made) ∙ place.stands
-      | inr stays ↦ absurd (apart (record {
-        cell = place.cell;
-        words = place.words;
-        has = stays.0;
-        stands = place.stands;
-        object = place.object;
-        carries = place.carries;
-      }))
-    ]
-
--- What a heap owes in which a cell was put and a variable bound to it: places and capacities stay, and the new one has
--- no store.
-pub record MakesOne (old new : Heap) : Type 0 where
-  pub stays : PlacesStay old new
-  pub keeps : (number at : ℕ) → IsPlace old number at → capacity_at new at ≡ capacity_at old at
-  pub made : (number at : ℕ) → IsPlace new number at → (IsPlace old number at → ⊥) → capacity_at new at ≡ 0
-
--- so it is
-pub makes_one : {heap now : Heap} {one : NewCell} (x : ℕ) (held : Held) → Whole heap → RefersNowhere one
-    → IsPutCell heap now one → x < now.space.variables → MakesOne heap (bound now x held)
-makes_one {heap} {now} x held whole fresh put below =
-    let moves = bound_moves now x held below put.whole in
-    record {
-      stays = λ number at place. none_went number at moves.cells (none_went number at (cells_move put.cells) place);
-      keeps = λ number at place.
-          kept_where_none_went at put.whole moves.cells (none_went number at (cells_move put.cells) place)
-          ∙ kept_where_none_went at whole (cells_move put.cells) place;
-      made = λ number at place apart.
-          let place_now = stood_before x held below put.whole place in
-          kept_where_none_went at put.whole moves.cells place_now
-          ∙ ap (capacity_at now) (sym (put_or_stood put place_now apart)) ∙ put_has_none fresh put;
-    }
-
--- an object that was just made has no entry
-abbrev pub HasNoEntry : Object → Type 0
-HasNoEntry (Plain cap fields) = Unit {0}
-HasNoEntry (ListOf elements) = Unit {0}
-HasNoEntry (Weak entries) = entries ≡ []
-
--- so it has no room
-empty_room : {new : Mutator} {after : Graph} (number at : ℕ) (what : Object) → MainShows new after → HasNoEntry what
-    → slice_get after.objects number ≡ Some what → IsTrue (is_marked (reach after) number)
-    → IsPlace (heap_of new) number at → capacity_at (heap_of new) at ≡ 0 → no_room ≡ room_at (heap_of new) at what
-empty_room number at (Plain cap fields) shown none there marked place is =
-    ap (λ n. record { capacity = n; entries = 0 }) (sym is)
-empty_room number at (ListOf elements) shown none there marked place is =
-    ap (λ n. record { capacity = n; entries = 0 }) (sym is)
-empty_room number at (Weak entries) shown none there marked place is =
-    let counts = ap (λ (all : List _). length all) (sym none) ∙ sym (shown.counts number at entries there marked place) in
-    λ i. record { capacity = sym is i; entries = counts i }
-
--- an object was made, and all others keep their rooms
-pub keeps_made : {old new : Mutator} {graph after : Graph} {rooms : ℕ → Room} (command : Command) (what : Object)
-    → IsAfter old new graph after rooms
-    → ((number : ℕ) → IsTrue (is_marked (reach after) number) → number ≢ length graph.objects
-    → IsTrue (is_marked (reach graph) number))
-    → after.objects ≡ graph.objects ++ what ∷ [] → HasNoEntry what
-    → ((number : ℕ) → rooms_after graph rooms command number ≡ with_room rooms (length graph.objects) no_room number)
-    → MakesOne (heap_of old) (heap_of new) → KeepsStores (heap_of old) (heap_of new) graph after command rooms
-keeps_made {old} {new} {graph} {after} {rooms} command what one fewer objects none gives makes = record {
-  has = λ number at other there marked place.
-      elim (cases_eq number (length graph.objects)) [
-        | inl same ↦
-            let is : what ≡ other =
-            same_Some what other
-            (sym (slice_get-append_right graph.objects (what ∷ []) 0 number (omega (arith, same)))
-            ∙ ap (λ all. slice_get all number) (sym objects) ∙ there) in
-            let new_one : IsPlace (heap_of old) number at → ⊥ = λ was.
-            omega (arith, one.shows.shows.made number at was, same) in
-            gives number ∙ ap (λ n. with_room rooms (length graph.objects) no_room n) same
-            ∙ with_room-same rooms (length graph.objects) no_room
-            ∙ empty_room number at other one.shown (subst HasNoEntry is none) there marked place
-            (makes.made number at place new_one)
-        | inr apart ↦
-            let marked_was = fewer number marked apart in
-            let below : number < length graph.objects = reach_below graph number marked_was in
-            let was : slice_get graph.objects number ≡ Some other =
-            sym (slice_get-append_left graph.objects (what ∷ []) number below)
-            ∙ ap (λ all. slice_get all number) (sym objects) ∙ there in
-            let both : InBoth graph after number other =
-            record { was = was; marked_was = marked_was; is = there; marked = marked } in
-            let before = stood number at other one both place in
-            gives number ∙ with_room-other rooms (length graph.objects) no_room number apart
-            ∙ one.has number at other was marked_was before
-            ∙ sym (room_stays number at other one both before place (makes.keeps number at before))
-      ];
-  stays = one.stays;
-  others = λ number at place same_room. makes.keeps number at place;
-  made = makes.made;
-}

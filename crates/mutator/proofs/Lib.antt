@@ -15,6 +15,7 @@ pub mod EmptyCounted
 pub mod EmptyLists
 pub mod PutCells
 pub mod MadeObjects
+pub mod MadeCells
 pub mod OnlyMade
 pub mod FieldMeanings
 pub mod FieldsSet
@@ -23,15 +24,17 @@ pub mod GivenValues
 pub mod FieldsTaken
 pub mod SameShapes
 pub mod ShapeTexts
-pub mod ListsAt
+pub mod FoundKinds
 pub mod ListMeanings
 pub mod IndexedLists
 pub mod ElementsSet
 pub mod TrimMeanings
 pub mod ElementsTrimmed
 pub mod EmptyWeaks
-pub mod WeakMapsAt
 pub mod WeakMeanings
 pub mod EntriesSet
 mod KeptStores
+mod MadeRooms
+mod CommandNeeds
 mod CommandRooms
+mod EntryRooms

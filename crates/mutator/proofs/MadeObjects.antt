@@ -1,18 +1,14 @@
 -- A heap in which an object was made and bound shows the graph in which it is.
-use Rattle.std.proofs.Common.{◌≡◌, ℕ, ◌+◌, ◌<◌, ◌≤◌, ◌^◌, List, [], length, Ok, slice_get, sym}
-use Rattle.std.proofs.Common.{refl, ◌∙◌, ap, subst}
-use Rattle.std.proofs.Common.{arith, inl, inr}
-use Rattle.heap_model.specs.Types.{Command, Header, Object, Cell}
-use Rattle.tagged_word.specs.declared.layout.Kind.TheVariants as kind
-use Rattle.tagged_word.specs.Headers.{IsHeader}
-use Rattle.tagged_word.specs.Shapes.{list_shape, weak_shape}
+use Rattle.std.proofs.Common.{◌≡◌, ℕ, ◌+◌, ◌<◌, ◌≤◌, ◌^◌, List, [], length, Ok, Err, sym}
+use Rattle.std.proofs.Common.{refl, ◌∙◌, ap, subst, arith, inl, inr}
+use Rattle.heap_model.specs.Types.{Command, Object, Cell}
 use Rattle.tagged_word.proofs.Members.{first_in}
-use Rattle.object_graph.specs.declared.object.Object.TheVariants.{Plain, Weak, List as ListOf}
+use Rattle.object_graph.specs.declared.object.Object.TheVariants.{Weak}
 use Rattle.object_graph.specs.Graphs.{Graph, make}
 use Rattle.object_graph.specs.Meaning.{done, does}
 use Rattle.object_graph.specs.Reach.{reach}
 use Rattle.object_graph.specs.Limits.{ideal_limits}
-use Rattle.object_graph.specs.Invariants.{IsGraph, IsObject, IsEntry, cap_most}
+use Rattle.object_graph.specs.Invariants.{IsGraph, IsObject, IsEntry}
 use Rattle.graph_laws.specs.GraphLaws.{FitsCommand}
 use Rattle.graph_laws.proofs.FieldLimits.{ideal_field_limit}
 use Rattle.graph_laws.proofs.GraphsStay.{graphs_stay}
@@ -23,12 +19,9 @@ use Rattle.handle_roots.specs.declared.held.Held.TheVariants as held
 use Rattle.heap_table.specs.declared.phase.Phase.TheVariants.{Quiet}
 use Rattle.heap_table.specs.Seats.{heap_words, RestStays}
 use Rattle.heap_table.specs.Staying.{rest_stays_again}
-use Rattle.shape_tree.specs.Shapes.{IsShapeOf}
 use Rattle.heap_model.specs.Heaps.{Heap, HasCell, words_of_cell}
 use Rattle.heap_model.specs.Counting.{CountsEntries}
-use Rattle.heap_model.specs.Kinds.{count_offset}
 use Rattle.heap_model.specs.Rooms.{Room, no_room, need_of, rooms_after, with_room}
-use Rattle.heap_model.specs.Wholeness.{HasSizes}
 use Rattle.heap_model.specs.Showing.{Shows, ShowsObject}
 use Rattle.heap_model.specs.Laws.{IsNoEntryKey, ReachesOneMore, bound}
 use Rattle.heap_model.proofs.SlotWords.{All-slice_get}
@@ -43,14 +36,10 @@ use Rattle.object_cells.proofs.UnusedWords.{run_before_marks}
 use Rattle.object_cells.proofs.RestOfWords.{range_beside, variable_beside}
 use Rattle.mutator.specs.CarriesOut.{Carries}
 use Rattle.mutator.proofs.NewCells.{NewCell, cell_of}
-use Rattle.mutator.proofs.EmptyCells.{no_fields, plain_cell, plain_fresh, plain_laid, IsEmptyCell, empty_is_sound}
-use Rattle.mutator.proofs.EmptyCells.{empty_shows}
-use Rattle.mutator.proofs.EmptyCounted.{counted_cell, counted_fits, list_is_counted, weak_is_counted}
-use Rattle.mutator.proofs.EmptyLists.{list_is_sound, list_shows}
-use Rattle.mutator.proofs.EmptyWeaks.{weak_is_sound, weak_shows}
-use Rattle.mutator.proofs.KeptStores.{HasNoEntry, MakesOne, makes_one, keeps_made}
-use Rattle.mutator.proofs.PutCells.{next_at, with_cell, with_cell_words, HasRoomFor, IsSoundThere, with_cell_put}
+use Rattle.mutator.proofs.MadeRooms.{HasNoEntry, MakesOne, makes_one, keeps_made}
+use Rattle.mutator.proofs.PutCells.{next_at, with_cell, HasRoomFor, IsSoundThere, with_cell_put}
 use Rattle.mutator.proofs.Rebinding.{HoldsAnew, heap_bound}
+use Rattle.mutator.specs.declared.stop.Stop.TheVariants.{NoRoom}
 
 -- no entry has the object that comes next as its key
 no_entry_key : (graph : Graph) → IsGraph graph → IsNoEntryKey graph.objects (length graph.objects)
@@ -229,51 +218,15 @@ making_carried {old} {new = new} {graph} {command} {x} {at} {one} {what} names s
       },
     )
 
--- the layout word of a shape of paths is that of plain cells, so the cell of a plain object without fields is made
-pub plain_made : {heap : Heap} {graph : Graph} {header : Header} {cap : ℕ} (x : ℕ) → HasSizes heap → IsHeader header
-    → cap ≤ cap_most → IsShapeOf heap.paths (no_fields cap) header.shape
-    → heap.survivors + heap.used + (2 + cap) ≤ heap.space.sizes.young → header.object ≡ length graph.objects
-    → IsSoundNewCell heap graph x (plain_cell header cap) (Plain cap [])
-plain_made {heap} {header = header} {cap} x sized is_header few shaped room carries =
-    let fits : HasRoomFor heap (plain_cell header cap) = record {
-      sized = sized;
-      fresh = plain_fresh header cap is_header few;
-      known = omega (arith, shaped.is_shape.below, sized.shapes.few);
-      laid = plain_laid cap shaped;
-      room = room;
-    } in
-    let is : IsEmptyCell (with_cell heap (plain_cell header cap)) (next_at heap) header cap =
-    record { shaped = shaped; words = with_cell_words fits } in
-    record { fits = fits; sound = empty_is_sound is; shows = empty_shows is; counts = tt; carries = carries }
-
--- and so is that of a list without elements
-pub list_made : {heap : Heap} {graph : Graph} {header : Header} (x : ℕ) → HasSizes heap → IsHeader header
-    → header.shape ≡ list_shape → heap.survivors + heap.used + 3 ≤ heap.space.sizes.young
-    → header.object ≡ length graph.objects → IsSoundNewCell heap graph x (counted_cell kind.List header) (ListOf [])
-list_made {heap} {header = header} x sized is_header shape room carries =
-    let fits : HasRoomFor heap (counted_cell kind.List header) =
-    counted_fits list_shape list_is_counted sized is_header shape (omega arith) refl room in
-    let words = with_cell_words fits in
-    record {
-      fits = fits;
-      sound = list_is_sound (next_at heap) header words;
-      shows = list_shows (next_at heap) header words;
-      counts = tt;
-      carries = carries;
-    }
-
--- and that of a weak map without entries
-pub weak_made : {heap : Heap} {graph : Graph} {header : Header} (x : ℕ) → HasSizes heap → IsHeader header
-    → header.shape ≡ weak_shape → heap.survivors + heap.used + 3 ≤ heap.space.sizes.young
-    → header.object ≡ length graph.objects → IsSoundNewCell heap graph x (counted_cell kind.Weak header) (Weak [])
-weak_made {heap} {graph} {header} x sized is_header shape room carries =
-    let fits : HasRoomFor heap (counted_cell kind.Weak header) =
-    counted_fits weak_shape weak_is_counted sized is_header shape (omega arith) refl room in
-    let words = with_cell_words fits in
-    record {
-      fits = fits;
-      sound = weak_is_sound (next_at heap) header words;
-      shows = weak_shows (reach (make graph x (Weak []))) (next_at heap) header words;
-      counts = ap (λ (all : List ℕ). slice_get all count_offset) words;
-      carries = carries;
-    }
+-- where eden has no room for the cell, the command stops with what it needs
+pub making_stopped : {main new : Mutator} {graph : Graph} {command : Command} {x size : ℕ} {what : Object}
+    (names : List (List ℕ)) (need : ℕ) → IsMaking graph command x size what → need ≡ size
+    → (HasRoom main.young size → ⊥) → new ≡ main → Carries names main new graph command [] (Err (NoRoom need))
+making_stopped {main} {graph = graph} {x = x} {what = what} names need making is none same = (
+  make graph x what,
+  [],
+  making.done names,
+  λ rooms has. is ∙ sym (making.need rooms),
+  λ room. none (subst (HasRoom main.young) is room),
+  same,
+)

@@ -120,7 +120,8 @@ pub binding_carried : {old new : Mutator} {graph : Graph} (after : Graph) (names
     → FitsHeld one → ShowsHeld (heap_of old) one (get after.bindings x) → HoldsAnew old new x one
     → NeedsNone graph command → Carries names old new graph command [] (Ok tt)
 binding_carried {old} {new} after names command x one shows carried none fits anew below held_fits shown holds no_need
-    = let shown_after = rebound_shows names command [] x one shows carried none fits anew below held_fits shown holds in (
+    = let shown_after =
+    rebound_shows names command [] x one shows carried none fits anew below held_fits shown holds in (
       after,
       carried,
       shown_after,

@@ -7,9 +7,9 @@ use Rattle.heap_model.specs.Slots.{IsPlace}
 use Rattle.heap_model.specs.Needs.{capacity_at}
 use Rattle.heap_model.specs.Rooms.{Room, HasRooms, rooms_after}
 
--- After the command, which leads from one graph to another, objects have the rooms that it gives them. Each object that
--- stood stands where it stood; one whose room stays, whether it can be reached or not, has a store or a table of as many
--- slots or pairs as before; and one that was made has none.
+-- After the command, which leads from one graph to another, objects have the rooms that it gives them. Each object
+-- that stood stands where it stood; one whose room stays, whether it can be reached or not, has a store or a table of
+-- as many slots or pairs as before; and one that was made has none.
 pub record KeepsStores (old new : Heap) (graph after : Graph) (command : Command) (rooms : ℕ → Room) : Type 0 where
   pub has : HasRooms new after (rooms_after graph rooms command)
   pub stays : (number at : ℕ) → IsPlace old number at → IsPlace new number at

@@ -1,16 +1,20 @@
 -- What is read from a heap that shows a graph: what is held of the values that are sought, and the objects that it
 -- refers to.
-use Rattle.std.specs.Prelude.{◌≡◌, ℕ, ℤ, ◌⊎◌, Option, Some, None, Result, Ok, Err}
-use Rattle.heap_model.specs.Types.{FaultWord, Value, Held}
+use Rattle.std.specs.Prelude.{◌≡◌, ℕ, ℤ, ◌⊎◌, IsTrue, List, Option, Some, None, Result, Ok, Err, slice_get}
+use Rattle.tagged_word.specs.Shapes.{list_shape, weak_shape}
+use Rattle.heap_model.specs.Types.{FaultWord, Value, Held, Object, Path}
 use Rattle.heap_command.specs.declared.command.FaultWord.TheVariants.{Unbound, NotObject, NotList}
 use Rattle.heap_command.specs.declared.command.FaultWord.TheVariants.{NotWeak, NotInt, BadKey}
 use Rattle.object_graph.specs.declared.value.Value.TheVariants.{Ref}
+use Rattle.object_graph.specs.declared.object.Object.TheVariants as kind
 use Rattle.object_graph.specs.Paths.{path_of}
 use Rattle.object_graph.specs.Graphs.{Graph, PlainObject, ListObject, WeakObject, integer_in, object_in}
 use Rattle.object_graph.specs.Graphs.{plain_at, list_at, weak_at}
+use Rattle.object_graph.specs.Reach.{is_marked, reach}
 use Rattle.shape_tree.specs.Shapes.{IsShapeOf}
 use Rattle.handle_roots.specs.Roots.{FitsHeld}
-use Rattle.write_barrier.specs.MutatorState.{Mutator, MainShows}
+use Rattle.heap_model.specs.Slots.{IsPlace}
+use Rattle.write_barrier.specs.MutatorState.{Mutator, MainShows, heap_of}
 use Rattle.object_cells.specs.PlainObjects.{IsPlainAt}
 use Rattle.object_cells.specs.ListObjects.{IsListAt}
 use Rattle.object_cells.specs.HeldValues.{IsValueHeld}
@@ -47,6 +51,27 @@ pub record IsShownValue (main : Mutator) (held : Held) : Type 0 where
   pub value : Value
   pub shows : MainShows main graph
   pub stands : StandsFor main graph value held
+
+-- The shape is that of the object's cell: a plain one has that of its path, lists and weak maps one each.
+abbrev pub HasShapeOf : List Path → Object → ℕ → Type 0
+HasShapeOf paths (kind.Plain cap fields) shape = IsShapeOf paths (path_of cap fields) shape
+HasShapeOf paths (kind.List elements) shape = shape ≡ list_shape
+HasShapeOf paths (kind.Weak entries) shape = shape ≡ weak_shape
+
+-- the object to which the value refers stands where it was found, and its cell has this shape
+pub record IsFoundObject (main : Mutator) (graph : Graph) (value : Value) (found : Found) : Type 0 where
+  pub number : ℕ
+  pub what : Object
+  pub is : value ≡ Ref number
+  pub there : slice_get graph.objects number ≡ Some what
+  pub place : IsPlace (heap_of main) number found.at
+  pub reached : IsTrue (is_marked (reach graph) number)
+  pub shaped : HasShapeOf main.paths what found.shape
+
+-- the object to which the value refers was found, or it refers to none
+abbrev pub FindsObject : Mutator → Graph → Value → Option Found → Type 0
+FindsObject main graph value (Some found) = IsFoundObject main graph value found
+FindsObject main graph value None = object_in value ≡ None
 
 -- the plain object to which the value refers stands where it was found, and has this shape
 pub record IsFound (main : Mutator) (graph : Graph) (value : Value) (found : Found) : Type 0 where

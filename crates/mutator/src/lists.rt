@@ -28,18 +28,14 @@ pub fn new_list(main: &mut Main, x: u32, object: u32) -> Result<(), Stop>
         Carries names main.old main.new graph (Command.List x) [] result }
     ensures binds { OnOk result (BindsMade main.old main.new x) }
 {
-    match main.reserve(COUNTED_WORDS) {
-        Ok(run) => {
-            let header = Header {
-                shape: shape::LIST,
-                object,
-            };
-            fill_counted(main, run.at, header);
-            main.hold(x, Held::Ref(run.at));
-            Ok(())
-        }
-        Err(no_room) => Err(Stop::NoRoom { need: no_room.need }),
-    }
+    let run = main.reserve(COUNTED_WORDS)?;
+    let header = Header {
+        shape: shape::LIST,
+        object,
+    };
+    fill_counted(main, run.at, header);
+    main.hold(x, Held::Ref(run.at));
+    Ok(())
 }
 
 /// Makes the value the last element of the list `x`.

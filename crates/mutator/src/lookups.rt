@@ -6,7 +6,7 @@ ghost use Rattle.heap_command.specs.Commands.{NamesBelow};
 ghost use Rattle.object_graph.specs.Graphs.{Graph, value_of};
 ghost use Rattle.object_graph.specs.declared.value.Value.{Value};
 ghost use Rattle.write_barrier.specs.MutatorState.{Mutator, MainShows};
-ghost use Rattle.mutator.specs.Reading.{StandsFor, Finds, FindsBoth, IsShownValue, FindsPlain};
+ghost use Rattle.mutator.specs.Reading.{StandsFor, Finds, FindsBoth, IsShownValue, FindsObject, FindsPlain};
 ghost use Rattle.mutator.specs.Reading.{FindsInteger, FindsKey, FindsList, FindsWeak};
 
 use handle_roots::Held;
@@ -14,7 +14,7 @@ use heap_command::{FaultWord, Operand};
 use tagged_word::shape;
 use write_barrier::Main;
 
-/// A plain object: where its cell stands, and its shape.
+/// An object: where its cell stands, and its shape.
 #[derive(Clone, Copy)]
 pub(crate) struct Found {
     pub(crate) at: u32,
@@ -68,6 +68,22 @@ pub(crate) fn operands(main: &mut Main, a: Operand, b: Operand) -> Result<(Held,
     Ok((first, second))
 }
 
+/// The object that the value refers to.
+#[inline(always)]
+fn object(main: &Main, held: Held) -> Option<Found>
+    requires { IsShownValue main.now held }
+    ensures { (graph : Graph) (value : Value) → MainShows main.now graph →
+        StandsFor main.now graph value held → FindsObject main.now graph value result }
+{
+    match held {
+        Held::Ref(at) => {
+            let shape = main.header(at).shape;
+            Some(Found { at, shape })
+        }
+        Held::Unbound | Held::Undefined | Held::Int(_) => None,
+    }
+}
+
 /// The plain object that the value refers to.
 #[inline(always)]
 pub(crate) fn plain(main: &Main, held: Held) -> Result<Found, FaultWord>
@@ -75,25 +91,14 @@ pub(crate) fn plain(main: &Main, held: Held) -> Result<Found, FaultWord>
     ensures { (graph : Graph) (value : Value) → MainShows main.now graph →
         StandsFor main.now graph value held → FindsPlain main.now graph value result }
 {
-    match held {
-        Held::Ref(at) => plain_at(main, at),
-        Held::Unbound | Held::Undefined | Held::Int(_) => Err(FaultWord::NotObject),
-    }
-}
-
-/// The plain object whose cell stands at an address.
-#[inline(always)]
-fn plain_at(main: &Main, at: u32) -> Result<Found, FaultWord>
-    requires { IsShownValue main.now (Held.Ref at) }
-    ensures { (graph : Graph) (value : Value) → MainShows main.now graph →
-        StandsFor main.now graph value (Held.Ref at) → FindsPlain main.now graph value result }
-{
-    let shape = main.header(at).shape;
+    let Some(found) = object(main, held) else {
+        return Err(FaultWord::NotObject);
+    };
     // The shapes before those of the paths are those of lists, weak maps and cells of no object.
-    if shape < shape::PATHS {
+    if found.shape < shape::PATHS {
         return Err(FaultWord::NotObject);
     }
-    Ok(Found { at, shape })
+    Ok(found)
 }
 
 /// Where the cell of the list stands that the value refers to.
@@ -103,23 +108,13 @@ pub(crate) fn find_list(main: &Main, held: Held) -> Result<u32, FaultWord>
     ensures { (graph : Graph) (value : Value) → MainShows main.now graph →
         StandsFor main.now graph value held → FindsList main.now graph value result }
 {
-    match held {
-        Held::Ref(at) => list_found_at(main, at),
-        Held::Unbound | Held::Undefined | Held::Int(_) => Err(FaultWord::NotList),
-    }
-}
-
-/// The address, where the cell of a list stands there.
-#[inline(always)]
-fn list_found_at(main: &Main, at: u32) -> Result<u32, FaultWord>
-    requires { IsShownValue main.now (Held.Ref at) }
-    ensures { (graph : Graph) (value : Value) → MainShows main.now graph →
-        StandsFor main.now graph value (Held.Ref at) → FindsList main.now graph value result }
-{
-    if main.header(at).shape != shape::LIST {
+    let Some(found) = object(main, held) else {
+        return Err(FaultWord::NotList);
+    };
+    if found.shape != shape::LIST {
         return Err(FaultWord::NotList);
     }
-    Ok(at)
+    Ok(found.at)
 }
 
 /// Where the cell of the weak map stands that the value refers to.
@@ -129,23 +124,13 @@ pub(crate) fn find_weak_map(main: &Main, held: Held) -> Result<u32, FaultWord>
     ensures { (graph : Graph) (value : Value) → MainShows main.now graph →
         StandsFor main.now graph value held → FindsWeak main.now graph value result }
 {
-    match held {
-        Held::Ref(at) => weak_found_at(main, at),
-        Held::Unbound | Held::Undefined | Held::Int(_) => Err(FaultWord::NotWeak),
-    }
-}
-
-/// The address, where the cell of a weak map stands there.
-#[inline(always)]
-fn weak_found_at(main: &Main, at: u32) -> Result<u32, FaultWord>
-    requires { IsShownValue main.now (Held.Ref at) }
-    ensures { (graph : Graph) (value : Value) → MainShows main.now graph →
-        StandsFor main.now graph value (Held.Ref at) → FindsWeak main.now graph value result }
-{
-    if main.header(at).shape != shape::WEAK {
+    let Some(found) = object(main, held) else {
+        return Err(FaultWord::NotWeak);
+    };
+    if found.shape != shape::WEAK {
         return Err(FaultWord::NotWeak);
     }
-    Ok(at)
+    Ok(found.at)
 }
 
 /// Where the cell of the object stands that is the key.

@@ -38,14 +38,10 @@ pub fn new_plain(main: &mut Main, x: u32, object: u32, cap: u32) -> Result<(), S
     ensures binds { OnOk result (BindsMade main.old main.new x) }
 {
     let shape = main.shapes().root(cap);
-    match main.reserve(PLAIN_HEAD + cap) {
-        Ok(run) => {
-            fill_plain(main, run.at, Header { shape, object }, cap);
-            main.hold(x, Held::Ref(run.at));
-            Ok(())
-        }
-        Err(no_room) => Err(Stop::NoRoom { need: no_room.need }),
-    }
+    let run = main.reserve(PLAIN_HEAD + cap)?;
+    fill_plain(main, run.at, Header { shape, object }, cap);
+    main.hold(x, Held::Ref(run.at));
+    Ok(())
 }
 
 /// Makes the words at an address the cell of a plain object without fields.

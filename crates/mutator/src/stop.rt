@@ -7,6 +7,7 @@ use list_store::{PushStop, PutStop};
 use object_cells::Range;
 use shape_change::FieldStop;
 use shape_tree::ShapesFull;
+use write_barrier::NoRoom;
 
 /// Why a command was not carried out. The heap and the output are as they were.
 #[derive(Clone, Copy)]
@@ -27,6 +28,16 @@ impl From<FaultWord> for Stop {
 
     fn from(word: FaultWord) -> Stop {
         Stop::Fault(word)
+    }
+}
+
+impl From<NoRoom> for Stop {
+    ghost use Rattle.mutator.specs.declared.stop.Stop.TheVariants as why;
+
+    ghost from_gives = { λ room stop. stop ≡ why.NoRoom room.need };
+
+    fn from(no_room: NoRoom) -> Stop {
+        Stop::NoRoom { need: no_room.need }
     }
 }
 

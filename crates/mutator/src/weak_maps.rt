@@ -28,18 +28,14 @@ pub fn new_weak(main: &mut Main, x: u32, object: u32) -> Result<(), Stop>
         Carries names main.old main.new graph (Command.Weak x) [] result }
     ensures binds { OnOk result (BindsMade main.old main.new x) }
 {
-    match main.reserve(COUNTED_WORDS) {
-        Ok(run) => {
-            let header = Header {
-                shape: shape::WEAK,
-                object,
-            };
-            fill_counted(main, run.at, header);
-            main.hold(x, Held::Ref(run.at));
-            Ok(())
-        }
-        Err(no_room) => Err(Stop::NoRoom { need: no_room.need }),
-    }
+    let run = main.reserve(COUNTED_WORDS)?;
+    let header = Header {
+        shape: shape::WEAK,
+        object,
+    };
+    fill_counted(main, run.at, header);
+    main.hold(x, Held::Ref(run.at));
+    Ok(())
 }
 
 /// Gives the entry of the key `k` in the weak map `m` the value.

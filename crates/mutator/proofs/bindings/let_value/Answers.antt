@@ -42,7 +42,8 @@ let_carried {old} {graph = graph} {one} names x v value shows is stands known ho
     let shown = subst (ShowsHeld (heap_of old) one) (sym (get-insert_same graph.bindings x value)) stands.is.shows in
     binding_carried (bind graph x value) names (LetValue x v) x one shows
     (ap (λ found. given Unbound found (λ one. done (bind graph x one) [])) is) refl
-    (operand_fits v value one is stands) (binds_anew graph x value) known stands.fits shown holds (λ rooms. (refl, λ number. refl))
+    (operand_fits v value one is stands) (binds_anew graph x value) known stands.fits shown holds
+    (λ rooms. (refl, λ number. refl))
 
 -- so is one to which what another variable holds was copied, where that is something
 copy_carried : {old now new : Mutator} {graph : Graph} (names : List (List ℕ)) (x source : ℕ) → MainShows old graph

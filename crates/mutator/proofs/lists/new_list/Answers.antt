@@ -1,43 +1,37 @@
 -- The new list: its cell is put and bound, or there is no room for it.
-use Rattle.std.proofs.Common.{[], refl, ap, subst, arith}
-use Rattle.object_graph.specs.declared.object.Object.TheVariants.{List as ListOf}
-use Rattle.object_graph.specs.Graphs.{make}
+use Rattle.std.proofs.Common.{refl, ap, arith}
+use Rattle.heap_command.specs.declared.command.Command.TheVariants as command
 use Rattle.page_space.specs.Extents.{Space}
-use Rattle.nursery.specs.Young.{HasRoom}
 use Rattle.mutator.specs.Making.{empty_counted}
-use Rattle.mutator.proofs.MadeObjects.{making_carried, list_made}
+use Rattle.mutator.specs.declared.stop.Stop.TheVariants.{NoRoom}
+use Rattle.mutator.proofs.MadeCells.{list_making, list_made}
+use Rattle.mutator.proofs.MadeObjects.{making_carried, making_stopped}
 use Rattle.mutator.proofs.OnlyMade.{binds_made}
+use Rattle.mutator.proofs.StoppedBy.{stopped_with}
 use Rattle.mutator.proofs.lists.new_list.Goals as goal
 
-pub returns-in-Ok : goal.returns-in-Ok
-returns-in-Ok c = record {
+pub returns : goal.returns
+returns c = record {
   carried = λ graph names shows count.
-      making_carried names shows
-      (record { fits = tt; done = λ other. refl; need = λ rooms. refl; gives = λ rooms number. refl; none = tt })
+      making_carried names shows (list_making graph c.args.x)
       (record {
-        run = c.in-Ok.ensures.run.at;
-        taken = c.in-Ok.ensures.reserved;
+        run = c.in_ok-run.ensures.run.at;
+        taken = c.in_ok-run.ensures.reserved;
         put = c.fill_counted.ensures.filled;
         heap = c.fill_counted.ensures.heap;
         holds = record { held = c.hold.ensures.held; heap = c.hold.ensures.heap };
       })
       (list_made {header = record { shape = 1; object = c.args.object }} c.args.x shows.shows.whole.sized
       (record { shape = omega arith; object = omega arith }) refl
-      (omega (arith, c.in-Ok.ensures.room, ap (λ (space : Space). space.sizes.young) shows.tied)) count)
-      c.hold.ensures.holds.fits c.requires.within c.in-Ok.ensures.room;
+      (omega (arith, c.in_ok-run.ensures.room, ap (λ (space : Space). space.sizes.young) shows.tied)) count)
+      c.hold.ensures.holds.fits c.requires.within c.in_ok-run.ensures.room;
   binds = binds_made c.args.x _ (empty_counted (record { shape = 1; object = c.args.object }))
-      c.in-Ok.ensures.run.at refl c.in-Ok.ensures.reserved c.fill_counted.ensures.filled c.hold.ensures.held;
+      c.in_ok-run.ensures.run.at refl c.in_ok-run.ensures.reserved c.fill_counted.ensures.filled c.hold.ensures.held;
 }
 
-pub returns-in-Err : goal.returns-in-Err
-returns-in-Err c = record {
-  carried = λ graph names shows count. (
-    make graph c.args.x (ListOf []),
-    [],
-    refl,
-    λ rooms has. c.in-Err.ensures.need,
-    λ room. c.in-Err.ensures.refused.0 refl (subst (HasRoom c.args.main.now.young) c.in-Err.ensures.need room),
-    c.in-Err.ensures.unchanged,
-  );
-  binds = tt;
-}
+pub returns-in_err-run-clause-carried : goal.returns-in_err-run-clause-carried
+returns-in_err-run-clause-carried c graph names shows count =
+    stopped_with c.reserve.new.self graph names (command.List c.args.x) c.from_residual.result
+    (NoRoom c.in_err-run.field-0.0.need) refl c.from_residual.ensures.1
+    (making_stopped names _ (list_making graph c.args.x) c.in_err-run.ensures.need (c.in_err-run.ensures.refused.0 refl)
+    c.in_err-run.ensures.unchanged)

@@ -39,7 +39,8 @@ returns-clause-heap c =
     let odd : c.odd.result.0 ≡ undefined_word = c.odd.ensures in
     ap (λ (now : Mutator). heap_words now.seat) c.made.ensures.same ∙ c.write_slot-2.ensures.heap
     ∙ ap (λ (words : List ℕ). slice_set words (at + 2) 0)
-    (c.write_slot.ensures.heap ∙ ap (λ (words : List ℕ). slice_set words (at + 1) c.odd.result.0) c.set_header.ensures.heap
+    (c.write_slot.ensures.heap
+    ∙ ap (λ (words : List ℕ). slice_set words (at + 1) c.odd.result.0) c.set_header.ensures.heap
     ∙ ap (λ (word : ℕ). slice_set (slice_set (heap_words main.seat) at header) (at + 1) word) odd)
     ∙ three_in_a_row (heap_words main.seat) at header undefined_word 0
     (omega (arith, c.requires.within, c.addresses_fit.ensures.heap_counted))
