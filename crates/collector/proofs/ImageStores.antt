@@ -1,5 +1,5 @@
 -- Objects, their stores and their rooms in an image: those of a heap, moved.
-use Rattle.std.proofs.Common.{◌≡◌, ℕ, refl, sym, subst}
+use Rattle.std.proofs.Common.{◌≡◌, ◌↔◌, refl, sym, subst}
 use Rattle.heap_model.specs.Heaps.{Heap}
 use Rattle.heap_model.specs.Changes.{written}
 use Rattle.heap_model.specs.Slots.{IsPlace}
@@ -20,9 +20,9 @@ images_keep_stores heap image number at whole is place =
     subst (λ (one : Heap). IsPlace one number at × (capacity_at one at ≡ capacity_at heap at))
     (sym (image_is heap image is)) (there.place, there.capacity)
 
--- the rooms of objects in an image are those in the heap
+-- the rooms of objects in the heap are those in an image
 pub images_have_rooms : ImagesHaveRooms
-images_have_rooms heap image graph rooms shows is has =
+images_have_rooms heap image graph rooms shows is =
+    subst (λ (one : Heap). HasRooms heap graph rooms ↔ HasRooms one graph rooms) (sym (image_is heap image is))
     (moves_keep_rooms heap (written heap image.words) same_place graph rooms (shows_for (Stays same_place) shows)
-    (words_moved (copying shows.whole is))).1
-    (subst (λ (one : Heap). HasRooms one graph rooms) (image_is heap image is) has)
+    (words_moved (copying shows.whole is)))

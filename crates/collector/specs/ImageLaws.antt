@@ -1,5 +1,5 @@
 -- Laws of images of a heap: what they show, and which rooms objects have in them.
-use Rattle.std.specs.Prelude.{◌≡◌, ℕ}
+use Rattle.std.specs.Prelude.{◌≡◌, ℕ, ◌↔◌}
 use Rattle.object_graph.specs.Graphs.{Graph}
 use Rattle.heap_model.specs.Heaps.{Heap}
 use Rattle.heap_model.specs.Wholeness.{Whole, Blank}
@@ -23,8 +23,9 @@ ImagesKeepStores =
     (heap image : Heap) (number at : ℕ) → Whole heap → IsImageOf heap image → IsPlace heap number at
     → IsPlace image number at × (capacity_at image at ≡ capacity_at heap at)
 
--- Rooms of the objects in an image are their rooms in the heap, so a command needs as many words on both.
+-- The objects of a graph have exactly the rooms in an image that they have in the heap, so a command needs as many
+-- words on both.
 abbrev pub ImagesHaveRooms : Type 0
 ImagesHaveRooms =
     (heap image : Heap) (graph : Graph) (rooms : ℕ → Room) → Shows heap graph → IsImageOf heap image
-    → HasRooms image graph rooms → HasRooms heap graph rooms
+    → HasRooms heap graph rooms ↔ HasRooms image graph rooms

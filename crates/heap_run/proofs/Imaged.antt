@@ -6,9 +6,9 @@ use Rattle.heap_model.specs.Types.{Command}
 use Rattle.heap_command.specs.Executed.{Executed}
 use Rattle.page_space.specs.Extents.{Space}
 use Rattle.object_graph.specs.Graphs.{Graph}
+use Rattle.object_graph.specs.Run.{Told}
 use Rattle.script_text.specs.Scripts.{ScriptText}
 use Rattle.heap_model.specs.Heaps.{Heap}
-use Rattle.heap_model.specs.Wholeness.{Whole}
 use Rattle.heap_model.specs.Showing.{Shows}
 use Rattle.collector.specs.Images.{IsImageOf}
 use Rattle.collector.specs.ImageLaws.{ImagesShow, ImagesKeepStores, ImagesHaveRooms}
@@ -36,19 +36,31 @@ reached_imaged {heap = heap} {image = image} laws is r = record {
   shown = laws.show heap image r.so_far.graph r.shown is;
 }
 
--- as many words are used on the image, and stores have as many slots
-spent_imaged : {script : ScriptText} {heap image : Heap} {n : ℕ} → Laws → Whole heap → IsImageOf heap image
-    → HasSpent script heap n → HasSpent script image n
-spent_imaged {heap = heap} {image = image} laws whole is spent = record {
+-- the lines tell one graph, on whichever heap they were run
+graph_is : {script : ScriptText} {heap last : Heap} {n : ℕ} (r : RanTo script heap n) (l : RanTo script last n)
+    → r.so_far.graph ≡ l.so_far.graph
+graph_is r l =
+    let same : r.so_far ≡ l.so_far = cc (r.said, l.said) in
+    ap (λ (so_far : Told). so_far.graph) same
+
+-- as many words are used on the image, stores have as many slots, and objects have the same rooms
+spent_imaged : {script : ScriptText} {heap image : Heap} {n : ℕ} → Laws → RanTo script heap n
+    → IsImageOf heap image → HasSpent script heap n → HasSpent script image n
+spent_imaged {heap = heap} {image = image} laws r is spent = record {
   last = spent.last;
   spends = spent.spends;
+  reached = spent.reached;
   space = is.space ∙ spent.space;
   used = is.used ∙ spent.used;
   survivors = is.survivors ∙ spent.survivors;
   stores = λ number at place.
       let stood = spent.stores number at place in
-      let stays = laws.stores heap image number at whole is stood.0 in
+      let stays = laws.stores heap image number at r.shown.whole is stood.0 in
       (stays.0, stays.1 ∙ stood.1);
+  rooms = λ rooms has.
+      let graph = spent.reached.so_far.graph in
+      (laws.rooms heap image graph rooms (subst (Shows heap) (graph_is r spent.reached) r.shown) is).0
+      (spent.rooms rooms has);
 }
 
 -- an image is as full as the heap
@@ -67,7 +79,7 @@ full_for : {heap image : Heap} (graph : Graph) (need : ℕ) (command : Option Co
     → IsImageOf heap image → LacksRoomFor heap graph need command → LacksRoomFor image graph need command
 full_for graph need None laws shows is full = full
 full_for {heap = heap} {image = image} graph need (Some command) laws shows is (needs, full) = (
-  λ rooms has. needs rooms (laws.rooms heap image graph rooms shows is has),
+  λ rooms has. needs rooms ((laws.rooms heap image graph rooms shows is).1 has),
   as_full {heap = heap} {image = image} graph need is full,
 )
 
@@ -125,6 +137,6 @@ pub finishes_imaged : {script : ScriptText} {heap image : Heap} (finished : Fini
     → Finishes script image finished old new faults_old faults_new
 finishes_imaged finished old new fo fn laws is f = record {
   reached = reached_imaged laws is f.reached;
-  spent = spent_imaged laws f.reached.shown.whole is f.spent;
+  spent = spent_imaged laws f.reached is f.spent;
   writes = writes_imaged finished.how finished old new fo fn laws is f.reached f.writes;
 }

@@ -7,7 +7,7 @@ use Rattle.byte_ends.specs.Sink.{Appends}
 use Rattle.heap_script.specs.declared.finished.How.{How}
 use Rattle.heap_script.specs.declared.finished.How.TheVariants.{End, Fault, HeapFull, SinkFault, LineLimit}
 use Rattle.heap_script.specs.declared.finished.Finished.{Finished}
-use Rattle.heap_script.specs.Runs.{Finishes, Spends, HasSpent, need_at, EndsRun, CutsOff}
+use Rattle.heap_script.specs.Runs.{Finishes, RanTo, Spends, HasSpent, need_at, EndsRun, CutsOff}
 use Rattle.heap_script.specs.Progress.{Pauses, Handed}
 use Rattle.heap_script.proofs.Handing.{Appends-handed, CutsOff-handed}
 
@@ -16,14 +16,17 @@ abbrev finished_by : How → ℕ → ℕ → Finished
 finished_by how line executed = record { how = how; line = line; executed = executed }
 
 -- the heap to which the lines led has spent what they need
-spent_all : {script : ScriptText} {heap : Heap} {n : ℕ} → Spends script heap n → HasSpent script heap n
-spent_all {heap = heap} spends = record {
+spent_all : {script : ScriptText} {heap : Heap} {n : ℕ} → RanTo script heap n → Spends script heap n
+    → HasSpent script heap n
+spent_all {heap = heap} reached spends = record {
   last = heap;
   spends = spends;
+  reached = reached;
   space = refl;
   used = refl;
   survivors = refl;
   stores = λ number at place. (place, refl);
+  rooms = λ rooms has. has;
 }
 
 -- the sink failed between two lines
@@ -36,7 +39,7 @@ Finishes-cut script heap waiting (Fault word) line n need old new faults_old fau
 Finishes-cut script heap waiting (HeapFull words) line n need old new faults_old faults_new is p = absurd (cc)
 Finishes-cut script heap waiting (SinkFault none) line n need old new faults_old faults_new is p =
     let (between, some, rose) = p.halts in
-    record { reached = p.reached; spent = spent_all p.spends; writes = (inl between, some, rose) }
+    record { reached = p.reached; spent = spent_all p.reached p.spends; writes = (inl between, some, rose) }
 Finishes-cut script heap waiting LineLimit line n need old new faults_old faults_new is p = absurd (cc)
 
 -- a run that paused at an end: what it came to, what was handed on, and that no write failed
@@ -72,21 +75,21 @@ pub Finishes-written : (script : ScriptText) (heap : Heap) (waiting : List ℕ) 
 Finishes-written script heap waiting End line n old mid new faults_old faults_mid faults_new other p wrote same =
     record {
       reached = p.reached;
-      spent = spent_all p.spends;
+      spent = spent_all p.reached p.spends;
       writes = (p.halts.0, Appends-handed p.halts.1 wrote, same ∙ p.halts.2);
     }
 Finishes-written script heap waiting (Fault word) line n old mid new faults_old faults_mid faults_new other p
     wrote same =
     record {
       reached = p.reached;
-      spent = spent_all p.spends;
+      spent = spent_all p.reached p.spends;
       writes = (p.halts.0, Appends-handed p.halts.1 wrote, same ∙ p.halts.2);
     }
 Finishes-written script heap waiting (HeapFull need) line n old mid new faults_old faults_mid faults_new other p
     wrote same =
     record {
       reached = p.reached;
-      spent = spent_all p.spends;
+      spent = spent_all p.reached p.spends;
       writes = (p.halts.0, Appends-handed p.halts.1 wrote, same ∙ p.halts.2);
     }
 Finishes-written script heap waiting (SinkFault need) line n old mid new faults_old faults_mid faults_new other p
@@ -95,7 +98,7 @@ Finishes-written script heap waiting (SinkFault need) line n old mid new faults_
 Finishes-written script heap waiting LineLimit line n old mid new faults_old faults_mid faults_new other p wrote same =
     record {
       reached = p.reached;
-      spent = spent_all p.spends;
+      spent = spent_all p.reached p.spends;
       writes = (p.halts.0, Appends-handed p.halts.1 wrote, same ∙ p.halts.2);
     }
 
@@ -110,7 +113,7 @@ Finishes-failed script heap waiting how line n old mid new faults_old faults_mid
     let at = paused_at script heap waiting how line n old mid faults_old faults_mid other p in
     record {
       reached = p.reached;
-      spent = spent_all p.spends;
+      spent = spent_all p.reached p.spends;
       writes = (
         inr (how, at.comes, refl),
         CutsOff-handed at.handed wrote,

@@ -55,7 +55,8 @@ pub record UsesNeed (old new : Heap) (graph after : Graph) (command : Command) (
   pub used : new.used ≡ old.used + need_of graph rooms command
   pub stores : KeepsStores old new graph after command rooms
 
--- A command that leads from one graph to another allocates on the heap. The regions stay, and no survivor comes or goes.
+-- A command that leads from one graph to another allocates on the heap. The regions stay, and no survivor comes or
+-- goes.
 pub record Allocates (old new : Heap) (graph after : Graph) (command : Command) : Type 0 where
   pub space : new.space ≡ old.space
   pub survivors : new.survivors ≡ old.survivors
@@ -67,7 +68,8 @@ LineAllocates old new graph after None = new ≡ old
 LineAllocates old new graph after (Some command) = Allocates old new graph after command
 
 -- The words that the executed lines of a script spend, one line after another, up to this heap. No word is used before
--- the first line, and each line uses what its command needs, by the graph and the rooms that the lines before it led to.
+-- the first line, and each line uses what its command needs, by the graph and the rooms that the lines before it led
+-- to.
 pub data Spends (script : ScriptText) : Heap → ℕ → Type 0 where
   none : (heap : Heap) → heap.used ≡ 0 → heap.survivors ≡ 0 → RanTo script heap 0 → Spends script heap 0
   one_more : (old new : Heap) (executed : ℕ) (line : Executed) → Spends script old executed
@@ -76,15 +78,18 @@ pub data Spends (script : ScriptText) : Heap → ℕ → Type 0 where
       → LineAllocates old new before.so_far.graph after.so_far.graph line.command → Spends script new (executed + 1)
 
 -- The heap has the regions of the one to which the lines led that spent words, and as many words are used and have
--- survived. Each object stands where it stands there, with a store of as many slots.
+-- survived. Each object stands where it stands there, with a store of as many slots. The rooms that the objects
+-- of the graph after the lines have there are their rooms in the heap too.
 pub record HasSpent (script : ScriptText) (heap : Heap) (executed : ℕ) : Type 0 where
   pub last : Heap
   pub space : heap.space ≡ last.space
   pub spends : Spends script last executed
+  pub reached : RanTo script last executed
   pub used : heap.used ≡ last.used
   pub survivors : heap.survivors ≡ last.survivors
   pub stores : (number at : ℕ) → IsPlace last number at
       → IsPlace heap number at × (capacity_at heap at ≡ capacity_at last at)
+  pub rooms : (rooms : ℕ → Room) → HasRooms last reached.so_far.graph rooms → HasRooms heap reached.so_far.graph rooms
 
 -- the run of the script ends after so many lines, with this told, in this way
 abbrev pub EndsAs : ScriptText → ℕ → Told → Ending → Type 0

@@ -1,4 +1,5 @@
-//! One command of a script on the heap. Which line comes next stands in `interpreter` and `turns`.
+//! One command of a script on the heap. Which line comes next stands in `interpreter` and
+//! `loop_counters`.
 ghost use Rattle.std.specs.Prelude.{◌≡◌, ◌+◌, ◌<◌, ◌≤◌, ◌^◌};
 ghost use Rattle.std.specs.Prelude.{ℕ, List, ◌++◌, length, if◌then◌else◌};
 ghost use Rattle.std.specs.Prelude.{false, is_ok, IsTrue, OnOk, OnErr, IfOk};
