@@ -7,6 +7,7 @@ pub mod Wholeness
 pub mod Showing
 pub mod Changes
 pub mod Laws
+pub mod Collectable
 pub mod Needs
 pub mod Counting
 pub mod Rooms

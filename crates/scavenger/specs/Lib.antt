@@ -1,0 +1,4 @@
+pub mod Starts
+pub mod Filling
+pub mod Scavenged
+pub mod Laws

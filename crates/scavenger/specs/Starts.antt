@@ -1,0 +1,70 @@
+-- What a scavenge of a heap begins with: which cells may be copied, which slots outside refer to them, and where copies
+-- go.
+use Rattle.std.specs.Prelude.{◌≡◌, ℕ, ◌+◌, ◌*◌, ◌<◌, ◌≤◌, ◌↔◌, ◌⊎◌, List, [], ◌∷◌, Contains, AllPairs, sum_by}
+use Rattle.page_space.specs.Extents.{Space, eden_start, segments_start, half_segments}
+use Rattle.cell_layout.specs.Cells.{layouts_in}
+use Rattle.handle_roots.specs.Roots.{root_at}
+use Rattle.heap_model.specs.Types.{Cell}
+use Rattle.heap_model.specs.Heaps.{Heap, HasCell}
+use Rattle.heap_model.specs.Wholeness.{Whole}
+use Rattle.heap_model.specs.Collectable.{IsCollectable}
+use Rattle.scav_copy.specs.declared.places.Room.{Room}
+use Rattle.scav_copy.specs.Places.{Fixed, size_of, offsets_of, IsLaidOut}
+use Rattle.scav_copy.specs.Renamings.{RefersToAddress}
+
+-- the first address of the main side's segment of this half, which is the last one
+abbrev pub room_start : Space → ℕ → ℕ
+room_start space half =
+    segments_start space + space.sizes.young * (half * half_segments space + space.sizes.helpers)
+
+-- that segment as the room of copies
+abbrev pub room_of : Space → ℕ → Room
+room_of space half = record {
+  worker = space.sizes.helpers;
+  from = room_start space half;
+  to = room_start space half + space.sizes.young;
+}
+
+-- a cell of the young generation stands at the address
+pub record IsYoungCell (heap : Heap) (at : ℕ) : Type 0 where
+  pub cell : Cell
+  pub words : List ℕ
+  pub has : HasCell heap cell words
+  pub stands : cell.at ≡ at
+  pub young : eden_start heap.space ≤ at
+
+-- the first root word of a variable stands at the address
+pub record IsRootAt (space : Space) (at : ℕ) : Type 0 where
+  pub variable : ℕ
+  pub known : variable < space.variables
+  pub stands : at ≡ root_at space variable
+
+-- The words before are the heap's. The cells are the young ones, the slots the first root words of the variables, and
+-- copies go to the main side's segment of this half.
+pub record Begins (heap : Heap) (half : ℕ) (fixed : Fixed) : Type 0 where
+  pub before : fixed.before ≡ heap.words
+  pub layouts : fixed.layouts ≡ layouts_in heap.space heap.words
+  pub cells : (at : ℕ) → Contains fixed.cells at ↔ IsYoungCell heap at
+  pub slots : (at : ℕ) → Contains fixed.slots at ↔ IsRootAt heap.space at
+  pub rooms : fixed.rooms ≡ room_of heap.space half ∷ []
+
+-- the word at this place is that of a slot: one of the slots outside, or one that a scavenge visits in one of the cells
+abbrev pub IsSlotPlace : Fixed → ℕ → Type 0
+IsSlotPlace fixed place =
+    Contains fixed.slots place
+    ⊎ ((cell : ℕ) × (offset : ℕ) × Contains fixed.cells cell × Contains (offsets_of fixed cell) offset
+    × (cell + offset ≡ place))
+
+-- What is known throughout a scavenge of what it began with. No address is named for two things. What a slot refers to
+-- in the young generation is one of the cells. The cells ascend, and have as many words as survivors and eden's used
+-- words together.
+pub record IsBegun (heap : Heap) (half : ℕ) (fixed : Fixed) : Type 0 where
+  pub begins : Begins heap half fixed
+  pub laid : IsLaidOut fixed
+  pub whole : Whole heap
+  pub is_half : half ≤ 1
+  pub collectable : IsCollectable heap half
+  pub targets : (place at : ℕ) → IsSlotPlace fixed place → RefersToAddress fixed.before place at
+      → eden_start heap.space ≤ at → Contains fixed.cells at
+  pub ascend : AllPairs (λ one other. one < other) fixed.cells
+  pub counted : sum_by (size_of fixed) fixed.cells ≡ heap.survivors + heap.used

@@ -1,0 +1,11 @@
+//! Copying the live cells of the young generation by one thread: eden and one half are emptied into
+//! the other half.
+//!
+//! Model: none of its own. `Scavenges` of `specs/Scavenged.antt` is what a scavenge comes to.
+//! Invariant: `IsFilled` of `specs/Filling.antt`, between two slots: home copies fill the room one
+//! behind another, and each live slot that refers to a cell that is to be copied is to do.
+#![tactic(auto)]
+
+mod scavenging;
+
+pub use scavenging::scavenge;

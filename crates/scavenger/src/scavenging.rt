@@ -1,0 +1,10 @@
+//! A scavenge from its start to its end.
+ghost use Rattle.object_graph.specs.Graphs.{Graph};
+ghost use Rattle.write_barrier.specs.MutatorState.{MainShows};
+
+use write_barrier::Main;
+
+/// Copies what lives of eden and of the half that the survivors are in to the other half.
+pub fn scavenge(main: &mut Main)
+    requires shown { (graph : Graph) × MainShows main.old graph }
+{}
