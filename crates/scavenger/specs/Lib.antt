@@ -1,4 +1,5 @@
 pub mod Starts
 pub mod Filling
+pub mod Following
 pub mod Scavenged
 pub mod Laws
