@@ -6,6 +6,10 @@
 //! behind another, and each live slot that refers to a cell that is to be copied is to do.
 #![tactic(auto)]
 
+mod emptying;
+mod following;
+mod scanning;
 mod scavenging;
+mod spaces;
 
 pub use scavenging::scavenge;
