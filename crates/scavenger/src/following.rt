@@ -46,6 +46,8 @@ pub(crate) fn follow(main: &mut Main, spaces: &Spaces, slot: u32, fill: u32) -> 
         Follows main.old.seat.space main.old.young.half words slot fill now result }
     ensures changes { ChangesWords main.old main.new }
 {
+    // No address is past 32 bits.
+    main.addresses_fit();
     let Some(at) = Word(main.word(slot)).address() else {
         return fill;
     };
