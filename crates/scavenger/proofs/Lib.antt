@@ -1,2 +1,4 @@
 pub mod Sums
+pub mod TargetNumbers
+pub mod TargetCells
 pub mod Targets
