@@ -30,26 +30,26 @@ segment_is_left space left worker at is =
     inr (omega (arith, is.from), omega (arith, is.below, workers))
 
 -- a cell of the young generation that stands in a row of this region, and not in the half that is filled, is left
-left_by : {space : Space} (half left at : ℕ) (region : Region) → half + left ≡ 1
-    → ((worker : ℕ) → region ≡ Segment half worker → ⊥) → eden_start space ≤ at → IsInRegion space region at
-    → (end : ℕ) (heap : Heap) (extent : Extent) → EndsUsed heap extent end region → IsLeft space left at
-left_by {space} half left at (Page page) other empty young is end heap extent ends =
-    let before = page_ends space page is.is_region in absurd (omega (arith, before, is.below))
-left_by half left at Eden other empty young is end heap extent ends = inl (is.from, is.below)
-left_by {space} half left at (Segment one worker) other empty young is end heap extent ends =
+left_by : (heap : Heap) (half left at end : ℕ) (extent : Extent) (region : Region) → half + left ≡ 1
+    → ((worker : ℕ) → region ≡ Segment half worker → ⊥) → eden_start heap.space ≤ at
+    → IsInRegion heap.space region at → EndsUsed heap extent end region → IsLeft heap.space left at
+left_by heap half left at end extent (Page page) other empty young is ends =
+    let before = page_ends heap.space page is.is_region in absurd (omega (arith, before, is.below))
+left_by heap half left at end extent Eden other empty young is ends = inl (is.from, is.below)
+left_by heap half left at end extent (Segment one worker) other empty young is ends =
     elim (equal_or_not one half) [
       | inl same ↦ absurd (empty worker (ap (λ (h : ℕ). Segment h worker) same))
       | inr apart ↦
           let two : one < 2 = is.is_region.0 in
           let rest : one ≡ left = omega (arith, other, apart, two) in
-          segment_is_left space left worker at
-          (subst (λ (h : ℕ). IsInRegion space (Segment h worker) at) rest is)
+          segment_is_left heap.space left worker at
+          (subst (λ (h : ℕ). IsInRegion heap.space (Segment h worker) at) rest is)
     ]
-left_by half left at (Root variable) other empty young is end heap extent ends = absurd ends
-left_by half left at (Layout shape) other empty young is end heap extent ends = absurd ends
-left_by half left at (Mark mark) other empty young is end heap extent ends = absurd ends
-left_by half left at (Board place) other empty young is end heap extent ends = absurd ends
-left_by half left at Outside other empty young is end heap extent ends = absurd ends
+left_by heap half left at end extent (Root variable) other empty young is ends = absurd ends
+left_by heap half left at end extent (Layout shape) other empty young is ends = absurd ends
+left_by heap half left at end extent (Mark mark) other empty young is ends = absurd ends
+left_by heap half left at end extent (Board place) other empty young is ends = absurd ends
+left_by heap half left at end extent Outside other empty young is ends = absurd ends
 
 -- the region of a cell's row holds its address
 region_holds : {heap : Heap} {cell : Cell} {words : List ℕ} → HasRows heap → (has : HasCell heap cell words)
@@ -92,8 +92,8 @@ young_is_left {heap} {half} left at begun other young =
       holds = region_holds rows has;
     }) in
     subst (IsLeft heap.space left) young.stands
-    (left_by half left young.cell.at has.row.extent.region other empty from (in_own_region rows has) has.row.end heap
-    has.row.extent has.used.ends)
+    (left_by heap half left young.cell.at has.row.end has.row.extent has.row.extent.region other empty from
+    (in_own_region rows has) has.used.ends)
 
 -- each of the cells is left
 pub cell_is_left : {heap : Heap} {half : ℕ} {fixed : Fixed} (left at : ℕ) → IsBegun heap half fixed → half + left ≡ 1

@@ -1,15 +1,15 @@
 -- Copies that stand one behind another, and one more behind them.
 use Rattle.std.proofs.Common.{ℕ, ◌+◌, ◌≤◌, ◌≡◌, ◌⊎◌, inl, inr, List, [], ◌∷◌, ◌++◌, ◌↔◌, arith, refl, sym, subst}
-use Rattle.std.specs.List.{Contains, sum_by}
+use Rattle.std.specs.List.{Contains}
 use Rattle.std.proofs.lemmas.List.Elements.{Contains-append_cases, Contains-append_left, Contains-append_right}
-use Rattle.std.proofs.lemmas.List.Sums.{sum_by-cons}
 use Rattle.tagged_word.proofs.Members.{first_in, in_cases, one_in}
 use Rattle.scav_copy.specs.declared.places.Home.{Home}
 use Rattle.scav_copy.specs.Places.{Fixed, size_of}
 use Rattle.scav_copy.specs.Copies.{with_home, Copying}
-use Rattle.scav_copy.proofs.Ascending.{by_place, new_in, old_in, joined_is}
+use Rattle.scav_copy.proofs.Ascending.{new_in, old_in, joined_is}
 use Rattle.scav_copy.proofs.Spots.{none_in}
 use Rattle.scavenger.specs.Filling.{Tiles, none, next, IsFilled}
+use Rattle.scavenger.proofs.Sums.{one_home_more}
 
 -- what copies with a first one say of it
 record BeginsWith (fixed : Fixed) (from to : ℕ) (home : Home) (homes : List Home) : Type 0 where
@@ -66,20 +66,6 @@ tiles_push {fixed} from (home ∷ homes) new tiles =
       starts = begins.starts;
       rest = tiles_push (home.to + size_of fixed home.from) homes new begins.rest;
     }
-
--- with one home more the homes have so many words more
-sum-with_home : (measure : Home → ℕ) (homes : List Home) (new : Home)
-    → sum_by measure (with_home homes new) ≡ sum_by measure homes + measure new
-sum-with_home measure [] new = omega (arith, sum_by-cons measure new [])
-sum-with_home measure (home ∷ homes) new =
-    by_place (λ all. sum_by measure all ≡ sum_by measure (home ∷ homes) + measure new) home homes new
-    (λ less. omega (arith, sum_by-cons measure new (home ∷ homes)))
-    (λ more. omega (
-      arith,
-      sum_by-cons measure home homes,
-      sum_by-cons measure home (with_home homes new),
-      sum-with_home measure homes new,
-    ))
 
 -- one of two lists, or the one behind both
 behind_all : {X : Type 0} (done todo : List X) (new one : X) → Contains (done ++ (todo ++ new ∷ [])) one
@@ -174,5 +160,5 @@ filled_more {fixed} {homes = homes} {start} {scan} {fill} cell filled copying =
       tiles_done = filled.tiles_done;
       tiles_todo = tiles_push scan filled.todo new filled.tiles_todo;
       same = same_with_home homes filled.done filled.todo new filled.same;
-      long = omega (arith, sum-with_home (λ (home : Home). size_of fixed home.from) homes new, filled.long);
+      long = omega (arith, one_home_more (size_of fixed) homes new, filled.long);
     }

@@ -19,11 +19,12 @@ use Rattle.scav_copy.proofs.Continuing.{slots_are_followed}
 use Rattle.scav_copy.proofs.Redirecting.{as_before}
 use Rattle.scavenger.specs.Starts.{IsBegun, room_start, room_of}
 use Rattle.scavenger.specs.Filling.{IsFilled}
-use Rattle.scavenger.specs.Following.{IsTarget, SlotsHaveTargets, Follows, HasFollowed, FollowingGoesOn}
+use Rattle.scavenger.specs.Following.{IsTarget, Follows, HasFollowed, FollowingGoesOn}
 use Rattle.scavenger.proofs.FollowCopies.{MayCopy}
 use Rattle.scavenger.proofs.FollowNewCopies.{copied_done}
 use Rattle.scavenger.proofs.FollowRegions.{cell_is_left}
 use Rattle.scavenger.proofs.FollowSlots.{stays_done, renamed_by}
+use Rattle.scavenger.proofs.Targets.{left_is_cell, slots_have_targets}
 
 -- the cell has the size that it had before, and there is room for a copy
 record IsRoomy (fixed : Fixed) (end fill : ℕ) (cell : Cell) : Type 0 where
@@ -92,21 +93,20 @@ copied_by {heap} {half} {fixed} {words} {homes} {scan} {fill} {slot} {place} cel
     homes (room_start heap.space half) scan fill (fill + size) slot) (sym room.size)
     (copied_done slot place may known.stood (referred known))
 
--- each live slot may be followed, where what it refers to is a target
-pub following_by : SlotsHaveTargets → FollowingGoesOn
-following_by targets heap half left fixed words _ homes scan fill _ slot place begun other filled stood
+-- each live slot may be followed
+pub following_goes_on : FollowingGoesOn
+following_goes_on heap half left fixed words _ homes scan fill _ slot place begun other filled stood
     (Follows.stays none) =
     stays_done slot filled (λ cell refers is. none cell refers (cell_is_left left cell begun other is))
-following_by targets heap half left fixed words _ homes scan fill _ slot place begun other filled stood
+following_goes_on heap half left fixed words _ homes scan fill _ slot place begun other filled stood
     (Follows.renames at home refers is_left forwards) =
-    let target = targets heap half left fixed words homes scan fill slot place at begun other filled stood refers
-    is_left in
+    let is = left_is_cell left slot place at begun other filled.copying stood refers is_left in
     renamed_by slot place at home begun.laid filled stood forwards
-    (slots_are_followed fixed words homes slot place at begun.laid filled.copying stood refers target.0)
-following_by targets heap half left fixed words _ homes scan fill _ slot place begun other filled stood
+    (slots_are_followed fixed words homes slot place at begun.laid filled.copying stood refers is)
+following_goes_on heap half left fixed words _ homes scan fill _ slot place begun other filled stood
     (Follows.copies cell refers is_left head is_cell) =
-    let target = targets heap half left fixed words homes scan fill slot place cell.at begun other filled stood refers
-    is_left in
+    let target = slots_have_targets heap half left fixed words homes scan fill slot place cell.at begun other filled
+    stood refers is_left in
     let known : Followed heap half fixed words homes scan fill slot place cell.at =
     record { begun = begun; filled = filled; stood = stood; refers = refers; is = target.0 } in
     copied_by cell known head (roomy cell is_cell refl head target.1) (found known)

@@ -1,3 +1,7 @@
+pub mod Sums
+pub mod TargetNumbers
+pub mod TargetCells
+pub mod Targets
 pub mod FollowRegions
 pub mod FollowTiles
 pub mod FollowCopies
