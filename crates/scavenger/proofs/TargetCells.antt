@@ -1,13 +1,11 @@
 -- A cell that is to be copied and has no home stands among the words as it stood before.
-use Rattle.std.proofs.Common.{ℕ, ◌+◌, ◌-◌, ◌<◌, ◌≤◌, ◌≡◌, List, length, get_or, slice_get, Option, Some, None, IsSome}
-use Rattle.std.proofs.Common.{arith, refl, sym, ap, subst, ◌∙◌}
+use Rattle.std.proofs.Common.{ℕ, ◌^◌, ◌+◌, ◌-◌, ◌<◌, ◌≤◌, ◌≡◌, List, length, get_or, slice_get, Some}
+use Rattle.std.proofs.Common.{arith, sym, ap, subst, ◌∙◌}
 use Rattle.std.specs.List.{Contains}
 use Rattle.std.proofs.lemmas.Option.{slice_get-get_or}
-use Rattle.tagged_word.specs.declared.reading.Reading.{Reading}
 use Rattle.tagged_word.specs.Shapes.{shapes_most}
 use Rattle.tagged_word.specs.Cells.{ReadsAs}
 use Rattle.tagged_word.specs.Readings.{read_cell}
-use Rattle.tagged_word.proofs.Cells.{same_reading}
 use Rattle.tagged_word.proofs.CellReadings.{cell_from}
 use Rattle.tagged_word.proofs.Members.{one_in}
 use Rattle.page_space.specs.Extents.{layouts_start}
@@ -22,41 +20,22 @@ use Rattle.scav_copy.specs.declared.places.Room.{Room}
 use Rattle.scav_copy.specs.Places.{Fixed, last_address, cell_before, words_in, size_of, IsInCells, IsInRooms}
 use Rattle.scav_copy.specs.Copies.{Copying}
 use Rattle.scavenger.specs.Starts.{IsBegun, IsYoungCell, room_start, room_of}
+use Rattle.scavenger.proofs.StartReadings.{low_sized, cell_before_is}
 use Rattle.scavenger.proofs.TargetNumbers.{room_below_roots}
-
--- the words before read as a young cell at its address
-young_reads : {heap : Heap} {half : ℕ} {fixed : Fixed} {at : ℕ} → IsBegun heap half fixed
-    → (young : IsYoungCell heap at)
-    → ReadsAs fixed.before fixed.layouts at (has_is_cell young.has).end (reading_of young.cell)
-young_reads {heap} {half} {fixed} {at} begun young =
-    let is_cell = has_is_cell young.has in
-    let reading : Reading = reading_of young.cell in
-    let old = subst (λ (one : ℕ). ReadsAs heap.words (layouts_in heap.space heap.words) one is_cell.end reading)
-    young.stands is_cell.reads in
-    let words = subst (λ (words : List ℕ). ReadsAs words (layouts_in heap.space heap.words) at is_cell.end reading)
-    (sym begun.begins.before) old in
-    subst (λ (layouts : List ℕ). ReadsAs fixed.before layouts at is_cell.end reading) (sym begun.begins.layouts) words
-
--- what is read at an address is read there whatever the bound is, if anything is
-read_so : (words layouts : List ℕ) (at bound end : ℕ) (reading : Reading) (found : Option Reading)
-    → read_cell words layouts at bound ≡ found → IsSome found → ReadsAs words layouts at end reading
-    → found ≡ Some reading
-read_so words layouts at bound end reading None e is reads = cc
-read_so words layouts at bound end reading (Some other) e is reads =
-    ap (λ (one : Reading). Some one) (same_reading (cell_from words layouts at bound other e) reads)
 
 -- the cell that stood at an address before is the young cell there
 pub before_is_young : {heap : Heap} {half : ℕ} {fixed : Fixed} {at : ℕ} → IsBegun heap half fixed
-    → Contains fixed.cells at → (young : IsYoungCell heap at) → cell_before fixed at ≡ Some (reading_of young.cell)
-unfolding cell_before
-before_is_young {heap} {half} {fixed} {at} begun is young =
-    read_so fixed.before fixed.layouts at last_address (has_is_cell young.has).end (reading_of young.cell)
-    (cell_before fixed at) refl (begun.laid.cells_are at is) (young_reads begun young)
+    → (young : IsYoungCell heap at) → cell_before fixed at ≡ Some (reading_of young.cell)
+before_is_young {heap} {half} {fixed} {at} begun young =
+    let few : length heap.words ≤ 2 ^ 32 =
+    subst (λ (words : List ℕ). length words ≤ 2 ^ 32) begun.begins.before begun.laid.addressed in
+    subst (λ (one : ℕ). cell_before fixed one ≡ Some (reading_of young.cell)) young.stands
+    (cell_before_is begun.begins (low_sized heap begun.whole.sized few) young.cell (has_is_cell young.has))
 
 -- a young cell has as many words as the cell that stood there before
 pub young_size : {heap : Heap} {half : ℕ} {fixed : Fixed} {at : ℕ} → IsBegun heap half fixed
-    → Contains fixed.cells at → (young : IsYoungCell heap at) → young.cell.size ≡ size_of fixed at
-young_size begun is young = sym (ap words_in (before_is_young begun is young))
+    → (young : IsYoungCell heap at) → young.cell.size ≡ size_of fixed at
+young_size begun young = sym (ap words_in (before_is_young begun young))
 
 -- no layout word is one of a cell
 layout_in_no_cell : {heap : Heap} {half : ℕ} {fixed : Fixed} (shape : ℕ) → IsBegun heap half fixed
@@ -65,7 +44,7 @@ layout_in_no_cell {heap} {half} {fixed} shape begun known inside =
     let cell : ℕ = inside.0 in
     let at : ℕ = layouts_start heap.space + shape in
     let young = (begun.begins.cells cell).0 inside.1 in
-    let size : young.cell.size ≡ size_of fixed cell = young_size begun inside.1 young in
+    let size : young.cell.size ≡ size_of fixed cell = young_size begun young in
     let here : young.cell.at + (at - cell) ≡ at = omega (arith, young.stands, inside.2.from) in
     cells_are_apart heap.space heap.words young.cell (at - cell) (has_is_cell young.has)
     (omega (arith, size, inside.2.from, inside.2.below)) shape known here
@@ -119,13 +98,13 @@ layouts_same {heap} {half} {fixed} {words} shape begun copying known =
 
 -- a young cell that reads as before is a cell of the words
 pub young_is_cell : {heap : Heap} {half : ℕ} {fixed : Fixed} {words : List ℕ} {homes : List Home} (at : ℕ)
-    → IsBegun heap half fixed → Copying fixed words homes → Contains fixed.cells at → (young : IsYoungCell heap at)
+    → IsBegun heap half fixed → Copying fixed words homes → (young : IsYoungCell heap at)
     → read_cell words fixed.layouts at last_address ≡ cell_before fixed at → IsCell heap.space words young.cell
-young_is_cell {heap} {half} {fixed} {words} at begun copying is young same =
+young_is_cell {heap} {half} {fixed} {words} at begun copying young same =
     let is_cell = has_is_cell young.has in
     let now = subst (λ (one : ℕ). ReadsAs words fixed.layouts one last_address (reading_of young.cell))
     (sym young.stands)
-    (cell_from words fixed.layouts at last_address (reading_of young.cell) (same ∙ before_is_young begun is young)) in
+    (cell_from words fixed.layouts at last_address (reading_of young.cell) (same ∙ before_is_young begun young)) in
     record {
       end = is_cell.end;
       stands = is_cell.stands;

@@ -65,9 +65,9 @@ target_by place at begun filled is (IsFollowed.has_home home there refers before
 target_by {heap} {half} {fixed} {words} {homes} {scan} {fill} place at begun filled is
     (IsFollowed.has_none none reached no_reference same) =
     let young = (begun.begins.cells at).0 is in
-    let size : young.cell.size ≡ size_of fixed at = young_size begun is young in
+    let size : young.cell.size ≡ size_of fixed at = young_size begun young in
     let room = room_for_one at begun filled is none in
-    IsTarget.unmoved young.cell no_reference (young_is_cell at begun filled.copying is young same) young.stands size
+    IsTarget.unmoved young.cell no_reference (young_is_cell at begun filled.copying young same) young.stands size
     (omega (arith, size, room))
 
 -- each live slot that refers to what is left has a target there, and it is one of the cells
