@@ -1,1 +1,3 @@
 pub mod StartReadings
+pub mod StartRows
+pub mod StartAscends
