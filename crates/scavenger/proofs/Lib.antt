@@ -1,3 +1,5 @@
 pub mod StartReadings
 pub mod StartRows
 pub mod StartAscends
+pub mod StartSums
+pub mod StartTargets
