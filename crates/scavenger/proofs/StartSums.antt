@@ -1,5 +1,5 @@
 -- How many words the young cells have: those of survivors and the used ones of eden.
-use Rattle.std.proofs.Common.{◌≡◌, ℕ, ◌+◌, ◌≤◌, List, [], ◌∷◌, ◌++◌, map, Contains, refl, sym, ◌∙◌, ap, arith}
+use Rattle.std.proofs.Common.{◌≡◌, ℕ, ◌+◌, List, [], ◌∷◌, ◌++◌, map, Contains, refl, sym, ◌∙◌, ap, arith}
 use Rattle.std.specs.List.{All, sum_by, range_with_len}
 use Rattle.std.proofs.lemmas.List.Sums.{sum_by-cons, sum_by-append}
 use Rattle.std.proofs.lemmas.List.Elements.{All-head, All-tail}
@@ -10,7 +10,7 @@ use Rattle.page_space.specs.Extents.{Space, Stretch, Extent, each_of, half_of, h
 use Rattle.page_space.specs.Extents.{cell_stretches}
 use Rattle.cell_layout.proofs.Rows.{rows_are_full}
 use Rattle.heap_model.specs.Types.{Region, Cell}
-use Rattle.heap_model.specs.Heaps.{Heap, Row, EndsUsed, IsUsedRow, AreRows, survivors_in, survivors_of, cell_extents}
+use Rattle.heap_model.specs.Heaps.{Heap, Row, EndsUsed, IsUsedRow, survivors_in, survivors_of}
 use Rattle.heap_model.specs.Wholeness.{HasRows}
 use Rattle.scavenger.proofs.StartRows.{if_young, young_of, young_cells}
 

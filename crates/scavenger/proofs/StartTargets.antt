@@ -1,14 +1,13 @@
 -- What a slot refers to, from the first address of eden on, is a young cell.
-use Rattle.std.proofs.Common.{◌≡◌, ℕ, ◌+◌, ◌<◌, ◌≤◌, Bool, true, false, List, [], Option, Some, Contains, slice_get}
-use Rattle.std.proofs.Common.{get_or, unwrap_or, IsTrue, ℤ, refl, sym, ◌∙◌, ap, subst, inl, inr, arith}
-use Rattle.std.specs.Prelude.{slice_index, pos, negsuc}
+use Rattle.std.proofs.Common.{◌≡◌, ℕ, ◌+◌, ◌<◌, Bool, true, false, List, [], Some, Contains}
+use Rattle.std.proofs.Common.{ℤ, refl, sym, ◌∙◌, ap, subst, inl, inr, arith}
+use Rattle.std.specs.Prelude.{slice_index}
 use Rattle.std.proofs.lemmas.Option.{get_or_from_slice_get, unwrap_or-slice_get}
 use Rattle.tagged_word.specs.declared.layout.Kind.TheVariants as kind
 use Rattle.tagged_word.specs.Words.{small}
 use Rattle.tagged_word.specs.Readings.{reference_in}
 use Rattle.tagged_word.specs.Cells.{scavenge_offsets, scavenge_offsets_of}
 use Rattle.tagged_word.proofs.Readings.{reference_from}
-use Rattle.page_space.specs.Extents.{eden_start}
 use Rattle.page_space.proofs.Lists.{contains_none}
 use Rattle.cell_layout.proofs.OneCell.{slots_lie_within}
 use Rattle.handle_roots.specs.declared.held.Held.{Held}
@@ -18,7 +17,6 @@ use Rattle.heap_model.specs.Types.{Kind, Cell}
 use Rattle.heap_model.specs.Heaps.{Heap, HasCell}
 use Rattle.heap_model.specs.Slots.{reference_word, IsSlotWord, RefersTo, IsPlace}
 use Rattle.heap_model.specs.Kinds.{HasWord, IsSoundOf, IsSoundCell}
-use Rattle.heap_model.specs.Needs.{word_at}
 use Rattle.heap_model.specs.Wholeness.{Whole, IsHeld, HasSizes}
 use Rattle.heap_model.proofs.WordClasses.{same_reference, undefined_refers_not, hole_refers_not, small_refers_not}
 use Rattle.heap_model.proofs.CellsApart.{has_is_cell}
