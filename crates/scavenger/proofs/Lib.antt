@@ -9,3 +9,9 @@ pub mod FollowCopies
 pub mod FollowSlots
 pub mod FollowNewCopies
 pub mod Following
+pub mod StartRows
+pub mod StartAscends
+pub mod StartSums
+pub mod StartTargets
+pub mod StartLaid
+pub mod Started
