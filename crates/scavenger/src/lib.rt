@@ -8,8 +8,10 @@
 
 mod emptying;
 mod following;
+mod laws;
 mod scanning;
 mod scavenging;
 mod spaces;
 
+pub use laws::{laws_of_following, laws_of_scavenges, laws_of_slots};
 pub use scavenging::scavenge;
