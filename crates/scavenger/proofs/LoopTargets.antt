@@ -25,6 +25,7 @@ use Rattle.scavenger.specs.Filling.{IsFilled}
 use Rattle.scavenger.specs.Following.{IsLeft, IsTarget}
 use Rattle.scavenger.specs.Walking.{room_end, Scavenging, MayFollow, MayMove}
 use Rattle.scavenger.proofs.TargetNumbers.{room_below_roots}
+use Rattle.scavenger.proofs.FollowTiles.{fill_above}
 use Rattle.scavenger.proofs.Targets.{slots_have_targets}
 
 -- the word that is read at a slot refers where the slot does
@@ -59,11 +60,6 @@ in_the_room {heap} {half} {fixed} at begun from below =
       subst (λ (rooms : List Room). Contains rooms room) (sym begun.begins.rooms) (first_in room []),
       record { from = from; below = below },
     )
-
--- the room begins before the copies end
-pub start_before_fill : {fixed : Fixed} {words : List ℕ} {homes : List Home} {start scan fill : ℕ}
-    → IsFilled fixed words homes start scan fill → start ≤ fill
-start_before_fill filled = omega (arith, filled.long)
 
 module _ {now : Mutator} {slot fill : ℕ} (may : MayFollow now slot fill) where
   -- the regions are those of the start
@@ -121,7 +117,7 @@ module _ {now : Mutator} {slot fill : ℕ} (may : MayFollow now slot fill) where
       → fill + cell.size ≤ room_end now.seat.space (other_half now.young.half) → AreDisjoint at fill cell.size
   target_apart at cell is size room =
       let begun = may.scavenging.begun in
-      let from = start_before_fill may.scavenging.filled in
+      let from = fill_above may.scavenging.filled in
       let same = same_room in
       disjoint_by at fill cell.size (λ one at_from at_below fill_from fill_below.
       begun.laid.cell_in_no_room one

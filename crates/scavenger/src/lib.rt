@@ -7,10 +7,10 @@
 #![tactic(auto)]
 
 mod emptying;
-mod following;
 mod laws;
 mod scanning;
 mod scavenging;
+mod slots;
 mod spaces;
 
 pub use laws::{laws_of_following, laws_of_scavenges, laws_of_slots};

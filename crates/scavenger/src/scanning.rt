@@ -9,7 +9,7 @@ ghost use Rattle.heap_table.specs.declared.phase.Phase.TheVariants.{Quiet};
 ghost use Rattle.write_barrier.specs.MutatorState.{Mutator};
 ghost use Rattle.scavenger.specs.Walking.{AreSpaces, MayBegin, Scavenging, IsScanned};
 
-use crate::following::follow;
+use crate::slots::follow;
 use crate::spaces::Spaces;
 use cell_layout::{Cell, cell_at, next_scavenge_slot};
 use write_barrier::Main;

@@ -12,7 +12,7 @@ use Rattle.write_barrier.specs.MutatorState.{Mutator, with_table}
 use Rattle.scavenger.specs.Filling.{ChangesWords}
 use Rattle.scavenger.specs.Walking.{MayMove, Moves}
 use Rattle.scavenger.proofs.CodeChanges.{changes_again, put_changes, copy_changes}
-use Rattle.scavenger.proofs.following.move_cell.Goals as goal
+use Rattle.scavenger.proofs.slots.move_cell.Goals as goal
 
 -- the cell that was read is any that stands there
 is_read : (main : Mutator) (told : Space) (at : ℕ) (found cell : Cell) → told ≡ main.seat.space

@@ -10,7 +10,7 @@ use Rattle.scavenger.specs.Following.{IsLeft, Follows}
 use Rattle.scavenger.proofs.CodeChanges.{changes_again, put_changes}
 use Rattle.scavenger.proofs.LoopTargets.{refers_by, slot_before_marks, target_before_marks, has_target}
 use Rattle.scavenger.proofs.LoopFollows.{passed, failed, may_move, follows_home, follows_copy, copy_before_marks}
-use Rattle.scavenger.proofs.following.follow.Goals as goal
+use Rattle.scavenger.proofs.slots.follow.Goals as goal
 
 pub word-requires-clause-within : goal.word-requires-clause-within
 word-requires-clause-within c = slot_before_marks c.requires.may c.addresses_fit.ensures.heap_counted
