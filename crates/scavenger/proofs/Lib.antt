@@ -18,3 +18,5 @@ pub mod Started
 pub mod CodeChanges
 pub mod LoopTargets
 pub mod LoopFollows
+pub mod CodeSegments
+pub mod EmptiedSegments

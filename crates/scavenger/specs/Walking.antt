@@ -94,8 +94,9 @@ pub record EndsCopies (old new : List ℕ) (fill end : ℕ) : Type 0 where
   pub behind : fill < end → slice_get new fill ≡ Some 0
   pub others : (at : ℕ) → ((at ≡ fill) × (fill < end) → ⊥) → slice_get new at ≡ slice_get old at
 
--- the first word of each segment of a half is 0, and no other word has changed
+-- the first word of each segment of a half is 0, words that were 0 are, and no other word has changed
 pub record EmptiesSegments (space : Space) (half : ℕ) (old new : List ℕ) : Type 0 where
   pub count : length new ≡ length old
+  pub zeros : (at : ℕ) → slice_get old at ≡ Some 0 → slice_get new at ≡ Some 0
   pub starts : (at : ℕ) → IsSegmentStart space half at → slice_get new at ≡ Some 0
   pub others : (at : ℕ) → (IsSegmentStart space half at → ⊥) → slice_get new at ≡ slice_get old at

@@ -16,6 +16,8 @@ fn end_copies(main: &mut Main, fill: u32, end: u32)
     ensures ends { EndsCopies (heap_words main.old.seat) (heap_words main.new.seat) fill end }
     ensures changes { ChangesWords main.old main.new }
 {
+    // There is a word for each address before the marks.
+    main.addresses_fit();
     if fill < end {
         main.write(fill, 0);
     }

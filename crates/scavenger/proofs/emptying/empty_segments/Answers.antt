@@ -1,31 +1,45 @@
-use Rattle.std.proofs.Common.{rules, ◌≡◌, ◌+◌, ◌<◌, ◌≤◌, ℕ, ◌-◌, ◌*◌, length, ◌/◌, ◌%◌, Bool, true, false, nat_eq, nat_lt, List, [], ◌∷◌, ◌++◌, slice_index_or, slice_set, bit_and, bit_or, Fits, w8, w32, w64, Bor, MutBor}
-use Rattle.page_space.specs.Extents.{marks_start}
-use Rattle.heap_table.specs.declared.phase.Phase.TheVariants.{Quiet}
+-- The first words of a half's segments are made 0, one after another.
+use Rattle.std.proofs.Common.{◌≡◌, ◌<◌, ◌∙◌, ℕ, length, sym, ap, subst, arith}
+use Rattle.page_space.specs.declared.region.Region.TheVariants.{Segment}
+use Rattle.page_space.specs.declared.sizes.Sizes.{Sizes}
+use Rattle.page_space.specs.Extents.{Space, StartsAt, marks_start}
 use Rattle.heap_table.specs.Seats.{heap_words}
-use Rattle.scavenger.specs.Filling.{ChangesWords, IsEmptied}
-use Rattle.scavenger.specs.Walking.{EndsCopies, EmptiesSegments}
+use Rattle.scavenger.proofs.CodeChanges.{changes_again, put_changes}
+use Rattle.scavenger.proofs.CodeSegments.{segment_before_marks}
+use Rattle.scavenger.proofs.EmptiedSegments.{empties_more, empties_all}
 use Rattle.scavenger.proofs.emptying.empty_segments.Goals as goal
 
--- src/emptying.rt:33:5
-pub loop-worker-init : goal.loop-worker-init
-loop-worker-init c = ?
-
--- src/emptying.rt:34:9
-pub write-requires-clause-quiet : goal.write-requires-clause-quiet
-write-requires-clause-quiet c = ?
-
--- src/emptying.rt:34:9
 pub write-requires-clause-within : goal.write-requires-clause-within
-write-requires-clause-within c = ?
+write-requires-clause-within c =
+    let space = c.args.main.now.seat.space in
+    let Starts : Space → Type 0 = λ (one : Space). StartsAt one (Segment c.args.half c.loop-worker.worker) c.start.result in
+    let starts = subst Starts c.regions-regions.ensures.regions c.start.ensures.starts in
+    subst (λ (one : Space). c.start.result < marks_start one) (sym c.loop-worker.invariant.changes.seat.space)
+    (segment_before_marks space c.args.half c.loop-worker.worker c.start.result c.regions-regions.ensures.within starts)
 
--- src/emptying.rt:33:5
 pub loop-worker-preserved : goal.loop-worker-preserved
-loop-worker-preserved c = ?
+loop-worker-preserved c =
+    let space = c.args.main.now.seat.space in
+    let worker = c.loop-worker.worker in
+    let changes = c.loop-worker.invariant.changes in
+    let Starts : Space → Type 0 = λ (one : Space). StartsAt one (Segment c.args.half worker) c.start.result in
+    let starts = subst Starts c.regions-regions.ensures.regions c.start.ensures.starts in
+    let before = segment_before_marks space c.args.half worker c.start.result c.regions-regions.ensures.within starts in
+    let within : c.start.result < length (heap_words c.loop-worker.main.seat) =
+    omega (arith, before, changes.count, c.regions-regions.ensures.heap_counted) in
+    record {
+      changes = changes_again changes
+          (put_changes c.start.result 0 c.write.ensures.written c.write.ensures.heap
+          (subst (λ (one : Space). c.start.result < marks_start one) (sym changes.seat.space) before));
+      empties = empties_more space c.args.half worker c.start.result (heap_words c.args.main.now.seat)
+          (heap_words c.loop-worker.main.seat) (heap_words c.write.new.self.seat) c.loop-worker.invariant.empties starts
+          within c.write.ensures.heap;
+    }
 
--- src/emptying.rt:25:1
 pub returns-clause-empties : goal.returns-clause-empties
-returns-clause-empties c = ?
-
--- src/emptying.rt:25:1
-pub returns-clause-changes : goal.returns-clause-changes
-returns-clause-changes c = ?
+returns-clause-empties c =
+    let space = c.args.main.now.seat.space in
+    let helpers = ap (λ (sizes : Sizes). sizes.helpers) c.sizes-worker-end.ensures
+    ∙ ap (λ (one : Space). one.sizes.helpers) c.regions-regions.ensures.regions in
+    empties_all space c.args.half c.loop-worker.worker (heap_words c.args.main.now.seat)
+    (heap_words c.loop-worker.main.seat) c.loop-worker.invariant.empties (omega (arith, helpers))
