@@ -19,4 +19,6 @@ pub mod CodeChanges
 pub mod LoopTargets
 pub mod LoopFollows
 pub mod CodeSegments
+pub mod LoopGoing
+pub mod LoopRoots
 pub mod EmptiedSegments
