@@ -21,4 +21,5 @@ pub mod LoopFollows
 pub mod CodeSegments
 pub mod LoopGoing
 pub mod LoopRoots
+pub mod LoopCopies
 pub mod EmptiedSegments

@@ -33,6 +33,7 @@ pub(crate) fn scavenge_roots(main: &mut Main, spaces: &Spaces) -> u32
 /// The cell that the copy at an address is.
 fn copy_at(main: &mut Main, at: u32) -> Cell
     requires { (start : Mutator) × (root : ℕ) × (fill : ℕ) × Scavenging start main.old at at root fill × (at < fill) }
+    ensures at { result.at ≡ at }
     ensures scanned { (start : Mutator) (root fill : ℕ) → Scavenging start main.old at at root fill → at < fill
         → IsScanned start main.old result at root fill }
     ensures same { main.new ≡ main.old }
