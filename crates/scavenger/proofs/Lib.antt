@@ -22,4 +22,5 @@ pub mod CodeSegments
 pub mod LoopGoing
 pub mod LoopRoots
 pub mod LoopCopies
+pub mod LoopSlots
 pub mod EmptiedSegments

@@ -46,22 +46,28 @@ first_of from to (home ∷ homes) tiles less =
     let begins = tiles_begin tiles in
     record { home = home; rest = homes; is = refl; stands = begins.starts; tiles = begins.rest }
 
--- A home stands at the address where copies are to do.
-record StandsNext (fixed : Fixed) (homes : List Home) (scan : ℕ) : Type 0 where
-  home : Home
-  among : Contains homes home
-  stands : home.to ≡ scan
+-- the first of the copies that are to do, which is one of all
+pub record StandsNext (fixed : Fixed) (homes todo : List Home) (scan fill : ℕ) : Type 0 where
+  pub home : Home
+  pub among : Contains homes home
+  pub stands : home.to ≡ scan
+  pub rest : List Home
+  pub is : todo ≡ home ∷ rest
+  pub tiles : Tiles fixed (home.to + size_of fixed home.from) fill rest
 
 -- there is one where any is to do
-next_home : {fixed : Fixed} {words : List ℕ} {homes : List Home} {start scan fill : ℕ}
-    → IsFilled fixed words homes start scan fill → scan < fill → StandsNext fixed homes scan
-next_home {fixed} {words} {homes} {start} {scan} {fill} filled less =
+pub next_home : {fixed : Fixed} {words : List ℕ} {homes : List Home} {start scan fill : ℕ}
+    (filled : IsFilled fixed words homes start scan fill) → scan < fill → StandsNext fixed homes filled.todo scan fill
+next_home {scan = scan} {fill} filled less =
     let first = first_of scan fill filled.todo filled.tiles_todo less in
     let among = subst (λ (all : List Home). Contains all first.home) (sym first.is) (first_in first.home first.rest) in
     record {
       home = first.home;
       among = (filled.same first.home).1 (Contains-append_right filled.done filled.todo first.home among);
       stands = first.stands;
+      rest = first.rest;
+      is = first.is;
+      tiles = first.tiles;
     }
 
 -- what is read there, as a cell

@@ -26,6 +26,13 @@ same_spaces {old} {new} spaces changes are =
     subst (λ (space : Space). AreSpaces space new.young.half spaces) (sym changes.seat.space)
     (subst (λ (young : Young). AreSpaces old.seat.space young.half spaces) (sym changes.young) are)
 
+-- and the room that copies go to ends where it did
+pub same_room_end : {old new : Mutator} → ChangesWords old new
+    → room_end new.seat.space (other_half new.young.half) ≡ room_end old.seat.space (other_half old.young.half)
+same_room_end {old} {new} changes =
+    ap (λ (young : Young). room_end new.seat.space (other_half young.half)) changes.young
+    ∙ ap (λ (space : Space). room_end space (other_half old.young.half)) changes.seat.space
+
 -- A scavenge has gone on from one state: copies have been added, and what is to do begins elsewhere.
 pub record GoesOn {start now : Mutator} {scan reached root fill : ℕ} (before : Scavenging start now scan reached root fill)
     (new : Mutator) (next next_root behind : ℕ) : Type 0 where

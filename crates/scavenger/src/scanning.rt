@@ -2,11 +2,12 @@
 //!
 //! It is Cheney's way of 1970, in breadth: the room is the list of what is to do, since copies are
 //! looked at in the order in which they were made.
-ghost use Rattle.std.specs.Prelude.{◌≡◌, ℕ, ◌+◌, ◌<◌, ◌≤◌};
+ghost use Rattle.std.specs.Prelude.{◌≡◌, ℕ, ◌+◌, ◌<◌};
 ghost use Rattle.page_space.specs.Extents.{layouts_start};
 ghost use Rattle.cell_layout.specs.Cells.{IsSized};
 ghost use Rattle.heap_table.specs.declared.phase.Phase.TheVariants.{Quiet};
 ghost use Rattle.write_barrier.specs.MutatorState.{Mutator};
+ghost use Rattle.scavenger.specs.Filling.{ChangesWords};
 ghost use Rattle.scavenger.specs.Walking.{AreSpaces, MayBegin, Scavenging, IsScanned};
 
 use crate::slots::follow;
@@ -52,11 +53,13 @@ fn follow_slots(main: &mut Main, spaces: &Spaces, cell: &Cell, filled: u32) -> u
     ensures scavenging { (start : Mutator) (root : ℕ) →
         IsScanned start main.old cell.now cell.now.at root filled →
         let end = cell.now.at + cell.now.size in Scavenging start main.new end end root result }
-    ensures grows { filled ≤ result }
+    ensures changes { ChangesWords main.old main.new }
 {
+    // No address is past 32 bits.
+    main.addresses_fit();
     let mut fill = filled;
     let mut from = 0;
-    while let Some(offset) = next_scavenge_slot(cell, from) {
+    'slots: while let Some(offset) = next_scavenge_slot(cell, from) {
         fill = follow(main, spaces, cell.at + offset, fill);
         from = offset + 1;
     }
@@ -72,6 +75,7 @@ pub(crate) fn scavenge_copies(main: &mut Main, spaces: &Spaces, filled: u32) -> 
     ensures scavenging { (start : Mutator) (root : ℕ) →
         Scavenging start main.old spaces.now.room spaces.now.room root filled →
         Scavenging start main.new result result root result }
+    ensures changes { ChangesWords main.old main.new }
 {
     let mut fill = filled;
     let mut scan = spaces.room;
