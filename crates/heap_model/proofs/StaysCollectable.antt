@@ -10,14 +10,16 @@ use Rattle.page_space.specs.Extents.{Space, Extent, eden_start, segments_start}
 use Rattle.page_space.proofs.Covering.{disjoint}
 use Rattle.page_space.proofs.Standing.{start_of}
 use Rattle.page_space.proofs.Placed.{placed}
-use Rattle.heap_model.specs.Types.{Kind, Cell}
+use Rattle.heap_model.specs.Types.{Kind, Cell, Held}
 use Rattle.heap_model.specs.Heaps.{Heap, HasCell, words_of_cell}
 use Rattle.heap_model.specs.Slots.{is_object_kind}
 use Rattle.heap_model.specs.Wholeness.{HasRows, Whole, IsOwnedKind}
 use Rattle.heap_model.specs.Changes.{IsNewlyUsed, CellsChange, IsOwnOf, IsOwnChange}
+use Rattle.heap_model.specs.Laws.{bound}
 use Rattle.heap_model.specs.Collectable.{IsInHalf, IsCollectable, OwnChangesStayCollectable}
 use Rattle.heap_model.proofs.CellsApart.{IsOfCell, cell_extent_stands, first_of_cell, one_at}
 use Rattle.heap_model.proofs.Patches.{row_holds}
+use Rattle.heap_model.proofs.BoundHeaps.{none_in, bound_moves}
 
 -- a segment begins behind eden
 segment_behind : (space : Space) (half worker : ℕ) → segments_start space ≤ start_of space (Segment half worker)
@@ -136,4 +138,19 @@ own_changes_stay_collectable old new gone came made half whole rows change own c
                 absurd (omega (arith, (new_beside cell whole rows change own collectable there).in_no_page, below_old))
             | inr stood ↦ collectable.pages cell words stood.0 below_old
           ];
+    }
+
+-- and so does one in which a variable is bound anew
+pub bound_stays_collectable : (heap : Heap) (variable : ℕ) (one : Held) (half : ℕ) → variable < heap.space.variables
+    → Whole heap → IsCollectable heap half → IsCollectable (bound heap variable one) half
+bound_stays_collectable heap variable one half below whole collectable =
+    let new : Heap = bound heap variable one in
+    let stood : (cell : Cell) (words : List ℕ) → HasCell new cell words → HasCell heap cell words =
+    λ cell words has. elim ((bound_moves heap variable one below whole).cells.back cell words has) [
+      | inl there ↦ absurd (none_in cell there)
+      | inr was ↦ was.0
+    ] in
+    record {
+      empty = λ cell words has. collectable.empty cell words (stood cell words has);
+      pages = λ cell words has. collectable.pages cell words (stood cell words has);
     }
