@@ -2,6 +2,7 @@
 use Rattle.std.specs.Prelude.{◌≡◌, ℕ, ◌+◌, ◌↔◌, List}
 use Rattle.object_graph.specs.Graphs.{Graph}
 use Rattle.page_space.specs.Extents.{segments_start}
+use Rattle.page_space.specs.RegionLaws.{IsSpace}
 use Rattle.nursery.specs.Young.{IsYoung, turned, other_half}
 use Rattle.heap_table.specs.Seats.{RestStays, heap_words}
 use Rattle.heap_model.specs.Rooms.{Room, HasRooms}
@@ -29,6 +30,7 @@ ShownHeapsMayBegin =
 
 -- A scavenge has come to its end: all is done, the words that are left were emptied, and the nursery was turned.
 pub record IsEnded (old new : Mutator) (fixed : Fixed) (homes : List Home) (words : List ℕ) (fill : ℕ) : Type 0 where
+  pub limits : IsSpace old.seat.space
   pub begun : IsBegun (heap_of old) (other_half old.young.half) fixed
   pub filled : IsFilled fixed words homes (room_start old.seat.space (other_half old.young.half)) fill fill
   pub done : AllAreDone fixed words homes

@@ -1,0 +1,3 @@
+pub mod StartReadings
+pub mod Sums
+pub mod EndRanges
