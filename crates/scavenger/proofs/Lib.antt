@@ -1,3 +1,4 @@
 pub mod StartReadings
 pub mod Sums
 pub mod EndRanges
+pub mod EndWords
