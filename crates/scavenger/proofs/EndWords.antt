@@ -91,7 +91,7 @@ module _ {heap : Heap} {half left : ℕ} {fixed : Fixed} {homes : List Home} {wo
   copying = ending.filled.copying
 
   -- what the end is, before words are emptied
-  ended : Renaming fixed words homes × Outside fixed words × AreHoused fixed homes × HomesDisjoint fixed homes
+  pub ended : Renaming fixed words homes × Outside fixed words × AreHoused fixed homes × HomesDisjoint fixed homes
   ended = end_is_renaming fixed words homes ending.begun.laid ending.filled.copying ending.done
 
   -- there are as many words as before

@@ -2,3 +2,4 @@ pub mod StartReadings
 pub mod Sums
 pub mod EndRanges
 pub mod EndWords
+pub mod EndCopies
