@@ -3,3 +3,5 @@ pub mod Sums
 pub mod EndRanges
 pub mod EndWords
 pub mod EndCopies
+pub mod EndSums
+pub mod EndSegments
