@@ -5,3 +5,4 @@ pub mod EndWords
 pub mod EndCopies
 pub mod EndSums
 pub mod EndSegments
+pub mod EndRows

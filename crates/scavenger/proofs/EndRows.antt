@@ -1,0 +1,215 @@
+-- The row of each region at the end of a scavenge.
+use Rattle.std.proofs.Common.{◌≡◌, ◌≢◌, ℕ, ◌+◌, ◌<◌, ◌≤◌, inl, inr, List, [], length, All, Contains, slice_get}
+use Rattle.std.proofs.Common.{refl, sym, ◌∙◌, ap, subst, arith}
+use Rattle.std.proofs.lemmas.Bool.{cases_lt, cases_eq}
+use Rattle.std.proofs.lemmas.List.Elements.{All-weaker, All-contains_itself, Contains-append_left}
+use Rattle.tagged_word.proofs.Members.{in_map, map_from}
+use Rattle.heap_model.specs.Types.{Region, Cell}
+use Rattle.page_space.specs.declared.region.Region.TheVariants.{Page, Eden, Segment, Root, Layout, Mark, Board, Outside}
+use Rattle.page_space.specs.Extents.{Space, Extent, IsRegion, eden_start}
+use Rattle.page_space.proofs.CellAddresses.{page_ends}
+use Rattle.page_space.proofs.Placed.{placed}
+use Rattle.page_space.proofs.Standing.{start_of, length_of}
+use Rattle.cell_layout.specs.Cells.{IsCell, IsRow}
+use Rattle.cell_layout.specs.CellLaws.{ReadsAlike}
+use Rattle.cell_layout.proofs.Puts.{two_words}
+use Rattle.cell_layout.proofs.Rows.{rows_stay, rows_part_around, cell_within}
+use Rattle.heap_model.specs.Heaps.{Heap, Row, EndsUsed, IsUsedRow, HasCell, cell_extents, words_of_cell, survivors_in}
+use Rattle.heap_model.proofs.CellsApart.{IsOfCell, has_is_cell, first_of_cell, cell_extent_stands}
+use Rattle.heap_model.proofs.BoundHeaps.{none_in}
+use Rattle.scav_copy.specs.declared.places.Home.{Home}
+use Rattle.scav_copy.specs.Places.{Fixed}
+use Rattle.scavenger.specs.Starts.{room_start}
+use Rattle.scavenger.specs.Scavenged.{words_of_homes}
+use Rattle.scavenger.proofs.EndRanges.{are_halves, segment_within}
+use Rattle.scavenger.proofs.EndWords.{Ending, long, in_room, outside_same}
+use Rattle.scavenger.proofs.EndCopies.{CopyRow, layouts_same, copy_row}
+use Rattle.scavenger.proofs.EndSums.{adds_at, adds_there, adds_nothing}
+use Rattle.scavenger.proofs.EndSegments.{begins_empty}
+
+-- the heap at the end: eden is empty, and the survivors have so many words
+abbrev pub ended_heap : Heap → ℕ → List ℕ → Heap
+ended_heap heap survivors words = record heap { used = 0; survivors = survivors; words = words }
+
+-- Where a cell of the heap at the end is from: it stood in a page, or it is a home copy.
+pub data CameFrom (heap : Heap) (homes : List Home) (cell : Cell) : Type 0 where
+  of_page : HasCell heap cell (words_of_cell heap cell) → cell.at < eden_start heap.space → CameFrom heap homes cell
+  of_copy : (home : Home) → Contains homes home → home.to ≡ cell.at → CameFrom heap homes cell
+
+-- the row of a region at the end
+pub record EndRow (heap : Heap) (half : ℕ) (fixed : Fixed) (homes : List Home) (now : List ℕ) (extent : Extent)
+    (region : Region) : Type 0 where
+  pub end : ℕ
+  pub cells : List Cell
+  pub ends : EndsUsed (ended_heap heap (words_of_homes fixed homes) now) extent end region
+  pub stands : IsRow heap.space now extent.start end cells
+  pub survivors : survivors_in (record { extent = extent; end = end; cells = cells }) region
+      ≡ adds_at (room_start heap.space half) (words_of_homes fixed homes) extent
+  pub from : (cell : Cell) → Contains cells cell → CameFrom heap homes cell
+
+module _ {heap : Heap} {half left : ℕ} {fixed : Fixed} {homes : List Home} {words now : List ℕ} {fill : ℕ}
+    (ending : Ending heap half left fixed homes words now fill) where
+  -- a word of a page is as before
+  pub page_same : (at : ℕ) → at < eden_start heap.space → slice_get now at ≡ slice_get heap.words at
+  page_same at below =
+      let halves = are_halves heap.space half left ending.halves in
+      outside_same ending at (inl below) (λ root. omega (arith, below, root.stands, halves.from, halves.to))
+
+  -- a page ends before eden
+  page_before : (extent : Extent) (page : ℕ) → Contains (cell_extents heap.space) extent → extent.region ≡ Page page
+      → extent.start + extent.words ≤ eden_start heap.space
+  page_before extent page among is =
+      let place = placed heap.space extent (cell_extent_stands heap.space extent among) in
+      let region : IsRegion heap.space (Page page) = subst (IsRegion heap.space) is place.is_region in
+      omega (
+        arith,
+        page_ends heap.space page region,
+        ap (λ (one : Extent). one.start) place.place,
+        ap (λ (one : Extent). one.words) place.place,
+        ap (start_of heap.space) is,
+        ap (length_of heap.space) is,
+      )
+
+  -- a cell of a page is read off the same words
+  reads_alike : (cell : Cell) → IsCell heap.space heap.words cell → cell.at + cell.size ≤ eden_start heap.space
+      → 1 ≤ cell.size → ReadsAlike heap.space heap.words now cell
+  reads_alike cell is_cell below some = record {
+    first = page_same cell.at (omega arith);
+    second = λ has. page_same (cell.at + 1) (omega (arith, below, two_words heap.space heap.words cell is_cell has));
+    of_shape = layouts_same ending cell.header.shape;
+  }
+
+  -- so a row of a page stands
+  page_stands : (row : Row) → Contains (cell_extents heap.space) row.extent → IsUsedRow heap row
+      → row.end ≤ eden_start heap.space → IsRow heap.space now row.extent.start row.end row.cells
+  page_stands row among used below =
+      let start : ℕ = row.extent.start in
+      let alike = λ (cell : Cell) (there : Contains row.cells cell).
+      let has : HasCell heap cell (words_of_cell heap cell) =
+      record { row = row; in_region = among; used = used; in_row = there; words_are = refl } in
+      let within = cell_within heap.space heap.words start row.end row.cells cell used.stands there in
+      let first = (first_of_cell has).below in
+      reads_alike cell (has_is_cell has) (omega (arith, within.1, below)) (omega arith) in
+      rows_stay heap.space heap.words now start row.end row.cells used.stands (long ending)
+      (All-weaker (Contains row.cells) (ReadsAlike heap.space heap.words now) alike row.cells
+      (All-contains_itself row.cells))
+
+  -- the copies stand in a row from the start of the room on
+  pub copies : CopyRow heap.space now (room_start heap.space half) fill ending.filled.done
+  copies =
+      let filled = ending.filled in
+      copy_row ending filled.done filled.tiles_done
+      (λ home there. (filled.same home).1 (Contains-append_left filled.done filled.todo home there))
+
+  -- each of the cells is a home copy
+  copy_from : (cell : Cell) → Contains copies.cells cell → CameFrom heap homes cell
+  copy_from cell there =
+      let filled = ending.filled in
+      let at_home = subst (λ all. Contains all cell.at) copies.stand
+      (in_map (λ (one : Cell). one.at) copies.cells cell there) in
+      let found = map_from (λ (home : Home). home.to) filled.done cell.at at_home in
+      CameFrom.of_copy found.0 ((filled.same found.0).1 (Contains-append_left filled.done filled.todo found.0 found.1))
+      found.2
+
+  -- a page has the row that it had
+  page_row : (row : Row) (page : ℕ) → Contains (cell_extents heap.space) row.extent → IsUsedRow heap row
+      → row.extent.region ≡ Page page → EndsUsed heap row.extent row.end (Page page)
+      → EndRow heap half fixed homes now row.extent (Page page)
+  page_row row page among used is ends =
+      let below = page_before row.extent page among is in
+      let halves = are_halves heap.space half left ending.halves in
+      let start : ℕ = room_start heap.space half in
+      record {
+        end = row.end;
+        cells = row.cells;
+        ends = ends;
+        stands = page_stands row among used (omega (arith, ends, below));
+        survivors = sym (adds_nothing start (words_of_homes fixed homes) row.extent
+            (λ same. omega (arith, same, below, halves.room_from, halves.from, ending.limits.young_is_least)));
+        from = λ cell there.
+            let has : HasCell heap cell (words_of_cell heap cell) =
+            record { row = row; in_region = among; used = used; in_row = there; words_are = refl } in
+            let within = cell_within heap.space heap.words row.extent.start row.end row.cells cell used.stands there in
+            CameFrom.of_page has (omega (arith, within.1, below, ends, (first_of_cell has).below));
+      }
+
+  -- eden is empty
+  eden_row : (extent : Extent) → Contains (cell_extents heap.space) extent → extent.region ≡ Eden
+      → EndRow heap half fixed homes now extent Eden
+  eden_row extent among is =
+      let place = placed heap.space extent (cell_extent_stands heap.space extent among) in
+      let starts : extent.start ≡ eden_start heap.space =
+      ap (λ (one : Extent). one.start) place.place ∙ ap (start_of heap.space) is in
+      let halves = are_halves heap.space half left ending.halves in
+      record {
+        end = extent.start;
+        cells = [];
+        ends = omega arith;
+        stands = IsRow.none extent.start;
+        survivors = sym (adds_nothing (room_start heap.space half) (words_of_homes fixed homes) extent
+            (λ same. omega (arith, same, starts, halves.room_from, halves.from, ending.limits.young_is_least)));
+        from = λ cell there. absurd (none_in cell there);
+      }
+
+  -- the room has the copies
+  room_row : (extent : Extent) (of worker : ℕ) → Contains (cell_extents heap.space) extent
+      → extent.region ≡ Segment of worker → extent.start ≡ room_start heap.space half
+      → EndRow heap half fixed homes now extent (Segment of worker)
+  room_row extent of worker among is same =
+      let within = segment_within heap.space extent of worker (cell_extent_stands heap.space extent among) is in
+      let end = in_room ending in
+      record {
+        end = fill;
+        cells = copies.cells;
+        ends = (omega (arith, end, same, within.long), elim (cases_lt fill (room_start heap.space half + heap.space.sizes.young)) [
+          | inl below ↦ inr (ending.emptied.behind below)
+          | inr past ↦ inl (omega (arith, end, past, same, within.long))
+        ]);
+        stands = subst (λ start. IsRow heap.space now start fill copies.cells) (sym same) copies.row;
+        survivors = omega (
+          arith,
+          adds_there (room_start heap.space half) (words_of_homes fixed homes) extent same,
+          same,
+          ending.filled.long,
+        );
+        from = copy_from;
+      }
+
+  -- any other segment is empty
+  other_row : (row : Row) (of worker : ℕ) → Contains (cell_extents heap.space) row.extent → IsUsedRow heap row
+      → row.extent.region ≡ Segment of worker → EndsUsed heap row.extent row.end (Segment of worker)
+      → row.extent.start ≢ room_start heap.space half
+      → EndRow heap half fixed homes now row.extent (Segment of worker)
+  other_row row of worker among used is ends other = record {
+    end = row.extent.start;
+    cells = [];
+    ends = (omega arith, inr (begins_empty ending row of worker among used is ends other));
+    stands = IsRow.none row.extent.start;
+    survivors = omega (
+      arith,
+      adds_nothing (room_start heap.space half) (words_of_homes fixed homes) row.extent other,
+    );
+    from = λ cell there. absurd (none_in cell there);
+  }
+
+  -- the row of a region, kind by kind
+  row_of_kind : (row : Row) (region : Region) → Contains (cell_extents heap.space) row.extent → IsUsedRow heap row
+      → row.extent.region ≡ region → EndsUsed heap row.extent row.end region
+      → EndRow heap half fixed homes now row.extent region
+  row_of_kind row (Page page) among used is ends = page_row row page among used is ends
+  row_of_kind row Eden among used is ends = eden_row row.extent among is
+  row_of_kind row (Segment of worker) among used is ends =
+      elim (cases_eq row.extent.start (room_start heap.space half)) [
+        | inl same ↦ room_row row.extent of worker among is same
+        | inr other ↦ other_row row of worker among used is ends other
+      ]
+  row_of_kind row (Root variable) among used is ends = absurd ends
+  row_of_kind row (Layout shape) among used is ends = absurd ends
+  row_of_kind row (Mark mark) among used is ends = absurd ends
+  row_of_kind row (Board place) among used is ends = absurd ends
+  row_of_kind row Outside among used is ends = absurd ends
+
+  -- the row of the region of a row
+  pub row_after : (row : Row) → Contains (cell_extents heap.space) row.extent → IsUsedRow heap row
+      → EndRow heap half fixed homes now row.extent row.extent.region
+  row_after row among used = row_of_kind row row.extent.region among used refl used.ends
