@@ -110,17 +110,21 @@ module _ {heap : Heap} {half left : ℕ} {fixed : Fixed} {homes : List Home} {wo
   pub in_room : fill ≤ room_start heap.space half + heap.space.sizes.young
   in_room = omega (arith, few, ending.begun.whole.rows.few)
 
-  -- each home copy lies in the filled part of the room
-  pub home_tile : (home : Home) → Contains homes home → IsTile fixed (room_start heap.space half) fill home
-  home_tile home there =
+  -- no home copy is to do
+  pub home_done : (home : Home) → Contains homes home → Contains ending.filled.done home
+  home_done home there =
       let filled = ending.filled in
       elim (Contains-append_cases filled.done filled.todo home ((filled.same home).0 there)) [
-        | inl done ↦ tile filled.done home filled.tiles_done done
+        | inl done ↦ done
         | inr todo ↦
             let rest = tile filled.todo home filled.tiles_todo todo in
             let some = some_words home.from ending.begun.laid (from_is home ending.filled.copying there) in
             absurd (omega (arith, rest.from, rest.to, some))
       ]
+
+  -- each lies in the filled part of the room
+  pub home_tile : (home : Home) → Contains homes home → IsTile fixed (room_start heap.space half) fill home
+  home_tile home there = tile ending.filled.done home ending.filled.tiles_done (home_done home there)
 
   -- a word that was not emptied is as it was
   pub kept : (at : ℕ) → at ≢ fill ⊎ (room_start heap.space half + heap.space.sizes.young ≤ at)
