@@ -27,9 +27,10 @@ use Rattle.scavenger.proofs.EndCopies.{CopyRow, layouts_same, copy_row}
 use Rattle.scavenger.proofs.EndSums.{adds_at, adds_there, adds_nothing}
 use Rattle.scavenger.proofs.EndSegments.{begins_empty}
 
--- the heap at the end: eden is empty, and the survivors have so many words
-abbrev pub ended_heap : Heap → ℕ → List ℕ → Heap
-ended_heap heap survivors words = record heap { used = 0; survivors = survivors; words = words }
+-- the heap at the end: eden is empty, and the survivors are the home copies
+abbrev pub ended_heap : Heap → Fixed → List Home → List ℕ → Heap
+ended_heap heap fixed homes words =
+    record heap { used = 0; survivors = words_of_homes fixed homes; words = words }
 
 -- Where a cell of the heap at the end is from: it stood in a page, or it is a home copy.
 pub data CameFrom (heap : Heap) (homes : List Home) (cell : Cell) : Type 0 where
@@ -41,7 +42,7 @@ pub record EndRow (heap : Heap) (half : ℕ) (fixed : Fixed) (homes : List Home)
     (region : Region) : Type 0 where
   pub end : ℕ
   pub cells : List Cell
-  pub ends : EndsUsed (ended_heap heap (words_of_homes fixed homes) now) row.extent end region
+  pub ends : EndsUsed (ended_heap heap fixed homes now) row.extent end region
   pub stands : IsRow heap.space now row.extent.start end cells
   pub survivors : survivors_in (record { extent = row.extent; end = end; cells = cells }) region
       ≡ adds_at (room_start heap.space half) (words_of_homes fixed homes) row.extent

@@ -6,3 +6,4 @@ pub mod EndCopies
 pub mod EndSums
 pub mod EndSegments
 pub mod EndRows
+pub mod EndHeap
