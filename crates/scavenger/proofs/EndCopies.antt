@@ -22,9 +22,10 @@ use Rattle.scav_copy.proofs.Reading.{copies_read, copies_end}
 use Rattle.scav_copy.proofs.Spots.{from_is, slot_in_cell}
 use Rattle.scavenger.specs.Starts.{IsYoungCell, IsRootAt, room_start}
 use Rattle.scavenger.specs.Filling.{Tiles}
-use Rattle.scavenger.proofs.StartReadings.{low_within, cell_before_is}
+use Rattle.scavenger.proofs.TargetCells.{before_is_young, young_size}
+use Rattle.scavenger.proofs.FollowTiles.{copy_within}
 use Rattle.scavenger.proofs.EndRanges.{are_halves, room_extent, room_starts, room_among}
-use Rattle.scavenger.proofs.EndWords.{Ending, ended, long, in_room, home_tile, kept, young_size, outside_same, same_read}
+use Rattle.scavenger.proofs.EndWords.{Ending, ended, in_room, kept, outside_same, same_read}
 
 -- a length is read of equal second words, where there is one
 same_length : (has : Bool) (second other : Option ℕ) (long : ℕ) → (IsTrue has → other ≡ second)
@@ -45,12 +46,12 @@ module _ {heap : Heap} {half left : ℕ} {fixed : Fixed} {homes : List Home} {wo
       → home.to + offset ≡ at → slice_get now at ≡ slice_get words at
   copy_kept home offset at there less is =
       let halves = are_halves heap.space half left ending.halves in
-      let lies = home_tile ending home there in
+      let lies = copy_within home ending.filled there in
       let end = in_room ending in
-      kept ending at (inl (λ same. omega (arith, same, lies.to, less)))
+      kept ending at (inl (λ same. omega (arith, same, lies.1, less)))
       (elim halves.apart [
-        | inl before ↦ inl (omega (arith, before, lies.to, less, end, halves.room_to))
-        | inr behind ↦ inr (omega (arith, behind, lies.from, halves.room_from))
+        | inl before ↦ inl (omega (arith, before, lies.1, less, end, halves.room_to))
+        | inr behind ↦ inr (omega (arith, behind, lies.0, halves.room_from))
       ])
 
   -- so it reads as it did
@@ -117,7 +118,7 @@ module _ {heap : Heap} {half left : ℕ} {fixed : Fixed} {homes : List Home} {wo
   room_ends : (home : Home) → Contains homes home
       → CellsEndAt heap.space home.to (room_start heap.space half + heap.space.sizes.young)
   room_ends home there =
-      let lies = home_tile ending home there in
+      let lies = copy_within home ending.filled there in
       let start = room_starts heap.space half in
       let is = young_of home there in
       record {
@@ -125,13 +126,13 @@ module _ {heap : Heap} {half left : ℕ} {fixed : Fixed} {homes : List Home} {wo
         stands = cell_extent_stands heap.space (room_extent heap.space half) (room_among heap.space half left ending.halves);
         of_cells = refl;
         holds = record {
-          from = omega (arith, start, lies.from);
+          from = omega (arith, start, lies.0);
           below = omega (
             arith,
             start,
-            lies.to,
+            lies.1,
             in_room ending,
-            young_size ending home.from is,
+            young_size ending.begun is,
             (first_of_cell is.has).below,
           );
         };
@@ -143,20 +144,18 @@ module _ {heap : Heap} {half left : ℕ} {fixed : Fixed} {homes : List Home} {wo
       → ReadsAs words fixed.layouts home.to (room_start heap.space half + heap.space.sizes.young) (reading_of is.cell)
   copy_reads home there is =
       let end : ℕ = room_start heap.space half + heap.space.sizes.young in
-      let low = low_within heap.space ending.limits in
-      let lies = home_tile ending home there in
+      let lies = copy_within home ending.filled there in
       cell_from words fixed.layouts home.to end (reading_of is.cell)
       (copies_read fixed words homes home end ending.begun.laid ending.filled.copying there
-      (omega (arith, lies.to, in_room ending))
-      ∙ ap (cell_before fixed) (sym is.stands)
-      ∙ cell_before_is ending.begun.begins low is.cell (has_is_cell is.has))
+      (omega (arith, lies.1, in_room ending))
+      ∙ before_is_young ending.begun is)
 
   -- a home copy is its cell
   pub copy_cell : (home : Home) (there : Contains homes home) (is : IsYoungCell heap home.from)
       → IsCell heap.space now (moved_to is.cell home.to)
   copy_cell home there is =
       let reads = copy_reads home there is in
-      let size = young_size ending home.from is in
+      let size = young_size ending.begun is in
       let of_layouts : (shape : ℕ)
       → slice_get fixed.layouts shape ≡ slice_get (layouts_in heap.space heap.words) shape =
       λ shape. ap (λ all. slice_get all shape) ending.begun.begins.layouts in
@@ -193,7 +192,7 @@ module _ {heap : Heap} {half left : ℕ} {fixed : Fixed} {homes : List Home} {wo
       record {
         cells = cell ∷ rest.cells;
         row = IsRow.next cell end rest.cells (copy_cell home there is)
-            (subst (λ size. IsRow heap.space now (home.to + size) end rest.cells) (young_size ending home.from is)
+            (subst (λ size. IsRow heap.space now (home.to + size) end rest.cells) (sym (young_size ending.begun is))
             rest.row);
         stand = ap (λ more. home.to ∷ more) rest.stand;
       }

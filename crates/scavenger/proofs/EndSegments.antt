@@ -18,8 +18,9 @@ use Rattle.scav_copy.specs.declared.places.Home.{Home}
 use Rattle.scav_copy.specs.Places.{Fixed, IsInCells, IsInRooms}
 use Rattle.scavenger.specs.Starts.{IsRootAt, room_start}
 use Rattle.scavenger.specs.Following.{half_start, half_end}
+use Rattle.scavenger.proofs.TargetCells.{one_room}
 use Rattle.scavenger.proofs.EndRanges.{are_halves, segment_within, room_extent, room_starts, room_among}
-use Rattle.scavenger.proofs.EndWords.{Ending, cells_hold, room_holds, in_room, kept, outside_kept}
+use Rattle.scavenger.proofs.EndWords.{Ending, cells_hold, in_room, kept, outside_kept}
 
 -- a row with no cell ends where it begins
 none_end : {space : Space} {words : List ℕ} {from to : ℕ} (cells : List Cell) → IsRow space words from to cells
@@ -106,7 +107,7 @@ module _ {heap : Heap} {half left : ℕ} {fixed : Fixed} {homes : List Home} {wo
       ∙ outside_kept ending extent.start (none_of_cells extent worker extent.start among is first)
       (λ slot. let root = (ending.begun.begins.slots extent.start).0 slot in
       omega (arith, root.stands, within.to, halves.to, some, within.long))
-      (λ inside. no_room (room_holds ending extent.start inside))
+      (λ inside. no_room (one_room extent.start ending.begun inside))
 
   -- behind no cell of the half with the room a 0 stood
   was_empty : (row : Row) (worker : ℕ) → Contains (cell_extents heap.space) row.extent → IsUsedRow heap row

@@ -22,7 +22,8 @@ use Rattle.scavenger.specs.Starts.{IsBegun, IsRootAt, IsYoungCell, room_start, r
 use Rattle.scavenger.specs.Filling.{Tiles, IsFilled, AllAreDone, IsSegmentStart, IsEmptied}
 use Rattle.scavenger.specs.Following.{half_start, half_end}
 use Rattle.scavenger.proofs.Sums.{few_filled}
-use Rattle.scavenger.proofs.StartReadings.{low_within, size_is}
+use Rattle.scavenger.proofs.TargetCells.{young_size, one_room}
+use Rattle.scavenger.proofs.FollowTiles.{tile_within}
 use Rattle.scavenger.proofs.EndRanges.{are_halves, start_within}
 
 -- all is done, and the words that are left were emptied
@@ -34,29 +35,6 @@ pub record Ending (heap : Heap) (half left : ℕ) (fixed : Fixed) (homes : List 
   pub filled : IsFilled fixed words homes (room_start heap.space half) fill fill
   pub done : AllAreDone fixed words homes
   pub emptied : IsEmptied heap.space left fill (room_start heap.space half + heap.space.sizes.young) words now
-
--- the copies lie between the ends of their stretch
-pub record IsTile (fixed : Fixed) (start end : ℕ) (home : Home) : Type 0 where
-  pub from : start ≤ home.to
-  pub to : home.to + size_of fixed home.from ≤ end
-
--- the stretch of tiles ends where it begins, or behind that
-pub tiles_ascend : {fixed : Fixed} {start end : ℕ} (homes : List Home) → Tiles fixed start end homes → start ≤ end
-tiles_ascend _ (Tiles.none at) = omega arith
-tiles_ascend _ (Tiles.next home end homes tiles) = omega (arith, tiles_ascend homes tiles)
-
--- each of them lies there
-pub tile : {fixed : Fixed} {start end : ℕ} (homes : List Home) (home : Home) → Tiles fixed start end homes
-    → Contains homes home → IsTile fixed start end home
-tile _ home (Tiles.none at) there = absurd (none_in home there)
-tile {fixed} {end = end} _ home (Tiles.next first end' homes tiles) there =
-    let behind : first.to + size_of fixed first.from ≤ end = tiles_ascend homes tiles in
-    elim (in_cases first homes home there) [
-      | inl same ↦ subst (IsTile fixed first.to end) same record { from = omega arith; to = behind }
-      | inr later ↦
-          let rest = tile homes home tiles later in
-          record { from = omega (arith, rest.from); to = rest.to }
-    ]
 
 -- equal words, as they are found
 pub same_found : (words other : List ℕ) (at : ℕ) → length other ≡ length words → get_or other at 0 ≡ get_or words at 0
@@ -86,10 +64,6 @@ pub record IsOfYoung (heap : Heap) (at : ℕ) : Type 0 where
 
 module _ {heap : Heap} {half left : ℕ} {fixed : Fixed} {homes : List Home} {words now : List ℕ} {fill : ℕ}
     (ending : Ending heap half left fixed homes words now fill) where
-  -- words and homes between two slots
-  copying : Copying fixed words homes
-  copying = ending.filled.copying
-
   -- what the end is, before words are emptied
   pub ended : Renaming fixed words homes × Outside fixed words × AreHoused fixed homes × HomesDisjoint fixed homes
   ended = end_is_renaming fixed words homes ending.begun.laid ending.filled.copying ending.done
@@ -117,14 +91,10 @@ module _ {heap : Heap} {half left : ℕ} {fixed : Fixed} {homes : List Home} {wo
       elim (Contains-append_cases filled.done filled.todo home ((filled.same home).0 there)) [
         | inl done ↦ done
         | inr todo ↦
-            let rest = tile filled.todo home filled.tiles_todo todo in
+            let rest = tile_within fill fill filled.todo home filled.tiles_todo todo in
             let some = some_words home.from ending.begun.laid (from_is home ending.filled.copying there) in
-            absurd (omega (arith, rest.from, rest.to, some))
+            absurd (omega (arith, rest.0, rest.1, some))
       ]
-
-  -- each lies in the filled part of the room
-  pub home_tile : (home : Home) → Contains homes home → IsTile fixed (room_start heap.space half) fill home
-  home_tile home there = tile ending.filled.done home ending.filled.tiles_done (home_done home there)
 
   -- a word that was not emptied is as it was
   pub kept : (at : ℕ) → at ≢ fill ⊎ (room_start heap.space half + heap.space.sizes.young ≤ at)
@@ -139,27 +109,11 @@ module _ {heap : Heap} {half left : ℕ} {fixed : Fixed} {homes : List Home} {wo
             | inr behind ↦ omega (arith, within.1, behind, ending.limits.young_is_least)
           ])
 
-  -- an address of a room is one of the room of copies
-  pub room_holds : (at : ℕ) → IsInRooms fixed at
-      → (room_start heap.space half ≤ at) × (at < room_start heap.space half + heap.space.sizes.young)
-  room_holds at inside =
-      let Has : List Room → Type 0 = λ rooms. Contains rooms inside.0 in
-      let same : room_of heap.space half ≡ inside.0 =
-      one_in (room_of heap.space half) inside.0 (subst Has ending.begun.begins.rooms inside.1) in
-      let In : Room → Type 0 = λ room. (room.from ≤ at) × (at < room.to) in
-      subst In (sym same) (inside.2.from, inside.2.below)
-
-  -- the size of a young cell is the one that was read
-  pub young_size : (young : ℕ) (is : IsYoungCell heap young) → size_of fixed young ≡ is.cell.size
-  young_size young is =
-      ap (size_of fixed) (sym is.stands)
-      ∙ size_is ending.begun.begins (low_within heap.space ending.limits) is.cell (has_is_cell is.has)
-
   -- an address of the cells is one of a young cell
   pub cells_hold : (at : ℕ) → IsInCells fixed at → IsOfYoung heap at
   cells_hold at inside =
       let is = (ending.begun.begins.cells inside.0).0 inside.1 in
-      let size = young_size inside.0 is in
+      let size = young_size ending.begun is in
       record {
         cell = is.cell;
         words = is.words;
@@ -191,7 +145,7 @@ module _ {heap : Heap} {half left : ℕ} {fixed : Fixed} {homes : List Home} {wo
         | inr behind ↦ omega (arith, behind, below, is.of_cell.below)
       ] in
       let no_room : IsInRooms fixed at → ⊥ = λ inside.
-      let holds = room_holds at inside in
+      let holds = one_room at ending.begun inside in
       elim apart [
         | inl page ↦ omega (arith, page, holds.0, halves.room_from, halves.from)
         | inr behind ↦ omega (arith, behind, holds.1, halves.room_to, halves.to)

@@ -1,5 +1,5 @@
 -- What the words before a scavenge read as at the address of a cell: the cell, and so its size and its slots.
-use Rattle.std.proofs.Common.{◌≡◌, ℕ, ◌+◌, ◌≤◌, ◌^◌, List, length, Some, Contains, ap, subst, sym, ◌∙◌, arith}
+use Rattle.std.proofs.Common.{◌≡◌, ℕ, ◌≤◌, ◌^◌, List, length, Some, ap, ◌∙◌, arith}
 use Rattle.tagged_word.specs.Cells.{scavenge_offsets}
 use Rattle.tagged_word.specs.Readings.{read_cell}
 use Rattle.tagged_word.proofs.CellReadings.{cell_to}

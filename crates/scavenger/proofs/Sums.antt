@@ -1,7 +1,7 @@
 -- How many words home copies have together: no more than the cells, and room is left for one that has no home.
-use Rattle.std.proofs.Common.{ℕ, suc, ◌+◌, ◌<◌, ◌≤◌, ◌≡◌, ◌≢◌, ◌⊎◌, inl, inr, List, [], ◌∷◌, length, sum_by}
-use Rattle.std.proofs.Common.{arith, refl, sym, ap, subst, ◌∙◌}
-use Rattle.std.specs.List.{All, AllPairs, Contains}
+use Rattle.std.proofs.Common.{ℕ, suc, ◌+◌, ◌<◌, ◌≤◌, ◌≡◌, ◌⊎◌, inl, inr, List, [], ◌∷◌, sum_by}
+use Rattle.std.proofs.Common.{arith, ap, subst}
+use Rattle.std.specs.List.{AllPairs, Contains}
 use Rattle.std.proofs.lemmas.List.Sums.{sum_by-cons}
 use Rattle.tagged_word.proofs.Members.{first_in, rest_in, in_cases}
 use Rattle.scav_copy.specs.declared.places.Home.{Home}
@@ -13,7 +13,7 @@ use Rattle.scavenger.specs.Starts.{IsBegun, room_start}
 use Rattle.scavenger.specs.Filling.{IsFilled}
 use Rattle.heap_model.specs.Heaps.{Heap}
 
--- the first one stands so to each later one
+-- the first of a list is related to each later one, where all pairs are related
 first_to : {X : Type 0} (R : X → X → Type 0) (x y : X) (xs : List X) → AllPairs R (x ∷ xs) → Contains xs y → R x y
 first_to R x y xs pairs (k, l, e) = subst (R x) e (pairs 0 (suc k) y (omega arith) (omega arith))
 
@@ -33,7 +33,7 @@ sum_of_homes measure homes = sum_by (λ home. measure home.from) homes
 abbrev pub AreOf : List ℕ → List Home → Type 0
 AreOf cells homes = (home : Home) → Contains homes home → Contains cells home.from
 
--- one of two numbers stands first, or it is among the later ones
+-- a number that is not the first one is among the later ones
 among_later : (cell other : ℕ) (cells : List ℕ) → cell < other → (cell ≡ other) ⊎ Contains cells other
     → Contains cells other
 among_later cell other cells less (inl e) = absurd (omega (arith, less, e))
@@ -51,14 +51,14 @@ behind_first : (home : Home) (homes : List Home) (other : Home) → Ascends (hom
 behind_first home homes other ascend there =
     first_to (λ (one other : Home). one.from < other.from) home other homes ascend there
 
--- so they are of the later cells, where the first home is of the first cell
+-- the homes behind one of the first cell are of the later cells
 rest_are : (cell : ℕ) (cells : List ℕ) (home : Home) (homes : List Home) → cell ≡ home.from → Ascends (home ∷ homes)
     → AreOf (cell ∷ cells) (home ∷ homes) → AreOf cells homes
 rest_are cell cells home homes e ascend are =
     later_are cell cells homes (λ other there. are other (rest_in home homes other there)) (λ other there.
     let less : home.from < other.from = behind_first home homes other ascend there in omega (arith, less, e))
 
--- one of the first home and those behind it is of a cell that is no earlier
+-- neither the first home nor one behind it is of an earlier cell than the first
 not_before : (home other : Home) (homes : List Home) → Ascends (home ∷ homes) → (home ≡ other) ⊎ Contains homes other
     → home.from ≤ other.from
 not_before home other homes ascend (inl e) =
@@ -66,9 +66,10 @@ not_before home other homes ascend (inl e) =
 not_before home other homes ascend (inr there) =
     let less : home.from < other.from = behind_first home homes other ascend there in omega (arith, less)
 
--- and all homes are of the later cells, where the first one is
+-- all homes are of the later cells, where the first one is
 all_are : (cell : ℕ) (cells : List ℕ) (home : Home) (homes : List Home) → NumbersAscend (cell ∷ cells)
-    → Contains cells home.from → Ascends (home ∷ homes) → AreOf (cell ∷ cells) (home ∷ homes) → AreOf cells (home ∷ homes)
+    → Contains cells home.from → Ascends (home ∷ homes) → AreOf (cell ∷ cells) (home ∷ homes)
+    → AreOf cells (home ∷ homes)
 all_are cell cells home homes ascend is homes_ascend are =
     let less : cell < home.from = first_to (λ (one other : ℕ). one < other) cell home.from cells ascend is in
     later_are cell cells (home ∷ homes) are (λ other there.
@@ -79,7 +80,8 @@ all_are cell cells home homes ascend is homes_ascend are =
 pub few_homes : (measure : ℕ → ℕ) (cells : List ℕ) (homes : List Home) → NumbersAscend cells → Ascends homes
     → AreOf cells homes → sum_of_homes measure homes ≤ sum_by measure cells
 few_homes measure [] [] ascend homes_ascend are = omega arith
-few_homes measure [] (home ∷ homes) ascend homes_ascend are = absurd (none_in home.from (are home (first_in home homes)))
+few_homes measure [] (home ∷ homes) ascend homes_ascend are =
+    absurd (none_in home.from (are home (first_in home homes)))
 few_homes measure (cell ∷ cells) [] ascend homes_ascend are = omega arith
 few_homes measure (cell ∷ cells) (home ∷ homes) ascend homes_ascend are =
     let all : sum_by measure (cell ∷ cells) ≡ measure cell + sum_by measure cells = sum_by-cons measure cell cells in
@@ -160,7 +162,7 @@ few_with_one {heap} {half} {fixed} {words} {homes} {scan} {fill} cell begun fill
     let long : room_start heap.space half + sum_of_homes (size_of fixed) homes ≡ fill = filled.long in
     omega (arith, few, more, long, begun.counted)
 
--- so it ends in the room
+-- the copy of a cell that has no home ends in the room
 pub room_for_one : {heap : Heap} {half : ℕ} {fixed : Fixed} {words : List ℕ} {homes : List Home} {scan fill : ℕ}
     (cell : ℕ) → IsBegun heap half fixed → IsFilled fixed words homes (room_start heap.space half) scan fill
     → Contains fixed.cells cell → HasNoHome homes cell

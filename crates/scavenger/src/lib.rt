@@ -9,5 +9,5 @@
 mod laws;
 mod scavenging;
 
-pub use laws::laws_of_scavenges;
+pub use laws::{laws_of_ends, laws_of_following, laws_of_scavenges, laws_of_slots};
 pub use scavenging::scavenge;
