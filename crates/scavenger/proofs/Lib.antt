@@ -22,3 +22,4 @@ pub mod EndSums
 pub mod EndSegments
 pub mod EndRows
 pub mod EndHeap
+pub mod EndPlaces
