@@ -23,3 +23,4 @@ pub mod EndSegments
 pub mod EndRows
 pub mod EndHeap
 pub mod EndPlaces
+pub mod EndStands

@@ -92,7 +92,7 @@ kind_to_cell kind.Filler offset word at sized has of_kind sound there slot is = 
 kind_to_cell kind.Gap offset word at sized has of_kind sound there slot is = contains_none [] offset refl there
 
 -- the word of a slot of a cell, as it is read at its address
-word_reads : {heap : Heap} {cell : Cell} {words : List ℕ} (offset word : ℕ) → HasCell heap cell words
+pub word_reads : {heap : Heap} {cell : Cell} {words : List ℕ} (offset word : ℕ) → HasCell heap cell words
     → HasWord words offset word → slice_index heap.words (cell.at + offset) ≡ word
 word_reads {heap} {cell} offset word has there =
     sym (unwrap_or-slice_get heap.words (cell.at + offset) 0) ∙ word_of_cell offset word has there
