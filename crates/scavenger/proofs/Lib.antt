@@ -24,3 +24,5 @@ pub mod EndRows
 pub mod EndHeap
 pub mod EndPlaces
 pub mod EndStands
+pub mod EndMoved
+pub mod Ended

@@ -39,10 +39,10 @@ pub record IsEnded (old new : Mutator) (fixed : Fixed) (homes : List Home) (word
   pub paths : new.paths ≡ old.paths
   pub young : new.young ≡ turned old.young (words_of_homes fixed homes)
 
--- Then it is a scavenge, and the heap that is left shows the graph, with the same rooms, and may be scavenged again.
+-- Then it is a scavenge, and the heap that is left shows the graph, with the same rooms.
 abbrev pub EndsAreScavenges : Type 0
 EndsAreScavenges =
     (old new : Mutator) (graph : Graph) (fixed : Fixed) (homes : List Home) (words : List ℕ) (fill : ℕ)
     → MainShows old graph → IsYoung old.young → IsEnded old new fixed homes words fill
-    → Scavenges old new × MainShows new graph × IsCollectable (heap_of new) (other_half new.young.half)
+    → Scavenges old new × MainShows new graph
     × ((rooms : ℕ → Room) → HasRooms (heap_of old) graph rooms ↔ HasRooms (heap_of new) graph rooms)
