@@ -1,5 +1,5 @@
 -- The home copies at the end of a scavenge: their words, the cells that they are, and the row that these stand in.
-use Rattle.std.proofs.Common.{◌≡◌, ◌≢◌, ℕ, ◌+◌, ◌<◌, ◌≤◌, inl, inr, Bool, true, false, IsTrue, List, [], ◌∷◌, length}
+use Rattle.std.proofs.Common.{◌≡◌, ℕ, ◌+◌, ◌<◌, inl, inr, Bool, true, false, IsTrue, List, [], ◌∷◌}
 use Rattle.std.proofs.Common.{map, Contains, Option, Some, slice_get, get_or, refl, sym, ◌∙◌, ap, subst, arith}
 use Rattle.std.proofs.lemmas.Bool.{cases_lt}
 use Rattle.tagged_word.specs.Shapes.{shapes_most}
@@ -12,11 +12,11 @@ use Rattle.cell_layout.specs.Cells.{IsCell, IsRow, reading_of, layouts_in}
 use Rattle.cell_layout.proofs.CellsThere.{slice_get-layouts_in, slice_get-layouts_past}
 use Rattle.cell_layout.proofs.Puts.{two_words}
 use Rattle.heap_model.specs.Types.{Cell}
-use Rattle.heap_model.specs.Heaps.{Heap, HasCell}
+use Rattle.heap_model.specs.Heaps.{Heap}
 use Rattle.heap_model.proofs.CellsApart.{has_is_cell, first_of_cell, cell_extent_stands}
 use Rattle.heap_moves.specs.Moved.{moved_to}
 use Rattle.scav_copy.specs.declared.places.Home.{Home}
-use Rattle.scav_copy.specs.Places.{Fixed, cell_before, size_of, offsets_of}
+use Rattle.scav_copy.specs.Places.{Fixed, size_of}
 use Rattle.scav_copy.specs.Renamings.{IsRenamed, Renaming}
 use Rattle.scav_copy.proofs.Reading.{copies_read, copies_end}
 use Rattle.scav_copy.proofs.Spots.{from_is, slot_in_cell}
@@ -42,7 +42,7 @@ pub record CopyRow (space : Space) (words : List ℕ) (start end : ℕ) (homes :
 module _ {heap : Heap} {half left : ℕ} {fixed : Fixed} {homes : List Home} {words now : List ℕ} {fill : ℕ}
     (ending : Ending heap half left fixed homes words now fill) where
   -- a word of a home copy was not emptied
-  pub copy_kept : (home : Home) (offset at : ℕ) → Contains homes home → offset < size_of fixed home.from
+  copy_kept : (home : Home) (offset at : ℕ) → Contains homes home → offset < size_of fixed home.from
       → home.to + offset ≡ at → slice_get now at ≡ slice_get words at
   copy_kept home offset at there less is =
       let halves = are_halves heap.space half left ending.halves in
@@ -107,7 +107,8 @@ module _ {heap : Heap} {half left : ℕ} {fixed : Fixed} {homes : List Home} {wo
             slice_get-layouts_in heap.space now shape below ∙ layout_same shape below
             ∙ sym (slice_get-layouts_in heap.space heap.words shape below)
         | inr past ↦
-            slice_get-layouts_past heap.space now shape past ∙ sym (slice_get-layouts_past heap.space heap.words shape past)
+            slice_get-layouts_past heap.space now shape past
+            ∙ sym (slice_get-layouts_past heap.space heap.words shape past)
       ]
 
   -- the young cell that a home is of
@@ -123,7 +124,8 @@ module _ {heap : Heap} {half left : ℕ} {fixed : Fixed} {homes : List Home} {wo
       let is = young_of home there in
       record {
         extent = room_extent heap.space half;
-        stands = cell_extent_stands heap.space (room_extent heap.space half) (room_among heap.space half left ending.halves);
+        stands = cell_extent_stands heap.space (room_extent heap.space half)
+            (room_among heap.space half left ending.halves);
         of_cells = refl;
         holds = record {
           from = omega (arith, start, lies.0);

@@ -1,17 +1,18 @@
 -- The heap at the end of a scavenge: its rows and sizes are right, and which cells stand in it.
-use Rattle.std.proofs.Common.{◌≡◌, ℕ, ◌+◌, ◌<◌, ◌≤◌, inl, inr, List, [], ◌∷◌, map, All, Contains, sum_by, slice_get}
+use Rattle.std.proofs.Common.{◌≡◌, ℕ, ◌+◌, ◌<◌, ◌≤◌, inl, inr, List, [], ◌∷◌, map, All, Contains, sum_by}
 use Rattle.std.proofs.Common.{refl, sym, ◌∙◌, ap, subst, arith}
 use Rattle.std.proofs.lemmas.Bool.{cases_lt}
 use Rattle.std.proofs.lemmas.List.Elements.{All-nil, All-cons, All-contains}
 use Rattle.std.proofs.lemmas.List.Sums.{sum_by-cons}
 use Rattle.tagged_word.proofs.Members.{first_in, rest_in, in_map, map_from}
 use Rattle.page_space.specs.declared.region.Region.TheVariants.{Eden}
-use Rattle.page_space.specs.Extents.{Space, Extent, eden_start}
+use Rattle.page_space.specs.Extents.{Extent, eden_start}
 use Rattle.page_space.proofs.Covering.{disjoint}
 use Rattle.page_space.proofs.Standing.{extent_of, eden_stands}
 use Rattle.cell_layout.proofs.OneCell.{one_cell}
 use Rattle.heap_model.specs.Types.{Cell}
-use Rattle.heap_model.specs.Heaps.{Heap, Row, IsUsedRow, HasCell, cell_extents, words_of_cell, survivors_in, survivors_of}
+use Rattle.heap_model.specs.Heaps.{Heap, Row, IsUsedRow, HasCell, cell_extents, words_of_cell, survivors_in}
+use Rattle.heap_model.specs.Heaps.{survivors_of}
 use Rattle.heap_model.specs.Wholeness.{HasSizes, HasRows}
 use Rattle.heap_model.proofs.CellsApart.{IsOfCell, has_is_cell, first_of_cell, cell_extent_stands}
 use Rattle.heap_model.proofs.Patches.{row_holds}
@@ -26,7 +27,8 @@ use Rattle.scavenger.proofs.EndRanges.{room_extent, room_starts, room_among}
 use Rattle.scavenger.proofs.EndWords.{Ending, long, few}
 use Rattle.scavenger.proofs.EndCopies.{layout_same, copy_cell}
 use Rattle.scavenger.proofs.EndSums.{adds_at, cells_add}
-use Rattle.scavenger.proofs.EndRows.{CameFrom, EndRow, ended_heap, page_same, row_after}
+use Rattle.scavenger.proofs.EndRows.{CameFrom, EndRow, ended_heap, row_after}
+use Rattle.scavenger.proofs.EndPages.{page_same}
 
 -- a row of the heap, in one of its regions
 record IsOldRow (heap : Heap) (row : Row) : Type 0 where

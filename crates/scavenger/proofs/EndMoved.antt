@@ -1,20 +1,19 @@
 -- The heap at the end of a scavenge is the old one, moved, and may be collected.
-use Rattle.std.proofs.Common.{◌≡◌, ℕ, ◌+◌, ◌<◌, ◌≤◌, ◌^◌, ◌↔◌, inl, inr, List, Contains, Some, slice_get, get_or, IsTrue}
+use Rattle.std.proofs.Common.{◌≡◌, ℕ, ◌+◌, ◌<◌, ◌≤◌, ◌^◌, inl, inr, List, Contains, Some, slice_get, get_or, IsTrue}
 use Rattle.std.proofs.Common.{refl, sym, ◌∙◌, ap, subst, arith}
 use Rattle.std.proofs.lemmas.Option.{same_Some, get_or_from_slice_get}
 use Rattle.tagged_word.specs.Cells.{is_free_kind}
-use Rattle.page_space.specs.Extents.{eden_start, roots_start}
+use Rattle.page_space.specs.Extents.{eden_start}
 use Rattle.handle_roots.specs.Roots.{root_at}
 use Rattle.heap_model.specs.Types.{Cell}
 use Rattle.heap_model.specs.Heaps.{Heap, HasCell, words_of_cell}
 use Rattle.heap_model.specs.Slots.{reference_word}
 use Rattle.heap_model.specs.Collectable.{IsInHalf, IsCollectable}
-use Rattle.heap_moves.specs.Moved.{IsMovedWord, IsFrom, IsMovedRoot, IsMoved}
+use Rattle.heap_moves.specs.Moved.{IsMovedWord, IsFrom, IsMoved}
 use Rattle.scav_copy.specs.declared.places.Home.{Home}
 use Rattle.scav_copy.specs.Places.{Fixed, IsInCopy}
 use Rattle.scav_copy.specs.Renamings.{IsReachable, IsRenamed}
 use Rattle.scav_copy.proofs.Spots.{home_itself, home_fits}
-use Rattle.scavenger.specs.Starts.{IsRootAt, room_start}
 use Rattle.scavenger.specs.Scavenged.{place_after}
 use Rattle.scavenger.proofs.StartTargets.{held_target}
 use Rattle.scavenger.proofs.FollowTiles.{copy_within}
@@ -23,7 +22,7 @@ use Rattle.scavenger.proofs.EndWords.{Ending, ended, in_room, outside_same}
 use Rattle.scavenger.proofs.EndCopies.{renaming, young_of}
 use Rattle.scavenger.proofs.EndRows.{CameFrom, ended_heap}
 use Rattle.scavenger.proofs.EndHeap.{has_rows, has_sizes, came_from}
-use Rattle.scavenger.proofs.EndPlaces.{IsHomeOf, StaysAt, stays_at, stays_in_page, goes_home, home_found, renamed_is_moved}
+use Rattle.scavenger.proofs.EndPlaces.{StaysAt, stays_at, stays_in_page, goes_home, home_found, renamed_is_moved}
 use Rattle.scavenger.proofs.EndStands.{cell_fits, reached_home, young_is, target_reads, stands_moved}
 
 module _ {heap : Heap} {half left : ℕ} {fixed : Fixed} {homes : List Home} {words now : List ℕ} {fill : ℕ}
@@ -56,7 +55,8 @@ module _ {heap : Heap} {half left : ℕ} {fixed : Fixed} {homes : List Home} {wo
       ∙ found_too.from
 
   -- where a cell came is an address that a reference may have
-  now_fits : {cell : Cell} {body : List ℕ} (to : ℕ) → HasCell heap cell body → StaysAt heap homes cell.at to → to < 2 ^ 32
+  now_fits : {cell : Cell} {body : List ℕ} (to : ℕ) → HasCell heap cell body → StaysAt heap homes cell.at to
+      → to < 2 ^ 32
   now_fits to has (StaysAt.in_page below same) = subst (λ n. n < 2 ^ 32) same (cell_fits ending has)
   now_fits to has (StaysAt.at_home young found) =
       subst (λ n. n < 2 ^ 32) found.to (home_fits found.home ending.begun.laid ending.filled.copying found.among)

@@ -1,7 +1,6 @@
 -- Where what stood at an address stands at the end of a scavenge, and what becomes of a word that referred to it.
-use Rattle.std.proofs.Common.{◌≡◌, ◌≢◌, ℕ, zero, suc, ◌+◌, ◌<◌, ◌≤◌, ◌/◌, ◌%◌, inl, inr, List, [], ◌∷◌, length, Contains}
-use Rattle.std.proofs.Common.{Option, Some, None, get_or, ◌==◌, if◌then◌else◌, nat_lt, refl, sym, ◌∙◌, ap, subst, arith}
-use Rattle.std.specs.List.{AllPairs}
+use Rattle.std.proofs.Common.{◌≡◌, ◌≢◌, ℕ, zero, suc, ◌<◌, ◌≤◌, ◌/◌, ◌%◌, inl, inr, List, [], ◌∷◌, length, Contains}
+use Rattle.std.proofs.Common.{Some, get_or, sym, ◌∙◌, ap, arith}
 use Rattle.std.proofs.lemmas.Bool.{cases_lt, cases_eq}
 use Rattle.std.proofs.lemmas.Bool.Decides.{nat_tests}
 use Rattle.std.proofs.lemmas.Option.{same_Some, none-some}
@@ -12,7 +11,6 @@ use Rattle.heap_model.specs.Slots.{reference_word}
 use Rattle.heap_moves.specs.Moved.{IsMovedWord}
 use Rattle.scav_copy.specs.declared.places.Home.{Home}
 use Rattle.scav_copy.specs.Renamings.{IsRenamed, HasOneHomeEach}
-use Rattle.scav_copy.proofs.Spots.{none_in}
 use Rattle.scavenger.specs.Scavenged.{home_of, place_after}
 
 -- what stands in a page stays where it is
@@ -41,24 +39,24 @@ pub record IsHomeOf (homes : List Home) (at now : ℕ) : Type 0 where
   pub to : home.to ≡ now
 
 -- what is found is one of the homes
-pub found_home : (homes : List Home) (at now : ℕ) → home_of homes at ≡ Some now → IsHomeOf homes at now
+found_home : (homes : List Home) (at now : ℕ) → home_of homes at ≡ Some now → IsHomeOf homes at now
 found_home [] at now found = absurd (none-some now found)
 found_home (home ∷ homes) at now found =
     elim (cases_eq home.from at) [
       | inl is ↦ record {
-          home = home;
-          among = first_in home homes;
-          from = is;
-          to = same_Some home.to now (sym (first_home home homes at is) ∙ found);
-        }
+        home = home;
+        among = first_in home homes;
+        from = is;
+        to = same_Some home.to now (sym (first_home home homes at is) ∙ found);
+      }
       | inr other ↦
           let rest = found_home homes at now (sym (later_home home homes at other) ∙ found) in
           record { home = rest.home; among = rest_in home homes rest.home rest.among; from = rest.from; to = rest.to }
     ]
 
 -- the home at a place of the list is found
-home_at : (homes : List Home) (k : ℕ) (home : Home) → HasOneHomeEach homes → k < length homes → get_or homes k home ≡ home
-    → home_of homes home.from ≡ Some home.to
+home_at : (homes : List Home) (k : ℕ) (home : Home) → HasOneHomeEach homes → k < length homes
+    → get_or homes k home ≡ home → home_of homes home.from ≡ Some home.to
 home_at [] k home one_each within is = absurd (omega arith)
 home_at (first ∷ homes) zero home one_each within is =
     first_home first homes home.from (ap (λ (one : Home). one.from) is) ∙ ap (λ (one : Home). Some one.to) is

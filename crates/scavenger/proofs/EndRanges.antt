@@ -1,11 +1,11 @@
 -- Where the two halves stand, and in one of them the room of copies.
 use Rattle.std.proofs.Common.{◌≡◌, ℕ, zero, suc, ◌+◌, ◌*◌, ◌<◌, ◌≤◌, ◌⊎◌, inl, inr, Contains, ◌∙◌, subst, ap, arith}
-use Rattle.heap_model.specs.Types.{Region}
 use Rattle.page_space.specs.declared.region.Region.TheVariants.{Segment}
-use Rattle.page_space.specs.Extents.{Space, Extent, extents, IsRegion, extents_from, words_in, half_of}
+use Rattle.page_space.specs.Extents.{Space, Extent, extents, IsRegion, words_in, half_of}
 use Rattle.page_space.specs.Extents.{segments_start, half_segments, roots_start}
 use Rattle.page_space.proofs.Starts.{roots_start_is}
-use Rattle.page_space.proofs.Standing.{start_of, length_of, extent_of, to_eden, to_half, words_in-to_eden, words_in-to_half}
+use Rattle.page_space.proofs.Standing.{start_of, length_of, extent_of, to_eden, to_half, words_in-to_eden}
+use Rattle.page_space.proofs.Standing.{words_in-to_half}
 use Rattle.page_space.proofs.Stretches.{stands_first, stands_then, stands_each}
 use Rattle.page_space.proofs.Placed.{placed}
 use Rattle.heap_model.specs.Heaps.{cell_extents}
@@ -89,8 +89,8 @@ start_within space half at found =
 pub half_holds : (space : Space) (half at : ℕ) → IsInHalf space half at
     → (half_start space half ≤ at) × (at < half_end space half)
 half_holds space half at inside =
-    let within = segment_within space inside.extent half inside.worker (cell_extent_stands space inside.extent inside.among)
-    inside.segment in
+    let stands = cell_extent_stands space inside.extent inside.among in
+    let within = segment_within space inside.extent half inside.worker stands inside.segment in
     (omega (arith, within.from, inside.holds.from), omega (arith, within.to, within.long, inside.holds.below))
 
 -- the region of the room
@@ -102,14 +102,17 @@ pub room_starts : (space : Space) (half : ℕ) → (room_extent space half).star
 room_starts space half = grind arith
 
 -- it is a region of cells
-pub room_among : (space : Space) (half left : ℕ) → half + left ≡ 1 → Contains (cell_extents space) (room_extent space half)
+pub room_among : (space : Space) (half left : ℕ) → half + left ≡ 1
+    → Contains (cell_extents space) (room_extent space half)
 room_among space zero left one =
     stands_first 0 (to_half space) (half_of space 1) (room_extent space 0)
     (stands_then 0 (to_eden space) (half_of space 0) (room_extent space 0)
     (stands_each (λ n. Segment 0 n) space.sizes.young (space.sizes.helpers + 1) (0 + words_in (to_eden space))
-    space.sizes.helpers (start_of space (Segment 0 space.sizes.helpers)) (omega arith) (omega (arith, words_in-to_eden space))))
+    space.sizes.helpers (start_of space (Segment 0 space.sizes.helpers)) (omega arith)
+    (omega (arith, words_in-to_eden space))))
 room_among space (suc zero) left one =
     stands_then 0 (to_half space) (half_of space 1) (room_extent space 1)
     (stands_each (λ n. Segment 1 n) space.sizes.young (space.sizes.helpers + 1) (0 + words_in (to_half space))
-    space.sizes.helpers (start_of space (Segment 1 space.sizes.helpers)) (omega arith) (omega (arith, words_in-to_half space)))
+    space.sizes.helpers (start_of space (Segment 1 space.sizes.helpers)) (omega arith)
+    (omega (arith, words_in-to_half space)))
 room_among space (suc (suc half)) left one = absurd (omega arith)

@@ -1,30 +1,28 @@
 -- The row of each region at the end of a scavenge.
-use Rattle.std.proofs.Common.{◌≡◌, ◌≢◌, ℕ, ◌+◌, ◌<◌, ◌≤◌, inl, inr, List, [], length, All, Contains, map, slice_get}
+use Rattle.std.proofs.Common.{◌≡◌, ◌≢◌, ℕ, ◌+◌, ◌<◌, ◌≤◌, inl, inr, List, [], Contains, map}
 use Rattle.std.proofs.Common.{refl, sym, ◌∙◌, ap, subst, arith}
 use Rattle.std.proofs.lemmas.Bool.{cases_lt, cases_eq}
-use Rattle.std.proofs.lemmas.List.Elements.{All-weaker, All-contains_itself, Contains-append_left}
+use Rattle.std.proofs.lemmas.List.Elements.{Contains-append_left}
 use Rattle.tagged_word.proofs.Members.{in_map, map_from}
 use Rattle.heap_model.specs.Types.{Region, Cell}
 use Rattle.page_space.specs.declared.region.Region.TheVariants.{Page, Eden, Segment, Root, Layout, Mark, Board, Outside}
-use Rattle.page_space.specs.Extents.{Space, Extent, IsRegion, eden_start}
-use Rattle.page_space.proofs.CellAddresses.{page_ends}
+use Rattle.page_space.specs.Extents.{Extent, eden_start}
 use Rattle.page_space.proofs.Placed.{placed}
-use Rattle.page_space.proofs.Standing.{start_of, length_of}
-use Rattle.cell_layout.specs.Cells.{IsCell, IsRow}
-use Rattle.cell_layout.specs.CellLaws.{ReadsAlike}
-use Rattle.cell_layout.proofs.Puts.{two_words}
-use Rattle.cell_layout.proofs.Rows.{rows_stay, rows_part_around, cell_within}
+use Rattle.page_space.proofs.Standing.{start_of}
+use Rattle.cell_layout.specs.Cells.{IsRow}
+use Rattle.cell_layout.proofs.Rows.{cell_within}
 use Rattle.heap_model.specs.Heaps.{Heap, Row, EndsUsed, IsUsedRow, HasCell, cell_extents, words_of_cell, survivors_in}
-use Rattle.heap_model.proofs.CellsApart.{IsOfCell, has_is_cell, first_of_cell, cell_extent_stands}
+use Rattle.heap_model.proofs.CellsApart.{first_of_cell, cell_extent_stands}
 use Rattle.heap_model.proofs.BoundHeaps.{none_in}
 use Rattle.scav_copy.specs.declared.places.Home.{Home}
 use Rattle.scav_copy.specs.Places.{Fixed}
 use Rattle.scavenger.specs.Starts.{room_start}
 use Rattle.scavenger.specs.Scavenged.{words_of_homes}
 use Rattle.scavenger.proofs.EndRanges.{are_halves, segment_within}
-use Rattle.scavenger.proofs.EndWords.{Ending, long, in_room, home_done, outside_same}
-use Rattle.scavenger.proofs.EndCopies.{CopyRow, layouts_same, copy_row}
+use Rattle.scavenger.proofs.EndWords.{Ending, in_room, home_done}
+use Rattle.scavenger.proofs.EndCopies.{CopyRow, copy_row}
 use Rattle.scavenger.proofs.EndSums.{adds_at, adds_there, adds_nothing}
+use Rattle.scavenger.proofs.EndPages.{page_before, page_stands}
 use Rattle.scavenger.proofs.EndSegments.{begins_empty}
 
 -- the heap at the end: eden is empty, and the survivors are the home copies
@@ -53,72 +51,27 @@ pub record EndRow (heap : Heap) (half : ℕ) (fixed : Fixed) (homes : List Home)
 
 module _ {heap : Heap} {half left : ℕ} {fixed : Fixed} {homes : List Home} {words now : List ℕ} {fill : ℕ}
     (ending : Ending heap half left fixed homes words now fill) where
-  -- a word of a page is as before
-  pub page_same : (at : ℕ) → at < eden_start heap.space → slice_get now at ≡ slice_get heap.words at
-  page_same at below =
-      let halves = are_halves heap.space half left ending.halves in
-      outside_same ending at (inl below) (λ root. omega (arith, below, root.stands, halves.from, halves.to))
-
-  -- a page ends before eden
-  page_before : (extent : Extent) (page : ℕ) → Contains (cell_extents heap.space) extent → extent.region ≡ Page page
-      → extent.start + extent.words ≤ eden_start heap.space
-  page_before extent page among is =
-      let place = placed heap.space extent (cell_extent_stands heap.space extent among) in
-      let region : IsRegion heap.space (Page page) = subst (IsRegion heap.space) is place.is_region in
-      omega (
-        arith,
-        page_ends heap.space page region,
-        ap (λ (one : Extent). one.start) place.place,
-        ap (λ (one : Extent). one.words) place.place,
-        ap (start_of heap.space) is,
-        ap (length_of heap.space) is,
-      )
-
-  -- a cell of a page is read off the same words
-  reads_alike : (cell : Cell) → IsCell heap.space heap.words cell → cell.at + cell.size ≤ eden_start heap.space
-      → 1 ≤ cell.size → ReadsAlike heap.space heap.words now cell
-  reads_alike cell is_cell below some = record {
-    first = page_same cell.at (omega arith);
-    second = λ has. page_same (cell.at + 1) (omega (arith, below, two_words heap.space heap.words cell is_cell has));
-    of_shape = layouts_same ending cell.header.shape;
-  }
-
-  -- so a row of a page stands
-  page_stands : (row : Row) → Contains (cell_extents heap.space) row.extent → IsUsedRow heap row
-      → row.end ≤ eden_start heap.space → IsRow heap.space now row.extent.start row.end row.cells
-  page_stands row among used below =
-      let start : ℕ = row.extent.start in
-      let alike = λ (cell : Cell) (there : Contains row.cells cell).
-      let has : HasCell heap cell (words_of_cell heap cell) =
-      record { row = row; in_region = among; used = used; in_row = there; words_are = refl } in
-      let within = cell_within heap.space heap.words start row.end row.cells cell used.stands there in
-      let first = (first_of_cell has).below in
-      reads_alike cell (has_is_cell has) (omega (arith, within.1, below)) (omega arith) in
-      rows_stay heap.space heap.words now start row.end row.cells used.stands (long ending)
-      (All-weaker (Contains row.cells) (ReadsAlike heap.space heap.words now) alike row.cells
-      (All-contains_itself row.cells))
-
   -- the copies stand in a row from the start of the room on
-  pub copies : CopyRow heap.space now (room_start heap.space half) fill ending.filled.done
-  copies =
+  room_copies : CopyRow heap.space now (room_start heap.space half) fill ending.filled.done
+  room_copies =
       let filled = ending.filled in
       copy_row ending filled.done filled.tiles_done
       (λ home there. (filled.same home).1 (Contains-append_left filled.done filled.todo home there))
 
   -- each of the cells is a home copy
-  copy_from : (cell : Cell) → Contains copies.cells cell → CameFrom heap homes cell
+  copy_from : (cell : Cell) → Contains room_copies.cells cell → CameFrom heap homes cell
   copy_from cell there =
       let filled = ending.filled in
-      let at_home = subst (λ all. Contains all cell.at) copies.stand
-      (in_map (λ (one : Cell). one.at) copies.cells cell there) in
+      let at_home = subst (λ all. Contains all cell.at) room_copies.stand
+      (in_map (λ (one : Cell). one.at) room_copies.cells cell there) in
       let found = map_from (λ (home : Home). home.to) filled.done cell.at at_home in
       CameFrom.of_copy found.0 ((filled.same found.0).1 (Contains-append_left filled.done filled.todo found.0 found.1))
       found.2
 
   -- and each home copy is one of them
-  copy_to : (home : Home) → Contains homes home → Contains (map (λ (cell : Cell). cell.at) copies.cells) home.to
+  copy_to : (home : Home) → Contains homes home → Contains (map (λ (cell : Cell). cell.at) room_copies.cells) home.to
   copy_to home there =
-      subst (λ all. Contains all home.to) (sym copies.stand)
+      subst (λ all. Contains all home.to) (sym room_copies.stand)
       (in_map (λ (one : Home). one.to) ending.filled.done home (home_done ending home there))
 
   -- a page has the row that it had
@@ -126,14 +79,14 @@ module _ {heap : Heap} {half left : ℕ} {fixed : Fixed} {homes : List Home} {wo
       → row.extent.region ≡ Page page → EndsUsed heap row.extent row.end (Page page)
       → EndRow heap half fixed homes now row (Page page)
   page_row row page among used is ends =
-      let below = page_before row.extent page among is in
+      let below = page_before ending row.extent page among is in
       let halves = are_halves heap.space half left ending.halves in
       let start : ℕ = room_start heap.space half in
       record {
         end = row.end;
         cells = row.cells;
         ends = ends;
-        stands = page_stands row among used (omega (arith, ends, below));
+        stands = page_stands ending row among used (omega (arith, ends, below));
         survivors = sym (adds_nothing start (words_of_homes fixed homes) row.extent
             (λ same. omega (arith, same, below, halves.room_from, halves.from, ending.limits.young_is_least)));
         from = λ cell there.
@@ -193,12 +146,15 @@ module _ {heap : Heap} {half left : ℕ} {fixed : Fixed} {homes : List Home} {wo
       let end = in_room ending in
       record {
         end = fill;
-        cells = copies.cells;
-        ends = (omega (arith, end, same, within.long), elim (cases_lt fill (room_start heap.space half + heap.space.sizes.young)) [
-          | inl below ↦ inr (ending.emptied.behind below)
-          | inr past ↦ inl (omega (arith, end, past, same, within.long))
-        ]);
-        stands = subst (λ start. IsRow heap.space now start fill copies.cells) (sym same) copies.row;
+        cells = room_copies.cells;
+        ends = (
+          omega (arith, end, same, within.long),
+          elim (cases_lt fill (room_start heap.space half + heap.space.sizes.young)) [
+            | inl below ↦ inr (ending.emptied.behind below)
+            | inr past ↦ inl (omega (arith, end, past, same, within.long))
+          ],
+        );
+        stands = subst (λ start. IsRow heap.space now start fill room_copies.cells) (sym same) room_copies.row;
         survivors = omega (
           arith,
           adds_there (room_start heap.space half) (words_of_homes fixed homes) extent same,
@@ -206,7 +162,7 @@ module _ {heap : Heap} {half left : ℕ} {fixed : Fixed} {homes : List Home} {wo
           ending.filled.long,
         );
         from = copy_from;
-        pages = no_page_cell row copies.cells used (omega (arith, same, halves.room_from, halves.from));
+        pages = no_page_cell row room_copies.cells used (omega (arith, same, halves.room_from, halves.from));
         copies = λ here. copy_to;
       }
 

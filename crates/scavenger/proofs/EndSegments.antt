@@ -1,23 +1,21 @@
 -- The segments in which no cell stands at the end of a scavenge: each begins with a 0.
 use Rattle.std.proofs.Common.{◌≡◌, ◌≢◌, ℕ, ◌+◌, ◌<◌, ◌≤◌, ◌⊎◌, inl, inr, List, [], ◌∷◌, Contains, Some, slice_get}
-use Rattle.std.proofs.Common.{refl, sym, ◌∙◌, ap, subst, arith}
+use Rattle.std.proofs.Common.{refl, ◌∙◌, ap, subst, arith}
 use Rattle.std.proofs.lemmas.Bool.{cases_lt, cases_eq}
 use Rattle.tagged_word.proofs.Members.{first_in}
 use Rattle.page_space.specs.declared.region.Region.TheVariants.{Segment}
-use Rattle.page_space.specs.Extents.{Space, Extent, ContainsAddress, IsRegion, roots_start}
+use Rattle.page_space.specs.Extents.{Space, Extent, ContainsAddress, IsRegion}
 use Rattle.page_space.proofs.Covering.{disjoint}
 use Rattle.page_space.proofs.Placed.{placed}
 use Rattle.cell_layout.specs.Cells.{IsRow}
 use Rattle.cell_layout.proofs.Rows.{row_of_none}
 use Rattle.heap_model.specs.Types.{Cell}
 use Rattle.heap_model.specs.Heaps.{Heap, Row, EndsUsed, IsUsedRow, HasCell, cell_extents, words_of_cell}
-use Rattle.heap_model.specs.Collectable.{IsInHalf}
-use Rattle.heap_model.proofs.CellsApart.{IsOfCell, first_of_cell, cell_extent_stands}
+use Rattle.heap_model.proofs.CellsApart.{first_of_cell, cell_extent_stands}
 use Rattle.heap_model.proofs.Patches.{row_holds}
 use Rattle.scav_copy.specs.declared.places.Home.{Home}
-use Rattle.scav_copy.specs.Places.{Fixed, IsInCells, IsInRooms}
-use Rattle.scavenger.specs.Starts.{IsRootAt, room_start}
-use Rattle.scavenger.specs.Following.{half_start, half_end}
+use Rattle.scav_copy.specs.Places.{Fixed, IsInCells}
+use Rattle.scavenger.specs.Starts.{room_start}
 use Rattle.scavenger.proofs.TargetCells.{one_room}
 use Rattle.scavenger.proofs.EndRanges.{are_halves, segment_within, room_extent, room_starts, room_among}
 use Rattle.scavenger.proofs.EndWords.{Ending, cells_hold, in_room, kept, outside_kept}
@@ -35,7 +33,8 @@ module _ {heap : Heap} {half left : ℕ} {fixed : Fixed} {homes : List Home} {wo
       → extent.region ≡ Segment of worker → (of ≡ left) ⊎ (of ≡ half)
   which_half extent of worker among is =
       let region : IsRegion heap.space (Segment of worker) =
-      subst (IsRegion heap.space) is (placed heap.space extent (cell_extent_stands heap.space extent among)).is_region in
+      subst (IsRegion heap.space) is
+      (placed heap.space extent (cell_extent_stands heap.space extent among)).is_region in
       let halves = ending.halves in
       elim (cases_eq of left) [ inl same ↦ inl same | inr other ↦ inr (omega (arith, other, region.0, halves)) ]
 
@@ -70,7 +69,8 @@ module _ {heap : Heap} {half left : ℕ} {fixed : Fixed} {homes : List Home} {wo
   -- the first address of another segment is none of the room
   none_of_room : (extent : Extent) → Contains (cell_extents heap.space) extent → 1 ≤ extent.words
       → extent.start ≢ room_start heap.space half
-      → (room_start heap.space half ≤ extent.start) × (extent.start < room_start heap.space half + heap.space.sizes.young)
+      → (room_start heap.space half ≤ extent.start)
+      × (extent.start < room_start heap.space half + heap.space.sizes.young)
       → ⊥
   none_of_room extent among some other holds =
       let starts = room_starts heap.space half in
@@ -114,7 +114,8 @@ module _ {heap : Heap} {half left : ℕ} {fixed : Fixed} {homes : List Home} {wo
       → row.extent.region ≡ Segment half worker → EndsUsed heap row.extent row.end (Segment half worker)
       → slice_get heap.words row.extent.start ≡ Some 0
   was_empty row worker among used is ends =
-      let within = segment_within heap.space row.extent half worker (cell_extent_stands heap.space row.extent among) is in
+      let stands = cell_extent_stands heap.space row.extent among in
+      let within = segment_within heap.space row.extent half worker stands is in
       let end : row.extent.start ≡ row.end = none_end row.cells used.stands (none_in_row row worker among used is) in
       elim ends.1 [
         | inl whole ↦ absurd (omega (arith, whole, end, within.long, ending.limits.young_is_least))
@@ -127,12 +128,15 @@ module _ {heap : Heap} {half left : ℕ} {fixed : Fixed} {homes : List Home} {wo
       → row.extent.start ≢ room_start heap.space half → slice_get now row.extent.start ≡ Some 0
   begins_empty row of worker among used is ends other =
       elim (which_half row.extent of worker among is) [
-        | inl same ↦ ending.emptied.starts row.extent.start (worker, record {
+        | inl same ↦ ending.emptied.starts row.extent.start (
+          worker,
+          record {
             extent = row.extent;
             stands = cell_extent_stands heap.space row.extent among;
             of_region = is ∙ ap (λ n. Segment n worker) same;
             starts = refl;
-          })
+          },
+        )
         | inr same ↦
             let is_half : row.extent.region ≡ Segment half worker = is ∙ ap (λ n. Segment n worker) same in
             first_same row.extent worker among is_half other ∙ was_empty row worker among used is_half ends

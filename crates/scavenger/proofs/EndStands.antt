@@ -1,20 +1,19 @@
 -- Each cell that stays stands where it came at the end of a scavenge, with its words moved.
-use Rattle.std.proofs.Common.{◌≡◌, ℕ, ◌+◌, ◌<◌, ◌≤◌, ◌^◌, inl, inr, List, [], length, Contains, Option, Some, IsTrue, slice_get}
+use Rattle.std.proofs.Common.{◌≡◌, ℕ, ◌+◌, ◌<◌, ◌≤◌, ◌^◌, inl, inr, List, [], Contains, Option, Some, IsTrue, slice_get}
 use Rattle.std.proofs.Common.{get_or, refl, sym, ◌∙◌, ap, subst, arith}
 use Rattle.std.proofs.lemmas.Bool.{cases_lt, false≢true}
 use Rattle.std.proofs.lemmas.Option.{slice_get_past}
 use Rattle.tagged_word.specs.declared.layout.Kind.TheVariants as kind
 use Rattle.tagged_word.specs.declared.layout.LayoutWord.{LayoutWord}
 use Rattle.tagged_word.specs.Cells.{scavenge_offsets, scavenge_offsets_of, is_free_kind}
-use Rattle.tagged_word.specs.Readings.{reference_in}
 use Rattle.tagged_word.proofs.Readings.{reference_to}
-use Rattle.page_space.specs.Extents.{eden_start, roots_start}
+use Rattle.page_space.specs.Extents.{eden_start}
 use Rattle.heap_model.specs.Types.{Kind, Cell}
 use Rattle.heap_model.specs.Heaps.{Heap, HasCell, words_of_cell}
 use Rattle.heap_model.specs.Slots.{reference_word}
 use Rattle.heap_model.specs.Kinds.{HasWord}
 use Rattle.heap_model.proofs.BoundHeaps.{none_in}
-use Rattle.heap_model.proofs.CellsApart.{first_of_cell, one_at, one_words, used_few}
+use Rattle.heap_model.proofs.CellsApart.{first_of_cell, used_few}
 use Rattle.heap_model.proofs.CellWords.{words_are_size, word_there}
 use Rattle.heap_model.proofs.WordsAlike.{cell_below_roots}
 use Rattle.heap_moves.specs.Moved.{IsMovedWord, AreMoved, moved_to, StandsMoved}
@@ -30,7 +29,7 @@ use Rattle.scavenger.proofs.EndWords.{Ending}
 use Rattle.scavenger.proofs.EndCopies.{renaming, young_of}
 use Rattle.scavenger.proofs.EndRows.{ended_heap}
 use Rattle.scavenger.proofs.EndHeap.{page_stays, copy_stands}
-use Rattle.scavenger.proofs.EndPlaces.{IsHomeOf, StaysAt, stays_at, renamed_is_moved}
+use Rattle.scavenger.proofs.EndPlaces.{StaysAt, stays_at, renamed_is_moved}
 
 -- a free cell has no slots, kind by kind
 free_slots : (k : Kind) (layout : LayoutWord) (long : ℕ) → IsTrue (is_free_kind k)
@@ -40,7 +39,7 @@ free_slots kind.Gap layout long free = refl
 free_slots _ layout long free = absurd (false≢true free)
 
 -- so its words, which are as they were, are moved
-pub free_moved : {to : ℕ → Option ℕ} (cell : Cell) (words : List ℕ) → IsTrue (is_free_kind cell.layout.kind)
+free_moved : {to : ℕ → Option ℕ} (cell : Cell) (words : List ℕ) → IsTrue (is_free_kind cell.layout.kind)
     → AreMoved to cell words words
 free_moved cell words free = record {
   long = refl;
@@ -173,7 +172,13 @@ module _ {heap : Heap} {half left : ℕ} {fixed : Fixed} {homes : List Home} {wo
   }
   stands_by {cell} {body} to has (StaysAt.at_home young found) =
       let is : IsYoungCell heap found.home.from =
-      record { cell = cell; words = body; has = has; stands = sym found.from; young = omega (arith, young, found.from) } in
+      record {
+        cell = cell;
+        words = body;
+        has = has;
+        stands = sym found.from;
+        young = omega (arith, young, found.from);
+      } in
       let came = copy_stands ending found.home found.among is in
       let end = ended_heap heap fixed homes now in
       subst (λ n. StandsMoved end (place_after heap homes) cell body n) found.to record {

@@ -1,6 +1,6 @@
 -- A sum over the regions of cells to which one alone adds something.
 use Rattle.std.proofs.Common.{◌≡◌, ℕ, ◌+◌, ◌<◌, ◌≤◌, inl, inr, List, [], ◌∷◌, Contains, sum_by}
-use Rattle.std.proofs.Common.{◌==◌, if◌then◌else◌, refl, sym, ◌∙◌, ap, subst, arith}
+use Rattle.std.proofs.Common.{◌==◌, if◌then◌else◌, refl, ◌∙◌, ap, arith}
 use Rattle.std.proofs.lemmas.Bool.Decides.{nat_tests}
 use Rattle.std.proofs.lemmas.List.Sums.{sum_by-cons}
 use Rattle.tagged_word.proofs.Members.{first_in, rest_in, in_cases}
@@ -26,7 +26,8 @@ pub adds_nothing : (start many : ℕ) (extent : Extent) → (extent.start ≡ st
 adds_nothing start many extent other = grind (arith, nat_tests)
 
 -- behind the address nothing is added
-none_behind : (start many at : ℕ) (all : List Stretch) → start < at → sum_by (adds_at start many) (extents_from at all) ≡ 0
+none_behind : (start many at : ℕ) (all : List Stretch) → start < at
+    → sum_by (adds_at start many) (extents_from at all) ≡ 0
 none_behind start many at [] below = refl
 none_behind start many at (stretch ∷ more) below =
     let first : Extent = record { region = stretch.region; start = at; words = stretch.words } in
@@ -67,16 +68,17 @@ one_adds start many at (stretch ∷ more) extent some there same =
             parts,
             adds_nothing start many first (λ here. omega (arith, here, same, long, behind)),
             one_adds start many (at + stretch.words) more extent
-            (λ one among. some one (rest_in first rest one among)) later same,
+                (λ one among. some one (rest_in first rest one among)) later same,
           )
     ]
 
 -- a region of cells has a word
-pub has_words : (space : Space) → IsSpace space → HaveWords (cell_extents space)
+has_words : (space : Space) → IsSpace space → HaveWords (cell_extents space)
 has_words space limits extent among =
     let inside = start_is_in space extent limits among in
     let same : inside.extent ≡ extent =
-    regions_stand_once space inside.extent extent inside.stands (cell_extent_stands space extent among) inside.of_region in
+    regions_stand_once space inside.extent extent inside.stands (cell_extent_stands space extent among)
+    inside.of_region in
     omega (
       arith,
       ap (λ (one : Extent). one.start) same,

@@ -1,25 +1,23 @@
 -- The words that a scavenge comes to, where it has come to its end: which of them are as before.
-use Rattle.std.proofs.Common.{◌≡◌, ◌≢◌, ℕ, ◌+◌, ◌<◌, ◌≤◌, ◌⊎◌, inl, inr, List, [], ◌++◌, length, Contains, Some, slice_get}
-use Rattle.std.proofs.Common.{get_or, refl, sym, ◌∙◌, ap, subst, arith}
+use Rattle.std.proofs.Common.{◌≡◌, ◌≢◌, ℕ, ◌+◌, ◌<◌, ◌≤◌, ◌⊎◌, inl, inr, List, length, Contains, Some, slice_get}
+use Rattle.std.proofs.Common.{get_or, sym, ◌∙◌, ap, arith}
 use Rattle.std.proofs.lemmas.Bool.{cases_lt}
 use Rattle.std.proofs.lemmas.Option.{slice_get-get_or, slice_get_past, get_or_from_slice_get}
 use Rattle.std.proofs.lemmas.List.Elements.{Contains-append_cases}
-use Rattle.tagged_word.proofs.Members.{in_cases, one_in}
-use Rattle.page_space.specs.Extents.{Space, eden_start, segments_start, roots_start}
+use Rattle.page_space.specs.Extents.{eden_start, roots_start}
 use Rattle.page_space.specs.RegionLaws.{IsSpace}
 use Rattle.heap_model.specs.Types.{Cell}
 use Rattle.heap_model.specs.Heaps.{Heap, HasCell}
-use Rattle.heap_model.proofs.CellsApart.{IsOfCell, has_is_cell, used_few}
+use Rattle.heap_model.proofs.CellsApart.{IsOfCell, used_few}
 use Rattle.heap_model.proofs.WordsAlike.{cell_below_roots}
 use Rattle.scav_copy.specs.declared.places.Home.{Home}
-use Rattle.scav_copy.specs.declared.places.Room.{Room}
-use Rattle.scav_copy.specs.Places.{Fixed, size_of, IsInCells, IsInRooms}
+use Rattle.scav_copy.specs.Places.{Fixed, IsInCells, IsInRooms}
 use Rattle.scav_copy.specs.Renamings.{Renaming, Outside}
-use Rattle.scav_copy.specs.Copies.{Copying, AreHoused, HomesDisjoint}
+use Rattle.scav_copy.specs.Copies.{AreHoused, HomesDisjoint}
 use Rattle.scav_copy.proofs.Ending.{end_is_renaming}
-use Rattle.scav_copy.proofs.Spots.{none_in, from_is, some_words}
-use Rattle.scavenger.specs.Starts.{IsBegun, IsRootAt, IsYoungCell, room_start, room_of}
-use Rattle.scavenger.specs.Filling.{Tiles, IsFilled, AllAreDone, IsSegmentStart, IsEmptied}
+use Rattle.scav_copy.proofs.Spots.{from_is, some_words}
+use Rattle.scavenger.specs.Starts.{IsBegun, IsRootAt, room_start}
+use Rattle.scavenger.specs.Filling.{IsFilled, AllAreDone, IsEmptied}
 use Rattle.scavenger.specs.Following.{half_start, half_end}
 use Rattle.scavenger.proofs.Sums.{few_filled}
 use Rattle.scavenger.proofs.TargetCells.{young_size, one_room}
@@ -37,7 +35,7 @@ pub record Ending (heap : Heap) (half left : ℕ) (fixed : Fixed) (homes : List 
   pub emptied : IsEmptied heap.space left fill (room_start heap.space half + heap.space.sizes.young) words now
 
 -- equal words, as they are found
-pub same_found : (words other : List ℕ) (at : ℕ) → length other ≡ length words → get_or other at 0 ≡ get_or words at 0
+same_found : (words other : List ℕ) (at : ℕ) → length other ≡ length words → get_or other at 0 ≡ get_or words at 0
     → slice_get other at ≡ slice_get words at
 same_found words other at long same =
     elim (cases_lt at (length words)) [
@@ -55,7 +53,7 @@ same_read words other at place long below same =
     (sym same ∙ slice_get-get_or other at 0 (omega arith)))
 
 -- a young cell of the heap has the address
-pub record IsOfYoung (heap : Heap) (at : ℕ) : Type 0 where
+pub record IsOfSomeYoung (heap : Heap) (at : ℕ) : Type 0 where
   pub cell : Cell
   pub words : List ℕ
   pub has : HasCell heap cell words
@@ -69,7 +67,7 @@ module _ {heap : Heap} {half left : ℕ} {fixed : Fixed} {homes : List Home} {wo
   ended = end_is_renaming fixed words homes ending.begun.laid ending.filled.copying ending.done
 
   -- there are as many words as before
-  pub as_long : length words ≡ length heap.words
+  as_long : length words ≡ length heap.words
   as_long = ending.filled.copying.long ∙ ap (λ (all : List ℕ). length all) ending.begun.begins.before
 
   -- and after some were emptied
@@ -103,14 +101,14 @@ module _ {heap : Heap} {half left : ℕ} {fixed : Fixed} {homes : List Home} {wo
       ending.emptied.others at
       (λ here. elim apart [ inl other ↦ other here.0 | inr behind ↦ omega (arith, here.0, here.1, behind) ])
       (λ starts.
-          let within = start_within heap.space left at starts in
-          elim outside [
-            | inl before ↦ omega (arith, within.0, before)
-            | inr behind ↦ omega (arith, within.1, behind, ending.limits.young_is_least)
-          ])
+      let within = start_within heap.space left at starts in
+      elim outside [
+        | inl before ↦ omega (arith, within.0, before)
+        | inr behind ↦ omega (arith, within.1, behind, ending.limits.young_is_least)
+      ])
 
   -- an address of the cells is one of a young cell
-  pub cells_hold : (at : ℕ) → IsInCells fixed at → IsOfYoung heap at
+  pub cells_hold : (at : ℕ) → IsInCells fixed at → IsOfSomeYoung heap at
   cells_hold at inside =
       let is = (ending.begun.begins.cells inside.0).0 inside.1 in
       let size = young_size ending.begun is in

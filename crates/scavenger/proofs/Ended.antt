@@ -1,5 +1,5 @@
 -- A scavenge that has come to its end is one, and the heap that is left shows the graph.
-use Rattle.std.proofs.Common.{◌≡◌, ℕ, ◌+◌, ◌-◌, ◌≤◌, List, Option, inr, sym, ◌∙◌, ap, subst, arith}
+use Rattle.std.proofs.Common.{◌≡◌, ℕ, List, Option, inr, sym, ◌∙◌, ap, subst, arith}
 use Rattle.object_graph.specs.Graphs.{Graph}
 use Rattle.nursery.specs.Young.{Young, IsYoung, other_half}
 use Rattle.heap_table.specs.Seats.{heap_words}
@@ -19,7 +19,7 @@ use Rattle.write_barrier.specs.MutatorState.{Mutator, heap_of, MainShows}
 use Rattle.scav_copy.specs.declared.places.Home.{Home}
 use Rattle.scav_copy.specs.Places.{Fixed}
 use Rattle.scavenger.specs.Laws.{IsEnded, EndsAreScavenges}
-use Rattle.scavenger.specs.Scavenged.{Scavenges, words_of_homes, place_after}
+use Rattle.scavenger.specs.Scavenged.{Scavenges, place_after}
 use Rattle.scavenger.proofs.EndWords.{Ending, few, outside_same}
 use Rattle.scavenger.proofs.EndCopies.{renaming}
 use Rattle.scavenger.proofs.EndRows.{ended_heap}
@@ -38,7 +38,7 @@ new_is old new fixed homes words fill is = λ i. record {
 }
 
 -- where entries were counted, they are in the moved heap
-pub counts_stay : {old new : Heap} {to : ℕ → Option ℕ} {graph : Graph} → Shows old graph → IsMoved old new to
+counts_stay : {old new : Heap} {to : ℕ → Option ℕ} {graph : Graph} → Shows old graph → IsMoved old new to
     → CountsEntries old graph → CountsEntries new graph
 counts_stay {old} {new} {to} shows moved counts number at entries there marked place =
     let before = place_before moved place in

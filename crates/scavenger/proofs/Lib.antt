@@ -20,6 +20,7 @@ pub mod EndWords
 pub mod EndCopies
 pub mod EndSums
 pub mod EndSegments
+pub mod EndPages
 pub mod EndRows
 pub mod EndHeap
 pub mod EndPlaces
