@@ -24,3 +24,15 @@ pub mod LoopRoots
 pub mod LoopCopies
 pub mod LoopSlots
 pub mod EmptiedSegments
+pub mod EndRanges
+pub mod EndWords
+pub mod EndCopies
+pub mod EndSums
+pub mod EndSegments
+pub mod EndPages
+pub mod EndRows
+pub mod EndHeap
+pub mod EndPlaces
+pub mod EndStands
+pub mod EndMoved
+pub mod Ended

@@ -13,5 +13,5 @@ mod scavenging;
 mod slots;
 mod spaces;
 
-pub use laws::{laws_of_following, laws_of_scavenges, laws_of_slots};
+pub use laws::{laws_of_ends, laws_of_following, laws_of_scavenges, laws_of_slots};
 pub use scavenging::scavenge;

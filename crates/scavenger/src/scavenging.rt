@@ -1,8 +1,6 @@
 //! A scavenge from its start to its end.
 ghost use Rattle.object_graph.specs.Graphs.{Graph};
-ghost use Rattle.nursery.specs.Young.{other_half};
-ghost use Rattle.heap_model.specs.Collectable.{IsCollectable};
-ghost use Rattle.write_barrier.specs.MutatorState.{heap_of, MainShows};
+ghost use Rattle.write_barrier.specs.MutatorState.{MainShows};
 ghost use Rattle.scavenger.specs.Laws.{KeepsGraphs};
 ghost use Rattle.scavenger.specs.Scavenged.{Scavenges};
 
@@ -15,7 +13,6 @@ use write_barrier::Main;
 /// of it survives: a survivor stays in the young generation, as in V8's scavenger one does at first.
 pub fn scavenge(main: &mut Main)
     requires shown { (graph : Graph) × MainShows main.old graph }
-    requires collectable { IsCollectable (heap_of main.old) (other_half main.old.young.half) }
     ensures scavenged { Scavenges main.old main.new }
     ensures keeps { KeepsGraphs main.old main.new }
 {
