@@ -1,10 +1,10 @@
 -- Where eden, the halves and their segments begin and end, as the code computes it.
-use Rattle.std.proofs.Common.{◌≡◌, ℕ, ◌+◌, ◌-◌, ◌*◌, ◌<◌, ◌≤◌, ◌⊎◌, inl, inr, refl, sym, ◌∙◌, ap, subst, arith}
+use Rattle.std.proofs.Common.{◌≡◌, ℕ, ◌+◌, ◌-◌, ◌*◌, ◌<◌, ◌≤◌, inl, inr, refl, sym, ◌∙◌, subst, arith}
 use Rattle.std.proofs.lemmas.Bool.{cases_lt}
 use Rattle.page_space.specs.declared.sizes.Sizes.{Sizes}
 use Rattle.page_space.specs.declared.region.Region.{Region}
 use Rattle.page_space.specs.declared.region.Region.TheVariants.{Eden, Segment}
-use Rattle.page_space.specs.Extents.{Space, Extent, StartsAt, IsRegion, eden_start, segments_start, roots_start}
+use Rattle.page_space.specs.Extents.{Space, StartsAt, IsRegion, eden_start, segments_start}
 use Rattle.page_space.specs.Extents.{half_segments, marks_start}
 use Rattle.page_space.specs.RegionLaws.{IsSpace}
 use Rattle.page_space.proofs.Addresses.{start_of_is}
@@ -12,9 +12,8 @@ use Rattle.page_space.proofs.CellAddresses.{young_are}
 use Rattle.page_space.proofs.LawsHold.{stand_by_number, starts_are_inside, extents_are_of_regions, kinds_by_number}
 use Rattle.nursery.specs.Young.{other_half}
 use Rattle.scavenger.specs.Starts.{room_start}
-use Rattle.scavenger.specs.Filling.{IsSegmentStart}
 use Rattle.scavenger.specs.Following.{half_start, half_end}
-use Rattle.scavenger.specs.Walking.{AreSpaces, room_end}
+use Rattle.scavenger.specs.Walking.{AreSpaces}
 use Rattle.scavenger.proofs.LoopFollows.{room_before_marks}
 
 -- a region begins at one address

@@ -1,5 +1,5 @@
 -- First words of segments that are made 0, one after another.
-use Rattle.std.proofs.Common.{◌≡◌, ◌≢◌, ℕ, ◌+◌, ◌<◌, ◌≤◌, ◌⊎◌, inl, inr, List, length, slice_get, Some}
+use Rattle.std.proofs.Common.{◌≡◌, ◌≢◌, ℕ, ◌+◌, ◌<◌, inl, inr, List, length, slice_get, Some}
 use Rattle.std.proofs.Common.{refl, sym, ◌∙◌, ap, subst, arith, length-set, below_more}
 use Rattle.std.specs.Prelude.{slice_set}
 use Rattle.object_graph.proofs.Lists.{slice_get-set_same, slice_get-set_other}

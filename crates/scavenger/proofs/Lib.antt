@@ -36,3 +36,4 @@ pub mod EndPlaces
 pub mod EndStands
 pub mod EndMoved
 pub mod Ended
+pub mod LoopEnds

@@ -1,32 +1,30 @@
 -- The copy that is scanned next: it reads as the cell that was copied.
-use Rattle.std.proofs.Common.{◌≡◌, ◌≢◌, ℕ, ◌+◌, ◌-◌, ◌<◌, ◌≤◌, ◌⊎◌, inl, inr, List, [], ◌∷◌, ◌++◌, ◌↔◌, Some, Option}
-use Rattle.std.proofs.Common.{refl, sym, ◌∙◌, ap, subst, arith, append_assoc, slice_get, IsSome, None}
+use Rattle.std.proofs.Common.{◌≡◌, ℕ, ◌+◌, ◌<◌, ◌≤◌, List, [], ◌∷◌, Some, Option}
+use Rattle.std.proofs.Common.{refl, sym, ◌∙◌, ap, subst, arith, slice_get, IsSome, None}
 use Rattle.std.specs.List.{Contains}
 use Rattle.std.proofs.lemmas.List.Elements.{Contains-append_right}
 use Rattle.tagged_word.specs.declared.reading.Reading.{Reading}
-use Rattle.tagged_word.specs.Cells.{ReadsAs, scavenge_offsets}
-use Rattle.tagged_word.specs.Readings.{read_cell}
 use Rattle.tagged_word.proofs.CellReadings.{cell_from}
 use Rattle.tagged_word.proofs.Members.{first_in}
 use Rattle.page_space.specs.declared.region.Region.TheVariants.{Segment}
-use Rattle.page_space.specs.Extents.{Space, CellsEndAt, half_segments, segments_start}
+use Rattle.page_space.specs.Extents.{Space, CellsEndAt}
 use Rattle.page_space.proofs.Addresses.{start_of_is}
 use Rattle.page_space.proofs.CellAddresses.{cells_end}
 use Rattle.page_space.proofs.LawsHold.{stand_by_number}
-use Rattle.cell_layout.specs.Cells.{IsCell, IsSized, layouts_in, reading_of}
+use Rattle.cell_layout.specs.Cells.{IsCell}
 use Rattle.cell_layout.proofs.OneCell.{one_cell, cell_is_sized}
 use Rattle.heap_model.specs.Types.{Cell}
 use Rattle.nursery.specs.Young.{other_half}
 use Rattle.heap_table.specs.Seats.{heap_words}
-use Rattle.write_barrier.specs.MutatorState.{Mutator, heap_of}
+use Rattle.write_barrier.specs.MutatorState.{Mutator}
 use Rattle.scav_copy.specs.declared.places.Home.{Home}
-use Rattle.scav_copy.specs.Places.{Fixed, size_of, offsets_of, cell_before, words_in, offsets_in}
+use Rattle.scav_copy.specs.Places.{Fixed, size_of, cell_before, words_in, offsets_in}
 use Rattle.scav_copy.proofs.Reading.{copies_read}
 use Rattle.scav_copy.proofs.Spots.{from_is, home_itself}
-use Rattle.scavenger.specs.Starts.{IsBegun, room_start}
+use Rattle.scavenger.specs.Starts.{room_start}
 use Rattle.scavenger.specs.Filling.{Tiles, IsFilled}
 use Rattle.scavenger.specs.Walking.{room_end, Scavenging, IsScanned}
-use Rattle.scavenger.proofs.FollowTiles.{tiles_begin, tiles_of_none, tiles_push, copy_within}
+use Rattle.scavenger.proofs.FollowTiles.{tiles_begin, tiles_of_none, copy_within}
 use Rattle.scavenger.proofs.TargetCells.{layouts_same}
 use Rattle.scavenger.proofs.LoopGoing.{fill_in_room}
 

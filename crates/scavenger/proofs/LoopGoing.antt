@@ -1,19 +1,17 @@
 -- A scavenge goes on where a live slot is followed.
-use Rattle.std.proofs.Common.{◌≡◌, ◌≢◌, ℕ, ◌+◌, ◌<◌, ◌≤◌, ◌⊎◌, inl, inr, List, [], refl, sym, ◌∙◌, ap, subst, arith}
+use Rattle.std.proofs.Common.{◌≡◌, ◌≢◌, ℕ, ◌≤◌, inl, inr, refl, sym, ◌∙◌, ap, subst, arith}
 use Rattle.std.specs.List.{Contains}
 use Rattle.page_space.specs.Extents.{Space}
 use Rattle.nursery.specs.Young.{Young, other_half}
-use Rattle.heap_table.specs.declared.phase.Phase.TheVariants.{Quiet}
 use Rattle.heap_table.specs.Seats.{heap_words}
 use Rattle.write_barrier.specs.MutatorState.{Mutator, heap_of}
 use Rattle.scav_copy.specs.declared.places.Home.{Home}
 use Rattle.scav_copy.specs.Places.{StoodAt}
-use Rattle.scav_copy.specs.Renamings.{RefersToAddress}
 use Rattle.scavenger.specs.declared.spaces.Spaces.{Spaces}
 use Rattle.scavenger.specs.Starts.{room_start}
 use Rattle.scavenger.specs.Filling.{IsToDo, ChangesWords}
 use Rattle.scavenger.specs.Following.{Follows, HasFollowed}
-use Rattle.scavenger.specs.Walking.{AreSpaces, room_end, Scavenging, MayFollow}
+use Rattle.scavenger.specs.Walking.{AreSpaces, room_end, Scavenging}
 use Rattle.scavenger.proofs.Sums.{few_filled}
 use Rattle.scavenger.proofs.Following.{following_goes_on}
 use Rattle.scavenger.proofs.CodeChanges.{changes_again}

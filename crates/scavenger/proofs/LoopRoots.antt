@@ -1,19 +1,15 @@
 -- The first root words of the variables are followed, one after another.
-use Rattle.std.proofs.Common.{◌≡◌, ◌≢◌, ℕ, ◌+◌, ◌<◌, ◌≤◌, ◌⊎◌, inl, inr, List, [], refl, sym, ◌∙◌, ap, subst, arith}
-use Rattle.std.specs.List.{Contains}
-use Rattle.page_space.specs.Extents.{Space, roots_start, layouts_start}
-use Rattle.page_space.proofs.LawsHold.{kinds_by_number}
+use Rattle.std.proofs.Common.{◌≡◌, ◌≢◌, ℕ, ◌+◌, ◌<◌, ◌≤◌, ◌⊎◌, inl, inr, List, [], refl, sym, subst, arith}
 use Rattle.nursery.specs.Young.{other_half}
 use Rattle.handle_roots.specs.Roots.{root_at}
 use Rattle.heap_table.specs.declared.phase.Phase.TheVariants.{Quiet}
 use Rattle.heap_table.specs.Seats.{heap_words}
 use Rattle.write_barrier.specs.MutatorState.{Mutator}
-use Rattle.scav_copy.specs.declared.places.Home.{Home}
 use Rattle.scav_copy.specs.Places.{Fixed, StoodAt}
 use Rattle.scav_copy.specs.Copies.{Copying}
 use Rattle.scav_copy.proofs.Filling.{start_is_copying}
 use Rattle.scav_copy.proofs.Spots.{none_in, slot_in_cell}
-use Rattle.scavenger.specs.Starts.{IsBegun, IsRootAt, room_start}
+use Rattle.scavenger.specs.Starts.{IsRootAt, room_start}
 use Rattle.scavenger.specs.Filling.{none, IsFilled, IsToDo, ChangesWords}
 use Rattle.scavenger.specs.Following.{Follows}
 use Rattle.scavenger.specs.Walking.{room_end, MayBegin, Scavenging}

@@ -1,5 +1,5 @@
 -- The slots of a copy are followed, one after another.
-use Rattle.std.proofs.Common.{◌≡◌, ◌≢◌, ℕ, ◌+◌, ◌<◌, ◌≤◌, ◌⊎◌, inl, inr, List, [], ◌∷◌, ◌++◌, ◌↔◌}
+use Rattle.std.proofs.Common.{◌≡◌, ℕ, ◌+◌, ◌<◌, ◌≤◌, inl, inr, List, [], ◌∷◌, ◌++◌, ◌↔◌}
 use Rattle.std.proofs.Common.{refl, sym, ◌∙◌, ap, subst, arith, append_assoc}
 use Rattle.std.specs.List.{All, Contains}
 use Rattle.std.proofs.lemmas.Bool.{cases_lt}
@@ -21,7 +21,7 @@ use Rattle.scavenger.specs.Walking.{room_end, Scavenging, MayFollow, IsScanned}
 use Rattle.scavenger.proofs.FollowTiles.{tiles_ascend, tiles_push, copy_within}
 use Rattle.scavenger.proofs.LoopTargets.{in_the_room}
 use Rattle.scavenger.proofs.LoopFollows.{room_before_marks}
-use Rattle.scavenger.proofs.LoopGoing.{GoesOn, goes_on, fill_in_room}
+use Rattle.scavenger.proofs.LoopGoing.{goes_on, fill_in_room}
 use Rattle.scavenger.proofs.LoopCopies.{next_home}
 
 -- the homes are the same where the first of those that are to do is the last that is done

@@ -1,30 +1,25 @@
 -- What may be read and copied where a live slot is followed.
-use Rattle.std.proofs.Common.{◌≡◌, ℕ, ◌+◌, ◌<◌, ◌≤◌, ◌⊎◌, inl, inr, List, [], length, slice_get, Some}
-use Rattle.std.proofs.Common.{refl, sym, ◌∙◌, ap, subst, arith}
+use Rattle.std.proofs.Common.{◌≡◌, ℕ, ◌+◌, ◌<◌, ◌≤◌, inl, inr, List, [], length, slice_get, Some}
+use Rattle.std.proofs.Common.{sym, ◌∙◌, ap, subst, arith}
 use Rattle.std.specs.List.{Contains}
 use Rattle.std.proofs.lemmas.Bool.{cases_lt}
 use Rattle.std.proofs.lemmas.Option.{get_or_from_slice_get}
 use Rattle.tagged_word.specs.Readings.{reference_in}
 use Rattle.tagged_word.proofs.Members.{first_in}
 use Rattle.page_space.specs.Extents.{Space, marks_start}
-use Rattle.page_space.proofs.LawsHold.{kinds_by_number}
 use Rattle.word_store.specs.Copies.{AreDisjoint}
-use Rattle.cell_layout.specs.Cells.{IsCell}
 use Rattle.heap_model.specs.Types.{Cell}
 use Rattle.heap_model.specs.Heaps.{Heap}
 use Rattle.nursery.specs.Young.{Young, other_half}
 use Rattle.heap_table.specs.Seats.{heap_words}
 use Rattle.write_barrier.specs.MutatorState.{Mutator, heap_of}
-use Rattle.scav_copy.specs.declared.places.Home.{Home}
 use Rattle.scav_copy.specs.declared.places.Room.{Room}
-use Rattle.scav_copy.specs.Places.{Fixed, size_of, IsInRooms, StoodAt}
+use Rattle.scav_copy.specs.Places.{Fixed, size_of, IsInRooms}
 use Rattle.scav_copy.specs.Renamings.{RefersToAddress}
 use Rattle.scav_copy.proofs.Spots.{live_is_there, cell_within}
 use Rattle.scavenger.specs.Starts.{IsBegun, room_start, room_of}
-use Rattle.scavenger.specs.Filling.{IsFilled}
 use Rattle.scavenger.specs.Following.{IsLeft, IsTarget}
-use Rattle.scavenger.specs.Walking.{room_end, Scavenging, MayFollow, MayMove}
-use Rattle.scavenger.proofs.TargetNumbers.{room_below_roots}
+use Rattle.scavenger.specs.Walking.{room_end, MayFollow}
 use Rattle.scavenger.proofs.FollowTiles.{fill_above}
 use Rattle.scavenger.proofs.Targets.{slots_have_targets}
 

@@ -1,5 +1,5 @@
 -- The first words of a half's segments are made 0, one after another.
-use Rattle.std.proofs.Common.{◌≡◌, ◌<◌, ◌∙◌, ℕ, length, sym, ap, subst, arith}
+use Rattle.std.proofs.Common.{◌<◌, ◌∙◌, length, sym, ap, subst, arith}
 use Rattle.page_space.specs.declared.region.Region.TheVariants.{Segment}
 use Rattle.page_space.specs.declared.sizes.Sizes.{Sizes}
 use Rattle.page_space.specs.Extents.{Space, StartsAt, marks_start}

@@ -1,5 +1,5 @@
 -- The copy at the address is a cell, and the one that is read.
-use Rattle.std.proofs.Common.{◌≡◌, ◌<◌, ℕ, sym, ◌∙◌, subst}
+use Rattle.std.proofs.Common.{◌∙◌, subst}
 use Rattle.page_space.specs.Extents.{Space}
 use Rattle.cell_layout.specs.Cells.{IsCell, HasNoCell}
 use Rattle.heap_table.specs.Seats.{heap_words}

@@ -1,8 +1,8 @@
 -- The slots of a copy are followed in order.
-use Rattle.std.proofs.Common.{◌≡◌, ◌+◌, ◌<◌, ◌≤◌, ◌∙◌, ℕ, refl, sym, ap, subst, arith, add-zero}
+use Rattle.std.proofs.Common.{◌+◌, ℕ, refl, sym, ap, subst, arith, add-zero}
 use Rattle.page_space.specs.Extents.{Space, marks_start}
 use Rattle.write_barrier.specs.MutatorState.{Mutator}
-use Rattle.scavenger.specs.Walking.{Scavenging, IsScanned}
+use Rattle.scavenger.specs.Walking.{IsScanned}
 use Rattle.scavenger.proofs.CodeChanges.{changes_again, changes_nothing}
 use Rattle.scavenger.proofs.LoopSlots.{offset_in_cell, copy_ends, slot_may_follow, slots_go_on, slots_done}
 use Rattle.scavenger.proofs.scanning.follow_slots.Goals as goal

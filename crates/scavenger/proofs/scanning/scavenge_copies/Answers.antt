@@ -1,9 +1,7 @@
 -- The copies are scanned in order.
-use Rattle.std.proofs.Common.{◌≡◌, ◌+◌, ◌<◌, ◌≤◌, ◌∙◌, ℕ, refl, sym, ap, subst, arith}
-use Rattle.page_space.specs.Extents.{Space, marks_start}
-use Rattle.nursery.specs.Young.{Young, other_half}
-use Rattle.write_barrier.specs.MutatorState.{Mutator}
-use Rattle.scavenger.specs.Walking.{room_end, Scavenging, IsScanned}
+use Rattle.std.proofs.Common.{◌≡◌, ◌+◌, ℕ, ap, subst, arith}
+use Rattle.nursery.specs.Young.{other_half}
+use Rattle.scavenger.specs.Walking.{room_end, Scavenging}
 use Rattle.scavenger.proofs.CodeChanges.{changes_again, changes_same}
 use Rattle.scavenger.proofs.LoopGoing.{same_room_end}
 use Rattle.scavenger.proofs.LoopSlots.{at_copy, scan_within, copy_has_words}

@@ -1,8 +1,7 @@
 -- The roots are followed in order.
-use Rattle.std.proofs.Common.{◌≡◌, ◌+◌, ◌*◌, ◌<◌, ◌∙◌, ℕ, refl, sym, ap, subst, arith}
+use Rattle.std.proofs.Common.{◌≡◌, ◌+◌, ◌*◌, ◌<◌, ◌∙◌, ℕ, sym, ap, subst, arith}
 use Rattle.page_space.specs.Extents.{Space, roots_start, root_words, layouts_start}
 use Rattle.page_space.proofs.LawsHold.{kinds_by_number}
-use Rattle.nursery.specs.Young.{other_half}
 use Rattle.handle_roots.specs.Roots.{root_at}
 use Rattle.scav_copy.specs.Places.{StoodAt}
 use Rattle.scavenger.specs.Walking.{Scavenging}

@@ -1,11 +1,9 @@
 -- A slot that is live in a scavenge is followed.
-use Rattle.std.proofs.Common.{◌≡◌, ◌<◌, ◌∙◌, ℕ, Some, sym, ap, subst, arith}
+use Rattle.std.proofs.Common.{◌≡◌, ◌<◌, ◌∙◌, sym, ap, subst, arith}
 use Rattle.std.proofs.lemmas.Option.{get_or_from_slice_get}
 use Rattle.tagged_word.specs.Readings.{reference_in}
 use Rattle.page_space.specs.Extents.{Space, marks_start}
 use Rattle.heap_table.specs.Seats.{heap_words}
-use Rattle.scav_copy.specs.Renamings.{RefersToAddress}
-use Rattle.scavenger.specs.Filling.{ChangesWords}
 use Rattle.scavenger.specs.Following.{IsLeft, Follows}
 use Rattle.scavenger.proofs.CodeChanges.{changes_again, put_changes}
 use Rattle.scavenger.proofs.LoopTargets.{refers_by, slot_before_marks, target_before_marks, has_target}

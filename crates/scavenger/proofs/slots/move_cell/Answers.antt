@@ -2,7 +2,7 @@
 use Rattle.std.proofs.Common.{◌≡◌, ◌+◌, ◌<◌, ◌≤◌, ◌∙◌, ℕ, List, length, slice_set, sym, ap, subst, arith}
 use Rattle.tagged_word.specs.declared.word.Class.TheVariants.{Ref}
 use Rattle.tagged_word.specs.Words.{bits_of}
-use Rattle.page_space.specs.Extents.{Space, marks_start, words_count}
+use Rattle.page_space.specs.Extents.{Space, marks_start}
 use Rattle.word_store.specs.Copies.{AreDisjoint, copied}
 use Rattle.cell_layout.specs.Cells.{IsCell, HasNoCell}
 use Rattle.cell_layout.proofs.OneCell.{one_cell, cells_have_words}
@@ -10,7 +10,7 @@ use Rattle.heap_model.specs.Types.{Cell}
 use Rattle.heap_table.specs.Seats.{heap_words}
 use Rattle.write_barrier.specs.MutatorState.{Mutator, with_table}
 use Rattle.scavenger.specs.Filling.{ChangesWords}
-use Rattle.scavenger.specs.Walking.{MayMove, Moves}
+use Rattle.scavenger.specs.Walking.{MayMove}
 use Rattle.scavenger.proofs.CodeChanges.{changes_again, put_changes, copy_changes}
 use Rattle.scavenger.proofs.slots.move_cell.Goals as goal
 

@@ -1,7 +1,6 @@
 -- The spaces begin where their regions do, and end before the marks.
-use Rattle.std.proofs.Common.{◌≡◌, ◌+◌, ◌≤◌, ℕ, ap, arith}
+use Rattle.std.proofs.Common.{◌≡◌, ap, arith}
 use Rattle.page_space.specs.declared.sizes.Sizes.{Sizes}
-use Rattle.page_space.specs.Extents.{marks_start}
 use Rattle.page_space.proofs.LawsHold.{kinds_by_number}
 use Rattle.page_space.proofs.Limits.{words_count_most}
 use Rattle.scavenger.proofs.CodeSegments.{spaces_are, half_before_marks}
