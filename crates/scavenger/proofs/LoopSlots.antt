@@ -179,8 +179,7 @@ module _ {start now : Mutator} {cell : Cell} {reached root fill : ℕ} (from : �
   pub copy_has_words : (1 ≤ cell.size) × (cell.at < room_end start.seat.space (other_half start.young.half))
   copy_has_words =
       let state = scanned.scavenging in
-      let itself = home_itself scanned.home state.begun.laid state.filled.copying scanned.among in
-      (
+      let itself = home_itself scanned.home state.begun.laid state.filled.copying scanned.among in (
         omega (arith, itself.below, scanned.size),
         omega (arith, scanned.before, fill_in_room state),
       )

@@ -83,7 +83,7 @@ module _ {now : Mutator} {slot fill : ℕ} (may : MayFollow now slot fill) where
   has_target at refers left =
       let fixed : Fixed = may.scavenging.fixed in
       let Has : Space → ℕ → Type 0 = λ space half. IsLeft space half at → Contains fixed.cells at
-          × IsTarget space fixed (heap_words now.seat) (room_end space (other_half half)) fill at in
+      × IsTarget space fixed (heap_words now.seat) (room_end space (other_half half)) fill at in
       let start = may.start in
       let has : Has start.seat.space start.young.half =
       slots_have_targets (heap_of start) (other_half start.young.half) start.young.half fixed (heap_words now.seat)

@@ -36,7 +36,7 @@ copies-smaller c =
     (c.copy_at-cell.ensures.scanned given.0 given.1 c.copies.fill state c.copies-test.true) in
     let has = copy_has_words 0 scanned (omega arith) in
     let same : room_end c.args.main.now.seat.space (other_half c.args.main.now.young.half)
-        ≡ room_end given.0.seat.space (other_half given.0.young.half) = same_room_end given.2.changes in
+    ≡ room_end given.0.seat.space (other_half given.0.young.half) = same_room_end given.2.changes in
     omega (arith, has.0, has.1, c.copy_at-cell.ensures.at, same, c.requires.spaces.room_end)
 
 pub copies-preserved : goal.copies-preserved
