@@ -1,7 +1,7 @@
 -- What a scavenge leaves of the graph that the heap shows, and of the rooms of its objects; and what it begins with.
 use Rattle.std.specs.Prelude.{◌≡◌, ℕ, ◌+◌, ◌↔◌, List}
 use Rattle.object_graph.specs.Graphs.{Graph}
-use Rattle.page_space.specs.Extents.{segments_start}
+use Rattle.page_space.specs.RegionLaws.{IsSpace}
 use Rattle.nursery.specs.Young.{IsYoung, turned, other_half}
 use Rattle.heap_table.specs.Seats.{RestStays, heap_words}
 use Rattle.heap_model.specs.Rooms.{Room, HasRooms}
@@ -20,10 +20,10 @@ pub record KeepsGraphs (old new : Mutator) : Type 0 where
   pub rooms : (graph : Graph) (rooms : ℕ → Room) → MainShows old graph
       → HasRooms (heap_of old) graph rooms ↔ HasRooms (heap_of new) graph rooms
 
--- A heap that shows a graph may be scavenged.
+-- A heap within the limits of all sizes that shows a graph may be scavenged.
 abbrev pub ShownHeapsMayBegin : Type 0
 ShownHeapsMayBegin =
-    (main : Mutator) (graph : Graph) → MainShows main graph → IsYoung main.young
+    (main : Mutator) (graph : Graph) → IsSpace main.seat.space → MainShows main graph → IsYoung main.young
     → IsCollectable (heap_of main) (other_half main.young.half)
     → (fixed : Fixed) × IsBegun (heap_of main) (other_half main.young.half) fixed
 

@@ -6,6 +6,8 @@
 //! behind another, and each live slot that refers to a cell that is to be copied is to do.
 #![tactic(auto)]
 
+mod laws;
 mod scavenging;
 
+pub use laws::{laws_of_following, laws_of_scavenges, laws_of_slots};
 pub use scavenging::scavenge;

@@ -1,0 +1,17 @@
+pub mod StartReadings
+pub mod Sums
+pub mod TargetNumbers
+pub mod TargetCells
+pub mod Targets
+pub mod FollowRegions
+pub mod FollowTiles
+pub mod FollowCopies
+pub mod FollowSlots
+pub mod FollowNewCopies
+pub mod Following
+pub mod StartRows
+pub mod StartAscends
+pub mod StartSums
+pub mod StartTargets
+pub mod StartLaid
+pub mod Started
