@@ -2,6 +2,7 @@ mod Counts
 mod FewWords
 mod Lacking
 mod Carrying
+mod Trying
 pub mod Handing
 mod Ways
 mod Running
