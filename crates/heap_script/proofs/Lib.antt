@@ -3,6 +3,7 @@ mod FewWords
 mod Lacking
 mod Carrying
 mod Trying
+mod Retrying
 pub mod Handing
 mod Ways
 mod Running

@@ -96,13 +96,14 @@ fn carry_out(
     // lines, whatever its attribute asks. Once there is room the command finds it, so no third try
     // comes.
     'tries: loop {
-        match execute(heap, script, objects, command, out) {
-            Err(Stop::NoRoom { need }) => {
-                if !ensure_room(heap, need) {
-                    return Err(Stop::NoRoom { need });
-                }
-            }
-            carried => return carried,
+        let Err(stop) = execute(heap, script, objects, command, out) else {
+            return Ok(());
+        };
+        let Stop::NoRoom { need } = stop else {
+            return Err(stop);
+        };
+        if !ensure_room(heap, need) {
+            return Err(stop);
         }
     }
 }

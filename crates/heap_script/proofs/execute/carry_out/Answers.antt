@@ -1,0 +1,96 @@
+use Rattle.std.proofs.Common.{◌≡◌, ◌∙◌, refl}
+use Rattle.mutator.specs.declared.stop.Stop.TheVariants.{NoRoom}
+use Rattle.heap_script.proofs.Retrying.{IsReady, ready_shows, ready_space, was_first, refused_always, unchanged_first}
+use Rattle.heap_script.proofs.Retrying.{scavenged_for, made_room, fewer_tries, gives_up, carried_at}
+use Rattle.heap_script.proofs.execute.carry_out.Goals as goal
+
+pub tries-init : goal.tries-init
+tries-init c = record { ready = IsReady.first refl; objects = refl; out = refl }
+
+pub execute-requires : goal.execute-requires
+execute-requires c =
+    let now = c.tries.invariant in
+    let (graph, shown, made) = c.requires.shown in
+    record {
+      stub = c.requires.stub;
+      built = c.requires.built;
+      shown = (graph, ready_shows now.ready shown, now.objects ∙ made);
+      within = rw (ready_space now.ready) c.requires.within;
+      few = rw now.objects c.requires.few;
+      short = c.requires.short;
+      room = rw now.out c.requires.room;
+    }
+
+pub ensure_room-requires : goal.ensure_room-requires
+ensure_room-requires c =
+    let now = c.tries.invariant in
+    let names = c.args.script.now.fields in
+    let (graph, shown, made) = c.requires.shown in
+    let told = refused_always names c.execute.new.heap now.ready now.objects c.requires.within c.in-NoRoom.is c.in-Err.ensures.carried
+    graph shown made in
+    let same = unchanged_first names c.execute.new.heap now.ready now.objects c.requires.within c.in-NoRoom.is c.in-Err.ensures.carried
+    c.in-Err.ensures.spare c.requires.shown in
+    record { stub = c.requires.stub; some = told.some; few = told.few; shown = (graph, rw same shown) }
+
+pub tries-preserved : goal.tries-preserved
+tries-preserved c =
+    let now = c.tries.invariant in
+    let names = c.args.script.now.fields in
+    let (graph, shown, made) = c.requires.shown in
+    let told = refused_always names c.execute.new.heap now.ready now.objects c.requires.within c.in-NoRoom.is c.in-Err.ensures.carried in
+    let same = unchanged_first names c.execute.new.heap now.ready now.objects c.requires.within c.in-NoRoom.is c.in-Err.ensures.carried
+    c.in-Err.ensures.spare c.requires.shown in
+    let gone = c.ensure_room.ensures in
+    let one = told graph shown made in
+    let scavenged = scavenged_for same one gone.scavenged gone.shows gone.rooms gone.spare in
+    let (text, tries, out-is) = c.in-Err.ensures.carried graph (ready_shows now.ready shown) (now.objects ∙ made) in
+    record {
+      ready = IsReady.again (made_room scavenged one.apart told (gone.room.0 c.if-not-ensure_room.false));
+      objects = c.in-Err.ensures.uncounted refl ∙ now.objects;
+      out = out-is ∙ now.out;
+    }
+
+pub tries-smaller : goal.tries-smaller
+tries-smaller c =
+    let now = c.tries.invariant in
+    let names = c.args.script.now.fields in
+    let (graph, shown, made) = c.requires.shown in
+    let one = refused_always names c.execute.new.heap now.ready now.objects c.requires.within c.in-NoRoom.is c.in-Err.ensures.carried
+    graph shown made in
+    let first = was_first names c.execute.new.heap now.ready now.objects c.requires.within c.in-NoRoom.is c.in-Err.ensures.carried
+    c.requires.shown in
+    let same = unchanged_first names c.execute.new.heap now.ready now.objects c.requires.within c.in-NoRoom.is c.in-Err.ensures.carried
+    c.in-Err.ensures.spare c.requires.shown in
+    let gone = c.ensure_room.ensures in
+    fewer_tries first (scavenged_for same one gone.scavenged gone.shows gone.rooms gone.spare)
+
+pub returns-then-not-ensure_room-clause-carried : goal.returns-then-not-ensure_room-clause-carried
+returns-then-not-ensure_room-clause-carried c = λ graph shown made.
+    let now = c.tries.invariant in
+    let names = c.args.script.now.fields in
+    let one = refused_always names c.execute.new.heap now.ready now.objects c.requires.within c.in-NoRoom.is c.in-Err.ensures.carried
+    graph shown made in
+    let same = unchanged_first names c.execute.new.heap now.ready now.objects c.requires.within c.in-NoRoom.is c.in-Err.ensures.carried
+    c.in-Err.ensures.spare c.requires.shown in
+    let gone = c.ensure_room.ensures in
+    let scavenged = scavenged_for same one gone.scavenged gone.shows gone.rooms gone.spare in
+    let (text, tries, out-is) = c.in-Err.ensures.carried graph (ready_shows now.ready shown) (now.objects ∙ made) in
+    let kept = gives_up scavenged shown one tries c.in-NoRoom.is (λ has. let granted = gone.room.1 has in cc) in
+    (text, kept, out-is ∙ now.out)
+
+pub returns-in_default-clause-carried : goal.returns-in_default-clause-carried
+returns-in_default-clause-carried c = λ graph shown made.
+    let now = c.tries.invariant in
+    let (text, tries, out-is) = c.in_default.ensures.carried graph (ready_shows now.ready shown) (now.objects ∙ made) in
+    (text, carried_at now.ready shown made (λ need is. cc) tries, rw now.out at out-is)
+
+pub returns-in_default-stop-clause-carried : goal.returns-in_default-stop-clause-carried
+returns-in_default-stop-clause-carried c = λ graph shown made.
+    let now = c.tries.invariant in
+    let (text, tries, out-is) = c.in-Err.ensures.carried graph (ready_shows now.ready shown) (now.objects ∙ made) in
+    (
+      text,
+      carried_at now.ready shown made
+          (λ need is. let same : c.in-Err.stop ≡ NoRoom need = cc in c.in_default-stop.not-NoRoom need same) tries,
+      out-is ∙ now.out,
+    )
