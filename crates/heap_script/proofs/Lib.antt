@@ -7,5 +7,6 @@ mod Retrying
 pub mod Handing
 mod Ways
 mod Running
+mod LineCarried
 mod Ending
 mod Finishing
