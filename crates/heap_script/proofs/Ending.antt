@@ -15,6 +15,7 @@ use Rattle.mutator.specs.declared.stop.Stop.{Stop}
 use Rattle.mutator.specs.declared.stop.Stop.TheVariants.{Fault, NoRoom, NoClear}
 use Rattle.object_graph.specs.Limits.{ideal_limits}
 use Rattle.heap_model.specs.Heaps.{Heap}
+use Rattle.nursery.specs.Young.{Young}
 use Rattle.write_barrier.specs.MutatorState.{Mutator, heap_of, IsTied, MainShows}
 use Rattle.collector.specs.States.{HeapState, HeapShows}
 use Rattle.collector.proofs.Keeping.{still_shows}
@@ -156,7 +157,8 @@ Pauses-line script heap after objects waiting old new at at' ts ts' n number (So
     let found = Running-found r carries.collects carries.keeps in
     let same = same-stopped script.fields mid after.main r.reached.so_far.graph command text stop carries.carries in
     let empty : (need : ℕ) → stop ≡ NoRoom need → mid.young.used ≡ 0 = λ need is.
-    ap (λ (main : Mutator). main.young.used) (sym same) ∙ carries.emptied need (ap (λ (e : Stop). Err e) is) in
+    ap (λ (main : Mutator). main.young.used) (sym same)
+    ∙ ap (λ (young : Young). young.used) (carries.gave_up need (ap (λ (e : Stop). Err e) is)).young in
     let comes = EndsRun-stopped script mid after.main at' n number ts' command text stop found.shown.main.tied empty
     found.reached below goes carries.carries in
     rw same

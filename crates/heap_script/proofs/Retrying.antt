@@ -192,7 +192,7 @@ gives_up {names} {old} {new} {start} {mid} {need} {command} {graph} {text} scave
         lacks,
         refl,
       );
-      emptied = λ need is. ap (λ (young : Young). young.used) scavenged.scavenges.young;
+      gave_up = λ need is. scavenged.scavenges;
     }
 
 -- what a command finds at its first try
@@ -217,7 +217,7 @@ carried_at {names} {old} {now} {new} {objects} {command} {graph} {text} {result}
       collects = first_found there.finds;
       keeps = there.keeps;
       carries = there.carries;
-      emptied = λ need is. absurd (other need is);
+      gave_up = λ need is. absurd (other need is);
     }
 carried_at {names} {old} {now} {new} {objects} {command} {graph} {text} {result} (IsReady.again made) shown counted other
     tries =
@@ -228,6 +228,6 @@ carried_at {names} {old} {now} {new} {objects} {command} {graph} {text} {result}
           collects = Collects.for_room apart (made.lacks graph shown counted) made.scavenged.scavenges;
           keeps = made.scavenged.keeps;
           carries = subst (λ (main : Mutator). Carries names main new graph command text result) same tries.carries;
-          emptied = λ need is. absurd (other need is);
+          gave_up = λ need is. absurd (other need is);
         }
     ]

@@ -40,11 +40,11 @@ pub record Tries (names : List (List ℕ)) (old new : Mutator) (graph : Graph) (
   pub carries : Carries names mid new graph command text result
 
 -- The command was carried out on what it found, once there was room if need be, or stopped there. Where it stopped for
--- want of room, eden is empty.
+-- want of room, the heap that is left is what a scavenge left.
 pub record CarriesAtLast (names : List (List ℕ)) (old new : Mutator) (graph : Graph) (command : Command) (text : List ℕ)
     (result : Result (Unit {0}) Stop) : Type 0 where
   pub mid : Mutator
   pub collects : Collects old mid graph command
   pub keeps : KeepsGraphs old mid
   pub carries : Carries names mid new graph command text result
-  pub emptied : (need : ℕ) → result ≡ Err (NoRoom need) → new.young.used ≡ 0
+  pub gave_up : (need : ℕ) → result ≡ Err (NoRoom need) → Scavenges old new
