@@ -19,7 +19,8 @@ use Rattle.scavenger.proofs.LoopFollows.{room_before_marks}
 -- a region begins at one address
 pub one_start : (space : Space) (region : Region) (one other : ℕ) → StartsAt space region one
     → StartsAt space region other → one ≡ other
-one_start space region one other is is_too = sym (start_of_is space region one is) ∙ start_of_is space region other is_too
+one_start space region one other is is_too =
+    sym (start_of_is space region one is) ∙ start_of_is space region other is_too
 
 -- what begins somewhere is a region of the heap
 pub begins_region : (space : Space) (region : Region) (at : ℕ) → StartsAt space region at → IsRegion space region

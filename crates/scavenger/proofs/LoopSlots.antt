@@ -200,8 +200,8 @@ module _ {start now : Mutator} {cell : Cell} {reached root fill : ℕ} (from : �
             (copy_passes scanned.home state.begun.laid state.filled scanned.before scanned.among scanned.stands);
         others = λ other origin target stood refers is.
             reaches cell.size other origin (omega arith) (λ one among above at.
-            let less : one < from = All-contains (λ offset. offset < from) (scavenge_offsets cell.layout cell.length) one all
-            among in
+            let less : one < from =
+            All-contains (λ offset. offset < from) (scavenge_offsets cell.layout cell.length) one all among in
             absurd (omega (arith, less, above))) stood (state.others other origin target stood refers is);
         changes = state.changes;
       }

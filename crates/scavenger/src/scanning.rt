@@ -33,10 +33,12 @@ pub(crate) fn scavenge_roots(main: &mut Main, spaces: &Spaces) -> u32
 
 /// The cell that the copy at an address is.
 fn copy_at(main: &mut Main, at: u32) -> Cell
-    requires { (start : Mutator) × (root : ℕ) × (fill : ℕ) × Scavenging start main.old at at root fill × (at < fill) }
+    requires { (start : Mutator) × (root : ℕ) × (fill : ℕ) ×
+        Scavenging start main.old at at root fill × (at < fill) }
     ensures at { result.at ≡ at }
-    ensures scanned { (start : Mutator) (root fill : ℕ) → Scavenging start main.old at at root fill → at < fill
-        → IsScanned start main.old result at root fill }
+    ensures scanned { (start : Mutator) (root fill : ℕ) →
+        Scavenging start main.old at at root fill → at < fill →
+        IsScanned start main.old result at root fill }
     ensures same { main.new ≡ main.old }
 {
     let regions = main.regions();
@@ -49,7 +51,8 @@ fn copy_at(main: &mut Main, at: u32) -> Cell
 /// Follows each slot of a copy, and answers where the copies end.
 fn follow_slots(main: &mut Main, spaces: &Spaces, cell: &Cell, filled: u32) -> u32
     requires spaces { AreSpaces main.old.seat.space main.old.young.half spaces.now }
-    requires scanned { (start : Mutator) × (root : ℕ) × IsScanned start main.old cell.now cell.now.at root filled }
+    requires scanned { (start : Mutator) × (root : ℕ) ×
+        IsScanned start main.old cell.now cell.now.at root filled }
     ensures scavenging { (start : Mutator) (root : ℕ) →
         IsScanned start main.old cell.now cell.now.at root filled →
         let end = cell.now.at + cell.now.size in Scavenging start main.new end end root result }
