@@ -207,11 +207,10 @@ module _ {start now : Mutator} {cell : Cell} {reached root fill : ℕ} (from : �
       }
 
 -- a copy that was read is scanned from its first slot on
-pub at_copy : {start now new : Mutator} {cell : Cell} {scan root fill : ℕ} → new ≡ now → cell.at ≡ scan
-    → IsScanned start now cell scan root fill → IsScanned start new cell cell.at root fill
-at_copy {start} {now} {new} {cell} {scan} {root} {fill} same at scanned =
-    subst (λ (main : Mutator). IsScanned start main cell cell.at root fill) (sym same)
-    (subst (λ (reached : ℕ). IsScanned start now cell reached root fill) (sym at) scanned)
+pub at_copy : {start now : Mutator} {cell : Cell} {scan root fill : ℕ} → cell.at ≡ scan
+    → IsScanned start now cell scan root fill → IsScanned start now cell cell.at root fill
+at_copy {start} {now} {cell} {scan} {root} {fill} at scanned =
+    subst (λ (reached : ℕ). IsScanned start now cell reached root fill) (sym at) scanned
 
 -- copies are scanned up to where they end, or before
 pub scan_within : {fixed : Fixed} {words : List ℕ} {homes : List Home} {start scan fill : ℕ}

@@ -32,8 +32,8 @@ returns-then-not-are_left-clause-follows c =
     let same : at ≡ c.in-Some.at = cc in
     not_left (subst (IsLeft main.seat.space main.young.half) same left))
 
-pub word-requires-2-clause-within : goal.word-requires-2-clause-within
-word-requires-2-clause-within c =
+pub word-word-requires-clause-within : goal.word-word-requires-clause-within
+word-word-requires-clause-within c =
     let main = c.args.main.now in
     let refers = refers_by (heap_words main.seat) c.args.slot c.word.result c.in-Some.at c.word.ensures.of_heap
     c.in-Some.ensures in
@@ -54,8 +54,8 @@ returns-in-Some-address-clause-follows c =
     let left : IsLeft main.seat.space main.young.half c.in-Some.at =
     passed c.are_left.result c.if-not-are_left.false
     (c.are_left.ensures main.seat.space main.young.half c.requires.spaces) in
-    let to = refers_by (heap_words main.seat) c.in-Some.at c.word-2.result c.in-Some-address.home
-    c.word-2.ensures.of_heap c.in-Some-address.ensures in
+    let to = refers_by (heap_words main.seat) c.in-Some.at c.word-word.result c.in-Some-address.home
+    c.word-word.ensures.of_heap c.in-Some-address.ensures in
     follows_home c.requires.may c.in-Some.at refers left c.in-Some-address.home c.reference.result.0
     (heap_words c.write.new.self.seat) to c.reference.ensures c.write.ensures.heap
 
@@ -72,7 +72,7 @@ move_cell-size-requires-clause-may c =
     let left : IsLeft main.seat.space main.young.half c.in-Some.at =
     passed c.are_left.result c.if-not-are_left.false
     (c.are_left.ensures main.seat.space main.young.half c.requires.spaces) in
-    let none = ap reference_in (get_or_from_slice_get words c.in-Some.at c.word-2.result 0 c.word-2.ensures.of_heap)
+    let none = ap reference_in (get_or_from_slice_get words c.in-Some.at c.word-word.result 0 c.word-word.ensures.of_heap)
     ∙ sym c.in_default-address.ensures in
     may_move c.requires.may c.in-Some.at refers left none
 
@@ -89,7 +89,7 @@ overflow_add-result c =
     let left : IsLeft main.seat.space main.young.half c.in-Some.at =
     passed c.are_left.result c.if-not-are_left.false
     (c.are_left.ensures main.seat.space main.young.half c.requires.spaces) in
-    let none = ap reference_in (get_or_from_slice_get words c.in-Some.at c.word-2.result 0 c.word-2.ensures.of_heap)
+    let none = ap reference_in (get_or_from_slice_get words c.in-Some.at c.word-word.result 0 c.word-word.ensures.of_heap)
     ∙ sym c.in_default-address.ensures in
     let ends = copy_before_marks c.requires.may c.in-Some.at refers left c.move_cell-size.new.main
     c.move_cell-size.result none c.move_cell-size.ensures.moves in
@@ -103,7 +103,7 @@ returns-clause-follows c =
     let left : IsLeft main.seat.space main.young.half c.in-Some.at =
     passed c.are_left.result c.if-not-are_left.false
     (c.are_left.ensures main.seat.space main.young.half c.requires.spaces) in
-    let none = ap reference_in (get_or_from_slice_get words c.in-Some.at c.word-2.result 0 c.word-2.ensures.of_heap)
+    let none = ap reference_in (get_or_from_slice_get words c.in-Some.at c.word-word.result 0 c.word-word.ensures.of_heap)
     ∙ sym c.in_default-address.ensures in
     follows_copy c.requires.may c.in-Some.at refers left c.move_cell-size.new.main c.write-2.new.self
     c.move_cell-size.result c.reference-2.result.0 none c.move_cell-size.ensures.moves c.reference-2.ensures
