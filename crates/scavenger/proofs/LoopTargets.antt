@@ -1,5 +1,5 @@
 -- What may be read and copied where a live slot is followed.
-use Rattle.std.proofs.Common.{◌≡◌, ℕ, ◌+◌, ◌<◌, ◌≤◌, inl, inr, List, [], length, slice_get, Some}
+use Rattle.std.proofs.Common.{◌≡◌, ℕ, ◌+◌, ◌<◌, ◌≤◌, inl, inr, List, [], length, get_or, slice_get, Some, None}
 use Rattle.std.proofs.Common.{sym, ◌∙◌, ap, subst, arith}
 use Rattle.std.specs.List.{Contains}
 use Rattle.std.proofs.lemmas.Bool.{cases_lt}
@@ -27,6 +27,11 @@ use Rattle.scavenger.proofs.Targets.{slots_have_targets}
 pub refers_by : (words : List ℕ) (slot word at : ℕ) → slice_get words slot ≡ Some word → Some at ≡ reference_in word
     → RefersToAddress words slot at
 refers_by words slot word at read is = ap reference_in (get_or_from_slice_get words slot word 0 read) ∙ sym is
+
+-- and a word that is read and is no reference refers nowhere
+pub refers_nowhere : (words : List ℕ) (slot word : ℕ) → slice_get words slot ≡ Some word → None ≡ reference_in word
+    → reference_in (get_or words slot 0) ≡ None
+refers_nowhere words slot word read is = ap reference_in (get_or_from_slice_get words slot word 0 read) ∙ sym is
 
 -- two stretches with no common address are disjoint
 pub disjoint_by : (from to count : ℕ)

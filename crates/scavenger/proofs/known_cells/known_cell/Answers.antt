@@ -68,5 +68,5 @@ returns c cell is_cell stands =
     some_same c.in-Some-size.is
     (c.size.ensures ∙ size_found cell is_cell stands c.in-Some-parse.layout c.known_length-length.result layout
     c.known_length-length.ensures) in
-    parts_are cell is_cell stands c.in-Some.header c.in-Some-parse.layout c.known_length-length.result c.in-Some-size.size
-    header layout c.known_length-length.ensures size
+    parts_are cell is_cell stands c.in-Some.header c.in-Some-parse.layout c.known_length-length.result
+    c.in-Some-size.size header layout c.known_length-length.ensures size
