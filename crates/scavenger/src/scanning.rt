@@ -1,7 +1,7 @@
 //! The slots that a scavenge follows, in order: those of the variables, and then those of the copies.
 //!
-//! It is Cheney's way of 1970, in breadth: the room is the list of what is to do, since copies are
-//! looked at in the order in which they were made.
+//! The room is the list of what is to do, since copies are looked at in the order in which they were
+//! made.
 ghost use Rattle.std.specs.Prelude.{◌≡◌, ℕ, ◌+◌, ◌<◌};
 ghost use Rattle.page_space.specs.Extents.{layouts_start};
 ghost use Rattle.heap_table.specs.declared.phase.Phase.TheVariants.{Quiet};
