@@ -84,7 +84,7 @@ module _ {owner owned : Kind} {old new : Mutator} {cell : Cell} {word box : ℕ}
       false≢true (sym (ap is_object_kind is) ∙ ap is_object_kind writing.of_kind ∙ writing.owns.object)
 
   -- nor is what it owns
-  owned_no_box : {k : Kind} → k ≡ owned → k ≡ kind.Boxed → ⊥
+  pub owned_no_box : {k : Kind} → k ≡ owned → k ≡ kind.Boxed → ⊥
   owned_no_box is box_kind = false≢true (sym (ap has_length box_kind) ∙ ap has_length is ∙ writing.owns.long)
 
   -- the words
@@ -222,7 +222,7 @@ module _ {owner owned : Kind} {old new : Mutator} {cell : Cell} {word box : ℕ}
   box_now : HasCell (heap_of new) one_box (words_of_cell (heap_of new) one_box)
   box_now = cells.comes one_box (rest_in cell others one_box (first_in one_box []))
 
-  box_holds : HasWord (words_of_cell (heap_of new) one_box) 1 (raw_word v)
+  pub box_holds : HasWord (words_of_cell (heap_of new) one_box) 1 (raw_word v)
   box_holds =
       word_at_offset 1 box_now (omega (arith, box_size box_has writing.box_of.box))
       ∙ ap (λ n. slice_get (heap_words new.seat) (n + 1)) writing.box_of.stands
@@ -242,7 +242,7 @@ module _ {owner owned : Kind} {old new : Mutator} {cell : Cell} {word box : ℕ}
   }
 
   -- and where the object's slots hold what they held, they are refilled
-  pub refills : (was : ℕ → ℕ → Type 0) (one store : ℕ) → HasWord (words_of_cell (heap_of old) cell) store_slot store
+  abbrev pub refills : (was : ℕ → ℕ → Type 0) (one store : ℕ) → HasWord (words_of_cell (heap_of old) cell) store_slot store
       → Refills owned (heap_of old) (heap_of new) cell cell others [] was was
   refills was one store slot = record {
     origin = λ k. k;
