@@ -34,7 +34,6 @@ pub mod LinkedMaps
 pub mod GrownPairs
 pub mod GrownMaps
 pub mod SlotValues
-pub mod BoxedValues
 pub mod BoxedMaps
 pub mod PutKeys
 pub mod NoPair
