@@ -1,5 +1,4 @@
 mod PushNeeds
-mod SlotWords
 mod WrittenSlots
 mod NewStoreWords
 mod PushedToNewStore

@@ -25,6 +25,7 @@ pub mod OwnerWrites
 pub mod NothingUsed
 pub mod OwnPuts
 pub mod OwnIntegers
+pub mod OwnContents
 pub mod ContentValues
 pub mod KeptCapacities
 pub mod OwnCapacities

@@ -33,7 +33,7 @@ use Rattle.object_cells.proofs.NothingUsed.{room_for_none, used_and_none}
 use Rattle.object_cells.proofs.OwnCapacities.{object_keeps}
 use Rattle.object_cells.proofs.OwnPlaces.{has_own_words, box_size}
 use Rattle.object_cells.proofs.OwnPuts.{PutsOwn, own_writes}
-use Rattle.object_cells.proofs.OwnerWrites.{written_own_keeps_cells}
+use Rattle.object_cells.proofs.OwnerWrites.{owned_is_no_box, written_own_keeps_cells}
 use Rattle.object_cells.proofs.RestOfWords.{put_rest}
 use Rattle.object_cells.proofs.SlotBoxes.{IsBoxOf}
 use Rattle.object_cells.proofs.SlotsNow.{word_at_offset}
@@ -82,10 +82,6 @@ module _ {owner owned : Kind} {old new : Mutator} {cell : Cell} {word box : ℕ}
   own_no_box : cell.layout.kind ≡ kind.Boxed → ⊥
   own_no_box is =
       false≢true (sym (ap is_object_kind is) ∙ ap is_object_kind writing.of_kind ∙ writing.owns.object)
-
-  -- nor is what it owns
-  pub owned_no_box : {k : Kind} → k ≡ owned → k ≡ kind.Boxed → ⊥
-  owned_no_box is box_kind = false≢true (sym (ap has_length box_kind) ∙ ap has_length is ∙ writing.owns.long)
 
   -- the words
   abbrev put : List ℕ
@@ -154,7 +150,7 @@ module _ {owner owned : Kind} {old new : Mutator} {cell : Cell} {word box : ℕ}
         stood = box_has;
         of_kind = inr writing.box_of.box;
         header = kept one_box.at (λ is. omega (arith, is, writing.box_of.stands));
-        length = λ is. absurd (owned_no_box is writing.box_of.box);
+        length = λ is. absurd (owned_is_no_box writing.owns is writing.box_of.box);
       }))
       (row_of_none (heap_of new) (next_at old))
 
@@ -196,7 +192,7 @@ module _ {owner owned : Kind} {old new : Mutator} {cell : Cell} {word box : ℕ}
     | inl same ↦ false≢true (sym writing.owns.short ∙ sym (ap has_length writing.of_kind)
         ∙ ap (λ (c : Cell). has_length c.layout.kind) same ∙ ap has_length is ∙ writing.owns.long)
     | inr among ↦
-        owned_no_box is (ap (λ (c : Cell). c.layout.kind) (sym (one_in one_box one among)) ∙ writing.box_of.box)
+        owned_is_no_box writing.owns is (ap (λ (c : Cell). c.layout.kind) (sym (one_in one_box one among)) ∙ writing.box_of.box)
   ])
 
   -- and so its store has the slots that it had
@@ -254,7 +250,7 @@ module _ {owner owned : Kind} {old new : Mutator} {cell : Cell} {word box : ℕ}
     store_comes = inl slot;
     belong = beside.belong;
     kinds = beside.kinds;
-    stores = λ other among is. absurd (owned_no_box is
+    stores = λ other among is. absurd (owned_is_no_box writing.owns is
         (ap (λ (c : Cell). c.layout.kind) (sym (one_in one_box other among)) ∙ writing.box_of.box));
     boxes = λ other among is. subst (λ (c : Cell). IsBoxCell c (words_of_cell (heap_of new) c))
         (one_in one_box other among) (record {
