@@ -14,10 +14,8 @@ use Rattle.heap_model.specs.Slots.{RefersToPlace, IsPlace}
 use Rattle.heap_model.specs.Kinds.{Pair}
 use Rattle.heap_model.specs.Showing.{ShowsEntry}
 use Rattle.write_barrier.specs.MutatorState.{Mutator, heap_of}
-use Rattle.object_cells.specs.Contents.{next_at}
 use Rattle.object_cells.specs.Made.{store_content}
 use Rattle.object_cells.proofs.HeldContents.{HoldsValue}
-use Rattle.object_cells.proofs.ContentValues.{content_shows}
 use Rattle.weak_pairs.specs.Pairs.{IsFilledAt}
 use Rattle.ephemeron_table.specs.PairLaws.{PutsOne}
 use Rattle.ephemeron_table.specs.Puttings.{PutsInTable}
@@ -27,7 +25,7 @@ use Rattle.weak_pairs.proofs.CountedPairs.{count_filled}
 use Rattle.ephemeron_table.proofs.KeysFound.{key_filled}
 use Rattle.ephemeron_table.proofs.KnownTables.{KnownMap, pairs_long}
 use Rattle.ephemeron_table.proofs.PutPairs.{pair, pairs_are_now}
-use Rattle.ephemeron_table.proofs.PutMaps.{refills_weak, refers_back, refers_box, places}
+use Rattle.ephemeron_table.proofs.PutMaps.{refills_weak, refers_back, value_shown, places}
 use Rattle.weak_pairs.proofs.FilledPairs.{filled_elsewhere, still_filled}
 
 module _ {old new : Mutator} {map place key count number : ℕ} {table : Table} {value : Held} {what : Value}
@@ -76,8 +74,7 @@ module _ {old new : Mutator} {map place key count number : ℕ} {table : Table} 
           refers = refl;
           place = places known below puts objects key_place holds fits all counted number key key_place;
         };
-        value = content_shows (next_at old) holds (places known below puts objects key_place holds fits all counted)
-            (refers_box known below puts objects key_place holds fits all counted);
+        value = value_shown known below puts objects key_place holds fits all counted;
       })
 
   -- so all other pairs are kept, and this is the one of its key

@@ -1,11 +1,11 @@
 -- A weak map to whose table a pair came is refilled.
-use Rattle.std.proofs.Common.{◌≡◌, ℕ, ◌+◌, ◌<◌, inl, inr, List, [], ◌∷◌, ◌++◌, length, Contains, Some, false}
+use Rattle.std.proofs.Common.{◌≡◌, ℕ, ◌+◌, ◌<◌, inl, inr, List, [], ◌∷◌, length, Some, false}
 use Rattle.std.proofs.Common.{slice_get, refl, sym, ◌∙◌, ap, subst, arith}
-use Rattle.std.specs.Prelude.{slice_set, ℤ}
-use Rattle.std.proofs.lemmas.Bool.{cases_eq, false≢true}
+use Rattle.std.specs.Prelude.{slice_set}
+use Rattle.std.proofs.lemmas.Bool.{cases_eq}
 use Rattle.tagged_word.specs.declared.layout.Kind.TheVariants as kind
 use Rattle.tagged_word.specs.Cells.{store_slot}
-use Rattle.tagged_word.proofs.Members.{first_in, one_in}
+use Rattle.tagged_word.proofs.Members.{first_in}
 use Rattle.page_space.proofs.Starts.{marks_start_is}
 use Rattle.heap_model.specs.Types.{Value, Cell, Held}
 use Rattle.object_graph.specs.declared.value.Rep.TheVariants as rep
@@ -15,21 +15,22 @@ use Rattle.object_graph.proofs.Lists.{slice_get-set_same}
 use Rattle.linear_probing.specs.Tables.{FindsAll}
 use Rattle.heap_table.specs.Seats.{heap_words}
 use Rattle.heap_model.specs.Heaps.{words_of_cell}
-use Rattle.heap_model.specs.Slots.{reference_word, RefersToBox, RefersToPlace, IsPlace}
-use Rattle.heap_model.specs.Kinds.{HasWord, Pair, IsFilledPair, count_offset, HasNoNumber, IsBoxCell}
-use Rattle.heap_model.specs.Wholeness.{NamesFrom}
+use Rattle.heap_model.specs.Slots.{RefersToPlace, IsPlace}
+use Rattle.heap_model.specs.Kinds.{HasWord, Pair, IsFilledPair, count_offset}
+use Rattle.heap_model.specs.Showing.{ShowsValue}
 use Rattle.heap_model.proofs.WordsStay.{PlacesStay}
 use Rattle.write_barrier.specs.MutatorState.{Mutator, heap_of}
-use Rattle.object_cells.specs.declared.content.SlotContent.TheVariants as content
 use Rattle.object_cells.specs.Contents.{next_at}
 use Rattle.object_cells.specs.Made.{store_content, with_content, content_word}
 use Rattle.object_cells.proofs.HeldContents.{HoldsValue}
-use Rattle.object_cells.proofs.MadeBoxes.{made_box, boxed_integer, refers_to_made, made_boxed, only_first}
-use Rattle.object_cells.proofs.MadeBoxes.{length-with_content, boxes_sound}
-use Rattle.object_cells.proofs.NewBoxes.{box_cell}
+use Rattle.object_cells.proofs.MadeBoxes.{made_boxed}
+use Rattle.object_cells.proofs.MadeBoxes.{length-with_content, BoxStands, made_row}
+use Rattle.object_cells.proofs.OwnContents as of_content
+use Rattle.object_cells.proofs.OwnContents.{PutsBeside, PutsContent, puts_content}
+use Rattle.object_cells.proofs.OwnPuts.{own_sized}
+use Rattle.object_cells.proofs.OwnerWrites.{weak_owns}
 use Rattle.object_cells.proofs.OwnCells.{cell_below_layouts}
 use Rattle.object_cells.proofs.SlotsNow.{word_at_offset}
-use Rattle.object_cells.proofs.ContentValues.{content_shows, content_comes, is_made_box}
 use Rattle.object_cells.proofs.FieldWords.{value_word}
 use Rattle.weak_pairs.specs.Pairs.{IsFilledAt}
 use Rattle.ephemeron_table.proofs.PairComes.{PairComes, value_comes, pair_shows}
@@ -39,10 +40,11 @@ use Rattle.ephemeron_table.specs.Puttings.{PutsInTable}
 use Rattle.weak_pairs.specs.Tables.{numbers, pairs_of, with_pair}
 use Rattle.weak_pairs.specs.declared.table.Table.{Table}
 use Rattle.weak_pairs.proofs.CountedPairs.{count_filled}
-use Rattle.ephemeron_table.proofs.KnownTables.{table_is_no_box, are_before, KnownMap, cell, cell_has, sound}
-use Rattle.ephemeron_table.proofs.KnownTables.{slot_there, of_map, found, other, other_belongs, other_number}
+use Rattle.ephemeron_table.proofs.KnownTables.{are_before, KnownMap, cell, cell_has, sound}
+use Rattle.ephemeron_table.proofs.KnownTables.{slot_there, of_map, found, other, other_number}
 use Rattle.weak_pairs.proofs.PairsPut.{at_place, length-with_pair}
-use Rattle.ephemeron_table.proofs.PutPairs.{pair, made, pairs_are_now, box_stands, writes, some, map_stays, puts_weak}
+use Rattle.ephemeron_table.proofs.PutPairs.{pair, made, pairs_are_now, some, map_stays, head_stays, puts_weak}
+use Rattle.ephemeron_table.proofs.PutPairs.{need, final, box_word}
 use Rattle.object_cells.specs.OwnSlots.{ComesFrom}
 use Rattle.weak_pairs.proofs.FilledPairs.{filled_elsewhere}
 use Rattle.ephemeron_table.proofs.StayingTables as staying
@@ -73,29 +75,49 @@ module _ {old new : Mutator} {map place key count number : ℕ} {table : Table} 
   abbrev pub after : List Pair
   after = pairs_of (heap_words new.seat) table
 
-  -- the table belongs to the map
-  pub belong : (one : Cell) → Contains (table_cell ∷ []) one → (slot : ℕ) × NamesFrom (heap_of old) map_cell slot one.at
-  belong one among = (
-    map_cell.at + store_slot,
-    subst (λ (c : Cell). NamesFrom (heap_of old) map_cell (map_cell.at + store_slot) c.at) (one_in table_cell one among)
-        (other_belongs known (some known below puts)),
-  )
+  -- so the value came to the table
+  pub comes_there : PutsContent kind.Weak kind.Table old new map_cell table_cell (store_content value) (final known below puts)
+      what
+  comes_there =
+      let own = puts_weak known below puts in
+      let stands : BoxStands (heap_of new) (store_content value) (next_at old) =
+      puts_content own (box_word known below puts) in
+      record {
+        putting = record {
+          owns = weak_owns;
+          puts = own;
+          other_kind = (found known (some known below puts)).of_kind;
+          no_number = other_number known (some known below puts);
+          store = (sound known).store;
+          slot = slot_there known;
+          refers = (found known (some known below puts)).refers.refers;
+          own_stays = λ k less.
+              subst (λ n. slice_get (heap_words new.seat) (n + k) ≡ slice_get (heap_words old.seat) (n + k))
+              (sym known.there.stands) (map_stays known below puts k less);
+          head_stays = head_stays known below puts;
+          made_stand = made_row (heap_of new) (store_content value) (next_at old) (own_sized own) stands;
+          boxes = made_boxed (store_content value) (next_at old);
+        };
+        stands = stands;
+        objects = objects;
+        fits = fits;
+        value = holds;
+      }
+
+  abbrev putting : PutsBeside kind.Weak kind.Table old new map_cell table_cell (need known below puts)
+      (final known below puts) boxes_made
+  putting = comes_there.putting
 
   -- the word of the map for its table stays
   pub slot_stays : slice_get (heap_words new.seat) (map_cell.at + store_slot)
       ≡ slice_get (heap_words old.seat) (map_cell.at + store_slot)
-  slot_stays =
-      subst (λ n. slice_get (heap_words new.seat) (n + 1) ≡ slice_get (heap_words old.seat) (n + 1))
-      (sym known.there.stands)
-      (map_stays known below puts 1 (omega arith))
+  slot_stays = of_content.slot_stays putting
 
   -- so words of the map's own cells were written
   abbrev written : WritesMap old new map table known (table_cell ∷ []) boxes_made
-  written = record {
-    writes = writes known below puts;
-    belong = belong;
-    kinds = λ one among. inr (made_boxed (store_content value) (next_at old) one among);
-  }
+  written =
+      let all = of_content.beside putting in
+      record { writes = all.writes; belong = all.belong; kinds = all.kinds }
 
   -- and the table stays where it is
   abbrev stays : StaysTable old new map table known (some known below puts) (table_cell ∷ []) boxes_made
@@ -110,13 +132,9 @@ module _ {old new : Mutator} {map place key count number : ℕ} {table : Table} 
       → RefersToPlace (heap_of old) word another
   refers_back = staying.refers_back known written
 
-  -- the box that was made holds the integer
-  pub refers_box : (v : ℤ) → store_content value ≡ content.Boxed v
-      → RefersToBox (heap_of new) (reference_word (next_at old)) v
-  refers_box v is_box =
-      refers_to_made (store_content value) (next_at old) v is_box (boxed_integer objects v holds fits is_box)
-      (box_stands known below puts)
-      (staying.made_has known written (box_cell (next_at old)) (made_box (store_content value) (next_at old) v is_box))
+  -- and the word of its slot shows it
+  pub value_shown : ShowsValue (heap_of new) (content_word (store_content value) (next_at old)) what
+  value_shown = of_content.word_shows comes_there
 
   -- as many as the count says hold something
   pub count_after : HasWord (words_of_cell (heap_of new) map_cell) count_offset (count_filled after)
@@ -145,17 +163,11 @@ module _ {old new : Mutator} {map place key count number : ℕ} {table : Table} 
   pub finds_after : FindsAll (numbers (heap_of old) after)
   finds_after = subst (λ pairs. FindsAll (numbers (heap_of old) pairs)) (sym (pairs_are_now known below puts)) all
 
-  -- the table alone was written
-  pub is_table : (one : Cell) → Contains (table_cell ∷ []) one → one.layout.kind ≡ kind.Table
-  is_table one among =
-      ap (λ (c : Cell). c.layout.kind) (sym (one_in table_cell one among))
-      ∙ (found known (some known below puts)).of_kind
-
   -- the pair that was put shows a key and a value
   pub pair_filled : IsFilledPair (heap_of new) (pair known below puts) number
   pair_filled = record {
     key = record { at = key; refers = refl; place = places number key key_place };
-    value = value_word _ what (content_shows (next_at old) holds places refers_box);
+    value = value_word _ what value_shown;
   }
 
   -- each pair comes from where it may
@@ -172,25 +184,11 @@ module _ {old new : Mutator} {map place key count number : ℕ} {table : Table} 
             (PairComes.put number same pair_filled
             (subst (λ n. ComesFrom (heap_of new) (HasValue before) boxes_made at n at
             (content_word (store_content value) (next_at old))) same
-            (content_comes (HasValue before) boxes_made at at (next_at old) holds places (λ own wide. false≢true own)
-            (λ v is_box. is_made_box (next_at old) (made_box (store_content value) (next_at old) v is_box)))))
+            (of_content.word_comes comes_there (HasValue before) at)))
         | inr apart ↦
             PairComes.kept (filled_elsewhere before place at (pair known below puts) one apart now)
-            (λ other among box same. table_is_no_box (is_table other among) box)
+            (λ other among box same. of_content.no_box putting other among box)
       ]
-
-  -- of the cells written and made only the table is one
-  pub tables_told : (one : Cell) → Contains ((table_cell ∷ []) ++ boxes_made) one → one.layout.kind ≡ kind.Table
-      → HasNoNumber one × ((sound known).store ≡ reference_word one.at)
-  tables_told one among is = subst (λ (c : Cell). HasNoNumber c × ((sound known).store ≡ reference_word c.at))
-      (only_first (store_content value) (next_at old) kind.Table (table_is_no_box refl) one among is)
-      (other_number known (some known below puts), (found known (some known below puts)).refers.refers)
-
-  pub boxes_told : (one : Cell) → Contains ((table_cell ∷ []) ++ boxes_made) one → one.layout.kind ≡ kind.Boxed
-      → IsBoxCell one (words_of_cell (heap_of new) one)
-  boxes_told =
-      boxes_sound objects (next_at old) (table_is_no_box (found known (some known below puts)).of_kind) holds fits
-      (box_stands known below puts) (staying.made_has known written)
 
   -- so the map is refilled
   abbrev pub refills : RefillsPairs (heap_of old) (heap_of new) map_cell (table_cell ∷ []) boxes_made
@@ -200,20 +198,9 @@ module _ {old new : Mutator} {map place key count number : ℕ} {table : Table} 
     now = after;
     are = staying.are_after known (some known below puts) stays;
     counted = count_after;
-    refills = record {
-      origin = λ at. at;
-      apart = λ at other word another one two same. same;
-      one = place;
-      each_slot = λ at word there. subst (ComesFrom (heap_of new) (HasValue before) boxes_made at place at) there.2
-          (value_comes (comes at there.0 there.1));
-      store = (sound known).store;
-      has_store = staying.slot_now known (some known below puts) stays;
-      store_comes = inl (slot_there known);
-      belong = belong;
-      kinds = λ one among. inr (made_boxed (store_content value) (next_at old) one among);
-      stores = tables_told;
-      boxes = boxes_told;
-    };
+    refills = of_content.refills putting (λ at. at) place (λ at other word another one two same. same)
+        (λ at word there. subst (ComesFrom (heap_of new) (HasValue before) boxes_made at place at) there.2
+        (value_comes (comes at there.0 there.1))) (of_content.box_sound comes_there);
     each_pair = λ at one is. pair_shows (comes at one is);
     probed = staying.probed known written after finds_after;
   }
@@ -221,7 +208,7 @@ module _ {old new : Mutator} {map place key count number : ℕ} {table : Table} 
   abbrev pub refills_weak : RefillsWeak (heap_of old) (heap_of new) map_cell (table_cell ∷ []) boxes_made
   refills_weak = record {
     whole = known.whole;
-    writes = writes known below puts;
+    writes = of_content.writes putting;
     paths = (puts_weak known below puts).puts.paths;
     pairs = refills;
   }

@@ -26,7 +26,6 @@ use Rattle.object_cells.proofs.FilledSlots.{set_there}
 use Rattle.object_cells.proofs.HeldContents.{HoldsValue}
 use Rattle.object_cells.proofs.MadeBoxes.{with_content_stays}
 use Rattle.object_cells.proofs.UnusedWords.{cell_is_used, next_before_segments}
-use Rattle.object_cells.proofs.ContentValues.{content_shows}
 use Rattle.weak_pairs.specs.Tables.{number_at, key_offset, value_offset, numbers, key_number, pairs_of}
 use Rattle.ephemeron_table.specs.Puttings.{PutsInTable}
 use Rattle.weak_pairs.specs.declared.table.Table.{Table}
@@ -35,7 +34,7 @@ use Rattle.ephemeron_table.proofs.EntryPairs.{HasEntryPair, known, some, entry_f
 use Rattle.ephemeron_table.proofs.KeysFound.{key_filled}
 use Rattle.ephemeron_table.proofs.KnownTables.{cell_has, sound, pairs_same, of_map, finds_all, found, other_has}
 use Rattle.ephemeron_table.proofs.KnownTables.{other_long, map_beside}
-use Rattle.ephemeron_table.proofs.PutMaps.{refills_weak, refers_back, refers_box, places, slot_stays}
+use Rattle.ephemeron_table.proofs.PutMaps.{refills_weak, refers_back, value_shown, places, slot_stays}
 use Rattle.ephemeron_table.proofs.PutPairs.{pair, made, pairs_are_now}
 use Rattle.ephemeron_table.proofs.ReplacedValues.{ReplacesValue}
 
@@ -145,8 +144,7 @@ module _ {old new : Mutator} {graph : Graph} {map key : ℕ} {weak : WeakObject}
         origin_is = λ at. refl;
         one_is = refl;
         key_is = refl;
-        shows = content_shows (next_at old) holds stay
-            (refers_box k has.below puts objects has.is_key.place holds fits all counted);
+        shows = value_shown k has.below puts objects has.is_key.place holds fits all counted;
         places = stay;
         back = refers_back k has.below puts objects has.is_key.place holds fits all counted;
         slot_stays = slot_stays k has.below puts objects has.is_key.place holds fits all counted;
