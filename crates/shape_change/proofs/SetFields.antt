@@ -27,7 +27,7 @@ use Rattle.object_cells.proofs.OwnerWrites.{plain_owns, written_own_keeps_cells}
 use Rattle.object_cells.proofs.OwnCapacities.{one_keeps}
 use Rattle.object_cells.proofs.RefilledHeaps.{written_fields_show}
 use Rattle.object_cells.proofs.WordsPut.{PutsTwo}
-use Rattle.object_cells.proofs.OneWord.{IsReady, writes_one}
+use Rattle.object_cells.proofs.OneWord.{IsReady, writes_two}
 use Rattle.object_cells.proofs.OwnCells.{IsOwnWord, writes_cells, cell_below_layouts}
 use Rattle.object_cells.proofs.SlotsNow.{PutsOwn}
 use Rattle.object_cells.proofs.OneField.{SetsOne, FillsOne, slots_after, refills_slots}
@@ -54,8 +54,8 @@ sets_one {old} {mid} {new} {slot = slot} {plain} {what} next at word need others
     let whole = s.shows.shows.whole in
     let path : Path = path_of plain.cap (set plain.fields slot (revalued s.field what)) in
     let cap = ap (λ (p : Path). p.cap) shape.is_shape.of_path ∙ sym s.cap in
-    let one = writes_one s.cell next at word need made s.shows.tied ready
-    (cell_below_layouts whole s.has (first_of_cell s.has)) below puts row in
+    let one = writes_two s.cell.at (header_bits (record s.cell.header { shape = next })) at word need made s.shows.tied
+    ready (cell_below_layouts whole s.has (first_of_cell s.has)) below puts row in
     let writes = writes_cells s.cell next at word others made whole s.has s.shown.of_kind shape.is_shape.is_shape cap
     own one in
     let law = written_own_keeps_cells plain_owns whole writes in
