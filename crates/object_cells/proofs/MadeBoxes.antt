@@ -19,6 +19,7 @@ use Rattle.heap_model.proofs.BoundHeaps.{none_in}
 use Rattle.object_cells.specs.Formats.{box_header}
 use Rattle.object_cells.specs.declared.content.SlotContent.{SlotContent}
 use Rattle.object_cells.specs.declared.content.SlotContent.TheVariants as content
+use Rattle.object_cells.specs.FilledRuns.{HasBoxWords}
 use Rattle.object_cells.specs.Made.{content_need, with_content}
 use Rattle.object_cells.proofs.HeldContents.{HoldsValue}
 use Rattle.object_cells.proofs.NewBoxes.{box_cell, box_is_cell, row_of_box}
@@ -151,14 +152,9 @@ with_content_stays words (content.Boxed v) box a beside =
     ∙ slice_get-set_other words box a (header_bits box_header)
     (λ same. beside (omega (arith, same)) (omega (arith, same)))
 
--- The words of a box with this integer stand at this address.
-pub record BoxWords (words : List ℕ) (box : ℕ) (v : ℤ) : Type 0 where
-  pub header : slice_get words box ≡ Some (header_bits box_header)
-  pub raw : slice_get words (box + 1) ≡ Some (raw_word v)
-
 -- and those are the words of the box
 pub with_content_box : (words : List ℕ) (holds : SlotContent) (box : ℕ) (v : ℤ) → holds ≡ content.Boxed v
-    → box + 1 < length words → BoxWords (with_content words holds box) box v
+    → box + 1 < length words → HasBoxWords (with_content words holds box) box v
 with_content_box words (content.Tagged word) box v boxed within = cc
 with_content_box words (content.Raw word) box v boxed within = cc
 with_content_box words (content.Boxed w) box v boxed within =
