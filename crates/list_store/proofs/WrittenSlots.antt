@@ -1,55 +1,44 @@
 -- A value that comes to a slot that the store of a list has is shown as the element of this number.
-use Rattle.std.proofs.Common.{◌≡◌, ◌≢◌, ℕ, ◌+◌, ◌≤◌, ◌<◌, inl, inr, List, [], ◌∷◌, length, refl}
-use Rattle.std.proofs.Common.{drop, Contains, Some, false, slice_get, sym, ◌∙◌, ap, subst, arith, length-set}
+use Rattle.std.proofs.Common.{◌≡◌, ◌≢◌, ℕ, ◌+◌, ◌≤◌, ◌<◌, inl, inr, List, [], ◌∷◌, length}
+use Rattle.std.proofs.Common.{drop, Some, false, slice_get, sym, ◌∙◌, ap, subst, arith, length-set}
 use Rattle.std.proofs.Common.{length-drop}
-use Rattle.std.proofs.lemmas.Bool.{false≢true}
 use Rattle.std.proofs.lemmas.Option.{same_Some}
-use Rattle.std.specs.Prelude.{ℤ}
 use Rattle.tagged_word.specs.Cells.{store_head, store_slot}
 use Rattle.tagged_word.specs.declared.layout.Kind.TheVariants as kind
-use Rattle.tagged_word.proofs.Members.{first_in, rest_in, one_in}
+use Rattle.tagged_word.proofs.Members.{first_in, one_in}
 use Rattle.page_space.proofs.Starts.{marks_start_is}
 use Rattle.object_graph.specs.Graphs.{Graph, ListObject}
 use Rattle.object_graph.specs.Meaning.{relist}
-use Rattle.object_graph.specs.Values.{rep_of}
-use Rattle.object_graph.specs.declared.value.Rep.TheVariants as rep
 use Rattle.heap_model.specs.Types.{Value, Cell, Held}
 use Rattle.object_graph.proofs.Lists.{slice_get-set_same, slice_get-set_other}
 use Rattle.heap_table.specs.Seats.{heap_words}
-use Rattle.heap_model.specs.Changes.{CellsChange}
 use Rattle.heap_model.specs.Heaps.{HasCell, words_of_cell}
-use Rattle.heap_model.specs.Kinds.{HasWord, HasNoNumber, IsSoundOf, count_offset}
+use Rattle.heap_model.specs.Kinds.{HasWord, IsSoundOf, count_offset}
 use Rattle.heap_model.specs.Needs.{capacity_at}
 use Rattle.heap_model.specs.Showing.{ShowsValue}
-use Rattle.heap_model.specs.Slots.{is_object_kind, reference_word, HoldsStore, RefersToBox}
+use Rattle.heap_model.specs.Slots.{is_object_kind, HoldsStore}
 use Rattle.heap_model.specs.Wholeness.{NamesFrom}
 use Rattle.heap_model.proofs.CellWords.{words_by_kind}
 use Rattle.heap_model.proofs.CellsApart.{IsOfCell}
 use Rattle.heap_model.proofs.OneOwner.{names_store}
-use Rattle.heap_model.proofs.WordsStay.{PlacesStay}
 use Rattle.write_barrier.specs.MutatorState.{Mutator, heap_of, MainShows}
 use Rattle.object_cells.specs.Capacities.{ChangesObject}
 use Rattle.object_cells.specs.Contents.{next_at}
 use Rattle.object_cells.specs.OwnSlots.{ComesFrom}
-use Rattle.object_cells.specs.ElementChanges.{WritesList}
 use Rattle.object_cells.specs.Made.{IsStoreAt, store_content}
-use Rattle.object_cells.specs.declared.content.SlotContent.TheVariants as content
 use Rattle.object_cells.specs.declared.stores.Store.{Store}
 use Rattle.object_cells.proofs.CellsRead.{word_stands}
-use Rattle.object_cells.proofs.ContentValues.{content_shows, content_comes, is_made_box}
-use Rattle.object_cells.proofs.HeldContents.{HoldsValue}
 use Rattle.object_cells.proofs.HeldNeeds.{new_value_held}
 use Rattle.object_cells.proofs.OwnCapacities.{object_keeps}
-use Rattle.object_cells.proofs.MadeBoxes.{BoxStands, made_box, boxed_integer, refers_to_made, made_boxed}
-use Rattle.object_cells.proofs.MadeBoxes.{length-with_content, boxes_sound, only_first}
-use Rattle.object_cells.proofs.NewBoxes.{box_cell}
+use Rattle.object_cells.proofs.MadeBoxes.{length-with_content}
 use Rattle.object_cells.proofs.OneElement.{PutsElement, element_refills}
 use Rattle.object_cells.proofs.OwnCells.{cell_below_layouts}
 use Rattle.object_cells.proofs.RefilledLists.{written_elements_show}
 use Rattle.object_cells.proofs.SlotsNow.{word_at_offset}
 use Rattle.object_cells.proofs.StoresRead.{StoredAt}
-use Rattle.object_cells.proofs.OwnSteps.{written_places_stay}
-use Rattle.object_cells.proofs.OwnerWrites.{written_own_keeps_cells, list_owns}
+use Rattle.object_cells.proofs.OwnerWrites.{list_owns}
+use Rattle.object_cells.proofs.TakenValues as taken
+use Rattle.object_cells.proofs.TakenValues.{TakesValue, only_store}
 use Rattle.list_store.specs.Pushes.{WritesSlot}
 use Rattle.object_cells.proofs.ListChanging.{Changing, Elements, store_is_no_box, slot_stands, slot_few, list_word}
 use Rattle.object_cells.proofs.RestOfWords.{keeps_regions}
@@ -94,29 +83,39 @@ module _ {old new : Mutator} {graph : Graph} {at slot count : ℕ} {list : ListO
   abbrev of_store : IsOfCell other place
   of_store = of_slot.of_store writing
 
-  -- cells of the list were written, and a box stands there
-  abbrev writes : WritesList (heap_of old) (heap_of new) cell (other ∷ []) made
-  writes = of_slot.writes writing
+  -- so the list takes the value, where the store is the one that it had
+  takes : TakesValue kind.List kind.Store (heap_of old) (heap_of new) cell cell (other ∷ []) [] (store_content value)
+      (next_at old) what known.shown.shows.store
+  takes =
+      let whole = known.shows.shows.whole in
+      record {
+        owns = list_owns;
+        whole = whole;
+        writes = of_slot.writes writing;
+        belong = λ one among. (
+          cell.at + store_slot,
+          subst (λ (c : Cell). NamesFrom (heap_of old) cell (cell.at + store_slot) c.at) (one_in other one among)
+              (names_store known.shown.shows.store known.shown.has (ap is_object_kind known.shown.shows.of_kind)
+              known.shown.shows.slot there.found.refers (inl there.found.of_kind)),
+        );
+        each = only_store (record {
+          of_kind = there.found.of_kind;
+          no_number = (subst (λ k. IsSoundOf k (heap_of old) other there.found.words) there.found.of_kind
+              (whole.sound other there.found.words there.found.refers.has)).no_number;
+          refers = there.found.refers.refers;
+        });
+        stands = of_slot.box_stands writing;
+        objects = length graph.objects;
+        fits = known.fits;
+        value = new_value_held false value what known.held.shows;
+      }
 
-  abbrev box_stands : BoxStands (heap_of new) (store_content value) (next_at old)
-  box_stands = of_slot.box_stands writing
-
-  -- cells stand in the new heap
-  cells : CellsChange (heap_of old) (heap_of new) (cell ∷ other ∷ []) (cell ∷ other ∷ []) made
-  cells =
-      (written_own_keeps_cells list_owns known.shows.shows.whole writes).1
-
-  -- the list's, with its words
+  -- the list and the store stand in the new heap
   cell_has : HasCell (heap_of new) cell (words_of_cell (heap_of new) cell)
-  cell_has = cells.comes cell (first_in cell (other ∷ made))
+  cell_has = taken.came_has takes
 
-  -- the store's
   store_has : HasCell (heap_of new) other (words_of_cell (heap_of new) other)
-  store_has = cells.comes other (rest_in cell (other ∷ made) other (first_in other made))
-
-  -- and that of a box that was made
-  made_has : (one : Cell) → Contains made one → HasCell (heap_of new) one (words_of_cell (heap_of new) one)
-  made_has one among = cells.comes one (rest_in cell (other ∷ made) one (rest_in other made one among))
+  store_has = taken.others_have takes other (first_in other [])
 
   -- the slots of the store
   abbrev pub now : List ℕ
@@ -155,22 +154,6 @@ module _ {old new : Mutator} {graph : Graph} {at slot count : ℕ} {list : ListO
       ∙ ap (slice_get (heap_words new.seat)) (sym at_place)
       ∙ sym (slot_stands slot store_has there.found.of_kind inside) ∙ holds)
 
-  -- how the value is held
-  abbrev holds_all : HoldsValue (heap_of old) false rep.Small (rep_of what) what (store_content value)
-  holds_all = new_value_held false value what known.held.shows
-
-  -- the places of objects stay
-  places : PlacesStay (heap_of old) (heap_of new)
-  places = written_places_stay list_owns known.shows.shows.whole writes
-
-  -- the box that was made holds the integer
-  refers_box : (v : ℤ) → store_content value ≡ content.Boxed v
-      → RefersToBox (heap_of new) (reference_word (next_at old)) v
-  refers_box v is_box =
-      refers_to_made (store_content value) (next_at old) v is_box
-      (boxed_integer (length graph.objects) v holds_all known.fits is_box) box_stands
-      (made_has (box_cell (next_at old)) (made_box (store_content value) (next_at old) v is_box))
-
   -- the list's slot for a store stays
   slot_stays : slice_get (heap_words new.seat) (cell.at + store_slot)
       ≡ slice_get (heap_words old.seat) (cell.at + store_slot)
@@ -184,8 +167,8 @@ module _ {old new : Mutator} {graph : Graph} {at slot count : ℕ} {list : ListO
   slot_now : HasWord (words_of_cell (heap_of new) cell) store_slot known.shown.shows.store
   slot_now =
       let size = list_word 1 known.shown (omega arith) in
-      word_at_offset store_slot cell_has (omega (arith, size.below, known.shown.stands)) ∙ slot_stays
-      ∙ word_stands store_slot known.shown.shows.store known.shown.has known.shown.shows.slot
+      taken.slot_is takes (omega (arith, size.below, known.shown.stands))
+      (slot_stays ∙ word_stands store_slot known.shown.shows.store known.shown.has known.shown.shows.slot)
 
   -- and its length is that of the elements
   count_now : HasWord (words_of_cell (heap_of new) cell) count_offset (length becomes.after)
@@ -205,12 +188,6 @@ module _ {old new : Mutator} {graph : Graph} {at slot count : ℕ} {list : ListO
       ∙ ap (λ all. slice_get all (at + count_offset)) pushes.words.heap
       ∙ slice_get-set_same put (at + count_offset) count within ∙ ap (λ n. Some n) (sym becomes.long)
 
-  -- the store is the one that the list had
-  store_number : HasNoNumber other
-  store_number =
-      (subst (λ k. IsSoundOf k (heap_of old) other there.found.words) there.found.of_kind
-      (known.shows.shows.whole.sound other there.found.words there.found.refers.has)).no_number
-
   -- so an element is pushed
   puts_element : PutsElement (heap_of old) (heap_of new) cell (other ∷ []) made list.elements becomes.after
       slot what
@@ -218,7 +195,7 @@ module _ {old new : Mutator} {graph : Graph} {at slot count : ℕ} {list : ListO
       record {
         whole = known.shows.shows.whole;
         shown = known.shown.shows;
-        writes = writes;
+        writes = takes.writes;
         differs = becomes.differs;
         now = now;
         are = record {
@@ -242,25 +219,13 @@ module _ {old new : Mutator} {graph : Graph} {at slot count : ℕ} {list : ListO
             (ap (λ (c : Cell). c.layout.kind) (sym (one_in other one among)) ∙ there.found.of_kind) is_box;
         comes = λ x holds.
             subst (ComesFrom (heap_of new) (HasWord known.shown.shows.slots) made slot slot slot) (holds_word x holds)
-            (content_comes (HasWord known.shown.shows.slots) made slot slot (next_at old) holds_all places
-            (λ own wide. false≢true own)
-            (λ v is_box. is_made_box (next_at old) (made_box (store_content value) (next_at old) v is_box)));
-        shows = λ x holds. subst (λ w. ShowsValue (heap_of new) w what)
-            (holds_word x holds)
-            (content_shows (next_at old) holds_all places refers_box);
+            (taken.value_comes takes (HasWord known.shown.shows.slots) slot slot);
+        shows = λ x holds. subst (λ w. ShowsValue (heap_of new) w what) (holds_word x holds) (taken.value_shows takes);
         store_comes = inl known.shown.shows.slot;
-        belong = λ one among. (
-          cell.at + store_slot,
-          subst (λ (c : Cell). NamesFrom (heap_of old) cell (cell.at + store_slot) c.at) (one_in other one among)
-              (names_store known.shown.shows.store known.shown.has (ap is_object_kind known.shown.shows.of_kind)
-              known.shown.shows.slot there.found.refers (inl there.found.of_kind)),
-        );
-        kinds = λ one among. inr (made_boxed (store_content value) (next_at old) one among);
-        stores = λ one among is. subst (λ (c : Cell). HasNoNumber c × (known.shown.shows.store ≡ reference_word c.at))
-            (only_first (store_content value) (next_at old) kind.Store (store_is_no_box refl) one among is)
-            (store_number, there.found.refers.refers);
-        boxes = boxes_sound (length graph.objects) (next_at old) (store_is_no_box there.found.of_kind) holds_all
-            known.fits box_stands made_has;
+        belong = takes.belong;
+        kinds = taken.made_kinds takes;
+        stores = taken.stores_told takes;
+        boxes = taken.boxes_told takes;
       }
 
   -- and the graph is shown in which it is the last
@@ -269,15 +234,9 @@ module _ {old new : Mutator} {graph : Graph} {at slot count : ℕ} {list : ListO
       written_elements_show old new graph list cell (other ∷ []) made becomes.after known.shows
       known.is.object known.shown.carries known.shown.shows
       becomes.are_new
-      (keeps_regions pushes.words.beside pushes.words.young) pushes.words.paths writes (element_refills puts_element)
+      (keeps_regions pushes.words.beside pushes.words.young) pushes.words.paths takes.writes (element_refills puts_element)
 
   -- each store has as many slots as before
   pub slot_keeps : ChangesObject (heap_of old) (heap_of new) cell.at (capacity_at (heap_of old) cell.at)
   slot_keeps =
-      object_keeps (record {
-        owns = list_owns;
-        whole = known.shows.shows.whole;
-        writes = writes;
-        belong = puts_element.belong;
-        kinds = λ one among. inr (made_boxed (store_content value) (next_at old) one among);
-      }) slot_stays
+      object_keeps (taken.taken_beside takes) slot_stays
