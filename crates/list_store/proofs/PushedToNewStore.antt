@@ -114,7 +114,8 @@ module _ {old new : Mutator} {graph : Graph} {at count : ℕ} {list : ListObject
   -- each holds what it held, the word, or nothing
   slot_is : (k x : ℕ) → HasWord now k x → NewSlotIs known.shown.shows.slots store.capacity word k x
   slot_is =
-      new_slot_is can.is known.shown.has known.shown.stands known.shown.shows.slot known.shown.shows.has store_has
+      new_slot_is known.shows.shows.whole can.is known.shown.has known.shown.stands known.shown.shows.slot known.shown.shows.has store_has
+      (λ a below. refl)
       (subst (λ all. CopiesSlots (heap_words old.seat) all store capacity (next_at old) word) (sym pushes.words.heap)
       (copies_slots makes (count + 1) count full))
 

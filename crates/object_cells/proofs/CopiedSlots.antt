@@ -4,14 +4,18 @@ use Rattle.std.proofs.lemmas.Bool.{cases_lt, cases_eq}
 use Rattle.std.proofs.lemmas.Option.{same_Some}
 use Rattle.tagged_word.specs.Cells.{store_head, store_slot}
 use Rattle.tagged_word.specs.declared.layout.Kind.TheVariants as kind
+use Rattle.page_space.specs.Extents.{layouts_start}
 use Rattle.heap_model.specs.Heaps.{Heap, HasCell}
 use Rattle.heap_model.specs.Kinds.{HasWord}
 use Rattle.heap_model.specs.Slots.{hole_word, HoldsStore}
 use Rattle.heap_model.specs.Types.{Cell}
+use Rattle.heap_model.specs.Wholeness.{Whole}
+use Rattle.heap_model.proofs.CellsApart.{IsOfCell}
 use Rattle.object_cells.specs.Made.{IsStoreAt}
 use Rattle.object_cells.specs.declared.stores.Store.{Store}
 use Rattle.object_cells.proofs.ListChanging.{slot_stands, slot_few}
 use Rattle.object_cells.proofs.NewStores.{store_cell}
+use Rattle.object_cells.proofs.OwnCells.{cell_below_layouts}
 use Rattle.object_cells.proofs.StoreRuns.{CopiesSlots}
 use Rattle.object_cells.proofs.StoresRead.{stored_at}
 
@@ -21,18 +25,25 @@ pub data NewSlotIs (slots : List ℕ) (slot word k x : ℕ) : Type 0 where
   put : k ≡ slot → x ≡ word → NewSlotIs slots slot word k x
   more : slot < k → x ≡ hole_word → NewSlotIs slots slot word k x
 
-module _ {old new : Heap} {cell : Cell} {words others beside : List ℕ} {object named capacity at word : ℕ}
-    {store : Store} (is : IsStoreAt old object store) (has : HasCell old cell words) (stands : cell.at ≡ object)
+module _ {old new : Heap} {cell : Cell} {words mid others beside : List ℕ} {object named capacity at word : ℕ}
+    {store : Store} (whole : Whole old) (is : IsStoreAt old object store) (has : HasCell old cell words) (stands : cell.at ≡ object)
     (slot : HasWord words store_slot named) (are : HoldsStore old kind.Store named beside)
     (has_new : HasCell new (store_cell at capacity) others)
-    (copies : CopiesSlots old.words new.words store capacity at word) where
+    (stay : (a : ℕ) → a < layouts_start old.space → slice_get mid a ≡ slice_get old.words a)
+    (copies : CopiesSlots mid new.words store capacity at word) where
   -- a slot below holds what it held
   slot_kept : (k x : ℕ) → k < store.capacity → k < capacity → HasWord (drop store_head others) k x → HasWord beside k x
   slot_kept k x below less holds =
       let there = stored_at object named beside store is has stands slot are (omega (arith, below)) in
+      let of_store : IsOfCell there.found.cell (store.at + (store_head + k)) = record {
+        from = omega (arith, there.found.stands);
+        below = omega (arith, there.found.stands, there.found.size, there.capacity, below);
+      } in
       ap (λ all. slice_get all k) there.found.are
       ∙ slot_stands k there.found.refers.has there.found.of_kind (omega (arith, there.capacity, below))
-      ∙ ap (λ n. slice_get old.words (n + (store_head + k))) there.found.stands ∙ sym (copies.copied k below)
+      ∙ ap (λ n. slice_get old.words (n + (store_head + k))) there.found.stands
+      ∙ sym (stay (store.at + (store_head + k)) (cell_below_layouts whole there.found.refers.has of_store))
+      ∙ sym (copies.copied k below)
       ∙ sym (slot_stands k has_new refl less) ∙ holds
 
   -- so it is of each slot

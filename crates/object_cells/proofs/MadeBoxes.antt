@@ -3,6 +3,7 @@ use Rattle.std.proofs.Common.{◌≡◌, ℕ, ◌+◌, ◌≤◌, ◌<◌, lengt
 use Rattle.std.proofs.Common.{inl, inr, Contains, Some, slice_get, refl, sym, ◌∙◌, ap, subst, arith}
 use Rattle.std.specs.Prelude.{ℤ, FitsSigned, slice_set}
 use Rattle.std.specs.Int.{w64}
+use Rattle.std.proofs.lemmas.List.{set_comm}
 use Rattle.heap_model.specs.Types.{Kind, Value, Rep, Cell}
 use Rattle.tagged_word.specs.declared.layout.Kind.TheVariants as kind
 use Rattle.tagged_word.specs.Headers.{header_bits}
@@ -150,6 +151,18 @@ with_content_stays words (content.Boxed v) box a beside =
     slice_get-set_other (slice_set words box (header_bits box_header)) (box + 1) a (raw_word v)
     (λ same. beside (omega (arith, same)) (omega (arith, same)))
     ∙ slice_get-set_other words box a (header_bits box_header)
+    (λ same. beside (omega (arith, same)) (omega (arith, same)))
+
+-- a word that is put beside the box is put before it as well
+pub with_content_set : (words : List ℕ) (holds : SlotContent) (box a word : ℕ)
+    → (box ≤ a → a < box + content_need holds → ⊥)
+    → with_content (slice_set words a word) holds box ≡ slice_set (with_content words holds box) a word
+with_content_set words (content.Tagged one) box a word beside = refl
+with_content_set words (content.Raw one) box a word beside = refl
+with_content_set words (content.Boxed v) box a word beside =
+    ap (λ all. slice_set all (box + 1) (raw_word v))
+    (set_comm words a box word (header_bits box_header) (λ same. beside (omega (arith, same)) (omega (arith, same))))
+    ∙ set_comm (slice_set words box (header_bits box_header)) a (box + 1) word (raw_word v)
     (λ same. beside (omega (arith, same)) (omega (arith, same)))
 
 -- and those are the words of the box

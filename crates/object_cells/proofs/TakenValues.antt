@@ -105,7 +105,7 @@ module _ {owner owned : Kind} {old new : Heap} {cell came : Cell} {others firsts
   places = written_places_stay takes.owns takes.whole takes.writes
 
   -- the box that was made holds the integer
-  refers_box : (v : ℤ) → holds ≡ content.Boxed v → RefersToBox new (reference_word box) v
+  pub refers_box : (v : ℤ) → holds ≡ content.Boxed v → RefersToBox new (reference_word box) v
   refers_box v is =
       refers_to_made holds box v is (boxed_integer takes.objects v takes.value takes.fits is) takes.stands
       (box_has (box_cell box) (made_box holds box v is))
