@@ -1,6 +1,5 @@
 mod PushNeeds
 mod WrittenSlots
-mod NewStoreWords
 mod PushedToNewStore
 mod PushOutcomes
 mod BoxedElements

@@ -48,6 +48,10 @@ pub mod PutRanges
 pub mod NewStores
 pub mod MadeBoxes
 pub mod StoreWords
+pub mod StoreRuns
+pub mod FilledRuns
+pub mod TakenValues
+pub mod CopiedSlots
 pub mod StoresRead
 pub mod HeldNeeds
 pub mod SlotBoxes
