@@ -3,7 +3,7 @@ use Rattle.std.proofs.Common.{◌≡◌, ◌≢◌, ℕ, ◌+◌, ◌≤◌, ◌
 use Rattle.std.proofs.Common.{◌∙◌, ap, subst, arith, length-set, drop, Some, false, length-drop}
 use Rattle.std.specs.Prelude.{slice_set}
 use Rattle.tagged_word.specs.declared.layout.Kind.TheVariants as kind
-use Rattle.tagged_word.specs.Cells.{store_head}
+use Rattle.tagged_word.specs.Cells.{store_head, store_slot}
 use Rattle.tagged_word.proofs.Members.{first_in, one_in}
 use Rattle.object_graph.specs.Graphs.{Graph, ListObject}
 use Rattle.heap_model.specs.Types.{Value, Cell, Held}
@@ -16,14 +16,13 @@ use Rattle.write_barrier.specs.MutatorState.{Mutator, heap_of, MainShows}
 use Rattle.object_cells.specs.Contents.{next_at}
 use Rattle.object_cells.specs.Made.{IsStoreAt, with_content, content_need, content_word, store_content}
 use Rattle.object_cells.specs.declared.stores.Store.{Store}
-use Rattle.object_cells.proofs.MadeBoxes.{made_boxes, BoxStands, made_row, length-with_content, with_content_stays}
-use Rattle.object_cells.proofs.MadeBoxes.{made_boxed}
+use Rattle.object_cells.proofs.MadeBoxes.{made_boxes, length-with_content, with_content_stays}
 use Rattle.object_cells.proofs.OwnPlaces.{has_own_words}
-use Rattle.object_cells.proofs.OwnPuts.{PutsOwn, not_reserved, own_sized}
+use Rattle.object_cells.proofs.OwnPuts.{PutsOwn, not_reserved}
 use Rattle.object_cells.proofs.StoresRead.{StoredAt}
 use Rattle.list_store.specs.Pushes.{WritesSlot, with_count}
 use Rattle.object_cells.proofs.ListChanging.{Changing, changing_store, list_is_no_store, list_word, Elements}
-use Rattle.object_cells.proofs.ListChanging.{slot_stands, slot_few}
+use Rattle.object_cells.proofs.ListChanging.{slot_stands, slot_few, store_is_no_box}
 use Rattle.std.proofs.lemmas.Option.{same_Some}
 use Rattle.page_space.proofs.Starts.{marks_start_is}
 use Rattle.object_graph.specs.Meaning.{relist}
@@ -35,14 +34,16 @@ use Rattle.object_cells.specs.Capacities.{ChangesObject}
 use Rattle.object_cells.specs.OwnSlots.{ComesFrom}
 use Rattle.object_cells.proofs.HeldNeeds.{new_value_held}
 use Rattle.object_cells.proofs.OneElement.{PutsElement, element_refills}
-use Rattle.object_cells.proofs.OwnCells.{cell_below_layouts}
+use Rattle.object_cells.proofs.OwnCells.{cell_below_layouts, list_size}
 use Rattle.object_cells.proofs.RefilledLists.{written_elements_show}
 use Rattle.object_cells.proofs.SlotsNow.{word_at_offset}
 use Rattle.object_cells.proofs.OwnerWrites.{list_owns}
 use Rattle.object_cells.proofs.RestOfWords.{keeps_regions}
-use Rattle.object_cells.proofs.OwnContents.{PutsBeside, PutsContent, puts_content, writes, beside, cell_now}
-use Rattle.object_cells.proofs.OwnContents.{other_now, slot_now, capacity_stays, no_box, stores_told, boxes_told}
-use Rattle.object_cells.proofs.OwnContents.{word_shows, word_comes, box_sound}
+use Rattle.object_cells.proofs.OwnContents.{PutsBeside, slot_stays, takes_beside}
+use Rattle.object_cells.proofs.TakenValues as taken
+use Rattle.object_cells.proofs.TakenValues.{TakesValue}
+use Rattle.object_cells.proofs.OwnCapacities.{object_keeps}
+use Rattle.object_cells.proofs.CellsRead.{word_stands}
 
 module _ {old new : Mutator} {graph : Graph} {at slot count : ℕ} {list : ListObject} {value : Held} {what : Value}
     {store : Store} (known : Changing old graph at list value what) (becomes : Elements graph list what slot count)
@@ -151,48 +152,41 @@ module _ {old new : Mutator} {graph : Graph} {at slot count : ℕ} {list : ListO
       ∙ slice_get-set_other boxed place b word (λ same. not_reserved b puts other_has
       (record { from = omega (arith, same, of_store.from); below = omega (arith, same, of_store.below) }) from below)
 
-  -- the cells that are made
-  abbrev made : List Cell
-  made = made_boxes (store_content value) (next_at old)
-
-  -- so a value came to the slot
-  comes_there : PutsContent kind.List kind.Store old new cell other (store_content value) (with_count put at count) what
-  comes_there =
-      let shown = known.shown in
+  -- so words of the list's cell and of its store were put
+  putting : PutsBeside kind.List kind.Store old new cell other need (with_count put at count) known.shown.shows.store
+  putting =
       let store_is = there.found in
-      let stands : BoxStands (heap_of new) (store_content value) (next_at old) = puts_content puts box_word in
       record {
-        putting = record {
-          owns = list_owns;
-          puts = puts;
-          other_kind = store_is.of_kind;
+        owns = list_owns;
+        puts = puts;
+        is = record {
+          of_kind = store_is.of_kind;
           no_number = (subst (λ k. IsSoundOf k (heap_of old) other store_is.words) store_is.of_kind
               (known.shows.shows.whole.sound other store_is.words store_is.refers.has)).no_number;
-          store = shown.shows.store;
-          slot = shown.shows.slot;
           refers = store_is.refers.refers;
-          own_stays = λ k less.
-              let of_cell = subst (λ n. IsOfCell cell (n + k)) (sym shown.stands)
-              (list_word k shown (omega (arith, less))) in
-              kept (cell.at + k) (inl of_cell) (λ same. omega (arith, same, less, shown.stands))
-              (λ same. apart (cell.at + k) of_cell (subst (IsOfCell other) (sym same) of_store));
-          head_stays = λ k less.
-              let of_other : IsOfCell other (other.at + k) =
-              record { from = omega arith; below = omega (arith, less, store_is.size) } in
-              kept (other.at + k) (inr of_other) (not_count (other.at + k) of_other)
-              (λ same. omega (arith, same, less, store_is.stands));
-          made_stand = made_row (heap_of new) (store_content value) (next_at old) (own_sized puts) stands;
-          boxes = made_boxed (store_content value) (next_at old);
         };
-        stands = stands;
-        objects = length graph.objects;
-        fits = known.fits;
-        value = new_value_held false value what known.held.shows;
+        slot = known.shown.shows.slot;
+        own_stays = λ k less.
+            let of_cell = subst (λ n. IsOfCell cell (n + k)) (sym known.shown.stands)
+            (list_word k known.shown (omega (arith, less))) in
+            kept (cell.at + k) (inl of_cell) (λ same. omega (arith, same, less, known.shown.stands))
+            (λ same. apart (cell.at + k) of_cell (subst (IsOfCell other) (sym same) of_store));
+        head_stays = λ k less.
+            let of_other : IsOfCell other (other.at + k) =
+            record { from = omega arith; below = omega (arith, less, store_is.size) } in
+            kept (other.at + k) (inr of_other) (not_count (other.at + k) of_other)
+            (λ same. omega (arith, same, less, store_is.stands));
       }
 
-  -- and the words of the two cells stand in the new heap
-  abbrev putting : PutsBeside kind.List kind.Store old new cell other need (with_count put at count) made
-  putting = comes_there.putting
+  -- and the list takes the value
+  takes : TakesValue kind.List kind.Store (heap_of old) (heap_of new) cell cell (other ∷ []) [] (store_content value)
+      (next_at old) what known.shown.shows.store
+  takes =
+      takes_beside (length graph.objects) putting box_word known.fits (new_value_held false value what known.held.shows)
+
+  -- its store stands in the new heap
+  store_has : HasCell (heap_of new) other (words_of_cell (heap_of new) other)
+  store_has = taken.others_have takes other (first_in other [])
 
   -- the slots of the store
   abbrev now : List ℕ
@@ -201,18 +195,18 @@ module _ {old new : Mutator} {graph : Graph} {at slot count : ℕ} {list : ListO
   -- each but the one that was put holds what it held
   keeps : (k x : ℕ) → k ≢ slot → HasWord now k x → HasWord known.shown.shows.slots k x
   keeps k x not_one holds =
-      let inside = slot_few k x (other_now putting) there.found.of_kind holds in
+      let inside = slot_few k x store_has there.found.of_kind holds in
       let a : ℕ = other.at + (store_head + k) in
       let of_other : IsOfCell other a =
       record { from = omega arith; below = omega (arith, inside, there.found.size) } in
       ap (λ all. slice_get all k) there.found.are ∙ slot_stands k there.found.refers.has there.found.of_kind inside
       ∙ sym (kept a (inr of_other) (not_count a of_other) (λ same. not_one (omega (arith, same, there.found.stands))))
-      ∙ sym (slot_stands k (other_now putting) there.found.of_kind inside) ∙ holds
+      ∙ sym (slot_stands k store_has there.found.of_kind inside) ∙ holds
 
   -- that holds the word
   holds_word : (x : ℕ) → HasWord now slot x → word ≡ x
   holds_word x holds =
-      let inside = slot_few slot x (other_now putting) there.found.of_kind holds in
+      let inside = slot_few slot x store_has there.found.of_kind holds in
       let at_place : other.at + (store_head + slot) ≡ place = omega (arith, there.found.stands) in
       let within : place < length boxed =
       omega (
@@ -226,7 +220,7 @@ module _ {old new : Mutator} {graph : Graph} {at slot count : ℕ} {list : ListO
       ∙ sym (slice_get-set_other put (at + count_offset) place count (not_count place of_store))
       ∙ sym (ap (λ all. slice_get all place) pushes.words.heap)
       ∙ ap (slice_get (heap_words new.seat)) (sym at_place)
-      ∙ sym (slot_stands slot (other_now putting) there.found.of_kind inside) ∙ holds)
+      ∙ sym (slot_stands slot store_has there.found.of_kind inside) ∙ holds)
 
   -- the list's length is that of the elements
   count_now : HasWord (words_of_cell (heap_of new) cell) count_offset (length becomes.after)
@@ -241,61 +235,61 @@ module _ {old new : Mutator} {graph : Graph} {at slot count : ℕ} {list : ListO
         marks_start_is old.seat.space,
         cell_below_layouts known.shows.shows.whole known.shown.has size,
       ) in
-      word_at_offset count_offset (cell_now putting) (omega (arith, size.below, known.shown.stands))
+      word_at_offset count_offset (taken.came_has takes) (omega (arith, size.below, known.shown.stands))
       ∙ ap (λ n. slice_get (heap_words new.seat) (n + count_offset)) known.shown.stands
       ∙ ap (λ all. slice_get all (at + count_offset)) pushes.words.heap
       ∙ slice_get-set_same put (at + count_offset) count within ∙ ap (λ n. Some n) (sym becomes.long)
 
-  -- where the word of each slot comes from
-  comes : (x : ℕ) → HasWord now slot x
-      → ComesFrom (heap_of new) (HasWord known.shown.shows.slots) made slot slot slot x
-  comes x holds =
-      subst (ComesFrom (heap_of new) (HasWord known.shown.shows.slots) made slot slot slot) (holds_word x holds)
-      (word_comes comes_there (HasWord known.shown.shows.slots) slot)
-
   -- so an element is pushed
-  puts_element : PutsElement (heap_of old) (heap_of new) cell (other ∷ []) made list.elements becomes.after slot what
-  puts_element = record {
-    whole = known.shows.shows.whole;
-    shown = known.shown.shows;
-    writes = writes putting;
-    differs = becomes.differs;
-    now = now;
-    are = record {
-      store = putting.store;
-      slot = slot_now putting;
-      stands = HoldsStore.store putting.store other (words_of_cell (heap_of new) other)
-          (record { refers = putting.refers; has = other_now putting }) putting.other_kind;
-    };
-    counted = count_now;
-    few = omega (arith, becomes.long, becomes.few);
-    enough = omega (
-      arith,
-      becomes.long,
-      enough,
-      there.capacity,
-      length-drop store_head (words_of_cell (heap_of new) other),
-      words_by_kind kind.Store (other_now putting) there.found.of_kind,
-    );
-    keeps = λ k x not_one holds. inl (keeps k x not_one holds);
-    no_box = λ k x not_one holds one among is_box same. no_box putting one among is_box;
-    comes = comes;
-    shows = λ x holds. subst (λ w. ShowsValue (heap_of new) w what) (holds_word x holds) (word_shows comes_there);
-    store_comes = inl putting.slot;
-    belong = (beside putting).belong;
-    kinds = (beside putting).kinds;
-    stores = stores_told putting;
-    boxes = boxes_told putting (box_sound comes_there);
-  }
+  puts_element : PutsElement (heap_of old) (heap_of new) cell (other ∷ []) (made_boxes (store_content value) (next_at old))
+      list.elements becomes.after slot what
+  puts_element =
+      let shown = known.shown.shows in
+      record {
+        whole = known.shows.shows.whole;
+        shown = shown;
+        writes = takes.writes;
+        differs = becomes.differs;
+        now = now;
+        are = record {
+          store = shown.store;
+          slot = taken.slot_is takes (omega (arith, list_size known.shown.has shown.of_kind))
+              (slot_stays putting ∙ word_stands store_slot shown.store known.shown.has shown.slot);
+          stands = HoldsStore.store shown.store other (words_of_cell (heap_of new) other)
+              (record { refers = there.found.refers.refers; has = store_has }) there.found.of_kind;
+        };
+        counted = count_now;
+        few = omega (arith, becomes.long, becomes.few);
+        enough = omega (
+          arith,
+          becomes.long,
+          enough,
+          there.capacity,
+          length-drop store_head (words_of_cell (heap_of new) other),
+          words_by_kind kind.Store store_has there.found.of_kind,
+        );
+        keeps = λ k x not_one holds. inl (keeps k x not_one holds);
+        no_box = λ k x not_one holds one among is_box same. store_is_no_box
+            (ap (λ (c : Cell). c.layout.kind) (sym (one_in other one among)) ∙ there.found.of_kind) is_box;
+        comes = λ x holds. subst
+            (ComesFrom (heap_of new) (HasWord shown.slots) (made_boxes (store_content value) (next_at old)) slot slot
+            slot) (holds_word x holds) (taken.value_comes takes (HasWord shown.slots) slot slot);
+        shows = λ x holds. subst (λ w. ShowsValue (heap_of new) w what) (holds_word x holds) (taken.value_shows takes);
+        store_comes = inl shown.slot;
+        belong = takes.belong;
+        kinds = taken.made_kinds takes;
+        stores = taken.stores_told takes;
+        boxes = taken.boxes_told takes;
+      }
 
   -- and the graph is shown in which it is the last
   pub slot_shown : MainShows new (relist graph list becomes.after)
   slot_shown =
-      written_elements_show old new graph list cell (other ∷ []) made becomes.after known.shows
-      known.is.object known.shown.carries known.shown.shows becomes.are_new
-      (keeps_regions pushes.words.beside pushes.words.young) pushes.words.paths (writes putting)
+      written_elements_show old new graph list cell (other ∷ []) (made_boxes (store_content value) (next_at old))
+      becomes.after known.shows known.is.object known.shown.carries known.shown.shows becomes.are_new
+      (keeps_regions pushes.words.beside pushes.words.young) pushes.words.paths takes.writes
       (element_refills puts_element)
 
   -- each store has as many slots as before
   pub slot_keeps : ChangesObject (heap_of old) (heap_of new) cell.at (capacity_at (heap_of old) cell.at)
-  slot_keeps = capacity_stays putting
+  slot_keeps = object_keeps (taken.taken_beside takes) (slot_stays putting)
