@@ -15,8 +15,6 @@ use Rattle.write_barrier.specs.MutatorState.{Mutator, heap_of}
 use Rattle.object_cells.specs.Contents.{next_at}
 use Rattle.object_cells.proofs.SlotsNow.{word_at_offset}
 use Rattle.object_cells.proofs.NothingUsed.{room_for_none, used_and_none}
-use Rattle.object_cells.proofs.OwnContents.{PutsBeside, writes, beside, no_box}
-use Rattle.object_cells.proofs.OwnContents.{refills as refilled}
 use Rattle.object_cells.proofs.OwnPuts.{PutsOwn}
 use Rattle.object_cells.proofs.OwnerWrites.{weak_owns}
 use Rattle.object_cells.proofs.MadeBoxes.{row_of_none}
@@ -30,9 +28,13 @@ use Rattle.weak_pairs.specs.declared.table.Table.{Table}
 use Rattle.weak_pairs.proofs.CountedPairs.{count_filled}
 use Rattle.ephemeron_table.proofs.KnownTables.{KnownMap, cell, cell_has, sound, slot_there, count_is, of_map}
 use Rattle.ephemeron_table.proofs.KnownTables.{finds_all, found, other, other_has, map_beside}
-use Rattle.ephemeron_table.proofs.KnownTables.{other_number, are_before, head_apart, beside_table}
+use Rattle.ephemeron_table.proofs.KnownTables.{are_before, head_apart, beside_table}
 use Rattle.ephemeron_table.proofs.StayingTables as staying
 use Rattle.ephemeron_table.proofs.StayingTables.{WritesMap, StaysTable}
+use Rattle.object_cells.proofs.OwnContents.{PutsBeside, writes, belong}
+use Rattle.object_cells.proofs.TakenValues.{IsItsStore, only_store}
+use Rattle.ephemeron_table.proofs.KnownTables.{known_store, table_is_no_box}
+use Rattle.std.proofs.Common.{Contains}
 
 module _ {old new : Mutator} {map place : ℕ} {table : Table} (known : KnownMap old map table)
     (some : 0 < table.capacity)
@@ -90,20 +92,15 @@ module _ {old new : Mutator} {map place : ℕ} {table : Table} (known : KnownMap
       (sym known.there.stands)
       (removes.beside (map + k) (map_beside known some k (omega (arith, below))) (λ same. omega (arith, same, below)))
 
-  -- so words of both cells were put, and no box made
-  pub putting : PutsBeside kind.Weak kind.Table old new map_cell table_cell 0 (heap_words new.seat) []
+  -- so words of both cells were put
+  pub putting : PutsBeside kind.Weak kind.Table old new map_cell table_cell 0 (heap_words new.seat) (sound known).store
   putting = record {
     owns = weak_owns;
     puts = puts;
-    other_kind = (found known some).of_kind;
-    no_number = other_number known some;
-    store = (sound known).store;
+    is = known_store known some;
     slot = slot_there known;
-    refers = (found known some).refers.refers;
     own_stays = map_stays;
     head_stays = head_stays;
-    made_stand = row_of_none (heap_of new) (next_at old);
-    boxes = λ one among. absurd (none_in one among);
   }
 
   -- the word of the map for its table stays
@@ -113,9 +110,18 @@ module _ {old new : Mutator} {map place : ℕ} {table : Table} (known : KnownMap
 
   -- so words of the map's own cells were written
   abbrev written : WritesMap old new map table known (table_cell ∷ []) []
-  written =
-      let all = beside putting in
-      record { writes = all.writes; belong = all.belong; kinds = all.kinds }
+  written = record {
+    writes = writes putting [] (row_of_none (heap_of new) (next_at old));
+    belong = belong putting;
+    kinds = λ one among. absurd (none_in one among);
+  }
+
+  -- only the table is among them, and it is no box
+  pub its_table : (one : Cell) → Contains (table_cell ∷ []) one → IsItsStore kind.Table (sound known).store one
+  its_table = only_store (known_store known some)
+
+  pub no_box : (one : Cell) → Contains (table_cell ∷ []) one → one.layout.kind ≡ kind.Boxed → ⊥
+  no_box one among box = table_is_no_box (its_table one among).of_kind box
 
   -- and the table stays where it is
   abbrev stays : StaysTable old new map table known some (table_cell ∷ []) []
@@ -152,14 +158,23 @@ module _ {old new : Mutator} {map place : ℕ} {table : Table} (known : KnownMap
     now = after;
     are = are_after;
     counted = count_after;
-    refills = refilled putting removes.removed.origin removes.hole
-        (λ at other word another one two. removes.removed.apart at other one.0 two.0 one.1 two.1)
-        (λ at word there. ComesFrom.moved (there.0, (removes.removed.from at there.0 there.1).0, there.2))
-        (λ one among. absurd (none_in one among));
+    refills = record {
+      origin = removes.removed.origin;
+      apart = λ at other word another one two. removes.removed.apart at other one.0 two.0 one.1 two.1;
+      one = removes.hole;
+      each_slot = λ at word there. ComesFrom.moved (there.0, (removes.removed.from at there.0 there.1).0, there.2);
+      store = (sound known).store;
+      has_store = are_after.slot;
+      store_comes = inl (slot_there known);
+      belong = written.belong;
+      kinds = written.kinds;
+      stores = λ one among is. ((its_table one among).no_number, (its_table one among).refers);
+      boxes = λ one among box. absurd (no_box one among box);
+    };
     each_pair = λ at pair is. ShowsPair.kept (removes.removed.from at pair is).0
-        (λ one among box same. no_box putting one among box);
+        (λ one among box same. no_box one among box);
     probed = staying.probed known written after (removes.found (finds_all known));
   }
 
   abbrev pub refills_weak : RefillsWeak (heap_of old) (heap_of new) map_cell (table_cell ∷ []) []
-  refills_weak = record { whole = known.whole; writes = writes putting; paths = removes.paths; pairs = refills }
+  refills_weak = record { whole = known.whole; writes = written.writes; paths = removes.paths; pairs = refills }

@@ -23,12 +23,8 @@ use Rattle.write_barrier.specs.MutatorState.{Mutator, heap_of}
 use Rattle.object_cells.specs.Contents.{next_at}
 use Rattle.object_cells.specs.Made.{store_content, with_content, content_word}
 use Rattle.object_cells.proofs.HeldContents.{HoldsValue}
-use Rattle.object_cells.proofs.MadeBoxes.{made_boxed}
-use Rattle.object_cells.proofs.MadeBoxes.{length-with_content, BoxStands, made_row}
-use Rattle.object_cells.proofs.OwnContents as of_content
-use Rattle.object_cells.proofs.OwnContents.{PutsBeside, PutsContent, puts_content}
-use Rattle.object_cells.proofs.OwnPuts.{own_sized}
-use Rattle.object_cells.proofs.OwnerWrites.{weak_owns}
+use Rattle.object_cells.proofs.MadeBoxes.{length-with_content}
+use Rattle.object_cells.proofs.OwnerWrites.{weak_owns, owned_is_no_box}
 use Rattle.object_cells.proofs.OwnCells.{cell_below_layouts}
 use Rattle.object_cells.proofs.SlotsNow.{word_at_offset}
 use Rattle.object_cells.proofs.FieldWords.{value_word}
@@ -41,7 +37,7 @@ use Rattle.weak_pairs.specs.Tables.{numbers, pairs_of, with_pair}
 use Rattle.weak_pairs.specs.declared.table.Table.{Table}
 use Rattle.weak_pairs.proofs.CountedPairs.{count_filled}
 use Rattle.ephemeron_table.proofs.KnownTables.{are_before, KnownMap, cell, cell_has, sound}
-use Rattle.ephemeron_table.proofs.KnownTables.{slot_there, of_map, found, other, other_number}
+use Rattle.ephemeron_table.proofs.KnownTables.{slot_there, known_store, of_map, other}
 use Rattle.weak_pairs.proofs.PairsPut.{at_place, length-with_pair}
 use Rattle.ephemeron_table.proofs.PutPairs.{pair, made, pairs_are_now, some, map_stays, head_stays, puts_weak}
 use Rattle.ephemeron_table.proofs.PutPairs.{need, final, box_word}
@@ -49,6 +45,10 @@ use Rattle.object_cells.specs.OwnSlots.{ComesFrom}
 use Rattle.weak_pairs.proofs.FilledPairs.{filled_elsewhere}
 use Rattle.ephemeron_table.proofs.StayingTables as staying
 use Rattle.ephemeron_table.proofs.StayingTables.{WritesMap, StaysTable}
+use Rattle.object_cells.proofs.OwnContents as beside
+use Rattle.object_cells.proofs.OwnContents.{PutsBeside, takes_beside}
+use Rattle.object_cells.proofs.TakenValues as taken
+use Rattle.object_cells.proofs.TakenValues.{TakesValue}
 
 module _ {old new : Mutator} {map place key count number : ℕ} {table : Table} {value : Held} {what : Value}
     (known : KnownMap old map table) (below : place < table.capacity)
@@ -75,49 +75,33 @@ module _ {old new : Mutator} {map place key count number : ℕ} {table : Table} 
   abbrev pub after : List Pair
   after = pairs_of (heap_words new.seat) table
 
-  -- so the value came to the table
-  pub comes_there : PutsContent kind.Weak kind.Table old new map_cell table_cell (store_content value) (final known below puts)
-      what
-  comes_there =
-      let own = puts_weak known below puts in
-      let stands : BoxStands (heap_of new) (store_content value) (next_at old) =
-      puts_content own (box_word known below puts) in
-      record {
-        putting = record {
-          owns = weak_owns;
-          puts = own;
-          other_kind = (found known (some known below puts)).of_kind;
-          no_number = other_number known (some known below puts);
-          store = (sound known).store;
-          slot = slot_there known;
-          refers = (found known (some known below puts)).refers.refers;
-          own_stays = λ k less.
-              subst (λ n. slice_get (heap_words new.seat) (n + k) ≡ slice_get (heap_words old.seat) (n + k))
-              (sym known.there.stands) (map_stays known below puts k less);
-          head_stays = head_stays known below puts;
-          made_stand = made_row (heap_of new) (store_content value) (next_at old) (own_sized own) stands;
-          boxes = made_boxed (store_content value) (next_at old);
-        };
-        stands = stands;
-        objects = objects;
-        fits = fits;
-        value = holds;
-      }
+  -- so words of the map's cell and of its table were put
+  putting : PutsBeside kind.Weak kind.Table old new map_cell table_cell (need known below puts) (final known below puts)
+      (sound known).store
+  putting = record {
+    owns = weak_owns;
+    puts = puts_weak known below puts;
+    is = known_store known (some known below puts);
+    slot = slot_there known;
+    own_stays = λ k less.
+        subst (λ n. slice_get (heap_words new.seat) (n + k) ≡ slice_get (heap_words old.seat) (n + k))
+        (sym known.there.stands) (map_stays known below puts k less);
+    head_stays = head_stays known below puts;
+  }
 
-  abbrev putting : PutsBeside kind.Weak kind.Table old new map_cell table_cell (need known below puts)
-      (final known below puts) boxes_made
-  putting = comes_there.putting
+  -- and the map takes the value
+  pub takes : TakesValue kind.Weak kind.Table (heap_of old) (heap_of new) map_cell map_cell (table_cell ∷ []) []
+      (store_content value) (next_at old) what (sound known).store
+  takes = takes_beside objects putting (box_word known below puts) fits holds
 
   -- the word of the map for its table stays
   pub slot_stays : slice_get (heap_words new.seat) (map_cell.at + store_slot)
       ≡ slice_get (heap_words old.seat) (map_cell.at + store_slot)
-  slot_stays = of_content.slot_stays putting
+  slot_stays = beside.slot_stays putting
 
   -- so words of the map's own cells were written
   abbrev written : WritesMap old new map table known (table_cell ∷ []) boxes_made
-  written =
-      let all = of_content.beside putting in
-      record { writes = all.writes; belong = all.belong; kinds = all.kinds }
+  written = record { writes = takes.writes; belong = takes.belong; kinds = taken.made_kinds takes }
 
   -- and the table stays where it is
   abbrev stays : StaysTable old new map table known (some known below puts) (table_cell ∷ []) boxes_made
@@ -134,7 +118,7 @@ module _ {old new : Mutator} {map place key count number : ℕ} {table : Table} 
 
   -- and the word of its slot shows it
   pub value_shown : ShowsValue (heap_of new) (content_word (store_content value) (next_at old)) what
-  value_shown = of_content.word_shows comes_there
+  value_shown = taken.value_shows takes
 
   -- as many as the count says hold something
   pub count_after : HasWord (words_of_cell (heap_of new) map_cell) count_offset (count_filled after)
@@ -184,10 +168,10 @@ module _ {old new : Mutator} {map place key count number : ℕ} {table : Table} 
             (PairComes.put number same pair_filled
             (subst (λ n. ComesFrom (heap_of new) (HasValue before) boxes_made at n at
             (content_word (store_content value) (next_at old))) same
-            (of_content.word_comes comes_there (HasValue before) at)))
+            (taken.value_comes takes (HasValue before) at at)))
         | inr apart ↦
             PairComes.kept (filled_elsewhere before place at (pair known below puts) one apart now)
-            (λ other among box same. of_content.no_box putting other among box)
+            (λ other among box same. owned_is_no_box weak_owns (takes.each other among).of_kind box)
       ]
 
   -- so the map is refilled
@@ -198,9 +182,20 @@ module _ {old new : Mutator} {map place key count number : ℕ} {table : Table} 
     now = after;
     are = staying.are_after known (some known below puts) stays;
     counted = count_after;
-    refills = of_content.refills putting (λ at. at) place (λ at other word another one two same. same)
-        (λ at word there. subst (ComesFrom (heap_of new) (HasValue before) boxes_made at place at) there.2
-        (value_comes (comes at there.0 there.1))) (of_content.box_sound comes_there);
+    refills = record {
+      origin = λ at. at;
+      apart = λ at other word another one two same. same;
+      one = place;
+      each_slot = λ at word there. subst (ComesFrom (heap_of new) (HasValue before) boxes_made at place at) there.2
+          (value_comes (comes at there.0 there.1));
+      store = (sound known).store;
+      has_store = staying.slot_now known (some known below puts) stays;
+      store_comes = inl (slot_there known);
+      belong = takes.belong;
+      kinds = taken.made_kinds takes;
+      stores = taken.stores_told takes;
+      boxes = taken.boxes_told takes;
+    };
     each_pair = λ at one is. pair_shows (comes at one is);
     probed = staying.probed known written after finds_after;
   }
@@ -208,7 +203,7 @@ module _ {old new : Mutator} {map place key count number : ℕ} {table : Table} 
   abbrev pub refills_weak : RefillsWeak (heap_of old) (heap_of new) map_cell (table_cell ∷ []) boxes_made
   refills_weak = record {
     whole = known.whole;
-    writes = of_content.writes putting;
+    writes = takes.writes;
     paths = (puts_weak known below puts).puts.paths;
     pairs = refills;
   }
