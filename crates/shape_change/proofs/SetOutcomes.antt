@@ -137,7 +137,7 @@ has_set_field {old} {new = new} {graph} {object} {plain = plain} {what} {name} p
     let P : ℕ → Type 0 = λ n. HasRoom old.young n × UsesMore old new n in
     let uses = uses_more s.cell.at (next_head s next) at (filling_at old at content) ready beside head in
     let used = subst P (sym need) (ready.room, uses) in
-    let shown = fill_shown at word next content s fills ready shape head in
+    let shown = fill_shown s at word shape content fills ready head in
     let Q : ℕ → ℕ → Type 0 = λ a n. ChangesObject (heap_of old) (heap_of new) a n in
     record {
       few = λ lacks. name_is_there s lacks;
