@@ -67,7 +67,7 @@ module _ {old : Mutator} {graph : Graph} {object slot : ℕ} {plain : PlainObjec
       sound.shape there (box_shows {new = heap_of old} v holds).was_not_raw
 
   module _ (at : ℕ) (numbered : IsNumbered (heap_of old) s.cell (words_of_cell (heap_of old) s.cell) slot at)
-      {mid new : Mutator} {next : ℕ} (ready : IsReady old mid box_words) (shape : IsNextShape old new s next)
+      {mid new : Mutator} {next : ℕ} (ready : IsReady old mid box_words) (shape : IsNextShape s new next)
       (head : HasHead mid (with_word (with_box mid (next_at old) v) at (reference_word (next_at old))) new s.cell.at
       (next_head s next)) where
     -- the address of the box that is made
@@ -161,7 +161,7 @@ module _ {old : Mutator} {graph : Graph} {object slot : ℕ} {plain : PlainObjec
 
   -- the integer is put into the box to which the slot refers
   pub old_box_shown : {mid new : Mutator} {next : ℕ} (word box : ℕ) → HasWord s.shown.slots slot word
-      → IsBoxOf (heap_of old) word box → IsReady old mid 0 → IsNextShape old new s next
+      → IsBoxOf (heap_of old) word box → IsReady old mid 0 → IsNextShape s new next
       → HasHead mid (with_word mid (box + 1) (raw_word v)) new s.cell.at (next_head s next) → ShowsSet s new
   old_box_shown {mid} {new} {next} word box there is ready shape head =
       let whole = s.shows.shows.whole in
@@ -176,8 +176,8 @@ module _ {old : Mutator} {graph : Graph} {object slot : ℕ} {plain : PlainObjec
       let puts = puts_two mid new s.cell.at (next_head s next) (one.at + 1) (raw_word v)
       (before_marks (one.at + 1) ready below) (before_marks s.cell.at ready (head_below s)) ready.sized.words
       (λ same. not_header (sym same)) put in
-      let sets = sets_one next (one.at + 1) (raw_word v) 0 (one ∷ []) [] s shape (box_place has is.box)
-      (store_not_in_box whole s.has s.shown.of_kind has is.box) below ready puts
+      let sets = sets_one s shape ready (one ∷ []) [] (box_place has is.box)
+      (store_not_in_box whole s.has s.shown.of_kind has is.box) below puts
       (row_of_none (heap_of new) (next_at old)) in
       let to_old : RefersToOld (heap_of old) s.cell sets.shown.slots slot one = record {
         word = word;

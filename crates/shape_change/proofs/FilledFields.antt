@@ -99,7 +99,7 @@ module _ {old : Mutator} {graph : Graph} {object slot : ℕ} {plain : PlainObjec
         puts_two mid new s.cell.at (next_head next) at word (before_marks at ready slot_below)
         (before_marks s.cell.at ready head_below) ready.sized.words (λ same. address.not_header (sym same)) head
 
-    module _ {mid new : Mutator} {next : ℕ} (shape : IsNextShape old new s next) where
+    module _ {mid new : Mutator} {next : ℕ} (shape : IsNextShape s new next) where
       -- where a word was put in the slot, the heap shows the graph with the field
       pub slot_shown : {need : ℕ} (word : ℕ) (made : List Cell) → IsReady old mid need
           → HasHead mid (with_word mid at word) new s.cell.at (next_head next)
@@ -112,7 +112,7 @@ module _ {old : Mutator} {graph : Graph} {object slot : ℕ} {plain : PlainObjec
           let place = slot_place slot at whole s.has s.shown.of_kind s.shown.has numbered in
           let not_store : s.cell.at + store_slot ≢ at =
           λ same. number_is_not_store slot at whole.rows s.has (plain_is_object s.shown.of_kind) numbered (sym same) in
-          let sets = sets_one next at word need place.0 made s shape place.1.own not_store slot_below ready puts row in
+          let sets = sets_one s shape ready place.0 made place.1.own not_store slot_below puts row in
           let shows = owed place.0 sets in
           let store : s.shown.has.store ≡ sets.shown.has.store =
           same_Some _ _ (sym s.shown.has.slot ∙ sets.shown.has.slot) in

@@ -40,7 +40,7 @@ module _ {old : Mutator} {graph : Graph} {object slot : ℕ} {plain : PlainObjec
   was_field_word {word = word} fills =
       is_field_word word s.field.rep s.field.value (s.shown.each slot s.field word s.there fills.holds)
 
-  module _ {mid new : Mutator} (at word : ℕ) {next : ℕ} (shape : IsNextShape old new s next) where
+  module _ {mid new : Mutator} (at word : ℕ) {next : ℕ} (shape : IsNextShape s new next) where
     -- where the slot comes to refer to a box, by whether it refers to one
     boxed_shown : (v : ℤ) (found : Option ℕ) → FillsAt at word (content.Boxed v) → box_in (heap_of old) word ≡ found
         → IsReady old mid (filling_need (filling_of found (next_at old) (content.Boxed v)))
