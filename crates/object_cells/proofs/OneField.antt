@@ -6,13 +6,13 @@ use Rattle.std.proofs.lemmas.Bool.{cases_eq}
 use Rattle.std.proofs.lemmas.List.{length-map}
 use Rattle.std.proofs.lemmas.Option.{same_Some}
 use Rattle.tagged_word.specs.declared.layout.Kind.TheVariants as kind
-use Rattle.tagged_word.specs.Cells.{plain_head}
+use Rattle.tagged_word.specs.Cells.{plain_head, store_slot}
 use Rattle.heap_model.specs.Types.{Path, PathField, Field, Cell}
 use Rattle.object_graph.specs.declared.value.Rep.TheVariants as rep
 use Rattle.object_graph.specs.Paths.{path_of}
 use Rattle.object_graph.proofs.Lists.{slice_get-set_same, slice_get-set_other}
 use Rattle.shape_tree.specs.Shapes.{shape_path}
-use Rattle.heap_model.specs.Heaps.{Heap, words_of_cell}
+use Rattle.heap_model.specs.Heaps.{Heap, HasCell, words_of_cell}
 use Rattle.heap_model.specs.Slots.{hole_word, reference_word}
 use Rattle.heap_model.specs.Kinds.{HasWord, HasSlots, HasNoNumber, IsBoxCell, IsPlainCell}
 use Rattle.heap_model.specs.Wholeness.{NamesFrom}
@@ -27,43 +27,44 @@ use Rattle.object_cells.proofs.FieldsFound.{field_at}
 use Rattle.object_cells.proofs.PlainFields.{plain_sound}
 use Rattle.object_cells.proofs.FieldWords.{path_field, field_is_tagged, tagged_is_field}
 use Rattle.object_cells.proofs.NumberedSlots.{IsNumbered}
-use Rattle.object_cells.proofs.SlotsNow.{PutsOwn, reshaped_stands, stores_stand, store_now, beside_now, slot_now}
+use Rattle.object_cells.proofs.SlotsNow.{PutsOwn, StoresStand, reshaped_stands, stores_stand, store_now, beside_now}
+use Rattle.object_cells.proofs.SlotsNow.{slot_now}
+use Rattle.object_cells.proofs.StoreCells.{store_at}
 
--- the slots of the object in the new heap
-pub record SlotsAfter (new : Heap) (cell : Cell) (words before : List ℕ) : Type 0 where
+-- The slots of the object in the new heap: as many, and its store is the same.
+pub record SlotsAfter {old : Heap} {words slots : List ℕ} (new : Heap) (cell : Cell) (were : HasSlots old words slots)
+    : Type 0 where
   pub now : List ℕ
-  pub are : HasSlots new words now
-  pub long : length now ≡ length before
+  pub are : HasSlots new (words_of_cell new cell) now
+  pub store : are.store ≡ were.store
+  pub at : store_at are.stands ≡ store_at were.stands
+  pub long : length now ≡ length slots
 
--- there are as many as before
-pub slots_after : {old new : Heap} {cell : Cell} {shape at word : ℕ} {others made : List Cell} {slots : List ℕ}
-    → PutsOwn old new cell shape at word others made → HasSlots old (words_of_cell old cell) slots
-    → SlotsAfter new (reshaped new.paths cell shape) (words_of_cell new (reshaped new.paths cell shape)) slots
-slots_after {old} {new} {cell} {shape} puts were =
-    let words : List ℕ = words_of_cell old cell in
-    let all : List ℕ = words_of_cell new (reshaped new.paths cell shape) in
-    let beside = beside_now were.store were.beside (stores_stand puts) were.stands in
+-- so they are where the object's cell has the size that it had, stores stand, and the slot for its own is as it was
+pub slots_again : {old new : Heap} {cell came : Cell} {words slots : List ℕ} → HasCell old cell words
+    → HasCell new came (words_of_cell new came) → came.size ≡ cell.size → StoresStand old new
+    → (were : HasSlots old words slots) → HasWord (words_of_cell new came) store_slot were.store
+    → SlotsAfter new came were
+slots_again {new = new} {came = came} {words} has has_now size stand were slot =
+    let all : List ℕ = words_of_cell new came in
+    let beside = beside_now stand were.stands in
+    let sizes : length all ≡ length words = omega (arith, size, words_are_size has, words_are_size has_now) in
+    let own : length (drop plain_head all) ≡ length (drop plain_head words) =
+    omega (arith, sizes, length-drop plain_head all, length-drop plain_head words) in
     record {
       now = drop plain_head all ++ beside.slots;
-      are = record {
-        store = were.store;
-        slot = store_now puts were.slot;
-        beside = beside.slots;
-        stands = beside.stands;
-        are = refl;
-      };
-      long = omega (
-        arith,
-        length-append (drop plain_head all) beside.slots,
-        length-append (drop plain_head words) were.beside,
-        length-drop plain_head all,
-        length-drop plain_head words,
-        words_are_size puts.has,
-        words_are_size (reshaped_stands puts),
-        beside.long,
-        ap length were.are,
-      );
+      are = record { store = were.store; slot = slot; beside = beside.slots; stands = beside.stands; are = refl };
+      store = refl;
+      at = beside.at;
+      long = omega (arith, own, beside.long, ap length were.are, length-append {A = ℕ});
     }
+
+-- and so they are where one word was put
+pub slots_after : {old new : Heap} {cell : Cell} {shape at word : ℕ} {others made : List Cell} {slots : List ℕ}
+    → PutsOwn old new cell shape at word others made → (were : HasSlots old (words_of_cell old cell) slots)
+    → SlotsAfter new (reshaped new.paths cell shape) were
+slots_after puts were =
+    slots_again puts.has (reshaped_stands puts) refl (stores_stand puts) were (store_now puts were.slot)
 
 -- A field of the plain object was set: one word of its own cells was put, its shape is that of the fields with this
 -- one in the place of another, and these are its slots.
@@ -72,8 +73,7 @@ pub record SetsOne (old new : Heap) (cell : Cell) (shape at word slot : ℕ) (ot
     (field : Field) : Type 0 where
   pub puts : PutsOwn old new cell shape at word others made
   pub shown : ShowsPlain old cell (words_of_cell old cell) cell.layout.cap before
-  pub after : SlotsAfter new (reshaped new.paths cell shape) (words_of_cell new (reshaped new.paths cell shape))
-      shown.slots
+  pub after : SlotsAfter new (reshaped new.paths cell shape) shown.has
   pub path : shape_path new.paths shape ≡ path_of cell.layout.cap (set before slot field)
   pub there : slot < length before
 

@@ -118,7 +118,7 @@ field_less old new graph object plain header slot name shows is header_at found 
     shows is.object shown.carries shown.cap shown.shows
     (rest_of_fields_are_new graph plain name shows.is_graph is.object is.reached) added
     (keeps_regions taken.beside taken.young)
-    (deleted_writes deleting) (deleted_refills name deleting less)
+    (deleted_writes deleting) (deleted_refills deleting name less)
 
 -- a field that was found is taken out, or there are too many paths
 pub field_deleted : (old new : Mutator) (graph : Graph) (object : ℕ) (plain : PlainObject) (header : Header)
