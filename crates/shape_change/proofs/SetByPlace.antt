@@ -43,7 +43,7 @@ pub as_it_is_sets : {old new : Mutator} {graph : Graph} {object slot : ℕ} {pla
     → sets.rep ≡ sets.was → FillsSlot old new (place_at object sets.place) sets.content
     → HasSetField old new graph object plain name what
 as_it_is_sets {old} {new} {sets = sets} s within there is shows same filled_so =
-    set_as_it_is sets.place _ sets.content s within (setting_read s there is).at_place (setting_fills s there is shows)
+    set_as_it_is s sets.place _ sets.content within (setting_read s there is).at_place (setting_fills s there is shows)
     (rep_stays s there is shows same)
     (subst (λ a. FillsSlot old new (place_at a sets.place) sets.content) (sym s.stands) filled_so)
 
@@ -76,5 +76,5 @@ widening_sets {old} {slot = slot} {shape = shape} {held} {sets} new result s wit
     let read = setting_read s there is in
     let path = changed (shape_path old.paths shape) slot sets.rep in
     wider_sets new sets.place _ path sets.content result s within read.at_place (setting_fills s there is shows)
-    (wider_path sets.was sets.rep held s read shows is.joins)
+    (wider_path s sets.was sets.rep held read shows is.joins)
     (subst (λ a. SetsWider old new a (place_at a sets.place) path sets.content result) (sym s.stands) so)

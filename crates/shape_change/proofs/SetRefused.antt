@@ -60,7 +60,7 @@ pub refused_room : {old new : Mutator} {graph : Graph} {object slot : ℕ} {plai
     → SetsField old new graph object plain name what (Err (stop.Full full))
 refused_room {old} {object = object} {what = what} {name} place word path content full s within is fills is_path enough
     lacks same =
-    let need = setting_need (capacity_at (heap_of old) object) place word content s within fills in
+    let need = setting_need s (capacity_at (heap_of old) object) place word content within fills in
     let lack = lacks_need old (filling_at old (place_at s.cell.at place) content) full lacks in (
       (λ lacks. name_is_there s lacks),
       (λ none. enough (sym (paths_lack path s is_path) ∙ none)),
@@ -87,7 +87,7 @@ pub wider_sets : {old : Mutator} {graph : Graph} {object slot : ℕ} {plain : Pl
     → SetsWider old new s.cell.at (place_at s.cell.at place) path content result
     → SetsField old new graph object plain name what result
 wider_sets new place word path content (Ok done) s within is fills is_path sets =
-    set_wider_has place word path content s within is fills is_path sets
+    set_wider_has s place word path content within is fills is_path sets
 wider_sets new place word path content (Err stop.FieldsFull) s within is fills is_path sets = absurd sets
 wider_sets new place word path content (Err (stop.ShapesFull full)) s within is fills is_path sets =
     ((λ lacks. name_is_there s lacks), wider_lacks path full s is_path sets.0, sets.1)
