@@ -2,6 +2,7 @@
 use Rattle.std.proofs.Common.{◌≡◌, ◌≢◌, ℕ, ◌+◌, ◌<◌, inl, inr, List, [], ◌∷◌, ◌++◌, length, slice_get, refl, sym}
 use Rattle.std.proofs.Common.{◌∙◌, ap, arith}
 use Rattle.std.proofs.lemmas.Bool.{cases_lt}
+use Rattle.std.proofs.lemmas.Bool.Decides.{nat_tests}
 use Rattle.std.proofs.lemmas.Option.{slice_get_within}
 use Rattle.tagged_word.specs.Cells.{store_slot}
 use Rattle.tagged_word.proofs.Members.{first_in}
@@ -27,15 +28,7 @@ use Rattle.shape_change.proofs.DeletedCells.{others_of, deleted_writes}
 -- no slot stands where the slot for the store does
 store_slot_apart : (heap : Heap) (object cap store count one : ℕ) → SlotsStand heap object cap store count → one < count
     → slot_at object cap store one ≢ object + store_slot
-store_slot_apart heap object cap store count one stand below same = elim (cases_lt one cap) [
-  | inl own ↦ omega (arith, slot_at-own object cap store one own, same)
-  | inr from ↦
-      let at = slot_at-beside object cap store one from in
-      elim (stand.apart (omega (arith, below, from))) [
-        | inl before ↦ omega (arith, at, same, before)
-        | inr behind ↦ omega (arith, at, same, behind, below, from)
-      ]
-]
+store_slot_apart heap object cap store count one stand below same = grind (arith, nat_tests, stand.apart)
 
 module _ {old new : Mutator} {cell : Cell} {slot : ℕ} {fields : List Field}
     (deleting : Deleting old new cell slot fields) where

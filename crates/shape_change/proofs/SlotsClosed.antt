@@ -4,6 +4,7 @@ use Rattle.std.proofs.Common.{◌<◌, ◌≤◌, ◌⊎◌, inl, inr, slice_get
 use Rattle.std.proofs.Common.{Some, length, sym, ◌∙◌, ap, arith, length-set}
 use Rattle.std.specs.Prelude.{slice_set}
 use Rattle.std.proofs.lemmas.Bool.{cases_lt}
+use Rattle.std.proofs.lemmas.Bool.Decides.{nat_tests}
 use Rattle.tagged_word.specs.Cells.{plain_head, store_head}
 use Rattle.page_space.specs.Extents.{marks_start}
 use Rattle.object_graph.proofs.Lists.{slice_get-set_same, slice_get-set_other}
@@ -152,16 +153,14 @@ RangesDisjoint object cap store last =
 own_is_not_beside : (object cap store last one : ℕ) → RangesDisjoint object cap store last → one < cap
     → (object + (plain_head + one) < store + (store_head + 0))
     ⊎ (store + (store_head + (last - cap)) + 1 ≤ object + (plain_head + one))
-own_is_not_beside object cap store last one (inl before) own = inl (omega arith)
-own_is_not_beside object cap store last one (inr behind) own = inr (omega arith)
+own_is_not_beside object cap store last one apart own = grind (arith, apart)
 
 -- and a slot of the store none of the object
 beside_is_not_own : (object cap store last slot one : ℕ) → RangesDisjoint object cap store last → 0 < cap
     → one ≤ last - cap
     → (store + (store_head + one) < object + (plain_head + slot))
     ⊎ (object + (plain_head + (cap - 1)) + 1 ≤ store + (store_head + one))
-beside_is_not_own object cap store last slot one (inl before) some few = inr (omega arith)
-beside_is_not_own object cap store last slot one (inr behind) some few = inl (omega arith)
+beside_is_not_own object cap store last slot one apart some few = grind (arith, apart)
 
 -- Where some stand in the object and some in the store, both gaps are closed, and the first of the store comes into the
 -- object as this word.
