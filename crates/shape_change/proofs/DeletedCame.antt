@@ -1,7 +1,6 @@
 -- The slots of a plain object's cell with its new shape, once a field was taken out.
-use Rattle.std.proofs.Common.{◌≡◌, ◌≢◌, ℕ, ◌+◌, ◌<◌, inl, inr, List, [], ◌∷◌, ◌++◌, length, slice_get, refl, sym}
+use Rattle.std.proofs.Common.{◌≡◌, ◌≢◌, ℕ, ◌+◌, ◌<◌, List, [], ◌∷◌, ◌++◌, length, slice_get, refl, sym}
 use Rattle.std.proofs.Common.{◌∙◌, ap, arith}
-use Rattle.std.proofs.lemmas.Bool.{cases_lt}
 use Rattle.std.proofs.lemmas.Bool.Decides.{nat_tests}
 use Rattle.std.proofs.lemmas.Option.{slice_get_within}
 use Rattle.tagged_word.specs.Cells.{store_slot}
@@ -21,7 +20,7 @@ use Rattle.object_cells.proofs.OneField.{SlotsAfter, slots_again}
 use Rattle.object_cells.proofs.OwnerWrites.{plain_owns, becomes_cap, written_own_keeps_cells}
 use Rattle.object_cells.proofs.SlotsNow.{beside_stands, plain_cell_size, word_at_offset}
 use Rattle.object_cells.proofs.StoreCells.{store_at}
-use Rattle.shape_change.proofs.SlotAddresses.{slot_at-own, slot_at-beside, SlotsStand, slot_read}
+use Rattle.shape_change.proofs.SlotAddresses.{SlotsStand, slot_read}
 use Rattle.shape_change.proofs.DeletedSlots.{Deleting, room_is, all_stand, address, address_is, NowHolds, now_holds}
 use Rattle.shape_change.proofs.DeletedCells.{others_of, deleted_writes}
 

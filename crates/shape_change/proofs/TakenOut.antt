@@ -1,12 +1,10 @@
 -- A field is taken out of a plain object: its path is added, its slots are closed, and its header is put.
-use Rattle.std.proofs.Common.{◌≡◌, ◌≢◌, ℕ, suc, ◌+◌, ◌-◌, ◌<◌, ◌≤◌, inl, inr, List, length, Some}
+use Rattle.std.proofs.Common.{◌≡◌, ◌≢◌, ℕ, suc, ◌+◌, ◌<◌, ◌≤◌, List, length, Some}
 use Rattle.std.proofs.Common.{slice_get, sym, ◌∙◌, ap, subst, arith, length-append, length-take, length-drop, take}
 use Rattle.std.proofs.Common.{drop}
 use Rattle.std.specs.Prelude.{slice_set}
-use Rattle.std.proofs.lemmas.Bool.{cases_lt}
 use Rattle.std.proofs.lemmas.Bool.Decides.{nat_tests}
 use Rattle.heap_model.specs.Types.{Header, Path}
-use Rattle.tagged_word.specs.Cells.{plain_head, store_head}
 use Rattle.page_space.specs.Extents.{Space, layouts_start, marks_start}
 use Rattle.page_space.proofs.Starts.{layouts_start_is, marks_start_is}
 use Rattle.object_graph.proofs.Lists.{slice_get-set_same, slice_get-set_other}
@@ -19,7 +17,7 @@ use Rattle.write_barrier.specs.MutatorState.{Mutator, heap_of, with_word}
 use Rattle.shape_change.specs.Shifts.{KeepsRest, ClosesSlots, slot_at}
 use Rattle.shape_change.specs.Deletions.{AddsPaths, HasFirstInStore, shaped_bits, TakesFieldOut}
 use Rattle.shape_change.proofs.SlotsClosed.{rest_put, rest_then}
-use Rattle.shape_change.proofs.SlotAddresses.{SlotsStand, slot_at-own, slot_at-beside}
+use Rattle.shape_change.proofs.SlotAddresses.{SlotsStand}
 
 -- a path has one field fewer without one
 pub without_counted : (path : Path) (at : ℕ) → at < length path.fields
