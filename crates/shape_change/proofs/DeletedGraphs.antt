@@ -150,6 +150,7 @@ none_deleted {main} {graph} {plain = plain} name shows is header_at none =
         stays = λ number other place. place;
         none_made = λ number other place. place;
       };
-      shows = subst (ShowsRefilled main graph plain) (sym (none_less plain.fields name (name_is_new shows is header_at name none)))
+      shows = subst (ShowsRefilled main graph plain)
+          (sym (none_less plain.fields name (name_is_new shows is header_at name none)))
           (refilled_alike main graph plain shows is.object);
     }

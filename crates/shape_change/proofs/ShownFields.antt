@@ -54,7 +54,8 @@ module _ {main : Mutator} {graph : Graph} {object : ℕ} {plain : PlainObject} {
         carries = shown.carries;
         cap = ap (λ (layout : LayoutWord). layout.cap) laid ∙ ap (λ (p : Path). p.cap) shown.shows.path;
         header_is = header_at cell shown.words shown.has shown.stands;
-        shows = subst (λ words. ShowsPlain heap cell words plain.cap plain.fields) (sym shown.has.words_are) shown.shows;
+        shows = subst (λ words. ShowsPlain heap cell words plain.cap plain.fields) (sym shown.has.words_are)
+            shown.shows;
       }
 
   -- its header has the shape of a path

@@ -14,5 +14,5 @@ returns c =
     let hole : c.odd.result.0 ≡ hole_word = search rules in
     subst (ClosesGap c.args.main.now c.store.new.self (c.args.store + (store_head + c.args.from))
     (c.args.store + (store_head + c.args.last))) hole
-    (gap_closed c.odd.result.0 moved c.store.ensures.stored c.store.ensures.heap (omega (arith, c.requires.order)) c.requires.within
-    (omega (arith, c.requires.within, c.addresses_fit.ensures.heap_counted, moved.rest.count, space)))
+    (gap_closed c.odd.result.0 moved c.store.ensures.stored c.store.ensures.heap (omega (arith, c.requires.order))
+    c.requires.within (omega (arith, c.requires.within, c.addresses_fit.ensures.heap_counted, moved.rest.count, space)))

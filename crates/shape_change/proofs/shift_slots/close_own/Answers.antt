@@ -22,6 +22,6 @@ returns c =
     let hole : c.odd.result.0 ≡ hole_word = search rules in
     subst (λ n. ClosesGap old new from (c.args.object + (plain_head + n)) hole_word) counted
     (subst (ClosesGap old new from (c.args.object + (plain_head + c.fields-last.result))) hole
-    (gap_closed c.odd.result.0 moved c.write_slot.ensures.written c.write_slot.ensures.heap (omega (arith, counted, c.requires.order))
-    (omega (arith, counted, c.requires.within))
+    (gap_closed c.odd.result.0 moved c.write_slot.ensures.written c.write_slot.ensures.heap
+    (omega (arith, counted, c.requires.order)) (omega (arith, counted, c.requires.within))
     (omega (arith, counted, c.requires.within, c.addresses_fit.ensures.heap_counted, moved.rest.count, space))))

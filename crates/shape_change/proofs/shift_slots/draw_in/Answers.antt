@@ -8,5 +8,5 @@ pub returns : goal.returns
 returns c =
     let moved = c.move_own.ensures in
     let space = ap marks_start moved.rest.beside.space in
-    gap_closed c.args.word moved c.put_own.ensures.put c.put_own.ensures.heap (omega (arith, c.requires.order)) c.requires.within
-    (omega (arith, c.requires.within, c.addresses_fit.ensures.heap_counted, moved.rest.count, space))
+    gap_closed c.args.word moved c.put_own.ensures.put c.put_own.ensures.heap (omega (arith, c.requires.order))
+    c.requires.within (omega (arith, c.requires.within, c.addresses_fit.ensures.heap_counted, moved.rest.count, space))
