@@ -58,21 +58,21 @@ raw_in_box-requires-clause-boxed c =
 
 pub returns-in-Wide : goal.returns-in-Wide
 returns-in-Wide c =
-    draws_first _ _ _ _ _ c.field.result (first_field c.args.shape c.shapes-shapes.ensures c.cap.ensures.cap c.field.ensures)
-    c.slot-word.ensures.of_heap
+    draws_first _ _ _ _ _ c.field.result
+    (first_field c.args.shape c.shapes-shapes.ensures c.cap.ensures.cap c.field.ensures) c.slot-word.ensures.of_heap
     (subst (λ (rep : Rep). IsDrawnIn (heap_of c.args.main.now) rep c.slot-word.result c.raw_in_box.result)
     (sym c.in-Wide.is) c.raw_in_box.ensures)
 
 pub returns-in-Small : goal.returns-in-Small
 returns-in-Small c =
-    draws_first _ _ _ _ _ c.field.result (first_field c.args.shape c.shapes-shapes.ensures c.cap.ensures.cap c.field.ensures)
-    c.slot-word.ensures.of_heap
+    draws_first _ _ _ _ _ c.field.result
+    (first_field c.args.shape c.shapes-shapes.ensures c.cap.ensures.cap c.field.ensures) c.slot-word.ensures.of_heap
     (subst (λ (rep : Rep). IsDrawnIn (heap_of c.args.main.now) rep c.slot-word.result c.slot-word.result)
     (sym c.in-Small.is) refl)
 
 pub returns-in-Tagged : goal.returns-in-Tagged
 returns-in-Tagged c =
-    draws_first _ _ _ _ _ c.field.result (first_field c.args.shape c.shapes-shapes.ensures c.cap.ensures.cap c.field.ensures)
-    c.slot-word.ensures.of_heap
+    draws_first _ _ _ _ _ c.field.result
+    (first_field c.args.shape c.shapes-shapes.ensures c.cap.ensures.cap c.field.ensures) c.slot-word.ensures.of_heap
     (subst (λ (rep : Rep). IsDrawnIn (heap_of c.args.main.now) rep c.slot-word.result c.slot-word.result)
     (sym c.in-Tagged.is) refl)
