@@ -58,6 +58,6 @@ module _ {old : Mutator} {graph : Graph} {object slot : ℕ} {plain : PlainObjec
       sets.content result → SetsField old new graph object plain name what result
   widening_sets new result so =
       let path = changed (shape_path old.paths shape) slot sets.rep in
-      wider_sets s path (wider_path sets.was sets.rep held s (setting_read s there is) shows is.joins) sets.place within
+      wider_sets s path (wider_path s sets.was sets.rep held (setting_read s there is) shows is.joins) sets.place within
       (setting_fills s there is shows) new result
       (subst (λ a. SetsWider old new a (place_at a sets.place) path sets.content result) (sym s.stands) so)
