@@ -28,9 +28,7 @@ pub mod NewKeys
 pub mod FreeKeys
 pub mod NewEntries
 pub mod FullTables
-pub mod NewTables
 pub mod GrownWords
-pub mod LinkedMaps
 pub mod GrownPairs
 pub mod GrownMaps
 pub mod SlotValues
@@ -44,5 +42,6 @@ pub mod PairsByKey
 pub mod PutRefusals
 pub mod PutPlaces
 pub mod PutShown
+mod EntriesPut
 pub mod DeletedPairs
 pub mod ToldPairs
