@@ -68,7 +68,7 @@ held_to_cell at is (Holding.to_store holds) = store_to_cell at is holds
 held_to_cell at is (Holding.as_slot holds) = slot_to_cell at is holds
 
 -- what a slot of a cell refers to is a cell, kind by kind
-kind_to_cell : {heap : Heap} {cell : Cell} {words : List ℕ} (k : Kind) (offset word at : ℕ) → HasSizes heap
+pub kind_to_cell : {heap : Heap} {cell : Cell} {words : List ℕ} (k : Kind) (offset word at : ℕ) → HasSizes heap
     → HasCell heap cell words → cell.layout.kind ≡ k → IsSoundCell heap cell words
     → Contains (scavenge_offsets_of k cell.layout cell.length) offset → HasWord words offset word
     → word ≡ reference_word at → StandsAt heap at
@@ -92,7 +92,7 @@ kind_to_cell kind.Filler offset word at sized has of_kind sound there slot is = 
 kind_to_cell kind.Gap offset word at sized has of_kind sound there slot is = contains_none [] offset refl there
 
 -- the word of a slot of a cell, as it is read at its address
-word_reads : {heap : Heap} {cell : Cell} {words : List ℕ} (offset word : ℕ) → HasCell heap cell words
+pub word_reads : {heap : Heap} {cell : Cell} {words : List ℕ} (offset word : ℕ) → HasCell heap cell words
     → HasWord words offset word → slice_index heap.words (cell.at + offset) ≡ word
 word_reads {heap} {cell} offset word has there =
     sym (unwrap_or-slice_get heap.words (cell.at + offset) 0) ∙ word_of_cell offset word has there
@@ -114,7 +114,7 @@ no_integer true v at is = small_refers_not v at is
 no_integer false v at is = omega (arith, is)
 
 -- what a variable holds by reference is a cell
-held_target : (heap : Heap) (what : Held) (at : ℕ) → IsHeld heap what → first_word what ≡ reference_word at
+pub held_target : (heap : Heap) (what : Held) (at : ℕ) → IsHeld heap what → first_word what ≡ reference_word at
     → StandsAt heap at
 held_target heap held.Unbound at is refers = absurd (omega (arith, refers))
 held_target heap held.Undefined at is refers = absurd (omega (arith, refers))

@@ -1,7 +1,7 @@
 //! What a scavenge begins with, what slots refer to throughout, and what becomes of the words where one
 //! is followed.
 ghost use Rattle.scavenger.specs.Following.{SlotsHaveTargets, FollowingGoesOn};
-ghost use Rattle.scavenger.specs.Laws.{ShownHeapsMayBegin};
+ghost use Rattle.scavenger.specs.Laws.{ShownHeapsMayBegin, EndsAreScavenges};
 
 /// A heap that shows a graph may be scavenged.
 pub fn laws_of_scavenges()
@@ -18,4 +18,10 @@ pub fn laws_of_slots()
 /// the copy of that stands behind the others and is the cell's home.
 pub fn laws_of_following()
     ensures { FollowingGoesOn }
+{}
+
+/// Where all is done and the words that are left were emptied, it is a scavenge: the heap that is left
+/// shows the graph, its objects have the rooms that they had, and it may be scavenged again.
+pub fn laws_of_ends()
+    ensures { EndsAreScavenges }
 {}
