@@ -1,13 +1,13 @@
 -- The box that is made for what a slot comes to hold, if it needs one.
 use Rattle.std.proofs.Common.{◌≡◌, ℕ, ◌+◌, ◌≤◌, ◌<◌, length, length-set, Bool, List, [], ◌∷◌}
-use Rattle.std.proofs.Common.{inl, inr, Contains, Some, slice_get, refl, sym, ◌∙◌, ap, subst, arith}
+use Rattle.std.proofs.Common.{Contains, Some, slice_get, refl, sym, ◌∙◌, ap, subst, arith}
 use Rattle.std.specs.Prelude.{ℤ, FitsSigned, slice_set}
 use Rattle.std.specs.Int.{w64}
 use Rattle.std.proofs.lemmas.List.{set_comm}
-use Rattle.heap_model.specs.Types.{Kind, Value, Rep, Cell}
+use Rattle.heap_model.specs.Types.{Value, Rep, Cell}
 use Rattle.tagged_word.specs.declared.layout.Kind.TheVariants as kind
 use Rattle.tagged_word.specs.Headers.{header_bits}
-use Rattle.tagged_word.proofs.Members.{first_in, one_in, in_cases}
+use Rattle.tagged_word.proofs.Members.{first_in, one_in}
 use Rattle.page_space.specs.Extents.{eden_start, segments_start}
 use Rattle.object_graph.specs.Invariants.{IsValue}
 use Rattle.object_graph.proofs.Lists.{slice_get-set_same, slice_get-set_other}
@@ -205,24 +205,3 @@ row_with_box heap first holds end is sized stands ends =
     let behind : ℕ = first.at + first.size in
     subst (λ to. IsRow heap.space heap.words first.at to (first ∷ made_boxes holds behind)) ends
     (next first (behind + content_need holds) (made_boxes holds behind) is (made_row heap holds behind sized stands))
-
--- of a cell and the boxes beside it that were made only the cell is of a kind that boxes are not
-pub only_first : (holds : SlotContent) (box : ℕ) (k : Kind) {first : Cell} → (k ≡ kind.Boxed → ⊥) → (one : Cell)
-    → Contains (first ∷ made_boxes holds box) one → one.layout.kind ≡ k → first ≡ one
-only_first holds box k {first} no_box one among is = elim (in_cases first (made_boxes holds box) one among) [
-  | inl same ↦ same
-  | inr is_made ↦ absurd (no_box (sym is ∙ made_boxed holds box one is_made))
-]
-
--- and where the cell is no box, each that is one is sound
-pub boxes_sound : {heap old : Heap} {own : Bool} {was one : Rep} {what : Value} {holds : SlotContent} (count box : ℕ)
-    {first : Cell} → (first.layout.kind ≡ kind.Boxed → ⊥) → HoldsValue old own was one what holds → IsValue count what
-    → BoxStands heap holds box
-    → ((other : Cell) → Contains (made_boxes holds box) other → HasCell heap other (words_of_cell heap other))
-    → (other : Cell) → Contains (first ∷ made_boxes holds box) other → other.layout.kind ≡ kind.Boxed
-    → IsBoxCell other (words_of_cell heap other)
-boxes_sound {holds = holds} count box {first} no_box value fits stands has other among is =
-    elim (in_cases first (made_boxes holds box) other among) [
-      | inl same ↦ absurd (no_box (ap (λ (c : Cell). c.layout.kind) same ∙ is))
-      | inr is_made ↦ made_sound count box other value fits stands (has other is_made) is_made
-    ]
