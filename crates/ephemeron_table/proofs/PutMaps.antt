@@ -5,7 +5,7 @@ use Rattle.std.specs.Prelude.{slice_set}
 use Rattle.std.proofs.lemmas.Bool.{cases_eq}
 use Rattle.tagged_word.specs.declared.layout.Kind.TheVariants as kind
 use Rattle.tagged_word.specs.Cells.{store_slot}
-use Rattle.tagged_word.proofs.Members.{first_in, one_in}
+use Rattle.tagged_word.proofs.Members.{first_in}
 use Rattle.page_space.proofs.Starts.{marks_start_is}
 use Rattle.heap_model.specs.Types.{Value, Cell, Held}
 use Rattle.object_graph.specs.declared.value.Rep.TheVariants as rep
@@ -17,7 +17,6 @@ use Rattle.heap_table.specs.Seats.{heap_words}
 use Rattle.heap_model.specs.Heaps.{words_of_cell}
 use Rattle.heap_model.specs.Slots.{RefersToPlace, IsPlace}
 use Rattle.heap_model.specs.Kinds.{HasWord, Pair, IsFilledPair, count_offset}
-use Rattle.heap_model.specs.Wholeness.{NamesFrom}
 use Rattle.write_barrier.specs.MutatorState.{Mutator, heap_of}
 use Rattle.object_cells.specs.Contents.{next_at}
 use Rattle.object_cells.specs.Made.{store_content, with_content, content_word}
@@ -40,7 +39,7 @@ use Rattle.weak_pairs.specs.Tables.{numbers, pairs_of, with_pair}
 use Rattle.weak_pairs.specs.declared.table.Table.{Table}
 use Rattle.weak_pairs.proofs.CountedPairs.{count_filled}
 use Rattle.ephemeron_table.proofs.KnownTables.{table_is_no_box, are_before, KnownMap, cell, cell_has, sound}
-use Rattle.ephemeron_table.proofs.KnownTables.{slot_there, of_map, found, other, known_store}
+use Rattle.ephemeron_table.proofs.KnownTables.{slot_there, of_map, other, known_store}
 use Rattle.weak_pairs.proofs.PairsPut.{at_place, length-with_pair}
 use Rattle.ephemeron_table.proofs.PutPairs.{pair, made, pairs_are_now, some, need, final, map_stays, head_stays}
 use Rattle.ephemeron_table.proofs.PutPairs.{puts_weak, box_word}

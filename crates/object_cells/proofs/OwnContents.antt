@@ -11,8 +11,8 @@ use Rattle.cell_layout.specs.Cells.{IsRow}
 use Rattle.heap_table.specs.Seats.{heap_words}
 use Rattle.heap_model.specs.Types.{Kind, Value, Cell}
 use Rattle.heap_model.specs.Heaps.{words_of_cell}
-use Rattle.heap_model.specs.Kinds.{HasWord, HasNoNumber}
-use Rattle.heap_model.specs.Slots.{is_object_kind, reference_word}
+use Rattle.heap_model.specs.Kinds.{HasWord}
+use Rattle.heap_model.specs.Slots.{is_object_kind}
 use Rattle.heap_model.specs.Wholeness.{NamesFrom}
 use Rattle.heap_model.proofs.OneOwner.{names_store}
 use Rattle.heap_model.proofs.SlotWords.{IsStoreKind}
@@ -21,7 +21,6 @@ use Rattle.object_cells.specs.CellWrites.{Owns, WritesOwnCells}
 use Rattle.object_cells.specs.Contents.{next_at}
 use Rattle.object_cells.specs.Made.{content_need, with_content}
 use Rattle.object_cells.specs.declared.content.SlotContent.{SlotContent}
-use Rattle.object_cells.proofs.CellsRead.{word_stands}
 use Rattle.object_cells.proofs.HeldContents.{HoldsValue}
 use Rattle.object_cells.proofs.MadeBoxes.{made_boxes, BoxStands, made_row}
 use Rattle.object_cells.proofs.OwnCapacities.{owned_is_store}
