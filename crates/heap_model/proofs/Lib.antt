@@ -25,6 +25,8 @@ pub mod ShownGraphs
 pub mod CountsStay
 pub mod RegionStarts
 pub mod WordsAlike
+pub mod RegionRows
+pub mod RegionSeams
 pub mod BoundRoots
 pub mod BoundHeaps
 pub mod BoundGraphs
