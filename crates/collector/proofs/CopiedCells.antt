@@ -107,11 +107,7 @@ ends_of {heap} row (Segment half worker) copying among used ends = (
     | inr at_end ↦ inl (omega (arith, ends.0, at_end))
   ],
 )
-ends_of row (Root variable) copying among used ends = ends
-ends_of row (Layout shape) copying among used ends = ends
-ends_of row (Mark mark) copying among used ends = ends
-ends_of row (Board place) copying among used ends = ends
-ends_of row Outside copying among used ends = ends
+ends_of row _ copying among used ends = ends
 
 -- a used row is one in the words of the image
 pub row_stays : {heap : Heap} {words : List ℕ} (row : Row) → Copying heap words

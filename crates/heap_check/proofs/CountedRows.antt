@@ -1,21 +1,22 @@
 -- The rows of a heap, region by region, and the survivors in them.
 use Rattle.std.proofs.Common.{◌≡◌, ℕ, ◌+◌, ◌-◌, ◌≤◌, List, [], ◌∷◌, ◌++◌, length, map}
-use Rattle.std.proofs.Common.{All, Contains, refl, sym, ◌∙◌}
-use Rattle.std.proofs.Common.{ap, subst, arith}
+use Rattle.std.proofs.Common.{All, refl, sym, ◌∙◌}
+use Rattle.std.proofs.Common.{ap, arith}
 use Rattle.std.proofs.lemmas.List.{map-append}
 use Rattle.std.proofs.lemmas.List.Sums.{sum_by-append, sum_by-cons}
-use Rattle.std.proofs.lemmas.List.Elements.{All-nil, All-push, All-contains, All-head, All-tail}
-use Rattle.tagged_word.proofs.Members.{map_from}
+use Rattle.std.proofs.lemmas.List.Elements.{All-nil, All-push, All-head, All-tail}
 use Rattle.heap_model.specs.Types.{Region}
 use Rattle.page_space.specs.Extents.{Extent, CellsEndAt, extents_from, words_in, roots_start}
 use Rattle.page_space.specs.RegionLaws.{IsSpace}
 use Rattle.page_space.proofs.Stretches.{extents_from-append}
-use Rattle.heap_model.specs.Heaps.{Heap, Row, IsUsedRow, AreRows, survivors_in, survivors_of, cell_extents}
+use Rattle.heap_model.specs.Heaps.{Heap, Row, IsUsedRow, survivors_in, survivors_of}
 use Rattle.heap_model.proofs.RowEnds.{one_used_row}
 use Rattle.heap_model.proofs.RegionStarts.{one_extent}
-use Rattle.heap_check.specs.RegionRows.{StandsFrom, HasNoRowAt, CountsRowAt, CountsRows, HasNoRows, survivors_by}
+use Rattle.heap_model.specs.RegionRows.{StandsBetween}
+use Rattle.heap_model.proofs.RegionRows.{row_between}
+use Rattle.heap_check.specs.RegionRows.{HasNoRowAt, CountsRowAt, CountsRows, HasNoRows, survivors_by}
 use Rattle.heap_check.proofs.UsedRows.{counts_by}
-use Rattle.heap_check.proofs.Seams.{IsSeam, first_seam, next_seam, all_done}
+use Rattle.heap_model.proofs.RegionSeams.{IsSeam, first_seam, next_seam, all_done}
 
 -- the rows of the regions before the address, and the survivors in them
 pub record RowsTo (heap : Heap) (at count : ℕ) : Type 0 where
@@ -81,23 +82,11 @@ rows_all heap at count limits past to = record {
   counted = to.counted;
 }
 
--- the rows of a heap have one for each region
-pub row_at : (heap : Heap) (rows : List Row) (extent : Extent) → AreRows heap rows
-    → Contains (cell_extents heap.space) extent → (row : Row) × Contains rows row × (row.extent ≡ extent)
-row_at heap rows extent are there =
-    let Has : List Extent → Type 0 = λ all. Contains all extent in
-    map_from (λ (row : Row). row.extent) rows extent (subst Has (sym are.everywhere) there)
-
 -- without the row of a region there are no rows
-pub no_rows : (heap : Heap) (start end : ℕ) → StandsFrom heap.space start end → HasNoRowAt heap start → HasNoRows heap
+pub no_rows : (heap : Heap) (start end : ℕ) → StandsBetween heap.space start end → HasNoRowAt heap start → HasNoRows heap
 no_rows heap start end stands none rows are =
-    let found = row_at heap rows stands.extent are stands.among in
-    let Has : Extent → Type 0 = λ extent. Contains (cell_extents heap.space) extent in
-    none found.0 record {
-      among = subst Has (sym found.2) stands.among;
-      starts = ap (λ (e : Extent). e.start) found.2 ∙ stands.starts;
-      used = All-contains (IsUsedRow heap) rows found.0 are.each found.1;
-    }
+    let own = row_between are stands in
+    none own.row own.is
 
 -- a list without its first
 abbrev tail_of : {X : Type 0} → List X → List X

@@ -4,8 +4,8 @@ ghost use Rattle.page_space.specs.Extents.{words_count, CellsEndAt};
 ghost use Rattle.heap_model.specs.Images.{image_heap};
 ghost use Rattle.heap_model.specs.Heaps.{HasCell, words_of_cell};
 ghost use Rattle.heap_model.specs.Wholeness.{HasRows};
+ghost use Rattle.heap_model.specs.RegionRows.{StandsBetween};
 ghost use Rattle.heap_check.specs.Walks.{HasWords};
-ghost use Rattle.heap_check.specs.RegionRows.{StandsFrom};
 ghost use Rattle.heap_check.specs.Finding.{HasNoCellOf, IsFirstOf, HasNoCellAt};
 
 use crate::region_rows::bound_of;
@@ -35,7 +35,7 @@ pub fn find_cell(image: &HeapImage, address: u32) -> Option<Cell>
 fn start_before(image: &HeapImage, address: u32, end: u32) -> u32
     requires within { CellsEndAt image.now.regions address end }
     requires inside { end ≤ words_count image.now.regions }
-    ensures stands { StandsFrom image.now.regions result end }
+    ensures stands { StandsBetween image.now.regions result end }
     ensures before { result ≤ address }
 {
     image.regions.start(image.regions.region(address))
@@ -45,7 +45,7 @@ fn start_before(image: &HeapImage, address: u32, end: u32) -> u32
 fn first_of_region(image: &HeapImage, start: u32, end: u32, least: u32) -> Option<Cell>
     requires sized { HasWords (image_heap image.now) }
     requires rows { HasRows (image_heap image.now) }
-    requires stands { StandsFrom image.now.regions start end }
+    requires stands { StandsBetween image.now.regions start end }
     ensures { MatchOption result (HasNoCellOf (image_heap image.now) start end least)
         (λ cell. IsFirstOf (image_heap image.now) start end least cell) }
 {

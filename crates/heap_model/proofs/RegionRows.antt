@@ -2,15 +2,14 @@
 use Rattle.std.proofs.Common.{◌≡◌, ℕ, ◌+◌, ◌≤◌, ◌<◌, List, Contains, refl, sym, ◌∙◌, ap, subst, arith}
 use Rattle.std.proofs.lemmas.List.Elements.{All-contains}
 use Rattle.tagged_word.proofs.Members.{in_map, map_from}
-use Rattle.page_space.specs.Extents.{Space, Extent, ContainsAddress, IsIn, words_count}
+use Rattle.page_space.specs.Extents.{Space, Extent, IsIn, words_count}
 use Rattle.page_space.specs.RegionLaws.{IsSpace}
-use Rattle.page_space.proofs.Covering.{disjoint}
 use Rattle.page_space.proofs.Starts.{layouts_start_is, marks_start_is, board_start_is, words_count_is}
 use Rattle.cell_layout.proofs.Rows.{row_ascends}
 use Rattle.heap_model.specs.Types.{Region}
-use Rattle.heap_model.specs.Heaps.{Heap, Row, EndsUsed, IsUsedRow, AreRows, cell_extents}
+use Rattle.heap_model.specs.Heaps.{Heap, Row, IsUsedRow, AreRows, cell_extents}
 use Rattle.heap_model.specs.RegionRows.{StandsBetween, IsRowFrom}
-use Rattle.heap_model.proofs.CellsApart.{cell_extent_stands, ends_within}
+use Rattle.heap_model.proofs.CellsApart.{ends_within}
 use Rattle.heap_model.proofs.RegionStarts.{one_extent, region_at_start, holds_first}
 use Rattle.heap_model.proofs.RowEnds.{AreOneRow, one_used_row}
 use Rattle.heap_model.proofs.WordsAlike.{extent_below_roots}
@@ -60,19 +59,21 @@ row_of {heap} {rows} extent are among =
       same = found.2;
     }
 
--- the used row of a region, as it stands between two addresses
-pub record RowBetween (heap : Heap) (start end : ℕ) : Type 0 where
+-- it stands between two addresses
+pub record RowBetween (heap : Heap) (rows : List Row) (start end : ℕ) : Type 0 where
   pub row : Row
+  pub there : Contains rows row
   pub is : IsRowFrom heap start row
   pub ends : row.extent.start + row.extent.words ≡ end
 
 -- each region of cells has one
 pub row_between : {heap : Heap} {start end : ℕ} {rows : List Row} → AreRows heap rows
-    → StandsBetween heap.space start end → RowBetween heap start end
+    → StandsBetween heap.space start end → RowBetween heap rows start end
 row_between {heap} are stands =
     let own = row_of stands.extent are stands.among in
     record {
       row = own.row;
+      there = own.there;
       is = subst (λ (at : ℕ). IsRowFrom heap at own.row) stands.starts own.is;
       ends = ap (λ (e : Extent). e.start + e.words) own.same ∙ stands.ends;
     }

@@ -40,15 +40,10 @@ pub record IsOfYoung (heap : Heap) (row : Row) (cell : Cell) : Type 0 where
 young_is_of : (heap : Heap) (row : Row) (cell : Cell) (region : Region)
     → row.extent.start ≡ start_of heap.space region → Contains (if_young row.cells region) cell
     → IsOfYoung heap row cell
-young_is_of heap row cell (Page page) starts there = contains_none [] cell refl there
 young_is_of heap row cell Eden starts there = record { among = there; from = omega (arith, starts) }
 young_is_of heap row cell (Segment half worker) starts there =
     record { among = there; from = omega (arith, starts) }
-young_is_of heap row cell (Root variable) starts there = contains_none [] cell refl there
-young_is_of heap row cell (Layout shape) starts there = contains_none [] cell refl there
-young_is_of heap row cell (Mark mark) starts there = contains_none [] cell refl there
-young_is_of heap row cell (Board place) starts there = contains_none [] cell refl there
-young_is_of heap row cell Outside starts there = contains_none [] cell refl there
+young_is_of heap row cell _ starts there = contains_none [] cell refl there
 
 -- what stands from eden on is no cell of a page, kind by kind
 of_young_is : (heap : Heap) (row : Row) (cell : Cell) (region : Region)
@@ -60,11 +55,7 @@ of_young_is heap row cell (Page page) starts is_one within ends there below from
     absurd (omega (arith, page_ends heap.space page is_one))
 of_young_is heap row cell Eden starts is_one within ends there below from = there
 of_young_is heap row cell (Segment half worker) starts is_one within ends there below from = there
-of_young_is heap row cell (Root variable) starts is_one within ends there below from = absurd ends
-of_young_is heap row cell (Layout shape) starts is_one within ends there below from = absurd ends
-of_young_is heap row cell (Mark mark) starts is_one within ends there below from = absurd ends
-of_young_is heap row cell (Board place) starts is_one within ends there below from = absurd ends
-of_young_is heap row cell Outside starts is_one within ends there below from = absurd ends
+of_young_is heap row cell _ starts is_one within ends there below from = absurd ends
 
 -- the used row of a region, as one of the rows
 record HasRowOf (heap : Heap) (rows : List Row) (extent : Extent) : Type 0 where

@@ -5,7 +5,7 @@ use Rattle.heap_check.proofs.region_rows.row_end.Goals as goal
 
 pub first_of_row-requires-clause-before : goal.first_of_row-requires-clause-before
 first_of_row-requires-clause-before c =
-    omega (arith, c.bound_of-bound.ensures.bounds.from, c.bound_of-bound.ensures.starts)
+    omega (arith, c.bound_of-bound.ensures.bounds.from, c.bound_of-bound.ensures.stands.starts)
 
 pub returns-in-Ended : goal.returns-in-Ended
 returns-in-Ended c =
