@@ -123,11 +123,7 @@ new_row_of {row = row} (Segment half worker) context start ends =
       grows = omega arith;
       survivors = refl;
     }
-new_row_of (Root variable) context start ends = absurd ends
-new_row_of (Layout shape) context start ends = absurd ends
-new_row_of (Mark mark) context start ends = absurd ends
-new_row_of (Board place) context start ends = absurd ends
-new_row_of Outside context start ends = absurd ends
+new_row_of _ context start ends = absurd ends
 
 -- the new row of a row
 pub new_row : {old new : Heap} {patches : List Patch} {made : List Cell} {row : Row}

@@ -108,11 +108,7 @@ ends_alike_of heap other extent end (Segment half worker) alike below ends = (
     | inr at_end ↦ inl (omega (arith, ends.0))
   ],
 )
-ends_alike_of heap other extent end (Root variable) alike below ends = ends
-ends_alike_of heap other extent end (Layout shape) alike below ends = ends
-ends_alike_of heap other extent end (Mark mark) alike below ends = ends
-ends_alike_of heap other extent end (Board place) alike below ends = ends
-ends_alike_of heap other extent end Outside alike below ends = ends
+ends_alike_of heap other extent end _ alike below ends = ends
 
 -- a used row is one in the other words
 pub used_row_alike : (heap : Heap) (other : List ℕ) (row : Row) → AreAlike heap.space heap.words other

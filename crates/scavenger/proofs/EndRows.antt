@@ -199,11 +199,7 @@ module _ {heap : Heap} {half left : ℕ} {fixed : Fixed} {homes : List Home} {wo
         | inl same ↦ room_row row of worker among used is same
         | inr other ↦ other_row row of worker among used is ends other
       ]
-  row_of_kind row (Root variable) among used is ends = absurd ends
-  row_of_kind row (Layout shape) among used is ends = absurd ends
-  row_of_kind row (Mark mark) among used is ends = absurd ends
-  row_of_kind row (Board place) among used is ends = absurd ends
-  row_of_kind row Outside among used is ends = absurd ends
+  row_of_kind row _ among used is ends = absurd ends
 
   -- the row of the region of a row
   pub row_after : (row : Row) → Contains (cell_extents heap.space) row.extent → IsUsedRow heap row

@@ -45,11 +45,7 @@ left_by heap half left at end extent (Segment one worker) other empty young is e
           segment_is_left heap.space left worker at
           (subst (λ (h : ℕ). IsInRegion heap.space (Segment h worker) at) rest is)
     ]
-left_by heap half left at end extent (Root variable) other empty young is ends = absurd ends
-left_by heap half left at end extent (Layout shape) other empty young is ends = absurd ends
-left_by heap half left at end extent (Mark mark) other empty young is ends = absurd ends
-left_by heap half left at end extent (Board place) other empty young is ends = absurd ends
-left_by heap half left at end extent Outside other empty young is ends = absurd ends
+left_by heap half left at end extent _ other empty young is ends = absurd ends
 
 -- the region of a cell's row holds its address
 region_holds : {heap : Heap} {cell : Cell} {words : List ℕ} → HasRows heap → (has : HasCell heap cell words)

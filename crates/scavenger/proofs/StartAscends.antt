@@ -77,14 +77,9 @@ row_climbs space words from to (cell ∷ cells) row =
 -- so do those of them that are young, kind by kind
 if_young_climbs : (from to : ℕ) (cells : List Cell) (region : Region) → Climbs from to (addresses cells)
     → Climbs from to (addresses (if_young cells region))
-if_young_climbs from to cells (Page page) climbs = climbs_ordered from to (addresses cells) climbs
 if_young_climbs from to cells Eden climbs = climbs
 if_young_climbs from to cells (Segment half worker) climbs = climbs
-if_young_climbs from to cells (Root variable) climbs = climbs_ordered from to (addresses cells) climbs
-if_young_climbs from to cells (Layout shape) climbs = climbs_ordered from to (addresses cells) climbs
-if_young_climbs from to cells (Mark mark) climbs = climbs_ordered from to (addresses cells) climbs
-if_young_climbs from to cells (Board place) climbs = climbs_ordered from to (addresses cells) climbs
-if_young_climbs from to cells Outside climbs = climbs_ordered from to (addresses cells) climbs
+if_young_climbs from to cells _ climbs = climbs_ordered from to (addresses cells) climbs
 
 -- the cells stand one behind another in the row's region
 pub record StandsIn (heap : Heap) (row : Row) : Type 0 where

@@ -94,11 +94,7 @@ if_young_words : (heap : Heap) (row : Row) (region : Region) → EndsUsed heap r
 if_young_words heap row (Page page) ends full = refl
 if_young_words heap row Eden ends full = omega (arith, full)
 if_young_words heap row (Segment half worker) ends full = omega (arith, full)
-if_young_words heap row (Root variable) ends full = absurd ends
-if_young_words heap row (Layout shape) ends full = absurd ends
-if_young_words heap row (Mark mark) ends full = absurd ends
-if_young_words heap row (Board place) ends full = absurd ends
-if_young_words heap row Outside ends full = absurd ends
+if_young_words heap row _ ends full = absurd ends
 
 -- the survivors' words of a row, and its used ones
 abbrev survivors_by : Row → ℕ
