@@ -5,7 +5,6 @@ ghost use Rattle.object_graph.specs.Graphs.{Graph};
 ghost use Rattle.nursery.specs.Young.{HasRoom};
 ghost use Rattle.scavenger.specs.Scavenged.{Scavenges};
 ghost use Rattle.scavenger.specs.Laws.{KeepsGraphs};
-ghost use Rattle.scavenger.specs.Stub.{Stub};
 ghost use Rattle.collector.specs.States.{HeapShows};
 
 use crate::script_heap::Heap;
@@ -21,7 +20,6 @@ pub struct Full {
 impl Heap {
     /// Copies the live cells of the young generation to the other half, so that eden is empty.
     pub fn scavenge(&mut self)
-        requires stub { Stub }
         requires shown { (graph : Graph) × HeapShows self.old graph }
         ensures scavenged { Scavenges self.old.main self.new.main }
         ensures shows { (graph : Graph) → HeapShows self.old graph → HeapShows self.new graph }
@@ -36,7 +34,6 @@ impl Heap {
     /// # Errors
     /// The heap is full: a scavenge was made, and left no room for them.
     pub fn ensure(&mut self, n: u32) -> Result<(), Full>
-        requires stub { Stub }
         requires some { 1 ≤ n }
         requires few { n ≤ cell_words_most }
         requires shown { (graph : Graph) × HeapShows self.old graph }

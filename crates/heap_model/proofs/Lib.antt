@@ -49,3 +49,4 @@ pub mod SlotWrites
 pub mod ShownRooms
 pub mod BoxShapes
 pub mod ShownBoxes
+pub mod StaysCollectable

@@ -6,13 +6,14 @@ use Rattle.std.proofs.lemmas.List.Elements.{Contains-append_cases}
 use Rattle.page_space.specs.Extents.{eden_start}
 use Rattle.heap_model.specs.Types.{Cell}
 use Rattle.heap_model.specs.Heaps.{Heap, HasCell, words_of_cell}
-use Rattle.heap_model.specs.Changes.{Patch, IsNewlyUsed, CellsChange}
+use Rattle.heap_model.specs.Changes.{Patch, IsNewlyUsed, BeginsInOneOf, CellsChange}
 use Rattle.heap_model.specs.Laws.{ChangesKeepCells, gone_with, come_with}
 use Rattle.heap_model.proofs.CellsApart.{first_of_cell}
-use Rattle.heap_model.proofs.RowCovers.{from_one}
+use Rattle.heap_model.proofs.RowCovers.{covered, from_one, of_one}
 use Rattle.heap_model.proofs.Patches.{Patching, patch_is, before_has, not_new, spot}
+use Rattle.heap_model.proofs.RowParts.{after_stands}
 use Rattle.heap_model.proofs.NewRows.{has_rows, made_stands}
-use Rattle.heap_model.proofs.NewCells.{came_cell, first_of_row, made_is_new}
+use Rattle.heap_model.proofs.NewCells.{came_cell, first_of_row, after_is_patched, made_is_new}
 use Rattle.heap_model.proofs.KeptCells.{made_cell, kept_cell, not_gone_is_free, cell_back}
 
 -- what went stood in the old heap
@@ -33,15 +34,39 @@ comes_stands {patches = patches} {made} cell patching there =
       | inr is_made ↦ made_cell patching is_made
     ]
 
+-- what came begins in the words of what went
+came_in_place : {old new : Heap} {patches : List Patch} {made : List Cell} (cell : Cell)
+    → Patching old new patches made → Contains (come_with patches) cell → BeginsInOneOf (gone_with patches) cell
+came_in_place {old} {new} {patches} cell patching came =
+    let one = from_one (λ (patch : Patch). patch.after) patches cell came in
+    let patch : Patch = one.one in
+    let stands = after_stands patching one.among in
+    let of_cell = first_of_row old.space new.words patch.from patch.to patch.after cell stands one.has in
+    let patched = after_is_patched patching one.among one.has of_cell in
+    let stood = (patch_is patching one.among).stood in
+    let before =
+    covered old.space old.words patch.from patch.to patch.before cell.at stood patched.from patched.below in
+    record {
+      other = before.cell;
+      among = of_one (λ (some : Patch). some.before) patches patch before.cell one.among before.among;
+      from = before.of_cell.from;
+      below = before.of_cell.below;
+    }
+
+-- what was made begins in newly used words
+made_newly : {old new : Heap} {patches : List Patch} {made : List Cell} (cell : Cell)
+    → Patching old new patches made → Contains made cell → IsNewlyUsed old new cell.at
+made_newly {old} {new} {made = made} cell patching there =
+    let from : ℕ = eden_start old.space + old.used in
+    let to : ℕ = eden_start old.space + new.used in
+    made_is_new patching there (first_of_row old.space new.words from to made cell (made_stands patching) there)
+
 -- no cell began where one was made
 new_place : {old new : Heap} {patches : List Patch} {made : List Cell} (cell other : Cell) (words : List ℕ)
     → Patching old new patches made → Contains made cell → HasCell old other words → other.at ≢ cell.at
-new_place {old} {new} {made = made} cell other words patching there has same =
-    let from : ℕ = eden_start old.space + old.used in
-    let to : ℕ = eden_start old.space + new.used in
-    let of_cell = first_of_row old.space new.words from to made cell (made_stands patching) there in
+new_place {old} {new} cell other words patching there has same =
     not_new patching has (first_of_cell has)
-    (subst (IsNewlyUsed old new) (sym same) (made_is_new patching there of_cell))
+    (subst (IsNewlyUsed old new) (sym same) (made_newly cell patching there))
 
 -- the cells change by those of the patches
 cells_change : {old new : Heap} {patches : List Patch} {made : List Cell} → Patching old new patches made
@@ -54,6 +79,8 @@ cells_change {patches = patches} patching = record {
   comes = λ cell there. comes_stands cell patching there;
   kept = λ cell words has stays. kept_cell patching has (not_gone_is_free patching has stays (spot patches cell.at));
   back = λ cell words has. cell_back patching has;
+  in_place = λ cell there. came_in_place cell patching there;
+  newly = λ cell there. made_newly cell patching there;
   new_places = λ cell other words there has. new_place cell other words patching there has;
   roots_stay = patching.change.roots_stay;
 }

@@ -97,8 +97,16 @@ pub record IsChange (old new : Heap) (patches : List Patch) (made : List Cell) :
   pub roots_stay : (at : ℕ) → roots_start old.space ≤ at → at < layouts_start old.space
       → slice_get new.words at ≡ slice_get old.words at
 
--- The cells of the new heap: those that went are replaced by those that came, and all others stand as before. The cells
--- that were made stand where no cell began before.
+-- the cell begins in the words of one of these
+pub record BeginsInOneOf (cells : List Cell) (cell : Cell) : Type 0 where
+  pub other : Cell
+  pub among : Contains cells other
+  pub from : other.at ≤ cell.at
+  pub below : cell.at < other.at + other.size
+
+-- The cells of the new heap: those that went are replaced by those that came, each of which begins in words of one that
+-- went, and all others stand as before. The cells that were made stand where no cell began before, in words that are
+-- newly used.
 pub record CellsChange (old new : Heap) (gone came made : List Cell) : Type 0 where
   pub same_space : new.space ≡ old.space
   pub more : List Path
@@ -109,6 +117,8 @@ pub record CellsChange (old new : Heap) (gone came made : List Cell) : Type 0 wh
       → HasCell new cell words
   pub back : (cell : Cell) (words : List ℕ) → HasCell new cell words
       → Contains (came ++ made) cell ⊎ (HasCell old cell words × (Contains gone cell → ⊥))
+  pub in_place : (cell : Cell) → Contains came cell → BeginsInOneOf gone cell
+  pub newly : (cell : Cell) → Contains made cell → IsNewlyUsed old new cell.at
   pub new_places : (cell other : Cell) (words : List ℕ) → Contains made cell → HasCell old other words
       → other.at ≢ cell.at
   pub roots_stay : (at : ℕ) → roots_start old.space ≤ at → at < layouts_start old.space

@@ -5,7 +5,6 @@ ghost use Rattle.object_graph.specs.Graphs.{start};
 ghost use Rattle.script_text.specs.Grammar.{reading};
 ghost use Rattle.page_space.specs.Sizes.{AreWithin};
 ghost use Rattle.write_barrier.specs.MutatorState.{IsOpened};
-ghost use Rattle.scavenger.specs.Stub.{Stub};
 ghost use Rattle.collector.specs.States.{HeapShows};
 ghost use Rattle.byte_ends.specs.Faults.{Rose};
 ghost use Rattle.byte_ends.specs.Source.{IsInput};
@@ -43,7 +42,6 @@ pub fn run<S: Source, K: Sink, G: Gate, R: Threads + Sync>(
     sink: &mut K,
     gate: &G,
 ) -> Ended
-    requires stub { Stub }
     ensures answers { Answers (map string_bytes words.now)
         (input_of (S.left source.old) (S.left source.new) (S.faults source.old) (S.faults source.new))
         (K.HasTaken sink.old) (K.HasTaken sink.new) (K.faults sink.old) (K.faults sink.new) result }
@@ -77,7 +75,6 @@ fn run_words<S: Source, K: Sink, G: Gate, R: Threads + Sync>(
     sink: &mut K,
     gate: &G,
 ) -> Ended
-    requires stub { Stub }
     ensures { Answers (map string_bytes words.now)
         (input_of (S.left source.old) (S.left source.new) (S.faults source.old) (S.faults source.new))
         (K.HasTaken sink.old) (K.HasTaken sink.new) (K.faults sink.old) (K.faults sink.new) result }
@@ -115,7 +112,6 @@ fn run_source<K: Sink, G: Gate, R: Threads + Sync>(
     sink: &mut K,
     gate: &G,
 ) -> Ended
-    requires stub { Stub }
     requires within { AreWithin sizes 0 }
     ensures { Runs sizes source.now (K.HasTaken sink.old) (K.HasTaken sink.new)
         (K.faults sink.old) (K.faults sink.new) result }
@@ -157,7 +153,6 @@ fn run_on_heap<K: Sink, G: Gate, R: Threads + Sync>(
     sink: &mut K,
     gate: &G,
 ) -> Ended
-    requires stub { Stub }
     requires shown { HeapShows heap start }
     requires opened { IsOpened heap.main }
     requires variables { heap.main.seat.space.variables ≡ length script.now.variables }

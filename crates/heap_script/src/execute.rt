@@ -14,7 +14,6 @@ ghost use Rattle.script_text.specs.Sound.{IsBuilt, NamesWithin, AreShort};
 ghost use Rattle.nursery.specs.Young.{HasRoom};
 ghost use Rattle.scavenger.specs.Scavenged.{Scavenges};
 ghost use Rattle.scavenger.specs.Laws.{KeepsGraphs};
-ghost use Rattle.scavenger.specs.Stub.{Stub};
 ghost use Rattle.mutator.specs.CarriesOut.{field_numbers};
 ghost use Rattle.collector.specs.States.{HeapShows};
 ghost use Rattle.heap_script.specs.Collecting.{Tries, CarriesAtLast};
@@ -39,7 +38,6 @@ pub(crate) fn execute_line(
     what: &What,
     out: &mut Output,
 ) -> Result<usize, Stop>
-    requires stub { Stub }
     requires built { IsBuilt unbuilt_keywords what.now }
     requires shown { (graph : Graph) × HeapShows heap.old graph × (objects.old ≡ length graph.objects) }
     requires within { NamesWithin heap.old.main.seat.space.variables field_numbers what.now }
@@ -78,7 +76,6 @@ fn carry_out(
     command: &Command,
     out: &mut Output,
 ) -> Result<(), Stop>
-    requires stub { Stub }
     requires built { IsBuilt unbuilt_keywords (Run command.now) }
     requires shown { (graph : Graph) × HeapShows heap.old graph × (objects.old ≡ length graph.objects) }
     requires within { IsWithin heap.old.main.seat.space.variables field_numbers command.now }
@@ -113,7 +110,6 @@ fn carry_out(
 #[cold]
 #[inline(never)]
 fn ensure_room(heap: &mut Heap, need: u32) -> bool
-    requires stub { Stub }
     requires some { 1 ≤ need }
     requires few { need ≤ cell_words_most }
     requires shown { (graph : Graph) × HeapShows heap.old graph }
@@ -130,7 +126,6 @@ fn ensure_room(heap: &mut Heap, need: u32) -> bool
 #[cold]
 #[inline(never)]
 fn scavenge(heap: &mut Heap)
-    requires stub { Stub }
     requires shown { (graph : Graph) × HeapShows heap.old graph }
     ensures scavenged { Scavenges heap.old.main heap.new.main }
     ensures rooms { KeepsGraphs heap.old.main heap.new.main }
@@ -148,7 +143,6 @@ fn execute(
     command: &Command,
     out: &mut Output,
 ) -> Result<(), Stop>
-    requires stub { Stub }
     requires built { IsBuilt unbuilt_keywords (Run command.now) }
     requires shown { (graph : Graph) × HeapShows heap.old graph × (objects.old ≡ length graph.objects) }
     requires within { IsWithin heap.old.main.seat.space.variables field_numbers command.now }

@@ -3,7 +3,6 @@ ghost use Rattle.std.specs.Prelude.{◌≡◌, ◌≢◌, ◌+◌, ◌≤◌, fa
 ghost use Rattle.object_graph.specs.Graphs.{Graph, start};
 ghost use Rattle.mutator.specs.CarriesOut.{field_numbers};
 ghost use Rattle.write_barrier.specs.MutatorState.{heap_of, IsOpened};
-ghost use Rattle.scavenger.specs.Stub.{Stub};
 ghost use Rattle.collector.specs.States.{HeapShows};
 ghost use Rattle.byte_ends.specs.Faults.{Rose};
 ghost use Rattle.script_text.specs.Sound.{AreShort};
@@ -39,7 +38,6 @@ pub fn run_script<K: Sink, G: Gate, R: Threads + Sync>(
     _check: bool,
     _gate: &G,
 ) -> Finished
-    requires stub { Stub }
     requires shown { HeapShows heap.old start }
     requires opened { IsOpened heap.old.main }
     requires variables { heap.old.main.seat.space.variables ≡ length script.now.variables }
@@ -75,7 +73,6 @@ fn run_lines<K: Sink>(
     out: &mut Output,
     sink: &mut K,
 ) -> Finished
-    requires stub { Stub }
     requires shown { HeapShows heap.old start }
     requires opened { IsOpened heap.old.main }
     requires variables { heap.old.main.seat.space.variables ≡ length script.now.variables }

@@ -7,7 +7,7 @@ use Rattle.heap_model.specs.Heaps.{words_of_cell}
 use Rattle.heap_model.specs.Showing.{ShowsPlain}
 use Rattle.write_barrier.specs.MutatorState.{heap_of}
 use Rattle.object_cells.specs.CellWrites.{reshaped}
-use Rattle.object_cells.specs.Refills.{IsAtRest}
+use Rattle.object_cells.specs.Refills.{RestsAgain}
 use Rattle.object_cells.specs.SlotChanges.{SlotsRefill, WrittenFieldsShow}
 use Rattle.object_cells.proofs.Refills.{refills_show}
 use Rattle.object_cells.proofs.OwnerWrites.{plain_owns, written_own_keeps_cells}
@@ -37,11 +37,11 @@ slots_refill old new plain cell shape others made fields whole carries cap shows
 
 -- so the heap shows the graph in which it has them
 pub written_fields_show : WrittenFieldsShow
-written_fields_show old new graph plain cell shape others made fields shows there carries cap shown are added tied quiet
+written_fields_show old new graph plain cell shape others made fields shows there carries cap shown are added regions
     writes slots =
     let whole = shows.shows.whole in
     let kept = written_own_keeps_cells plain_owns whole writes in
-    let rest : IsAtRest new = record { tied = tied; quiet = quiet; sized = writes.sized; rows = kept.0 } in
+    let rest : RestsAgain old new = record { regions = regions; sized = writes.sized; rows = kept.0 } in
     let refills =
     slots_refill (heap_of old) (heap_of new) plain cell shape others made fields whole carries cap shown writes slots in
     let came : List Cell = reshaped new.paths cell shape ∷ others in

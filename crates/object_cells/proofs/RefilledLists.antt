@@ -11,7 +11,7 @@ use Rattle.graph_laws.proofs.MadeGraphs.{relists}
 use Rattle.heap_model.specs.Heaps.{Heap}
 use Rattle.write_barrier.specs.MutatorState.{heap_of}
 use Rattle.object_cells.specs.HeldValues.{IsReachedValue}
-use Rattle.object_cells.specs.Refills.{IsAtRest}
+use Rattle.object_cells.specs.Refills.{RestsAgain}
 use Rattle.object_cells.specs.ElementChanges.{AreNewElements, WrittenElementsShow}
 use Rattle.object_cells.proofs.OwnerWrites.{list_owns, written_own_keeps_cells}
 use Rattle.object_cells.proofs.OwnSteps.{own_step, went_object, of_kind_is_no_object}
@@ -26,13 +26,13 @@ links_reached graph elements are number link =
 
 -- so the heap shows the graph in which the list has these elements
 pub written_elements_show : WrittenElementsShow
-written_elements_show old new graph list cell others made elements shows there carries shown are tied quiet same writes
+written_elements_show old new graph list cell others made elements shows there carries shown are regions same writes
     slots =
     let before : Heap = heap_of old in
     let now : Heap = heap_of new in
     let whole = shows.shows.whole in
     let kept = written_own_keeps_cells list_owns whole writes in
-    let rest : IsAtRest new = record { tied = tied; quiet = quiet; sized = writes.sized; rows = kept.0 } in
+    let rest : RestsAgain old new = record { regions = regions; sized = writes.sized; rows = kept.0 } in
     let replaces : ReplacesCells before now graph list.number (ListOf elements) (cell ∷ others) (cell ∷ others) made =
     record {
       cells = kept.1;

@@ -5,6 +5,7 @@ use Rattle.std.specs.Prelude.{Contains, IsTrue}
 use Rattle.std.proofs.lemmas.Bool.{false≢true}
 use Rattle.std.proofs.lemmas.Option.{none-some, same_Some}
 use Rattle.std.proofs.lemmas.List.Elements.{Contains-append_left}
+use Rattle.nursery.specs.Young.{other_half}
 use Rattle.heap_model.specs.Types.{Object, Path, Cell}
 use Rattle.object_graph.specs.declared.object.Object.TheVariants as graph_object
 use Rattle.object_graph.specs.Graphs.{Graph}
@@ -17,12 +18,14 @@ use Rattle.heap_model.specs.Slots.{is_object_kind}
 use Rattle.heap_model.specs.Showing.{ShowsObject, Shows}
 use Rattle.heap_model.specs.Changes.{CellsChange, IsOwnChange, IsGraphChange}
 use Rattle.heap_model.specs.Counting.{CountsEntries}
+use Rattle.heap_model.specs.Collectable.{IsCollectable}
 use Rattle.heap_model.proofs.ShownObjects.{object_of_shown}
 use Rattle.heap_model.proofs.CountsStay.{HasCountOf, count_kept, count_came}
 use Rattle.heap_model.proofs.WholeStays.{own_changes_keep_whole}
 use Rattle.heap_model.proofs.ShownGraphs.{own_changes_show}
+use Rattle.heap_model.proofs.StaysCollectable.{own_changes_stay_collectable}
 use Rattle.write_barrier.specs.MutatorState.{Mutator, heap_of, MainShows}
-use Rattle.object_cells.specs.Refills.{IsAtRest}
+use Rattle.object_cells.specs.Refills.{RestsAgain}
 
 -- after one was put in the place of another, an element stood at another place, or is that one
 put_cases : {X : Type 0} (xs : List X) (place : ℕ) (put : X) (i : ℕ) (x : X) → slice_get (set xs place put) i ≡ Some x
@@ -143,7 +146,7 @@ counts_after {new = new} graph number object paths {gone} {came} {made} shows sh
 -- so the heap shows it
 pub replaced_shows : {old new : Mutator} {graph : Graph} (number : ℕ) (object : Object) (paths : List Path)
     {gone came made : List Cell} → MainShows old graph → IsGraph (replaced graph number object paths)
-    → new.paths ≡ paths → HasReachedLinks graph object → IsAtRest new
+    → new.paths ≡ paths → HasReachedLinks graph object → RestsAgain old new
     → ReplacesCells (heap_of old) (heap_of new) graph number object gone came made
     → MainShows new (replaced graph number object paths)
 replaced_shows {old} {new} {graph} number object paths {gone} {came} {made} shows is_graph same links rest replaces =
@@ -156,9 +159,12 @@ replaced_shows {old} {new} {graph} number object paths {gone} {came} {made} show
     let shown =
     own_changes_show before now graph after gone came made shows.shows whole replaces.cells replaces.own change in
     record {
-      tied = rest.tied;
+      tied = rest.regions.of_young ∙ shows.tied ∙ sym rest.regions.space;
       is_graph = is_graph;
-      quiet = rest.quiet;
+      quiet = rest.regions.phase ∙ shows.quiet;
       shows = shown;
       counts = counts_after graph number object paths shows.shows shown shows.counts links replaces;
+      collectable = subst (λ (half : ℕ). IsCollectable now (other_half half)) (sym rest.regions.half)
+          (own_changes_stay_collectable before now gone came made (other_half old.young.half) shows.shows.whole
+          rest.rows replaces.cells replaces.own shows.collectable);
     }

@@ -1,4 +1,4 @@
--- What is written before the marks leaves all words from the marks on.
+-- What is written before the marks leaves all words from the marks on, and so the regions.
 use Rattle.std.proofs.Common.{◌≡◌, ℕ, ◌+◌, ◌-◌, ◌≤◌, ◌<◌, List, ◌++◌, length, take, drop}
 use Rattle.std.proofs.Common.{refl, sym, ◌∙◌, ap, subst, arith, length-append, length-take}
 use Rattle.std.specs.Prelude.{ℤ, slice_range}
@@ -7,6 +7,7 @@ use Rattle.std.proofs.lemmas.List.{length-take-le}
 use Rattle.tagged_word.specs.Headers.{header_bits}
 use Rattle.page_space.specs.Extents.{Space, marks_start}
 use Rattle.page_space.proofs.Starts.{layouts_start_is, marks_start_is}
+use Rattle.nursery.specs.Young.{Young}
 use Rattle.heap_model.specs.Types.{Held}
 use Rattle.handle_roots.specs.Roots.{root_at, first_word, second_word}
 use Rattle.word_store.specs.Copies.{copied}
@@ -21,7 +22,18 @@ use Rattle.object_cells.specs.Formats.{box_header}
 use Rattle.object_cells.specs.declared.content.SlotWrite.{SlotWrite}
 use Rattle.object_cells.specs.declared.content.SlotWrite.TheVariants as filling
 use Rattle.object_cells.specs.Contents.{filled, with_box, AllocatesBox, IsBeforeMarks}
+use Rattle.object_cells.specs.Uses.{KeepsRegions}
 use Rattle.object_cells.proofs.PutRanges.{copied_is}
+
+-- where only words and used words have changed, the regions are kept
+pub keeps_regions : {old new : Mutator} {used : ℕ} → RestStays old.seat new.seat
+    → new.young ≡ record old.young { used = used } → KeepsRegions old new
+keeps_regions beside young = record {
+  space = beside.space;
+  phase = beside.phase;
+  of_young = ap (λ (y : Young). y.space) young;
+  half = ap (λ (y : Young). y.half) young;
+}
 
 -- where nothing has changed, all these words stay
 pub same_rest : {old new : Mutator} → new ≡ old → RestStays old.seat new.seat

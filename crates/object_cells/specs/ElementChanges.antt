@@ -10,13 +10,13 @@ use Rattle.object_graph.specs.Graphs.{Graph, ListObject}
 use Rattle.object_graph.specs.Meaning.{list_most, relist}
 use Rattle.object_graph.specs.Reach.{is_marked, reach}
 use Rattle.object_graph.specs.Invariants.{IsGraph, IsValue, AreElements}
-use Rattle.heap_table.specs.declared.phase.Phase.TheVariants.{Quiet}
 use Rattle.heap_model.specs.Heaps.{Heap, words_of_cell}
 use Rattle.heap_model.specs.Slots.{hole_word, HoldsStore}
 use Rattle.heap_model.specs.Kinds.{HasWord, count_offset}
 use Rattle.heap_model.specs.Showing.{ShowsValue, ShowsList}
-use Rattle.write_barrier.specs.MutatorState.{Mutator, heap_of, IsTied, MainShows}
+use Rattle.write_barrier.specs.MutatorState.{Mutator, heap_of, MainShows}
 use Rattle.object_cells.specs.HeldValues.{IsReachedValue}
+use Rattle.object_cells.specs.Uses.{KeepsRegions}
 use Rattle.object_cells.specs.CellWrites.{WritesOwnCells}
 use Rattle.object_cells.specs.OwnSlots.{IsNoBoxOf, Refills}
 
@@ -70,7 +70,7 @@ WrittenElementsShow =
     → MainShows old graph → slice_get graph.objects list.number ≡ Some (ListOf list.elements)
     → cell.header.object ≡ list.number
     → ShowsList (heap_of old) cell (words_of_cell (heap_of old) cell) list.elements
-    → AreNewElements graph elements → IsTied new → new.seat.phase ≡ Quiet → new.paths ≡ old.paths
+    → AreNewElements graph elements → KeepsRegions old new → new.paths ≡ old.paths
     → WritesList (heap_of old) (heap_of new) cell others made
     → RefillsElements (heap_of old) (heap_of new) cell others made list.elements elements
     → MainShows new (relist graph list elements)

@@ -8,13 +8,13 @@ use Rattle.object_graph.specs.Objects.{with_field, without_field}
 use Rattle.object_graph.specs.Reach.{is_marked, reach}
 use Rattle.object_graph.specs.Invariants.{IsGraph, IsValue, AreFields, fields_most}
 use Rattle.object_graph.specs.Limits.{paths_most}
-use Rattle.heap_table.specs.declared.phase.Phase.TheVariants.{Quiet}
 use Rattle.heap_model.specs.Heaps.{Heap, words_of_cell}
 use Rattle.heap_model.specs.Slots.{is_object_kind}
 use Rattle.heap_model.specs.Wholeness.{HasSizes, HasRows}
 use Rattle.heap_model.specs.Showing.{ShowsPlain}
 use Rattle.heap_model.specs.Changes.{CellsChange, IsOwnChange}
-use Rattle.write_barrier.specs.MutatorState.{Mutator, heap_of, IsTied, MainShows}
+use Rattle.write_barrier.specs.MutatorState.{Mutator, heap_of, MainShows}
+use Rattle.object_cells.specs.Uses.{KeepsRegions}
 use Rattle.object_cells.specs.PlainObjects.{LacksFields, ShowsRefilled}
 use Rattle.object_cells.specs.HeldValues.{IsReachedValue}
 
@@ -37,12 +37,11 @@ pub record RefillsCells (old new : Heap) (plain : PlainObject) (fields : List Fi
   pub carries : cell.header.object ≡ plain.number
   pub shows : ShowsPlain new cell (words_of_cell new cell) plain.cap fields
 
--- the mutator at rest, its words those of a heap again
-pub record IsAtRest (main : Mutator) : Type 0 where
-  pub tied : IsTied main
-  pub quiet : main.seat.phase ≡ Quiet
-  pub sized : HasSizes (heap_of main)
-  pub rows : HasRows (heap_of main)
+-- the mutator rests again: its regions are kept, and its words are those of a heap
+pub record RestsAgain (old new : Mutator) : Type 0 where
+  pub regions : KeepsRegions old new
+  pub sized : HasSizes (heap_of new)
+  pub rows : HasRows (heap_of new)
 
 -- A heap that showed a graph shows it with these fields in the object, where their path was added and its cells show
 -- them.
@@ -52,7 +51,7 @@ RefillsShow =
     → MainShows old graph → slice_get graph.objects plain.number ≡ Some (Plain plain.cap plain.fields)
     → AreNewFields graph fields
     → with_path (Some paths_most) graph.paths (path_of plain.cap fields) ≡ Some new.paths
-    → IsAtRest new → RefillsCells (heap_of old) (heap_of new) plain fields gone came made
+    → RestsAgain old new → RefillsCells (heap_of old) (heap_of new) plain fields gone came made
     → ShowsRefilled new graph plain fields
 
 -- With one field written, for which there is room, an object that can be reached has fields that it may have.

@@ -9,13 +9,13 @@ use Rattle.object_graph.specs.Paths.{path_of, with_path}
 use Rattle.object_graph.specs.Graphs.{Graph, PlainObject}
 use Rattle.object_graph.specs.Limits.{paths_most}
 use Rattle.shape_tree.specs.Shapes.{shape_path}
-use Rattle.heap_table.specs.declared.phase.Phase.TheVariants.{Quiet}
 use Rattle.heap_model.specs.Heaps.{Heap, words_of_cell}
 use Rattle.heap_model.specs.Slots.{hole_word}
 use Rattle.heap_model.specs.Kinds.{HasWord, HasSlots}
 use Rattle.heap_model.specs.Wholeness.{Whole}
 use Rattle.heap_model.specs.Showing.{ShowsField, ShowsPlain}
-use Rattle.write_barrier.specs.MutatorState.{Mutator, heap_of, IsTied, MainShows}
+use Rattle.write_barrier.specs.MutatorState.{Mutator, heap_of, MainShows}
+use Rattle.object_cells.specs.Uses.{KeepsRegions}
 use Rattle.object_cells.specs.CellWrites.{reshaped, WritesOwnCells}
 use Rattle.object_cells.specs.OwnSlots.{IsNoBoxOf, Refills}
 use Rattle.object_cells.specs.PlainObjects.{ShowsRefilled}
@@ -86,7 +86,7 @@ WrittenFieldsShow =
     → ShowsPlain (heap_of old) cell (words_of_cell (heap_of old) cell) plain.cap plain.fields
     → AreNewFields graph fields
     → with_path (Some paths_most) graph.paths (path_of plain.cap fields) ≡ Some new.paths
-    → IsTied new → new.seat.phase ≡ Quiet
+    → KeepsRegions old new
     → WritesFields (heap_of old) (heap_of new) cell shape others made
     → RefillsSlots (heap_of old) (heap_of new) cell shape others made plain.fields fields
     → ShowsRefilled new graph plain fields

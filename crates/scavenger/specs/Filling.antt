@@ -2,7 +2,7 @@
 use Rattle.std.specs.Prelude.{◌≡◌, ℕ, ◌+◌, ◌<◌, ◌≤◌, ◌↔◌, ◌⊎◌, List, [], ◌∷◌, ◌++◌, Contains, sum_by, slice_get, Some}
 use Rattle.std.specs.Prelude.{length}
 use Rattle.page_space.specs.declared.region.Region.TheVariants.{Segment}
-use Rattle.page_space.specs.Extents.{Space, eden_start, segments_start, StartsAt}
+use Rattle.page_space.specs.Extents.{Space, StartsAt}
 use Rattle.heap_table.specs.Seats.{RestStays, heap_words}
 use Rattle.write_barrier.specs.MutatorState.{Mutator}
 use Rattle.scav_copy.specs.declared.places.Home.{Home}

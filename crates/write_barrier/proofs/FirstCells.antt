@@ -166,3 +166,31 @@ has_gaps main cell words is has =
       row_has_gaps extent.region extent.start cell
           (subst (λ (cells : List Cell). Contains cells cell) same.cells has.in_row),
     )
+
+-- a cell of such a row begins before eden
+row_below_eden : (space : Space) (region : Region) (cell : Cell) → IsRegion space region
+    → Contains (first_cells region (start_of space region)) cell → cell.at < eden_start space
+row_below_eden space (Page page) cell is_one there =
+    let same : page_gap (page_words * page) ≡ cell = contains_only (page_gap (page_words * page)) cell there in
+    omega (arith, is_one, ap (λ (c : Cell). c.at) same)
+row_below_eden space Eden cell is_one there = contains_none [] cell refl there
+row_below_eden space (Segment half worker) cell is_one there = contains_none [] cell refl there
+row_below_eden space (Root variable) cell is_one there = contains_none [] cell refl there
+row_below_eden space (Layout shape) cell is_one there = contains_none [] cell refl there
+row_below_eden space (Mark mark) cell is_one there = contains_none [] cell refl there
+row_below_eden space (Board place) cell is_one there = contains_none [] cell refl there
+row_below_eden space Outside cell is_one there = contains_none [] cell refl there
+
+-- each cell of the heap does
+pub begins_below_eden : (main : Mutator) (cell : Cell) (words : List ℕ) → IsStarted main
+    → HasCell (heap_of main) cell words → cell.at < eden_start main.seat.space
+begins_below_eden main cell words is has =
+    let space = main.seat.space in
+    let extent = has.row.extent in
+    let same = one_used_row (heap_of main) has.row (first_row extent) has.used
+    (first_row_stands main extent is has.in_region) refl in
+    let place = placed space extent (cell_extent_stands space extent has.in_region) in
+    let starts : extent.start ≡ start_of space extent.region = ap (λ (e : Extent). e.start) place.place in
+    row_below_eden space extent.region cell place.is_region
+    (subst (λ (start : ℕ). Contains (first_cells extent.region start) cell) starts
+    (subst (λ (cells : List Cell). Contains cells cell) same.cells has.in_row))

@@ -1,4 +1,4 @@
--- A heap that was just opened is whole, and shows the graph of no object.
+-- A heap that was just opened is whole, and shows the graph of no object; no cell stands in a half.
 use Rattle.std.proofs.Common.{◌≡◌, ℕ, ◌-◌, ◌<◌, List, [], ◌∷◌, map, IsTrue}
 use Rattle.std.proofs.Common.{refl, sym, ◌∙◌, ap, subst, arith}
 use Rattle.std.specs.Ordering.{nat_cmp}
@@ -9,10 +9,11 @@ use Rattle.std.proofs.lemmas.List.{map-id}
 use Rattle.std.proofs.lemmas.List.Elements.{All-nil, All-map, All-contains_itself}
 use Rattle.std.proofs.lemmas.List.Sums.{sum_by-cons}
 use Rattle.std.proofs.lemmas.Simd.{map-map}
+use Rattle.tagged_word.specs.Cells.{is_free_kind}
 use Rattle.heap_model.specs.Types.{Region, Cell}
 use Rattle.page_space.specs.declared.region.Region.TheVariants.{Page, Eden, Segment, Root, Layout, Mark, Board, Outside}
 use Rattle.page_space.specs.Extents.{Extent}
-use Rattle.nursery.specs.Young.{Young}
+use Rattle.nursery.specs.Young.{Young, other_half}
 use Rattle.object_graph.specs.declared.object.Object.TheVariants.{Weak}
 use Rattle.object_graph.specs.Graphs.{start}
 use Rattle.object_graph.specs.Invariants.{IsObject, HasItsPath, IsGraph}
@@ -24,11 +25,13 @@ use Rattle.heap_model.specs.Heaps.{Row, IsUsedRow, AreRows, HasCell, cell_extent
 use Rattle.heap_model.specs.Slots.{is_object_kind, IsPlace}
 use Rattle.heap_model.specs.Kinds.{IsSoundCell}
 use Rattle.heap_model.specs.Wholeness.{Whole, HasSizes, HasRows}
+use Rattle.heap_model.specs.Collectable.{IsCollectable}
+use Rattle.heap_model.proofs.StaysCollectable.{half_behind}
 use Rattle.heap_model.specs.Showing.{Shows, ShowsHeld}
 use Rattle.heap_model.specs.Showing.ShowsHeld.{unbound}
 use Rattle.write_barrier.specs.MutatorState.{Mutator, MainShows, IsOpened, heap_of}
 use Rattle.write_barrier.specs.Opening.{IsStarted}
-use Rattle.write_barrier.proofs.FirstCells.{first_row, first_end, first_row_stands, has_gaps}
+use Rattle.write_barrier.proofs.FirstCells.{first_row, first_end, first_row_stands, has_gaps, begins_below_eden}
 
 -- the graph of no object is a graph
 pub start_is : IsGraph start
@@ -130,6 +133,15 @@ first_shows main is = record {
   made = λ number at place. absurd (no_places main number at is place);
 }
 
+-- no cell stands in either half, and those of pages are gaps
+first_is_collectable : (main : Mutator) (half : ℕ) → IsStarted main → IsCollectable (heap_of main) half
+first_is_collectable main half is = record {
+  empty = λ cell words has inside.
+      omega (arith, begins_below_eden main cell words is has, half_behind main.seat.space half cell.at inside);
+  pages = λ cell words has below. let gap = has_gaps main cell words is has in
+      subst (λ (c : Cell). IsTrue (is_free_kind c.layout.kind)) gap.1 refl;
+}
+
 -- a heap that was just opened
 pub started_shows : (main : Mutator) → IsStarted main → MainShows main start × IsOpened main
 started_shows main is = (
@@ -139,6 +151,7 @@ started_shows main is = (
     quiet = is.beside.phase;
     shows = first_shows main is;
     counts = λ number at entries there marked place. absurd (none-some (Weak entries) there);
+    collectable = first_is_collectable main (other_half main.young.half) is;
   },
   record {
     young = is.young;

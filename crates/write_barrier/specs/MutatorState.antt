@@ -9,12 +9,13 @@ use Rattle.tagged_word.specs.Cells.{length_offset}
 use Rattle.page_space.specs.Sizes.{page_words}
 use Rattle.page_space.specs.Extents.{Space, eden_start, segments_start, marks_start}
 use Rattle.handle_roots.specs.Roots.{with_root}
-use Rattle.nursery.specs.Young.{Young, new_young}
+use Rattle.nursery.specs.Young.{Young, new_young, other_half}
 use Rattle.heap_table.specs.declared.phase.Phase.TheVariants.{Quiet}
 use Rattle.heap_table.specs.Seats.{Seat, RestStays, fresh, heap_words}
 use Rattle.heap_model.specs.Heaps.{Heap}
 use Rattle.heap_model.specs.Showing.{Shows}
 use Rattle.heap_model.specs.Counting.{CountsEntries}
+use Rattle.heap_model.specs.Collectable.{IsCollectable}
 
 -- the seat, the shapes, and the young generation
 pub record Mutator : Type 0 where
@@ -37,13 +38,14 @@ abbrev pub IsTied : Mutator → Type 0
 IsTied main = main.young.space ≡ main.seat.space
 
 -- The parts agree, only the mutator runs, and the heap shows the graph, which is one that a script makes. No entry of a
--- weak map was cleared.
+-- weak map was cleared. A scavenge may come: the half that the survivors are not in is empty.
 pub record MainShows (main : Mutator) (graph : Graph) : Type 0 where
   pub tied : IsTied main
   pub is_graph : IsGraph graph
   pub quiet : main.seat.phase ≡ Quiet
   pub shows : Shows (heap_of main) graph
   pub counts : CountsEntries (heap_of main) graph
+  pub collectable : IsCollectable (heap_of main) (other_half main.young.half)
 
 -- one word of the table is another
 abbrev pub with_word : Mutator → ℕ → ℕ → Mutator

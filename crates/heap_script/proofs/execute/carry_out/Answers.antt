@@ -12,7 +12,6 @@ execute-requires c =
     let now = c.tries.invariant in
     let (graph, shown, made) = c.requires.shown in
     record {
-      stub = c.requires.stub;
       built = c.requires.built;
       shown = (graph, ready_shows now.ready shown, now.objects ∙ made);
       within = rw (ready_space now.ready) c.requires.within;
@@ -30,7 +29,7 @@ ensure_room-requires c =
     graph shown made in
     let same = unchanged_first names c.execute.new.heap now.ready now.objects c.requires.within c.in-NoRoom.is c.in-Err.ensures.carried
     c.in-Err.ensures.spare c.requires.shown in
-    record { stub = c.requires.stub; some = told.some; few = told.few; shown = (graph, rw same shown) }
+    record { some = told.some; few = told.few; shown = (graph, rw same shown) }
 
 pub tries-preserved : goal.tries-preserved
 tries-preserved c =
