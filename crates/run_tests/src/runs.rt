@@ -23,8 +23,9 @@ pub(crate) const SURE: Pace = Pace {
 };
 
 /// What a run came to, as plain data: its status, what its sink took, and of the heap that it kept, if it
-/// did, the executed lines with the line that stopped it and the words that this line needed, the pages,
-/// young words, helpers and variables, the used words of eden, and the words.
+/// did, the executed lines with the line that stopped it, the words that this line needed, those of eden
+/// that are used and those that survived; the pages, young words, helpers and variables; the used words
+/// again, and the words.
 #[derive(Drop)]
 pub(crate) struct RunSeen {
     pub(crate) status: u8,
@@ -70,7 +71,11 @@ fn seen_of(alloc: Global, ended: &Ended, written: &[u8]) -> Result<RunSeen, Fail
     if let Some(kept) = &ended.kept {
         let (image, sizes) = (&kept.image, kept.image.regions.sizes());
         let variables = image.regions.variables();
-        seen.counts = format!(in alloc; "{} {} {}", kept.executed, kept.line, kept.need)?;
+        let (used, survivors) = (image.used, image.survivors);
+        seen.counts = format!(in alloc;
+            "{} {} {} {used} {survivors}",
+            kept.executed, kept.line, kept.need
+        )?;
         seen.sizes = format!(in alloc;
             "{} {} {} {variables}",
             sizes.pages, sizes.young, sizes.helpers
