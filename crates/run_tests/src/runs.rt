@@ -23,9 +23,8 @@ pub(crate) const SURE: Pace = Pace {
 };
 
 /// What a run came to, as plain data: its status, what its sink took, and of the heap that it kept, if it
-/// did, the executed lines with the line that stopped it, the words that this line needed, those of eden
-/// that are used and those that survived; the pages, young words, helpers and variables; the used words
-/// again, and the words.
+/// did, the executed lines with the line that stopped it and the words that this line needed, the pages,
+/// young words, helpers and variables, the used words of eden, those of the survivors, and all words.
 #[derive(Drop)]
 pub(crate) struct RunSeen {
     pub(crate) status: u8,
@@ -33,6 +32,7 @@ pub(crate) struct RunSeen {
     pub(crate) counts: String,
     pub(crate) sizes: String,
     pub(crate) used: usize,
+    pub(crate) survivors: usize,
     pub(crate) words: Vec<u64>,
 }
 
@@ -66,21 +66,19 @@ fn seen_of(alloc: Global, ended: &Ended, written: &[u8]) -> Result<RunSeen, Fail
         counts: String::new(alloc),
         sizes: String::new(alloc),
         used: 0,
+        survivors: 0,
         words: Vec::new(alloc),
     };
     if let Some(kept) = &ended.kept {
         let (image, sizes) = (&kept.image, kept.image.regions.sizes());
         let variables = image.regions.variables();
-        let (used, survivors) = (image.used, image.survivors);
-        seen.counts = format!(in alloc;
-            "{} {} {} {used} {survivors}",
-            kept.executed, kept.line, kept.need
-        )?;
+        seen.counts = format!(in alloc; "{} {} {}", kept.executed, kept.line, kept.need)?;
         seen.sizes = format!(in alloc;
             "{} {} {} {variables}",
             sizes.pages, sizes.young, sizes.helpers
         )?;
         seen.used = image.used as usize;
+        seen.survivors = image.survivors as usize;
         seen.words = image.words.as_slice().to_vec(alloc)?;
     }
     Ok(seen)
