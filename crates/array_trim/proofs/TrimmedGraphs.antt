@@ -10,17 +10,17 @@ use Rattle.object_graph.specs.Invariants.{IsValue}
 use Rattle.object_graph.specs.Meaning.{relist}
 use Rattle.graph_laws.proofs.MadeGraphs.{relists}
 use Rattle.page_space.specs.Sizes.{AreWithin}
-use Rattle.nursery.specs.Young.{Young}
 use Rattle.heap_model.proofs.BoundHeaps.{none_in}
 use Rattle.write_barrier.specs.MutatorState.{Mutator, heap_of, MainShows}
 use Rattle.object_cells.specs.HeldValues.{IsReachedValue}
-use Rattle.object_cells.specs.Refills.{IsAtRest}
+use Rattle.object_cells.specs.Refills.{RestsAgain}
 use Rattle.object_cells.specs.Capacities.{ChangesObject}
 use Rattle.object_cells.specs.ElementChanges.{AreNewElements}
 use Rattle.object_cells.specs.ListObjects.{IsListAt}
 use Rattle.object_cells.specs.Made.{PutsWords}
 use Rattle.object_cells.specs.Uses.{UsesMore}
 use Rattle.object_cells.proofs.NothingUsed.{uses_none}
+use Rattle.object_cells.proofs.RestOfWords.{keeps_regions}
 use Rattle.object_cells.proofs.NewElements.{elements_are_new}
 use Rattle.object_cells.proofs.RefilledLists.{links_reached}
 use Rattle.object_cells.proofs.ReplacedObjects.{ReplacesCells, replaced_shows}
@@ -75,11 +75,10 @@ pub record Trimmed (old new : Mutator) (graph : Graph) (at : ℕ) (list : ListOb
 
 module _ {old new : Mutator} {graph : Graph} {at : ℕ} {list : ListObject} {after : List Value}
     (trimmed : Trimmed old new graph at list after) where
-  -- the mutator is at rest
-  at_rest : IsAtRest new
-  at_rest = record {
-    tied = ap (λ (young : Young). young.space) trimmed.puts.young ∙ trimmed.shows.tied ∙ sym trimmed.puts.beside.space;
-    quiet = trimmed.puts.beside.phase ∙ trimmed.shows.quiet;
+  -- the mutator rests again
+  rests : RestsAgain old new
+  rests = record {
+    regions = keeps_regions trimmed.puts.beside trimmed.puts.young;
     sized = trimmed.trim.sized;
     rows = (trimmed_cells trimmed.trim).0;
   }
@@ -105,7 +104,7 @@ module _ {old new : Mutator} {graph : Graph} {at : ℕ} {list : ListObject} {aft
   graph_shown =
       replaced_shows list.number (ListOf after) graph.paths trimmed.shows
       (relists graph list after trimmed.shows.is_graph trimmed.are.are) (trimmed.puts.paths ∙ trimmed.shows.shows.paths)
-      (links_reached graph after trimmed.are) at_rest replaces
+      (links_reached graph after trimmed.are) rests replaces
 
   -- no word more is used
   none_used : UsesMore old new 0

@@ -5,3 +5,4 @@ mod CellRegions
 mod RowWalks
 mod FilledWords
 pub mod ImageStores
+pub mod Keeping

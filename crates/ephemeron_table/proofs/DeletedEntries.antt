@@ -4,7 +4,6 @@ use Rattle.std.proofs.Common.{get_or, set, refl, sym, ◌∙◌, ap, subst, arit
 use Rattle.std.specs.Prelude.{slice_set}
 use Rattle.std.proofs.lemmas.List.{set-get_or}
 use Rattle.std.proofs.lemmas.Option.{none-some, get_or_from_slice_get}
-use Rattle.nursery.specs.Young.{Young}
 use Rattle.heap_model.specs.Types.{Value, Entry, Object}
 use Rattle.object_graph.specs.declared.object.Object.TheVariants.{Weak}
 use Rattle.object_graph.specs.Objects.{entry_value, without_entry}
@@ -19,6 +18,7 @@ use Rattle.heap_model.specs.Needs.{capacity_at, count_at}
 use Rattle.write_barrier.specs.MutatorState.{Mutator, heap_of, MainShows}
 use Rattle.object_cells.specs.Capacities.{ChangesObject}
 use Rattle.object_cells.proofs.NothingUsed.{uses_none, nothing_changes}
+use Rattle.object_cells.proofs.RestOfWords.{keeps_regions}
 use Rattle.ephemeron_table.proofs.KeptTables.{tables_stay}
 use Rattle.ephemeron_table.specs.EntryChanges.{DeletesEntry}
 use Rattle.ephemeron_table.specs.WeakObjects.{IsWeakAt}
@@ -163,6 +163,5 @@ module _ {old new : Mutator} {graph : Graph} {map key : ℕ} {weak : WeakObject}
             (slot_stays is_known (some its) removes one (entry_filled its)));
         shows = entries_show old new graph weak (shown its).cell _ [] number None its.shows its.is.object its.is.reached
             its.is_key.reached (shown its).carries (shown its).shows (λ what is. absurd (none-some what is))
-            (ap (λ (y : Young). y.space) removes.young ∙ its.shows.tied ∙ sym removes.rest.space)
-            (removes.rest.phase ∙ its.shows.quiet) refills puts_one counted;
+            (keeps_regions removes.rest removes.young) refills puts_one counted;
       }

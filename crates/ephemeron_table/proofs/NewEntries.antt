@@ -6,7 +6,7 @@ use Rattle.std.proofs.lemmas.Bool.{cond-false}
 use Rattle.std.proofs.lemmas.Bool.Decides.{nat_tests}
 use Rattle.std.proofs.lemmas.Option.{same_Some}
 use Rattle.tagged_word.specs.Cells.{store_head}
-use Rattle.nursery.specs.Young.{Young, HasRoom}
+use Rattle.nursery.specs.Young.{HasRoom}
 use Rattle.heap_model.specs.Types.{Value, Held}
 use Rattle.object_graph.specs.declared.value.Rep.TheVariants as rep
 use Rattle.object_graph.specs.Values.{rep_of}
@@ -30,6 +30,7 @@ use Rattle.object_cells.specs.Made.{store_content, content_need, RefusesRoom}
 use Rattle.object_cells.specs.Uses.{UsesMore}
 use Rattle.object_cells.proofs.HeldContents.{HoldsValue}
 use Rattle.object_cells.proofs.HeldNeeds.{new_value_held, content_need_is, wide_is}
+use Rattle.object_cells.proofs.RestOfWords.{keeps_regions}
 use Rattle.ephemeron_table.proofs.KeptTables.{tables_stay}
 use Rattle.ephemeron_table.specs.EntryChanges.{map_room, HasPutEntry, PutsEntry}
 use Rattle.ephemeron_table.specs.declared.stop.TableStop.TheVariants as stop
@@ -208,8 +209,7 @@ module _ {old : Mutator} {graph : Graph} {map key : ℕ} {weak : WeakObject} {nu
                 ends.lacks.is.object ends.lacks.is.reached ends.lacks.is_key.reached weak_is.carries weak_is.shows
                 (λ one is_one. subst (IsNewValue graph) (same_Some what one is_one)
                 (record { is = is; reached = fitting.held.reached }))
-                (ap (λ (y : Young). y.space) puts.words.young ∙ ends.lacks.shows.tied ∙ sym puts.words.beside.space)
-                (puts.words.beside.phase ∙ ends.lacks.shows.quiet) refills one counts;
+                (keeps_regions puts.words.beside puts.words.young) refills one counts;
           }
 
       -- and its pair

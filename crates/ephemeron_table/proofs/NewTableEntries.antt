@@ -3,7 +3,7 @@
 use Rattle.std.proofs.Common.{◌≡◌, ℕ, ◌+◌, [], length, cond, Some, Err, false, refl, sym, ◌∙◌, ap, subst, arith}
 use Rattle.std.proofs.lemmas.Option.{same_Some}
 use Rattle.tagged_word.proofs.Members.{first_in}
-use Rattle.nursery.specs.Young.{Young, HasRoom}
+use Rattle.nursery.specs.Young.{HasRoom}
 use Rattle.heap_model.specs.Types.{Value, Held}
 use Rattle.object_graph.specs.declared.value.Rep.TheVariants as rep
 use Rattle.object_graph.specs.Values.{rep_of}
@@ -25,6 +25,7 @@ use Rattle.object_cells.specs.Uses.{UsesMore}
 use Rattle.object_cells.proofs.HeldContents.{HoldsValue}
 use Rattle.object_cells.proofs.HeldNeeds.{held_is_value, new_value_held}
 use Rattle.object_cells.proofs.UnusedWords.{marks_fit, next_before_marks}
+use Rattle.object_cells.proofs.RestOfWords.{keeps_regions}
 use Rattle.ephemeron_table.proofs.KeptTables.{tables_grow}
 use Rattle.ephemeron_table.specs.EntryChanges.{map_room, HasPutEntry, IsMapFull, PutsEntry}
 use Rattle.ephemeron_table.specs.declared.stop.TableStop.TheVariants as stop
@@ -141,8 +142,7 @@ module _ {old : Mutator} {graph : Graph} {map key : ℕ} {weak : WeakObject} {nu
               (shown growing).shows
               (λ put is. subst (IsNewValue graph) (same_Some what put is)
               (record { is = is_value; reached = held.reached }))
-              (ap (λ (y : Young). y.space) words.young ∙ growing.shows.tied ∙ sym words.beside.space)
-              (words.beside.phase ∙ growing.shows.quiet) refills
+              (keeps_regions words.beside words.young) refills
               (puts_one k can puts objects growing.is_key.place holds is_value counted (none growing)) count_word;
         }
 

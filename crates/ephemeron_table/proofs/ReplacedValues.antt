@@ -5,7 +5,7 @@ use Rattle.std.specs.Prelude.{slice_set}
 use Rattle.std.proofs.lemmas.Bool.{cases_eq}
 use Rattle.std.proofs.lemmas.Option.{none-some, same_Some, slice_get_within}
 use Rattle.tagged_word.specs.Cells.{store_slot}
-use Rattle.nursery.specs.Young.{Young, HasRoom}
+use Rattle.nursery.specs.Young.{HasRoom}
 use Rattle.heap_model.specs.Types.{Value, Entry, Cell}
 use Rattle.object_graph.specs.Objects.{entry_value, with_entry}
 use Rattle.object_graph.specs.Graphs.{Graph, WeakObject}
@@ -23,6 +23,7 @@ use Rattle.write_barrier.specs.MutatorState.{Mutator, heap_of}
 use Rattle.object_cells.specs.HeldValues.{IsReachedValue}
 use Rattle.object_cells.specs.Capacities.{ChangesObject}
 use Rattle.object_cells.specs.Uses.{UsesMore}
+use Rattle.object_cells.proofs.RestOfWords.{keeps_regions}
 use Rattle.ephemeron_table.proofs.KeptTables.{tables_stay}
 use Rattle.ephemeron_table.specs.EntryChanges.{map_room, HasPutEntry}
 use Rattle.weak_pairs.specs.Pairs.{IsFilledAt}
@@ -162,6 +163,5 @@ module _ {old new : Mutator} {graph : Graph} {map key : ℕ} {weak : WeakObject}
             has.shows has.is.object has.is.reached has.is_key.reached
             (shown has).carries (shown has).shows
             (λ value is. subst (IsNewValue graph) (same_Some what value is) (record { is = fits; reached = reached }))
-            (ap (λ (y : Young). y.space) replaces.young ∙ has.shows.tied ∙ sym replaces.beside.space)
-            (replaces.beside.phase ∙ has.shows.quiet) replaces.refills puts_one counted;
+            (keeps_regions replaces.beside replaces.young) replaces.refills puts_one counted;
       }

@@ -7,15 +7,15 @@ use Rattle.object_graph.specs.Graphs.{Graph, WeakObject}
 use Rattle.object_graph.specs.Meaning.{reweave}
 use Rattle.object_graph.specs.Reach.{is_marked, reach}
 use Rattle.object_graph.specs.Invariants.{IsValue}
-use Rattle.heap_table.specs.declared.phase.Phase.TheVariants.{Quiet}
 use Rattle.heap_model.specs.Heaps.{Heap, words_of_cell}
 use Rattle.heap_model.specs.Slots.{RefersToPlace}
 use Rattle.heap_model.specs.Kinds.{HasWord, Pair, count_offset}
 use Rattle.heap_model.specs.Wholeness.{Whole, HasRows}
 use Rattle.heap_model.specs.Showing.{ShowsEntry, ShowsWeak}
 use Rattle.heap_model.specs.Changes.{CellsChange, IsOwnChange}
-use Rattle.write_barrier.specs.MutatorState.{Mutator, heap_of, IsTied, MainShows}
+use Rattle.write_barrier.specs.MutatorState.{Mutator, heap_of, MainShows}
 use Rattle.object_cells.specs.HeldValues.{IsReachedValue}
+use Rattle.object_cells.specs.Uses.{KeepsRegions}
 use Rattle.weak_pairs.specs.Pairs.{IsFilledAt}
 use Rattle.ephemeron_table.specs.PairWrites.{WritesWeak, RefillsPairs}
 use Rattle.weak_pairs.specs.Entries.{entries_with}
@@ -62,7 +62,7 @@ WrittenEntriesShow =
     → slice_get graph.objects weak.number ≡ Some (Weak weak.entries) → IsTrue (is_marked (reach graph) weak.number)
     → IsTrue (is_marked (reach graph) number) → cell.header.object ≡ weak.number
     → ShowsWeak (heap_of old) (reach graph) cell (words_of_cell (heap_of old) cell) weak.entries
-    → ((what : Value) → value ≡ Some what → IsNewValue graph what) → IsTied new → new.seat.phase ≡ Quiet
+    → ((what : Value) → value ≡ Some what → IsNewValue graph what) → KeepsRegions old new
     → (refills : RefillsWeak (heap_of old) (heap_of new) cell others made)
     → PutsOne (heap_of old) (heap_of new) refills.pairs number value
     → HasWord (words_of_cell (heap_of new) cell) count_offset (length (entries_with weak.entries number value))

@@ -36,7 +36,7 @@ half_behind space half at inside =
     omega (arith, begins, segment_behind space half inside.worker, inside.holds.from)
 
 -- a cell is in the half in which one of its addresses is
-pub begins_in_half : {heap : Heap} {cell : Cell} {words : List ℕ} (half at : ℕ) → HasRows heap
+begins_in_half : {heap : Heap} {cell : Cell} {words : List ℕ} (half at : ℕ) → HasRows heap
     → HasCell heap cell words → IsOfCell cell at → IsInHalf heap.space half at → IsInHalf heap.space half cell.at
 begins_in_half {heap} half at rows has of_cell inside =
     let row = has.row in

@@ -1,13 +1,11 @@
 -- The cells of a moved heap: where those that stay stand, and where those that stand there are from.
 use Rattle.std.proofs.Common.{◌≡◌, ℕ, List, Option, Some, IsTrue, refl, sym, ◌∙◌, ap, subst}
-use Rattle.std.proofs.lemmas.Bool.{false≢true}
-use Rattle.heap_model.specs.Types.{Kind, Cell}
-use Rattle.tagged_word.specs.declared.layout.Kind.TheVariants as kind
+use Rattle.heap_model.specs.Types.{Cell}
 use Rattle.tagged_word.specs.Cells.{is_free_kind}
 use Rattle.heap_model.specs.Heaps.{Heap, HasCell}
 use Rattle.heap_model.specs.Slots.{is_object_kind, IsPlace, RefersToPlace}
-use Rattle.heap_model.specs.Wholeness.{IsOwnedKind}
 use Rattle.heap_model.proofs.CellsApart.{one_at, one_words}
+use Rattle.heap_model.proofs.StaysCollectable.{object_not_free}
 use Rattle.heap_moves.specs.Moved.{IsMovedWord, AreMoved, moved_to, IsFrom, IsMoved}
 use Rattle.heap_moves.proofs.MovedWords.{referred}
 
@@ -24,18 +22,6 @@ pub record Origin (old : Heap) (to : ℕ → Option ℕ) (cell : Cell) (others :
   pub stays : to was.at ≡ Some cell.at
   pub same : moved_to was cell.at ≡ cell
   pub are : AreMoved to was words others
-
--- an object's cell is not free
-pub object_not_free : (k : Kind) → IsTrue (is_object_kind k) → IsTrue (is_free_kind k) → ⊥
-object_not_free kind.Filler object free = false≢true object
-object_not_free kind.Gap object free = false≢true object
-object_not_free _ object free = false≢true free
-
--- nor is one that belongs to an object
-pub owned_not_free : (k : Kind) → IsOwnedKind k → IsTrue (is_free_kind k) → ⊥
-owned_not_free kind.Filler owned free = owned
-owned_not_free kind.Gap owned free = owned
-owned_not_free _ owned free = false≢true free
 
 module _ {old new : Heap} {to : ℕ → Option ℕ} (moved : IsMoved old new to) where
   -- a cell of the new heap where a cell came that stays is that cell

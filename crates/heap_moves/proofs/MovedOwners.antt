@@ -13,10 +13,11 @@ use Rattle.heap_model.proofs.CellsApart.{IsOfCell, has_is_cell, cells_apart}
 use Rattle.heap_model.proofs.ObjectSlots.{store_slot_in}
 use Rattle.heap_model.proofs.SlotWords.{IsStoreKind, IsStoreWord, store_word_of}
 use Rattle.heap_model.proofs.SlotsHold.{Holding, own_slot_holds, beside_holds}
+use Rattle.heap_model.proofs.StaysCollectable.{object_not_free}
 use Rattle.heap_moves.specs.Moved.{IsMovedWord, AreMoved, IsMoved}
 use Rattle.heap_moves.specs.Standing.{Stays, WholeFor}
 use Rattle.heap_moves.proofs.MovedWords.{was_referred}
-use Rattle.heap_moves.proofs.MovedCells.{IsCame, Origin, came, origin, object_not_free}
+use Rattle.heap_moves.proofs.MovedCells.{IsCame, Origin, came, origin}
 use Rattle.heap_moves.proofs.MovedSlots.{other_word}
 
 -- a cell of the heap stands at the address

@@ -66,13 +66,15 @@ spent_imaged {heap = heap} {image = image} laws r is spent = record {
 -- an image is as full as the heap
 as_full : {heap image : Heap} (graph : Graph) (need : ℕ) → IsImageOf heap image → IsFull heap graph need
     → IsFull image graph need
-as_full {heap = heap} {image = image} graph need is full =
+as_full {heap = heap} {image = image} graph need is (empty, full) =
     let space : heap.space ≡ image.space = sym is.space in
     let survivors : heap.survivors ≡ image.survivors = sym is.survivors in
-    let used : heap.used ≡ image.used = sym is.used in
-    subst (λ (s : Space). IsTrue (nat_lt s.sizes.young (image.survivors + image.used + need))) space
-    (subst (λ (n : ℕ). IsTrue (nat_lt heap.space.sizes.young (n + image.used + need))) survivors
-    (subst (λ (n : ℕ). IsTrue (nat_lt heap.space.sizes.young (heap.survivors + n + need))) used full))
+    let used : heap.used ≡ image.used = sym is.used in (
+      is.used ∙ empty,
+      subst (λ (s : Space). IsTrue (nat_lt s.sizes.young (image.survivors + image.used + need))) space
+          (subst (λ (n : ℕ). IsTrue (nat_lt heap.space.sizes.young (n + image.used + need))) survivors
+          (subst (λ (n : ℕ). IsTrue (nat_lt heap.space.sizes.young (heap.survivors + n + need))) used full)),
+    )
 
 -- it is full for the command of a line, if the heap is
 full_for : {heap image : Heap} (graph : Graph) (need : ℕ) (command : Option Command) → Laws → Shows heap graph

@@ -94,8 +94,8 @@ abbrev pub unopened : LastLine → Answer
 unopened line = record { told = []; last = Some line; kept = None }
 
 -- The kept heap of a script that was run with these sizes: its regions are those of the sizes and of the script's
--- variables, it shows the graph after the executed lines, as many words are used as these lines needed, and all words
--- that no cell uses are 0.
+-- variables, it shows the graph after the executed lines, as many words are used as the lines since the last scavenge
+-- needed, or since the first line if there was none, and all words that no cell uses are 0.
 pub record IsKeptHeapOf (sizes : Sizes) (script : ScriptText) (kept : Kept) : Type 0 where
   pub regions : kept.image.regions ≡ record { sizes = sizes; variables = length script.variables }
   pub blank : Blank (image_heap kept.image)

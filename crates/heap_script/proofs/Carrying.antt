@@ -1,8 +1,9 @@
--- What a call that carries a command out does to a heap, of which it lends the mutator's side.
-use Rattle.std.proofs.Common.{◌≡◌, ◌∙◌, ℕ, zero, suc, ◌≤◌, List, Result, Ok}
+-- What is known where a command that was tried found no room.
+use Rattle.std.proofs.Common.{◌≡◌, ◌≢◌, ◌∙◌, ℕ, zero, suc, ◌≤◌, List, Result, Ok}
 use Rattle.std.proofs.Common.{Err, IsErrAnd, ap, arith, sym, subst}
 use Rattle.tagged_word.specs.Cells.{cell_words_most}
 use Rattle.heap_model.specs.Types.{Command}
+use Rattle.heap_command.specs.declared.command.Command.TheVariants.{Scavenge}
 use Rattle.heap_command.specs.Commands.{IsWithin}
 use Rattle.object_graph.specs.Graphs.{Graph}
 use Rattle.page_space.specs.Extents.{Space}
@@ -11,13 +12,17 @@ use Rattle.mutator.specs.declared.stop.Stop.{Stop}
 use Rattle.mutator.specs.declared.stop.Stop.TheVariants.{NoRoom}
 use Rattle.mutator.specs.CarriesOut.{Carries}
 use Rattle.write_barrier.specs.MutatorState.{Mutator, heap_of, MainShows}
-use Rattle.heap_script.proofs.FewWords.{need_few}
+use Rattle.heap_model.specs.Rooms.{Room, HasRooms, need_of}
 use Rattle.heap_model.proofs.ShownRooms.{shown_objects_have_rooms}
+use Rattle.heap_script.specs.Collecting.{Tries, Finds}
+use Rattle.heap_script.proofs.FewWords.{need_few}
 
--- What is known where a command found no room for so many words: the heap is as it was, and the young generation has
--- not these words.
-pub record IsRefused (old new : Mutator) (need : ℕ) : Type 0 where
+-- The heap is as it was. The command, which does not ask for a scavenge, needs so many words, and the young generation
+-- has not these.
+pub record IsRefused (old new : Mutator) (graph : Graph) (command : Command) (need : ℕ) : Type 0 where
   pub same : new ≡ old
+  pub apart : command ≢ Scavenge
+  pub needs : (rooms : ℕ → Room) → HasRooms (heap_of old) graph rooms → need ≡ need_of graph rooms command
   pub lacks : HasRoom old.young need → ⊥
   pub some : 1 ≤ need
   pub few : need ≤ cell_words_most
@@ -31,24 +36,45 @@ wants_some main graph zero shows lacks =
     absurd (lacks (omega (arith, same, shows.shows.whole.rows.few)))
 wants_some main graph (suc need) shows lacks = omega arith
 
+-- a command that needs some words does not ask for a scavenge
+needs_apart : (graph : Graph) (rooms : ℕ → Room) (command : Command) (need : ℕ) → need ≡ need_of graph rooms command
+    → 1 ≤ need → command ≢ Scavenge
+needs_apart graph rooms command need needs some is =
+    let none : need ≡ 0 = needs ∙ ap (need_of graph rooms) is in
+    absurd (omega (arith, none, some))
+
 -- a command that stops for want of room is refused
-pub refused : (names : List (List ℕ)) (old new : Mutator) (graph : Graph) (fields : ℕ) (command : Command)
-    (text : List ℕ) (need : ℕ) → MainShows old graph → IsWithin old.seat.space.variables fields command
-    → Carries names old new graph command text (Err (NoRoom need)) → IsRefused old new need
-refused names old new graph fields command text need shows within (after, written, does-is, needs, lacks, same) =
+refused_there : (names : List (List ℕ)) (old new : Mutator) (graph : Graph) (variables fields : ℕ) (command : Command)
+    (text : List ℕ) (need : ℕ) → MainShows old graph → IsWithin variables fields command
+    → Carries names old new graph command text (Err (NoRoom need)) → IsRefused old new graph command need
+refused_there names old new graph variables fields command text need shows within
+    (after, written, does-is, needs, lacks, same) =
     let (rooms, has) = shown_objects_have_rooms (heap_of old) graph shows.shows in
+    let some = wants_some old graph need shows lacks in
     record {
       same = same;
+      apart = needs_apart graph rooms command need (needs rooms has) some;
+      needs = needs;
       lacks = lacks;
-      some = wants_some old graph need shows lacks;
+      some = some;
       few = subst (λ (n : ℕ). n ≤ cell_words_most) (sym (needs rooms has))
-          (need_few graph rooms old.seat.space.variables fields command shows.is_graph within);
+          (need_few graph rooms variables fields command shows.is_graph within);
     }
 
--- and a heap that has not changed has no room for it either
-pub still_lacks : (old mid new : Mutator) (need : ℕ) → IsRefused old mid need → new ≡ mid → HasRoom new.young need → ⊥
-still_lacks old mid new need told same room =
-    told.lacks (subst (λ (main : Mutator). HasRoom main.young need) (same ∙ told.same) room)
+-- so is one that was tried
+pub refused : (names : List (List ℕ)) {old new : Mutator} {graph : Graph} (variables fields : ℕ) {command : Command}
+    {text : List ℕ} {need : ℕ} → MainShows old graph → IsWithin variables fields command
+    → Tries names old new graph command text (Err (NoRoom need)) → IsRefused old new graph command need
+refused names {old} {new} {graph} variables fields {command} {text} {need} shows within tries =
+    elim tries.finds [
+      | Finds.scavenged is scavenges ↦
+        let there = refused_there names tries.mid new graph variables fields command text need
+        (tries.keeps.shows graph shows) within tries.carries in
+        absurd (there.apart is)
+      | Finds.unchanged apart same ↦
+        refused_there names old new graph variables fields command text need shows within
+        (subst (λ (main : Mutator). Carries names main new graph command text (Err (NoRoom need))) same tries.carries)
+    ]
 
 -- an answer that hands this stop on is this stop
 pub handed_on : {A : Type 0} (answer : Result A Stop) (stop : Stop) → IsErrAnd answer (λ one. one ≡ stop)

@@ -15,12 +15,17 @@ use Rattle.mutator.specs.declared.stop.Stop.{Stop}
 use Rattle.mutator.specs.declared.stop.Stop.TheVariants.{Fault, NoRoom, NoClear}
 use Rattle.object_graph.specs.Limits.{ideal_limits}
 use Rattle.heap_model.specs.Heaps.{Heap}
-use Rattle.write_barrier.specs.MutatorState.{Mutator, heap_of, IsTied}
+use Rattle.nursery.specs.Young.{Young}
+use Rattle.write_barrier.specs.MutatorState.{Mutator, heap_of, IsTied, MainShows}
+use Rattle.collector.specs.States.{HeapState, HeapShows}
+use Rattle.collector.proofs.Keeping.{still_shows}
 use Rattle.mutator.specs.CarriesOut.{Carries}
 use Rattle.heap_script.specs.declared.finished.How.TheVariants as how
 use Rattle.heap_script.specs.Runs.{left_after, RanTo, Spends, EndsAs, EndsRun, IsFullAt}
 use Rattle.heap_script.specs.Progress.{how_of, CarriesLine, Handed, Pauses}
 use Rattle.heap_script.proofs.Lacking.{full_for}
+use Rattle.heap_script.proofs.Running.{Running}
+use Rattle.heap_script.proofs.LineCarried.{found_space, Running-found}
 
 -- within the limit, a run ends by what stands at the lines that are left
 ending-within : (names : List (List ℕ)) (graph : Graph) (n : ℕ) (lines : List Executed) → n ≤ lines_most
@@ -74,18 +79,18 @@ EndsRun-limit script heap at' n number ts' command r goes most =
 -- a command was not carried out
 EndsRun-stopped : (script : ScriptText) (main after : Mutator) (at' n number : ℕ) (ts' : List ℕ) (command : Command)
     (text : List ℕ) (stop : Stop)
-    → IsTied main → (r : RanTo script (heap_of main) n) → n < lines_most
-    → Goes script.lines at' ts' (left_after script n) (executed number (Some command))
+    → IsTied main → ((need : ℕ) → stop ≡ NoRoom need → main.young.used ≡ 0) → (r : RanTo script (heap_of main) n)
+    → n < lines_most → Goes script.lines at' ts' (left_after script n) (executed number (Some command))
     → Carries script.fields main after r.so_far.graph command text (Err stop)
     → EndsRun script (heap_of main) n r.so_far (how_of stop) number
-EndsRun-stopped script main after at' n number ts' command text (Fault word) tied r below goes (does-is, same) =
+EndsRun-stopped script main after at' n number ts' command text (Fault word) tied empty r below goes (does-is, same) =
     let graph = r.so_far.graph in
     let ends : ending ideal_limits script.fields graph n (left_after script n) ≡ Some (fault_at number word) =
     ap (ending ideal_limits script.fields graph n) goes.is
     ∙ ending-below script.fields graph n (executed number (Some command)) goes.rest below
     ∙ ap (fault_in number) does-is in
     EndsAs-reached script (heap_of main) n (fault_at number word) r ends
-EndsRun-stopped script main after at' n number ts' command text (NoRoom need) tied r below goes
+EndsRun-stopped script main after at' n number ts' command text (NoRoom need) tied empty r below goes
     (next, written, does-is, need-is, full, same) =
     let graph = r.so_far.graph in
     let first = executed number (Some command) in
@@ -94,22 +99,10 @@ EndsRun-stopped script main after at' n number ts' command text (NoRoom need) ti
           ∙ ending-below script.fields graph n first goes.rest below
           ∙ ap (fault_in number) does-is;
       full = subst (IsFullAt (heap_of main) graph number need) (sym goes.is)
-          (refl, (need-is, full_for main need tied full));
+          (refl, (need-is, (empty need refl, full_for main need tied full)));
     }
-EndsRun-stopped script main after at' n number ts' command text (NoClear entries) tied r below goes carries =
+EndsRun-stopped script main after at' n number ts' command text (NoClear entries) tied empty r below goes carries =
     absurd carries
-
--- a line was not executed
-pub EndsRun-line : (script : ScriptText) (main after : Mutator) (at' n number : ℕ) (ts' : List ℕ)
-    (command : Option Command)
-    (text : List ℕ) (stop : Stop)
-    → IsTied main → (r : RanTo script (heap_of main) n) → n < lines_most
-    → Goes script.lines at' ts' (left_after script n) (executed number command)
-    → CarriesLine script.fields main after r.so_far.graph command text (Err stop)
-    → EndsRun script (heap_of main) n r.so_far (how_of stop) number
-EndsRun-line script main after at' n number ts' None text stop tied r below goes (same, nothing, is) = absurd (cc)
-EndsRun-line script main after at' n number ts' (Some command) text stop tied r below goes carries =
-    EndsRun-stopped script main after at' n number ts' command text stop tied r below goes carries
 
 -- a command that is not carried out leaves the heap as it was
 same-stopped : (names : List (List ℕ)) (main after : Mutator) (graph : Graph) (command : Command) (text : List ℕ)
@@ -118,16 +111,8 @@ same-stopped names main after graph command text (Fault word) (does-is, same) = 
 same-stopped names main after graph command text (NoRoom need) (next, written, does-is, need-is, full, same) = same
 same-stopped names main after graph command text (NoClear entries) carries = absurd carries
 
--- and so does a line
-pub same-line : (names : List (List ℕ)) (main after : Mutator) (graph : Graph) (command : Option Command)
-    (text : List ℕ)
-    (stop : Stop) → CarriesLine names main after graph command text (Err stop) → after ≡ main
-same-line names main after graph None text stop (same, nothing, is) = same
-same-line names main after graph (Some command) text stop carries = same-stopped names main after graph command
-    text stop carries
-
--- a run that halts at a line whose command was not carried out
-pub Pauses-stopped : (script : ScriptText) (heap : Heap) (waiting : List ℕ) (n number : ℕ) (stop : Stop)
+-- a run that halts at a command that was not carried out
+Pauses-stopped : (script : ScriptText) (heap : Heap) (waiting : List ℕ) (n number : ℕ) (stop : Stop)
     (old new : List ℕ → Type 0) (faults_old faults_new : ℕ)
     → (r : RanTo script heap n) → Spends script heap n → EndsRun script heap n r.so_far (how_of stop) number
     → Handed old new waiting r.so_far.bytes → faults_new ≡ faults_old
@@ -140,3 +125,42 @@ Pauses-stopped script heap waiting n number (NoRoom need) old new faults_old fau
 Pauses-stopped script heap waiting n number (NoClear entries) old new faults_old faults_new r spends comes handed
     steady =
     record { reached = r; spends = spends; halts = (comes, handed, steady) }
+
+-- where a line was not executed, the heap shows what it showed, with the same regions
+pub stopped-line : (names : List (List ℕ)) (heap after : HeapState) (graph : Graph) (command : Option Command)
+    (text : List ℕ) (stop : Stop) → HeapShows heap graph → after.spare ≡ heap.spare
+    → CarriesLine names heap.main after.main graph command text (Err stop)
+    → HeapShows after graph × (after.main.seat.space ≡ heap.main.seat.space)
+stopped-line names heap after graph None text stop shown spare (same, nothing, is) = absurd (cc)
+stopped-line names heap after graph (Some command) text stop shown spare carries =
+    let same = same-stopped names carries.mid after.main graph command text stop carries.carries in
+    let space = ap (λ (main : Mutator). main.seat.space) same ∙ found_space carries.collects in
+    let shows = subst (λ (main : Mutator). MainShows main graph) (sym same) (carries.keeps.shows graph shown.main) in
+    (still_shows heap after graph shown spare space shows, space)
+
+-- a run that halts at a line that was not executed
+pub Pauses-line : (script : ScriptText) (heap after : HeapState) (objects : ℕ) (waiting : List ℕ)
+    (old new : List ℕ → Type 0) (at at' : ℕ) (ts ts' : List ℕ) (n number : ℕ) (command : Option Command)
+    (text : List ℕ) (stop : Stop) (faults_old faults_new : ℕ)
+    → (r : Running script heap objects waiting old new at ts n) → n < lines_most
+    → Goes script.lines at' ts' (left_after script n) (executed number command)
+    → CarriesLine script.fields heap.main after.main r.reached.so_far.graph command text (Err stop)
+    → faults_new ≡ faults_old
+    → Pauses script (heap_of after.main) waiting (record { how = how_of stop; line = number; executed = n }) old new
+    faults_old faults_new
+Pauses-line script heap after objects waiting old new at at' ts ts' n number None text stop faults_old faults_new r
+    below goes (same, nothing, is) steady =
+    absurd (cc)
+Pauses-line script heap after objects waiting old new at at' ts ts' n number (Some command) text stop faults_old
+    faults_new r below goes carries steady =
+    let mid = carries.mid in
+    let found = Running-found r carries.collects carries.keeps in
+    let same = same-stopped script.fields mid after.main r.reached.so_far.graph command text stop carries.carries in
+    let empty : (need : ℕ) → stop ≡ NoRoom need → mid.young.used ≡ 0 = λ need is.
+    ap (λ (main : Mutator). main.young.used) (sym same)
+    ∙ ap (λ (young : Young). young.used) (carries.gave_up need (ap (λ (e : Stop). Err e) is)).young in
+    let comes = EndsRun-stopped script mid after.main at' n number ts' command text stop found.shown.main.tied empty
+    found.reached below goes carries.carries in
+    rw same
+    (Pauses-stopped script (heap_of mid) waiting n number stop old new faults_old faults_new found.reached found.spends
+    comes found.handed steady)

@@ -14,16 +14,17 @@ use Rattle.script_text.specs.Whole.{IsPlaced}
 use Rattle.script_text.specs.Left.{IsLeft, Goes}
 use Rattle.script_text.proofs.Left.{begins}
 use Rattle.object_graph.specs.Limits.{ideal_limits}
-use Rattle.page_space.specs.Extents.{Space, marks_start}
+use Rattle.page_space.specs.Extents.{Space}
 use Rattle.heap_model.specs.Heaps.{Heap}
 use Rattle.heap_model.specs.Rooms.{Room, HasRooms, need_of}
 use Rattle.heap_model.proofs.ShownRooms.{shown_objects_have_rooms}
 use Rattle.nursery.specs.Young.{Young}
 use Rattle.write_barrier.specs.MutatorState.{Mutator, heap_of, MainShows, IsOpened}
-use Rattle.collector.specs.States.{HeapState, HeapShows, Spare, IsReady}
+use Rattle.collector.specs.States.{HeapState, HeapShows}
+use Rattle.collector.proofs.Keeping.{still_shows}
 use Rattle.mutator.specs.CarriesOut.{Carries, TakesRoom}
-use Rattle.heap_script.specs.Runs.{left_after, RanTo, Spends, Allocates, TellsAt}
-use Rattle.heap_script.specs.Progress.{objects_made, made_by, CarriesLine, Handed}
+use Rattle.heap_script.specs.Runs.{left_after, RanTo, Spends, Allocates}
+use Rattle.heap_script.specs.Progress.{objects_made, Handed}
 use Rattle.heap_script.proofs.Counts.{length-does, makes_one}
 use Rattle.heap_script.proofs.Lacking.{not_lacking}
 use Rattle.heap_script.proofs.Handing.{Handed-none, Handed-more, Handed-told}
@@ -140,7 +141,7 @@ Running-handed script heap objects waiting rest old mid new at ts n r h = record
 }
 
 -- one line more is told: what the run tells after it
-said-next : (script : ScriptText) (n : ℕ) (so_far later : Told) (line : Executed) (rest : List Executed)
+pub said-next : (script : ScriptText) (n : ℕ) (so_far later : Told) (line : Executed) (rest : List Executed)
     → Next (executed_lines script.lines) n line rest
     → told ideal_limits script.fields (take n (executed_lines script.lines)) ≡ Some so_far
     → tell ideal_limits script.fields so_far line.command ≡ Some later
@@ -187,23 +188,6 @@ Running-passed script heap objects waiting old new at at' ts ts' n number r belo
       few = omega (arith, r.few);
     }
 
--- a heap with the same parts is the same
-pub same_heap : (heap after : HeapState) → after.main ≡ heap.main → after.spare ≡ heap.spare → after ≡ heap
-same_heap heap after main spare =
-    ap (λ (m : Mutator). record { main = m; spare = after.spare }) main
-    ∙ ap (λ (s : Spare). record { main = heap.main; spare = s }) spare
-
--- where the mutator's side shows a graph, and the regions and the memory for an image are the same, the heap shows it
-still_shows : (heap after : HeapState) (graph : Graph) {before : Graph} → HeapShows heap before
-    → after.spare ≡ heap.spare → after.main.seat.space ≡ heap.main.seat.space → MainShows after.main graph
-    → HeapShows after graph
-still_shows heap after graph shown spare space shows = record {
-  main = shows;
-  regions = ap (λ (s : Spare). s.image.regions) spare ∙ shown.regions ∙ sym space;
-  ready = subst (λ (s : Spare). IsReady s (marks_start after.main.seat.space)) (sym spare)
-      (subst (λ (regions : Space). IsReady heap.spare (marks_start regions)) (sym space) shown.ready);
-}
-
 -- a command was carried out
 pub Running-carried : (script : ScriptText) (heap after : HeapState) (objects : ℕ) (waiting : List ℕ)
     (old new : List ℕ → Type 0) (at at' : ℕ) (ts ts' : List ℕ) (n number : ℕ) (command : Command) (text : List ℕ)
@@ -239,59 +223,4 @@ Running-carried script heap after objects waiting old new at at' ts ts' n number
       made = ap (λ m. m + objects_made command) r.made
           ∙ sym (length-does ideal_limits script.fields so_far.graph graph command text does-is);
       few = omega (arith, r.few, makes_one command);
-    }
-
--- a line that was executed leaves the regions as they were
-pub same_space : (heap after : HeapState) (graph : Graph) (command : Option Command) (names : List (List ℕ))
-    (text : List ℕ) → MainShows heap.main graph
-    → CarriesLine names heap.main after.main graph command text (Ok tt) → after.main.seat.space ≡ heap.main.seat.space
-same_space heap after graph None names text shows (same, nothing, is) = ap (λ (m : Mutator). m.seat.space) same
-same_space heap after graph (Some command) names text shows (next, does-is, shown, takes) =
-    takes_space command shows takes
-
--- a line was executed
-pub Running-line : (script : ScriptText) (heap after : HeapState) (objects : ℕ) (waiting : List ℕ)
-    (old new : List ℕ → Type 0) (at at' : ℕ) (ts ts' : List ℕ) (n number : ℕ) (command : Option Command)
-    (text : List ℕ)
-    → (r : Running script heap objects waiting old new at ts n) → n < lines_most
-    → Goes script.lines at' ts' (left_after script n) (executed number command)
-    → after.spare ≡ heap.spare
-    → CarriesLine script.fields heap.main after.main r.reached.so_far.graph command text (Ok tt)
-    → Running script after (objects + made_by command) (waiting ++ text) old new at' ts' (n + 1)
-Running-line script heap after objects waiting old new at at' ts ts' n number None text r below goes spare
-    (same, nothing, is) =
-    let passed = Running-passed script heap objects waiting old new at at' ts ts' n number r below goes in
-    rw (same_heap heap after same spare, nothing, append-nil, add-zero) passed
-Running-line script heap after objects waiting old new at at' ts ts' n number (Some command) text r below goes spare
-    carries =
-    Running-carried script heap after objects waiting old new at at' ts ts' n number command text r below goes
-    spare carries
-
--- and it told its text
-pub TellsAt-line : (script : ScriptText) (heap : Heap) (old new : Mutator) (at' : ℕ) (ts' : List ℕ) (n number : ℕ)
-    (command : Option Command) (text : List ℕ) → (r : RanTo script heap n)
-    → Goes script.lines at' ts' (left_after script n) (executed number command)
-    → CarriesLine script.fields old new r.so_far.graph command text (Ok tt) → TellsAt script n text
-TellsAt-line script heap old new at' ts' n number None text r goes (same, nothing, is) =
-    let line = executed number None in
-    let next = next-drop (executed_lines script.lines) n line goes.rest goes.is in
-    rw nothing
-    (record {
-      before = r.so_far;
-      said_before = r.said;
-      after = r.so_far;
-      said_after = said-next script n r.so_far r.so_far line goes.rest next r.said refl;
-      adds = sym (append-nil r.so_far.bytes);
-    })
-TellsAt-line script heap old new at' ts' n number (Some command) text r goes
-    (graph, does-is, shown, takes) =
-    let line = executed number (Some command) in
-    let next = next-drop (executed_lines script.lines) n line goes.rest goes.is in
-    let later : Told = record { graph = graph; bytes = r.so_far.bytes ++ text } in
-    record {
-      before = r.so_far;
-      said_before = r.said;
-      after = later;
-      said_after = said-next script n r.so_far later line goes.rest next r.said (ap (told_with r.so_far) does-is);
-      adds = refl;
     }

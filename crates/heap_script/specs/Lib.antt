@@ -1,4 +1,5 @@
 pub mod Runs
 pub mod LoopCounters
+pub mod Collecting
 pub mod Progress
 pub use Rattle.mutator.specs.declared.output.TheConstants

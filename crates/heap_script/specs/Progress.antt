@@ -12,12 +12,12 @@ use Rattle.mutator.specs.declared.stop.Stop.{Stop}
 use Rattle.mutator.specs.declared.stop.Stop.TheVariants as stop
 use Rattle.write_barrier.specs.MutatorState.{Mutator}
 use Rattle.heap_model.specs.Heaps.{Heap}
-use Rattle.mutator.specs.CarriesOut.{Carries}
 use Rattle.byte_ends.specs.Faults.{Rose}
 use Rattle.byte_ends.specs.Sink.{Appends}
 use Rattle.heap_script.specs.declared.finished.How.{How}
 use Rattle.heap_script.specs.declared.finished.How.TheVariants.{Fault, HeapFull, SinkFault}
 use Rattle.heap_script.specs.declared.finished.Finished.{Finished}
+use Rattle.heap_script.specs.Collecting.{CarriesAtLast}
 use Rattle.heap_script.specs.Runs.{RanTo, Spends, EndsRun, IsDue, CutsOff}
 
 -- how many objects a command makes
@@ -37,11 +37,12 @@ abbrev pub made_by : Option Command → ℕ
 made_by None = 0
 made_by (Some command) = objects_made command
 
--- a line that runs a command does with the heap what the command does, and one that runs none does nothing
+-- a line that runs a command does with the heap what the command does, once there is room if need be, and one that runs
+-- none does nothing
 abbrev pub CarriesLine : List (List ℕ) → Mutator → Mutator → Graph → Option Command → List ℕ
     → Result (Unit {0}) Stop → Type 0
 CarriesLine names old new graph None text result = (new ≡ old) × (text ≡ []) × (result ≡ Ok tt)
-CarriesLine names old new graph (Some command) text result = Carries names old new graph command text result
+CarriesLine names old new graph (Some command) text result = CarriesAtLast names old new graph command text result
 
 -- what became of a line, whatever the place where the run goes on: it was executed, or this stopped it
 abbrev pub outcome_of : Result ℕ Stop → Result (Unit {0}) Stop

@@ -1,5 +1,5 @@
 -- How far a script was run on a heap, and how the run ended.
-use Rattle.std.specs.Prelude.{◌≡◌, ◌⊎◌, ℕ, ◌+◌, ◌<◌, ◌≤◌, List, ◌∷◌}
+use Rattle.std.specs.Prelude.{◌≡◌, ◌⊎◌, ◌↔◌, ℕ, ◌+◌, ◌<◌, ◌≤◌, List, ◌∷◌}
 use Rattle.std.specs.Prelude.{[], ◌++◌, length, take, drop, All, Option, Some, None, IsTrue}
 use Rattle.std.specs.Prelude.{false, slice_get, nat_lt, if◌then◌else◌}
 use Rattle.heap_model.specs.Types.{Command}
@@ -33,10 +33,10 @@ AreBuilt lines = All (λ line. IsBuilt unbuilt_keywords line.what) lines
 abbrev pub left_after : ScriptText → ℕ → List Executed
 left_after script executed = drop executed (executed_lines script.lines)
 
--- The heap, which shows this graph, is full for so many words: the survivors, the used words and these are more than
--- the words of the young generation.
+-- The heap, which shows this graph, is full for so many words, though it was scavenged for them: eden is empty, and the
+-- survivors and these are more than the words of the young generation.
 abbrev pub IsFull : Heap → Graph → ℕ → Type 0
-IsFull heap graph need = IsTrue (lacks_room heap need)
+IsFull heap graph need = (heap.used ≡ 0) × IsTrue (lacks_room heap need)
 
 -- The script was run for so many lines, of which none faulted, and the heap, which has a root for each variable of the
 -- script, shows the graph after them.
@@ -67,15 +67,25 @@ abbrev pub LineAllocates : Heap → Heap → Graph → Graph → Option Command 
 LineAllocates old new graph after None = new ≡ old
 LineAllocates old new graph after (Some command) = Allocates old new graph after command
 
+-- A scavenge leads from one heap to another, which show the same graph. The regions stay, and objects have the rooms
+-- that they had. Eden is empty, and the survivors are at most the survivors and the used words of before.
+pub record IsCollected (old new : Heap) (graph : Graph) : Type 0 where
+  pub space : new.space ≡ old.space
+  pub rooms : (rooms : ℕ → Room) → HasRooms old graph rooms ↔ HasRooms new graph rooms
+  pub emptied : new.used ≡ 0
+  pub few : new.survivors ≤ old.survivors + old.used
+
 -- The words that the executed lines of a script spend, one line after another, up to this heap. No word is used before
 -- the first line, and each line uses what its command needs, by the graph and the rooms that the lines before it led
--- to.
+-- to. Before and behind each line the heap may be scavenged.
 pub data Spends (script : ScriptText) : Heap → ℕ → Type 0 where
   none : (heap : Heap) → heap.used ≡ 0 → heap.survivors ≡ 0 → RanTo script heap 0 → Spends script heap 0
   one_more : (old new : Heap) (executed : ℕ) (line : Executed) → Spends script old executed
       → slice_get (executed_lines script.lines) executed ≡ Some line
       → (before : RanTo script old executed) (after : RanTo script new (executed + 1))
       → LineAllocates old new before.so_far.graph after.so_far.graph line.command → Spends script new (executed + 1)
+  collected : (old new : Heap) (executed : ℕ) → Spends script old executed → (before : RanTo script old executed)
+      → RanTo script new executed → IsCollected old new before.so_far.graph → Spends script new executed
 
 -- The heap has the regions of the one to which the lines led that spent words, and as many words are used and have
 -- survived. Each object stands where it stands there, with a store of as many slots. The rooms that the objects

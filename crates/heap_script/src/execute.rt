@@ -2,7 +2,7 @@
 //! `loop_counters`.
 ghost use Rattle.std.specs.Prelude.{◌≡◌, ◌+◌, ◌<◌, ◌≤◌, ◌^◌};
 ghost use Rattle.std.specs.Prelude.{ℕ, List, ◌++◌, length, if◌then◌else◌};
-ghost use Rattle.std.specs.Prelude.{false, is_ok, IsTrue, OnOk, OnErr, IfOk};
+ghost use Rattle.std.specs.Prelude.{◌↔◌, false, is_ok, IsTrue, OnOk, OnErr, IfOk};
 ghost use Rattle.tagged_word.specs.Cells.{cell_words_most};
 ghost use Rattle.object_graph.specs.Graphs.{Graph};
 ghost use Rattle.object_graph.specs.Run.{lines_most};
@@ -12,9 +12,11 @@ ghost use Rattle.script_text.specs.Limits.{open_most};
 ghost use Rattle.script_text.specs.Table.{unbuilt_keywords};
 ghost use Rattle.script_text.specs.Sound.{IsBuilt, NamesWithin, AreShort};
 ghost use Rattle.nursery.specs.Young.{HasRoom};
-ghost use Rattle.write_barrier.specs.MutatorState.{MainShows};
-ghost use Rattle.mutator.specs.CarriesOut.{Carries, field_numbers};
+ghost use Rattle.scavenger.specs.Scavenged.{Scavenges};
+ghost use Rattle.scavenger.specs.Laws.{KeepsGraphs};
+ghost use Rattle.mutator.specs.CarriesOut.{field_numbers};
 ghost use Rattle.collector.specs.States.{HeapShows};
+ghost use Rattle.heap_script.specs.Collecting.{Tries, CarriesAtLast};
 ghost use Rattle.heap_script.specs.Progress.{objects_made, made_by, command_in};
 ghost use Rattle.heap_script.specs.Progress.{CarriesLine, outcome_of};
 ghost use Rattle.heap_script.specs.LoopCounters.{next_of};
@@ -24,7 +26,6 @@ use collector::Heap;
 use heap_command::Command;
 use mutator::{OUTPUT_BYTES, Output, ROOM, Stop};
 use script_text::{Script, What};
-use write_barrier::Main;
 
 /// Executes a line, and answers where the run goes on. `objects` counts the objects that were made.
 #[inline(always)]
@@ -65,8 +66,8 @@ pub(crate) fn execute_line(
     }
 }
 
-/// Carries a command out. Where there is no room for it, the heap is to make some, and then it is
-/// tried again.
+/// Carries a command out. Where there is no room for it, the heap makes some by a scavenge, and then
+/// it is tried again.
 #[inline(always)]
 fn carry_out(
     heap: &mut Heap,
@@ -83,7 +84,7 @@ fn carry_out(
     requires room { length out.old + ROOM ≤ OUTPUT_BYTES }
     ensures carried { (graph : Graph) → HeapShows heap.old graph →
         objects.old ≡ length graph.objects → (text : List ℕ)
-        × Carries script.now.fields heap.old.main heap.new.main graph command.now text result
+        × CarriesAtLast script.now.fields heap.old.main heap.new.main graph command.now text result
         × (out.new ≡ (if is_ok result then out.old ++ text else out.old)) }
     ensures spare { heap.new.spare ≡ heap.old.spare }
     ensures counted { OnOk result (objects.new ≡ objects.old + objects_made command.now) }
@@ -92,13 +93,14 @@ fn carry_out(
     // lines, whatever its attribute asks. Once there is room the command finds it, so no third try
     // comes.
     'tries: loop {
-        match execute(heap.main_mut(), script, objects, command, out) {
-            Err(Stop::NoRoom { need }) => {
-                if !ensure_room(heap, need) {
-                    return Err(Stop::NoRoom { need });
-                }
-            }
-            carried => return carried,
+        let Err(stop) = execute(heap, script, objects, command, out) else {
+            return Ok(());
+        };
+        let Stop::NoRoom { need } = stop else {
+            return Err(stop);
+        };
+        if !ensure_room(heap, need) {
+            return Err(stop);
         }
     }
 }
@@ -110,56 +112,77 @@ fn carry_out(
 fn ensure_room(heap: &mut Heap, need: u32) -> bool
     requires some { 1 ≤ need }
     requires few { need ≤ cell_words_most }
-    ensures room { IsTrue result → HasRoom heap.new.main.young need }
-    ensures same { heap.new ≡ heap.old }
+    requires shown { (graph : Graph) × HeapShows heap.old graph }
+    ensures room { IsTrue result ↔ HasRoom heap.new.main.young need }
+    ensures scavenged { ¬ HasRoom heap.old.main.young need → Scavenges heap.old.main heap.new.main }
+    ensures shows { (graph : Graph) → HeapShows heap.old graph → HeapShows heap.new graph }
+    ensures rooms { KeepsGraphs heap.old.main heap.new.main }
+    ensures spare { heap.new.spare ≡ heap.old.spare }
 {
     heap.ensure(need).is_ok()
+}
+
+/// Scavenges the heap, as the command asks.
+#[cold]
+#[inline(never)]
+fn scavenge(heap: &mut Heap)
+    requires shown { (graph : Graph) × HeapShows heap.old graph }
+    ensures scavenged { Scavenges heap.old.main heap.new.main }
+    ensures rooms { KeepsGraphs heap.old.main heap.new.main }
+    ensures spare { heap.new.spare ≡ heap.old.spare }
+{
+    heap.scavenge();
 }
 
 /// Carries a command out, if there is room for it. `objects` counts the objects that were made.
 #[inline(always)]
 fn execute(
-    main: &mut Main,
+    heap: &mut Heap,
     script: &Script<'_>,
     objects: &mut u32,
     command: &Command,
     out: &mut Output,
 ) -> Result<(), Stop>
     requires built { IsBuilt unbuilt_keywords (Run command.now) }
-    requires shown { (graph : Graph) × MainShows main.old graph × (objects.old ≡ length graph.objects) }
-    requires within { IsWithin main.old.seat.space.variables field_numbers command.now }
+    requires shown { (graph : Graph) × HeapShows heap.old graph × (objects.old ≡ length graph.objects) }
+    requires within { IsWithin heap.old.main.seat.space.variables field_numbers command.now }
     requires few { objects.old < lines_most }
     requires short { AreShort script.now.fields }
     requires room { length out.old + ROOM ≤ OUTPUT_BYTES }
-    ensures carried { (graph : Graph) → MainShows main.old graph →
+    ensures carried { (graph : Graph) → HeapShows heap.old graph →
         objects.old ≡ length graph.objects → (text : List ℕ)
-        × Carries script.now.fields main.old main.new graph command.now text result
+        × Tries script.now.fields heap.old.main heap.new.main graph command.now text result
         × (out.new ≡ (if is_ok result then out.old ++ text else out.old)) }
+    ensures spare { heap.new.spare ≡ heap.old.spare }
     ensures counted { OnOk result (objects.new ≡ objects.old + objects_made command.now) }
     ensures uncounted { is_ok result ≡ false → objects.new ≡ objects.old }
 {
     match command {
-        Command::New { x, cap } => counted(mutator::new_plain(main, *x, *objects, *cap), objects),
-        Command::List { x } => counted(mutator::new_list(main, *x, *objects), objects),
-        Command::Weak { x } => counted(mutator::new_weak(main, *x, *objects), objects),
-        Command::LetValue { x, v } => mutator::let_value(main, *x, *v),
-        Command::DropVar { x } => mutator::drop_var(main, *x),
-        Command::Add { x, v } => mutator::add(main, *x, *v),
-        Command::Set { x, f, v } => mutator::set(main, *x, *f, *v),
-        Command::Get { y, x, f } => mutator::get(main, *y, *x, *f),
-        Command::Del { x, f } => mutator::del(main, *x, *f),
-        Command::Push { x, v } => mutator::push(main, *x, *v),
-        Command::Put { x, i, v } => mutator::put(main, *x, *i, *v),
-        Command::At { y, x, i } => mutator::at(main, *y, *x, *i),
-        Command::Shift { x, n } => mutator::shift(main, *x, *n),
-        Command::Trunc { x, n } => mutator::trunc(main, *x, *n),
-        Command::WPut { m, k, v } => mutator::wput(main, *m, *k, *v),
-        Command::WGet { y, m, k } => mutator::wget(main, *y, *m, *k),
-        Command::WDel { m, k } => mutator::wdel(main, *m, *k),
-        Command::Print { v } => mutator::print(main, *v, out),
-        Command::Same { a, b } => mutator::same(main, *a, *b, out),
-        Command::Alike { x, y } => mutator::alike(main, *x, *y, out),
-        Command::Shape { x } => mutator::shape(main, script, *x, out),
+        Command::New { x, cap } => counted(mutator::new_plain(heap.main_mut(), *x, *objects, *cap), objects),
+        Command::List { x } => counted(mutator::new_list(heap.main_mut(), *x, *objects), objects),
+        Command::Weak { x } => counted(mutator::new_weak(heap.main_mut(), *x, *objects), objects),
+        Command::LetValue { x, v } => mutator::let_value(heap.main_mut(), *x, *v),
+        Command::DropVar { x } => mutator::drop_var(heap.main_mut(), *x),
+        Command::Add { x, v } => mutator::add(heap.main_mut(), *x, *v),
+        Command::Set { x, f, v } => mutator::set(heap.main_mut(), *x, *f, *v),
+        Command::Get { y, x, f } => mutator::get(heap.main_mut(), *y, *x, *f),
+        Command::Del { x, f } => mutator::del(heap.main_mut(), *x, *f),
+        Command::Push { x, v } => mutator::push(heap.main_mut(), *x, *v),
+        Command::Put { x, i, v } => mutator::put(heap.main_mut(), *x, *i, *v),
+        Command::At { y, x, i } => mutator::at(heap.main_mut(), *y, *x, *i),
+        Command::Shift { x, n } => mutator::shift(heap.main_mut(), *x, *n),
+        Command::Trunc { x, n } => mutator::trunc(heap.main_mut(), *x, *n),
+        Command::WPut { m, k, v } => mutator::wput(heap.main_mut(), *m, *k, *v),
+        Command::WGet { y, m, k } => mutator::wget(heap.main_mut(), *y, *m, *k),
+        Command::WDel { m, k } => mutator::wdel(heap.main_mut(), *m, *k),
+        Command::Print { v } => mutator::print(heap.main_mut(), *v, out),
+        Command::Same { a, b } => mutator::same(heap.main_mut(), *a, *b, out),
+        Command::Alike { x, y } => mutator::alike(heap.main_mut(), *x, *y, out),
+        Command::Shape { x } => mutator::shape(heap.main_mut(), script, *x, out),
+        Command::Scavenge => {
+            scavenge(heap);
+            Ok(())
+        }
         _ => unreachable!(),
     }
 }

@@ -202,10 +202,13 @@ module _ {old new : Mutator} {graph : Graph} {at slot count : ℕ} {list : ListO
   box_shown =
       written_elements_show old new graph list cell others [] becomes.after known.shows known.is.object
       known.shown.carries known.shown.shows becomes.are_new
-      (ap (λ (m : Mutator). m.young.space) puts_it ∙ known.shows.tied
-      ∙ sym (ap (λ (m : Mutator). m.seat.space) puts_it))
-      (ap (λ (m : Mutator). m.seat.phase) puts_it ∙ known.shows.quiet) (ap (λ (m : Mutator). m.paths) puts_it)
-      (integer.writes put_it)
+      (record {
+        space = ap (λ (m : Mutator). m.seat.space) puts_it;
+        phase = ap (λ (m : Mutator). m.seat.phase) puts_it;
+        of_young = ap (λ (m : Mutator). m.young.space) puts_it;
+        half = ap (λ (m : Mutator). m.young.half) puts_it;
+      })
+      (ap (λ (m : Mutator). m.paths) puts_it) (integer.writes put_it)
       (element_refills puts_element)
 
   -- each store has as many slots as before

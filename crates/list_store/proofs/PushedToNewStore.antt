@@ -10,7 +10,6 @@ use Rattle.tagged_word.specs.declared.layout.Kind.TheVariants as kind
 use Rattle.tagged_word.proofs.Members.{first_in, rest_in, in_cases}
 use Rattle.page_space.specs.Sizes.{AreWithin}
 use Rattle.page_space.proofs.Starts.{marks_start_is}
-use Rattle.nursery.specs.Young.{Young}
 use Rattle.object_graph.specs.Graphs.{Graph, ListObject}
 use Rattle.object_graph.specs.Meaning.{list_most, relist}
 use Rattle.object_graph.specs.Values.{rep_of}
@@ -51,6 +50,7 @@ use Rattle.object_cells.proofs.OwnSteps.{written_places_stay}
 use Rattle.object_cells.proofs.OwnerWrites.{written_own_keeps_cells, list_owns}
 use Rattle.list_store.specs.Pushes.{CanChange, PushesToNewStore}
 use Rattle.object_cells.proofs.ListChanging.{Changing, changing_store, store_is_no_box, slot_stands, slot_few, list_word}
+use Rattle.object_cells.proofs.RestOfWords.{keeps_regions}
 use Rattle.list_store.proofs.NewStoreWords as of_store
 use Rattle.list_store.proofs.NewStoreWords.{StoreWriting}
 
@@ -272,8 +272,7 @@ module _ {old new : Mutator} {graph : Graph} {at count : ℕ} {list : ListObject
       known.is.object known.shown.carries known.shown.shows
       (pushed_elements_are_new graph list what known.shows.is_graph known.is.object known.is.reached least known.fits
       known.held.reached)
-      (ap (λ (y : Young). y.space) pushes.words.young ∙ known.shows.tied ∙ sym pushes.words.beside.space)
-      (pushes.words.beside.phase ∙ known.shows.quiet) pushes.words.paths writes (element_refills puts_element)
+      (keeps_regions pushes.words.beside pushes.words.young) pushes.words.paths writes (element_refills puts_element)
 
   -- the list has as many slots as the store that was made, and each other object as many as before
   pub to_new_store_becomes : AreWithin old.seat.space.sizes old.seat.space.variables

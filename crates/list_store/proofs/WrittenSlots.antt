@@ -9,7 +9,6 @@ use Rattle.tagged_word.specs.Cells.{store_head, store_slot}
 use Rattle.tagged_word.specs.declared.layout.Kind.TheVariants as kind
 use Rattle.tagged_word.proofs.Members.{first_in, rest_in, one_in}
 use Rattle.page_space.proofs.Starts.{marks_start_is}
-use Rattle.nursery.specs.Young.{Young}
 use Rattle.object_graph.specs.Graphs.{Graph, ListObject}
 use Rattle.object_graph.specs.Meaning.{relist}
 use Rattle.object_graph.specs.Values.{rep_of}
@@ -53,6 +52,7 @@ use Rattle.object_cells.proofs.OwnSteps.{written_places_stay}
 use Rattle.object_cells.proofs.OwnerWrites.{written_own_keeps_cells, list_owns}
 use Rattle.list_store.specs.Pushes.{WritesSlot}
 use Rattle.object_cells.proofs.ListChanging.{Changing, Elements, store_is_no_box, slot_stands, slot_few, list_word}
+use Rattle.object_cells.proofs.RestOfWords.{keeps_regions}
 use Rattle.list_store.proofs.SlotWords as of_slot
 use Rattle.list_store.proofs.SlotWords.{SlotWriting}
 
@@ -269,8 +269,7 @@ module _ {old new : Mutator} {graph : Graph} {at slot count : ℕ} {list : ListO
       written_elements_show old new graph list cell (other ∷ []) made becomes.after known.shows
       known.is.object known.shown.carries known.shown.shows
       becomes.are_new
-      (ap (λ (y : Young). y.space) pushes.words.young ∙ known.shows.tied ∙ sym pushes.words.beside.space)
-      (pushes.words.beside.phase ∙ known.shows.quiet) pushes.words.paths writes (element_refills puts_element)
+      (keeps_regions pushes.words.beside pushes.words.young) pushes.words.paths writes (element_refills puts_element)
 
   -- each store has as many slots as before
   pub slot_keeps : ChangesObject (heap_of old) (heap_of new) cell.at (capacity_at (heap_of old) cell.at)

@@ -1,7 +1,7 @@
 -- A heap in which an object was made and bound shows the graph in which it is.
-use Rattle.std.proofs.Common.{◌≡◌, ℕ, ◌+◌, ◌<◌, ◌≤◌, ◌^◌, List, [], length, Ok, Err, sym}
+use Rattle.std.proofs.Common.{◌≡◌, ℕ, ◌+◌, ◌<◌, ◌≤◌, ◌^◌, List, [], ◌∷◌, length, Ok, Err, sym}
 use Rattle.std.proofs.Common.{refl, ◌∙◌, ap, subst, arith, inl, inr}
-use Rattle.heap_model.specs.Types.{Command, Object, Cell}
+use Rattle.heap_model.specs.Types.{Command, Object, Cell, Held}
 use Rattle.tagged_word.proofs.Members.{first_in}
 use Rattle.object_graph.specs.declared.object.Object.TheVariants.{Weak}
 use Rattle.object_graph.specs.Graphs.{Graph, make}
@@ -14,13 +14,14 @@ use Rattle.graph_laws.proofs.FieldLimits.{ideal_field_limit}
 use Rattle.graph_laws.proofs.GraphsStay.{graphs_stay}
 use Rattle.graph_laws.proofs.NothingNew.{only_made_is_new}
 use Rattle.page_space.specs.Extents.{Space, eden_start, marks_start}
-use Rattle.nursery.specs.Young.{HasRoom}
+use Rattle.nursery.specs.Young.{HasRoom, other_half}
 use Rattle.handle_roots.specs.declared.held.Held.TheVariants as held
 use Rattle.heap_table.specs.declared.phase.Phase.TheVariants.{Quiet}
 use Rattle.heap_table.specs.Seats.{heap_words, RestStays}
 use Rattle.heap_table.specs.Staying.{rest_stays_again}
 use Rattle.heap_model.specs.Heaps.{Heap, HasCell, words_of_cell}
 use Rattle.heap_model.specs.Counting.{CountsEntries}
+use Rattle.heap_model.specs.Collectable.{IsCollectable}
 use Rattle.heap_model.specs.Rooms.{Room, no_room, need_of, rooms_after, with_room}
 use Rattle.heap_model.specs.Showing.{Shows, ShowsObject}
 use Rattle.heap_model.specs.Laws.{IsNoEntryKey, ReachesOneMore, bound}
@@ -29,6 +30,7 @@ use Rattle.heap_model.proofs.ShownObjects.{object_of_shown}
 use Rattle.heap_model.proofs.CountsStay.{HasCountOf, counts_made}
 use Rattle.heap_model.proofs.BoundHeaps.{none_in, bound_moves}
 use Rattle.heap_model.proofs.NewObjects.{new_objects_show}
+use Rattle.heap_model.proofs.StaysCollectable.{own_changes_stay_collectable, bound_stays_collectable}
 use Rattle.write_barrier.specs.MutatorState.{Mutator, heap_of, IsTied, MainShows, reserved, with_table, with_variable}
 use Rattle.write_barrier.specs.Values.{with_range}
 use Rattle.object_cells.specs.Uses.{UsesMore}
@@ -164,6 +166,23 @@ made_counts {old} {new = new} {graph} {x = x} {one = one} {what} shows making ma
     (stands cell words (put.cells.comes cell (first_in cell [])))
     (object_of_shown now (reach (make graph x what)) cell words what made.shows) made.carries made.counts
 
+-- and no cell comes to a page or to the half that is empty
+made_collectable : {old mid filled new : Mutator} {graph : Graph} {x at : ℕ} {one : NewCell} {what : Object}
+    → MainShows old graph → MakesObject old mid filled new x at one → IsSoundNewCell (heap_of old) graph x one what
+    → x < old.seat.space.variables → IsCollectable (heap_of new) (other_half new.young.half)
+made_collectable {old} {new = new} {x = x} {one = one} shows makes made below =
+    let heap : Heap = heap_of old in
+    let now : Heap = with_cell heap one in
+    let refers : Held = held.Ref (next_at heap) in
+    let half : ℕ = other_half old.young.half in
+    let put = with_cell_put shows.shows.whole made.fits made.sound in
+    let with_it = own_changes_stay_collectable heap now [] [] (cell_of (next_at heap) one ∷ []) half shows.shows.whole
+    put.whole.rows put.cells put.own shows.collectable in
+    let bound_too = bound_stays_collectable now x refers half below put.whole with_it in
+    let same : new.young.half ≡ old.young.half = ap (λ (main : Mutator). main.young.half) (made_is makes) in
+    subst (λ h. IsCollectable h (other_half new.young.half)) (sym (bound_heap shows.tied makes))
+    (subst (λ n. IsCollectable (bound now x refers) (other_half n)) (sym same) bound_too)
+
 -- and the command is carried out
 pub making_carried : {old mid filled new : Mutator} {graph : Graph} {command : Command} {x at : ℕ} {one : NewCell}
     {what : Object} (names : List (List ℕ)) → MainShows old graph
@@ -183,6 +202,7 @@ making_carried {old} {new = new} {graph} {command} {x} {at} {one} {what} names s
       quiet = subst (λ (now : Mutator). now.seat.phase ≡ Quiet) (sym whole) shows.quiet;
       shows = shown;
       counts = made_counts shows making makes made below shown;
+      collectable = made_collectable shows makes made below;
     } in
     let filled_one : Mutator = filled_from old at one in
     let within : at + length one.words ≤ marks_start old.seat.space =

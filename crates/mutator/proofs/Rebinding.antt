@@ -13,18 +13,20 @@ use Rattle.graph_laws.proofs.FieldLimits.{ideal_field_limit}
 use Rattle.graph_laws.proofs.GraphsStay.{graphs_stay}
 use Rattle.graph_laws.proofs.NothingNew.{only_made_is_new}
 use Rattle.page_space.specs.Extents.{Space}
-use Rattle.nursery.specs.Young.{HasRoom}
+use Rattle.nursery.specs.Young.{HasRoom, other_half}
 use Rattle.handle_roots.specs.Roots.{FitsHeld, with_root}
 use Rattle.heap_table.specs.declared.phase.Phase.TheVariants.{Quiet}
 use Rattle.heap_table.specs.Seats.{heap_words, RestStays}
 use Rattle.heap_model.specs.Heaps.{Heap, HasCell}
 use Rattle.heap_model.specs.Counting.{CountsEntries}
+use Rattle.heap_model.specs.Collectable.{IsCollectable}
 use Rattle.heap_model.specs.Rooms.{Room, need_of, rooms_after}
 use Rattle.heap_model.specs.Showing.{ShowsHeld, Shows}
 use Rattle.heap_model.specs.Laws.{ReachesNoMore, BindsAnew, bound}
 use Rattle.heap_model.proofs.BoundHeaps.{none_in, bound_moves}
 use Rattle.heap_model.proofs.BoundGraphs.{bindings_show}
 use Rattle.heap_model.proofs.CountsStay.{counts_stay}
+use Rattle.heap_model.proofs.StaysCollectable.{bound_stays_collectable}
 use Rattle.write_barrier.specs.MutatorState.{Mutator, heap_of, IsTied, MainShows, with_variable}
 use Rattle.object_cells.specs.Uses.{UsesMore}
 use Rattle.object_cells.proofs.RestOfWords.{variable_beside}
@@ -104,6 +106,10 @@ rebound_shows {old} {new} {graph} {after} names command text x one shows carried
       shows = subst (λ heap. Shows heap after) (sym (heap_bound x one holds)) bound_shows;
       counts = subst (λ heap. CountsEntries heap after) (sym (heap_bound x one holds))
           (counts_stay shows.shows bound_shows shows.counts anew.objects fewer kept);
+      collectable = subst (λ heap. IsCollectable heap (other_half new.young.half)) (sym (heap_bound x one holds))
+          (subst (λ (half : ℕ). IsCollectable (bound heap x one) (other_half half))
+          (sym (ap (λ (main : Mutator). main.young.half) holds.held))
+          (bound_stays_collectable heap x one (other_half old.young.half) below shows.shows.whole shows.collectable));
     }
 
 -- the command needs no words, and leaves each room

@@ -26,7 +26,8 @@ links_reached graph elements are number link =
 
 -- so the heap shows the graph in which the list has these elements
 pub written_elements_show : WrittenElementsShow
-written_elements_show old new graph list cell others made elements shows there carries shown are regions same writes slots =
+written_elements_show old new graph list cell others made elements shows there carries shown are regions same writes
+    slots =
     let before : Heap = heap_of old in
     let now : Heap = heap_of new in
     let whole = shows.shows.whole in

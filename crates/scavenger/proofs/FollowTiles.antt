@@ -12,16 +12,16 @@ use Rattle.scavenger.specs.Filling.{Tiles, none, next, IsFilled}
 use Rattle.scavenger.proofs.Sums.{one_home_more}
 
 -- what copies with a first one say of it
-record BeginsWith (fixed : Fixed) (from to : ℕ) (home : Home) (homes : List Home) : Type 0 where
-  starts : home.to ≡ from
-  rest : Tiles fixed (home.to + size_of fixed home.from) to homes
+pub record BeginsWith (fixed : Fixed) (from to : ℕ) (home : Home) (homes : List Home) : Type 0 where
+  pub starts : home.to ≡ from
+  pub rest : Tiles fixed (home.to + size_of fixed home.from) to homes
 
 -- no copies end where they begin
-tiles_of_none : {fixed : Fixed} {from to : ℕ} → Tiles fixed from to [] → from ≡ to
+pub tiles_of_none : {fixed : Fixed} {from to : ℕ} → Tiles fixed from to [] → from ≡ to
 tiles_of_none (none at) = refl
 
 -- copies with a first one begin with it
-tiles_begin : {fixed : Fixed} {from to : ℕ} {home : Home} {homes : List Home} → Tiles fixed from to (home ∷ homes)
+pub tiles_begin : {fixed : Fixed} {from to : ℕ} {home : Home} {homes : List Home} → Tiles fixed from to (home ∷ homes)
     → BeginsWith fixed from to home homes
 tiles_begin (next home end homes rest) = record { starts = refl; rest = rest }
 
@@ -55,7 +55,7 @@ tile_within {fixed} from to (first ∷ homes) home tiles there =
     ]
 
 -- one more that stands behind them stands with them
-tiles_push : {fixed : Fixed} (from : ℕ) (homes : List Home) (new : Home) → Tiles fixed from new.to homes
+pub tiles_push : {fixed : Fixed} (from : ℕ) (homes : List Home) (new : Home) → Tiles fixed from new.to homes
     → Tiles fixed from (new.to + size_of fixed new.from) (homes ++ new ∷ [])
 tiles_push {fixed} from [] new tiles =
     let end : ℕ = new.to + size_of fixed new.from in

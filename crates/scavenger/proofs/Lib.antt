@@ -15,6 +15,15 @@ pub mod StartSums
 pub mod StartTargets
 pub mod StartLaid
 pub mod Started
+pub mod CodeChanges
+pub mod LoopTargets
+pub mod LoopFollows
+pub mod CodeSegments
+pub mod LoopGoing
+pub mod LoopRoots
+pub mod LoopCopies
+pub mod LoopSlots
+pub mod EmptiedSegments
 pub mod EndRanges
 pub mod EndWords
 pub mod EndCopies
@@ -27,3 +36,4 @@ pub mod EndPlaces
 pub mod EndStands
 pub mod EndMoved
 pub mod Ended
+pub mod LoopEnds

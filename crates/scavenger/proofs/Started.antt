@@ -170,9 +170,9 @@ may_begin heap half limits whole is_half collectable =
 
 -- a heap that shows a graph may be scavenged
 pub shown_heaps_may_begin : ShownHeapsMayBegin
-shown_heaps_may_begin main graph limits shows young collectable =
+shown_heaps_may_begin main graph limits shows young =
     let half : ℕ = other_half main.young.half in
     let whole = shows.shows.whole in (
       fixed_of (heap_of main) whole.rows half,
-      may_begin (heap_of main) half limits whole (omega arith) collectable,
+      may_begin (heap_of main) half limits whole (omega arith) shows.collectable,
     )

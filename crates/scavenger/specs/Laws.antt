@@ -5,7 +5,6 @@ use Rattle.page_space.specs.RegionLaws.{IsSpace}
 use Rattle.nursery.specs.Young.{IsYoung, turned, other_half}
 use Rattle.heap_table.specs.Seats.{RestStays, heap_words}
 use Rattle.heap_model.specs.Rooms.{Room, HasRooms}
-use Rattle.heap_model.specs.Collectable.{IsCollectable}
 use Rattle.write_barrier.specs.MutatorState.{Mutator, heap_of, MainShows}
 use Rattle.scav_copy.specs.declared.places.Home.{Home}
 use Rattle.scav_copy.specs.Places.{Fixed}
@@ -24,7 +23,6 @@ pub record KeepsGraphs (old new : Mutator) : Type 0 where
 abbrev pub ShownHeapsMayBegin : Type 0
 ShownHeapsMayBegin =
     (main : Mutator) (graph : Graph) → IsSpace main.seat.space → MainShows main graph → IsYoung main.young
-    → IsCollectable (heap_of main) (other_half main.young.half)
     → (fixed : Fixed) × IsBegun (heap_of main) (other_half main.young.half) fixed
 
 -- A scavenge has come to its end: all is done, the words that are left were emptied, and the nursery was turned.

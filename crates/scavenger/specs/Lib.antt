@@ -3,3 +3,4 @@ pub mod Filling
 pub mod Following
 pub mod Scavenged
 pub mod Laws
+pub mod Walking

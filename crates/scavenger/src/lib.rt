@@ -6,8 +6,12 @@
 //! behind another, and each live slot that refers to a cell that is to be copied is to do.
 #![tactic(auto)]
 
+mod emptying;
 mod laws;
+mod scanning;
 mod scavenging;
+mod slots;
+mod spaces;
 
 pub use laws::{laws_of_ends, laws_of_following, laws_of_scavenges, laws_of_slots};
 pub use scavenging::scavenge;

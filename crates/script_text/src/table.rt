@@ -56,7 +56,6 @@ pub(crate) const PLACES_MOST: usize = 3;
 
 /// The commands that are not built.
 pub(crate) const UNBUILT_TODAY: &[Keyword] = &[
-    Keyword::Scavenge,
     Keyword::Mark,
     Keyword::Finish,
     Keyword::Gc,

@@ -8,13 +8,13 @@ use Rattle.object_graph.specs.Paths.{path_of, with_path}
 use Rattle.object_graph.specs.Graphs.{Graph, PlainObject}
 use Rattle.object_graph.specs.Invariants.{IsValue}
 use Rattle.object_graph.specs.Limits.{paths_most}
-use Rattle.nursery.specs.Young.{Young}
+use Rattle.heap_table.specs.Staying.{rest_stays_again}
 use Rattle.shape_tree.specs.Shapes.{shape_path, stepped}
 use Rattle.heap_model.specs.Heaps.{HasCell, words_of_cell}
 use Rattle.heap_model.specs.Kinds.{IsPlainCell}
 use Rattle.heap_model.specs.Showing.{ShowsPlain}
 use Rattle.heap_model.proofs.CellsApart.{one_at}
-use Rattle.write_barrier.specs.MutatorState.{Mutator, heap_of, IsTied, MainShows, reserved}
+use Rattle.write_barrier.specs.MutatorState.{Mutator, heap_of, MainShows, reserved}
 use Rattle.object_cells.specs.PlainObjects.{IsPlainAt, LacksFields, ShowsRefilled}
 use Rattle.object_cells.specs.HeldValues.{IsValueHeld}
 use Rattle.object_cells.specs.Refills.{AreNewFields}
@@ -30,6 +30,7 @@ use Rattle.object_cells.proofs.HeldContents.{held_rep_is}
 use Rattle.shape_change.proofs.AddedFields.{new_field, with_field-new, path_of-push}
 use Rattle.shape_change.proofs.AddedSlots.{AddsSlot, added_refills}
 use Rattle.object_cells.proofs.RefilledHeaps.{written_fields_show}
+use Rattle.object_cells.proofs.RestOfWords.{keeps_regions}
 
 -- What is known of a plain object of a graph to which a field of a new name may come: its cell, its fields, their
 -- path, and that with the field.
@@ -128,12 +129,10 @@ added_shows {old} {mid} {new} {graph} {plain} {header = header} {name} {value} {
     ap (λ paths. with_path (Some paths_most) paths (path_of plain.cap fields)) (sym known.shows.shows.paths)
     ∙ ap (with_path (Some paths_most) old.paths) of_path ∙ path.leads.added
     ∙ ap (λ paths. Some paths) (sym puts.paths) in
-    let tied : IsTied new =
-    ap (λ (y : Young). y.space) (puts.young ∙ path.young) ∙ known.shows.tied
-    ∙ sym (puts.beside.space ∙ path.beside.space) in
+    let beside = rest_stays_again old.seat mid.seat new.seat path.beside puts.beside in
     subst (ShowsRefilled new graph plain) (sym with)
     (written_fields_show old new graph plain known.cell next others made fields known.shows known.is.object
     known.carries
-    known.caps known.shown (subst (AreNewFields graph) with are) added tied
-    (puts.beside.phase ∙ path.beside.phase ∙ known.shows.quiet)
+    known.caps known.shown (subst (AreNewFields graph) with are) added
+    (keeps_regions beside (puts.young ∙ path.young))
     writes (added_refills adds))

@@ -36,6 +36,7 @@ use Rattle.object_cells.proofs.NewFields.{rest_of_fields_are_new}
 use Rattle.object_cells.proofs.RefilledHeaps.{written_fields_show}
 use Rattle.object_cells.proofs.OwnCapacities.{object_keeps}
 use Rattle.object_cells.proofs.OwnerWrites.{plain_owns}
+use Rattle.object_cells.proofs.RestOfWords.{keeps_regions}
 use Rattle.shape_change.proofs.FullPaths.{full_of_paths}
 use Rattle.shape_change.proofs.DeletedSlots.{Deleting}
 use Rattle.shape_change.proofs.DeletedCame.{slot_stays}
@@ -112,12 +113,11 @@ field_less old new graph object plain header slot name shows is header_at found 
     (path_of plain.cap (without_field plain.fields name))) (sym shows.shows.paths)
     ∙ ap (with_path (Some paths_most) old.paths)
     (sym (path_less old graph object plain header slot name shows is header_at found)) ∙ taken.leads.added in
-    let tied = ap (λ (young : Young). young.space) taken.young ∙ shows.tied ∙ sym taken.beside.space in
     written_fields_show old new graph plain cell deleting.taken.next (others_of deleting) []
     (without_field plain.fields name)
     shows is.object shown.carries shown.cap shown.shows
-    (rest_of_fields_are_new graph plain name shows.is_graph is.object is.reached) added tied
-    (taken.beside.phase ∙ shows.quiet)
+    (rest_of_fields_are_new graph plain name shows.is_graph is.object is.reached) added
+    (keeps_regions taken.beside taken.young)
     (deleted_writes deleting) (deleted_refills name deleting less)
 
 -- a field that was found is taken out, or there are too many paths

@@ -11,16 +11,16 @@ use Rattle.object_graph.specs.Limits.{paths_most}
 use Rattle.page_space.specs.Extents.{layouts_start}
 use Rattle.shape_tree.specs.Shapes.{IsShapeOf}
 use Rattle.cell_layout.specs.Cells.{IsRow}
-use Rattle.heap_table.specs.declared.phase.Phase.TheVariants.{Quiet}
 use Rattle.heap_table.specs.Seats.{heap_words}
 use Rattle.heap_model.specs.Heaps.{words_of_cell}
 use Rattle.heap_model.specs.Needs.{capacity_at}
 use Rattle.heap_model.specs.Showing.{ShowsPlain}
 use Rattle.heap_model.proofs.CellsApart.{first_of_cell}
 use Rattle.nursery.specs.Young.{Young}
-use Rattle.write_barrier.specs.MutatorState.{Mutator, heap_of, IsTied}
+use Rattle.write_barrier.specs.MutatorState.{Mutator, heap_of}
 use Rattle.object_cells.specs.PlainObjects.{ShowsRefilled}
 use Rattle.object_cells.specs.Refills.{AreNewFields}
+use Rattle.object_cells.specs.Uses.{KeepsRegions}
 use Rattle.object_cells.specs.Capacities.{ChangesObject}
 use Rattle.object_cells.specs.Contents.{next_at}
 use Rattle.object_cells.proofs.OwnerWrites.{plain_owns, written_own_keeps_cells}
@@ -100,13 +100,15 @@ field_shown {old} {new = new} {graph} {slot = slot} {next} {plain = plain} {what
     let shown = subst (λ n. ShowsPlain heap s.cell (words_of_cell heap s.cell) n plain.fields) s.cap s.shown in
     let added = ap (λ paths. with_path (Some paths_most) paths (path_of plain.cap fields)) (sym s.shows.shows.paths)
     ∙ shape.added in
-    let space : new.seat.space ≡ old.seat.space = puts.beside.space ∙ ready.space in
-    let tied : IsTied new =
-    ap (λ (y : Young). y.space) (puts.young ∙ ready.young) ∙ s.shows.tied ∙ sym space in
-    let quiet : new.seat.phase ≡ Quiet = puts.beside.phase ∙ ready.phase ∙ s.shows.quiet in
+    let regions : KeepsRegions old new = record {
+      space = puts.beside.space ∙ ready.space;
+      phase = puts.beside.phase ∙ ready.phase;
+      of_young = ap (λ (y : Young). y.space) (puts.young ∙ ready.young);
+      half = ap (λ (y : Young). y.half) (puts.young ∙ ready.young);
+    } in
     record {
       shows = subst (ShowsRefilled new graph plain) (sym same)
           (written_fields_show old new graph plain s.cell next others made fields s.shows s.is.object s.carries s.cap
-          shown new_fields added tied quiet sets.puts.writes (refills_slots sets fills));
+          shown new_fields added regions sets.puts.writes (refills_slots sets fills));
       changes = one_keeps sets.puts fills.belong fills.kinds;
     }

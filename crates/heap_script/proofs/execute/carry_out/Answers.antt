@@ -1,10 +1,11 @@
-use Rattle.std.proofs.Common.{◌∙◌, ap, refl}
-use Rattle.write_barrier.specs.MutatorState.{MainShows}
-use Rattle.collector.specs.States.{HeapState}
-use Rattle.mutator.specs.CarriesOut.{field_numbers}
-use Rattle.heap_script.proofs.Carrying.{refused, still_lacks}
-use Rattle.heap_script.proofs.Running.{same_heap}
+use Rattle.std.proofs.Common.{◌≡◌, ◌∙◌, refl}
+use Rattle.mutator.specs.declared.stop.Stop.TheVariants.{NoRoom}
+use Rattle.heap_script.proofs.Retrying.{IsReady, ready_shows, ready_space, was_first, refused_always, unchanged_first}
+use Rattle.heap_script.proofs.Retrying.{scavenged_for, made_room, fewer_tries, gives_up, carried_at}
 use Rattle.heap_script.proofs.execute.carry_out.Goals as goal
+
+pub tries-init : goal.tries-init
+tries-init c = record { ready = IsReady.first refl; objects = refl; out = refl }
 
 pub execute-requires : goal.execute-requires
 execute-requires c =
@@ -12,8 +13,8 @@ execute-requires c =
     let (graph, shown, made) = c.requires.shown in
     record {
       built = c.requires.built;
-      shown = (graph, rw (c.main_mut.ensures.main, now.heap) shown.main, now.objects ∙ made);
-      within = rw (c.main_mut.ensures.main, now.heap) c.requires.within;
+      shown = (graph, ready_shows now.ready shown, now.objects ∙ made);
+      within = rw (ready_space now.ready) c.requires.within;
       few = rw now.objects c.requires.few;
       short = c.requires.short;
       room = rw now.out c.requires.room;
@@ -22,58 +23,73 @@ execute-requires c =
 pub ensure_room-requires : goal.ensure_room-requires
 ensure_room-requires c =
     let now = c.tries.invariant in
+    let names = c.args.script.now.fields in
     let (graph, shown, made) = c.requires.shown in
-    let lent = c.main_mut.result.now in
-    let shows : MainShows lent graph = rw (c.main_mut.ensures.main, now.heap) shown.main in
-    let (text, carries, out-is) = c.in-Err-NoRoom.ensures.carried graph shows (now.objects ∙ made) in
-    let told = refused c.args.script.now.fields lent c.execute.new.main graph field_numbers c.args.command.now text
-    c.in-Err-NoRoom.need shows (rw (c.main_mut.ensures.main, now.heap) c.requires.within)
-    (rw c.in-Err-NoRoom.field-0-is at carries) in
-    record { some = told.some; few = told.few }
+    let told = refused_always names c.execute.new.heap now.ready now.objects c.requires.within c.in-NoRoom.is c.in-Err.ensures.carried
+    graph shown made in
+    let same = unchanged_first names c.execute.new.heap now.ready now.objects c.requires.within c.in-NoRoom.is c.in-Err.ensures.carried
+    c.in-Err.ensures.spare c.requires.shown in
+    record { some = told.some; few = told.few; shown = (graph, rw same shown) }
 
 pub tries-preserved : goal.tries-preserved
 tries-preserved c =
     let now = c.tries.invariant in
+    let names = c.args.script.now.fields in
     let (graph, shown, made) = c.requires.shown in
-    let lent = c.main_mut.result.now in
-    let shows : MainShows lent graph = rw (c.main_mut.ensures.main, now.heap) shown.main in
-    let (text, carries, out-is) = c.in-Err-NoRoom.ensures.carried graph shows (now.objects ∙ made) in
-    let told = refused c.args.script.now.fields lent c.execute.new.main graph field_numbers c.args.command.now text
-    c.in-Err-NoRoom.need shows (rw (c.main_mut.ensures.main, now.heap) c.requires.within)
-    (rw c.in-Err-NoRoom.field-0-is at carries) in
+    let told = refused_always names c.execute.new.heap now.ready now.objects c.requires.within c.in-NoRoom.is c.in-Err.ensures.carried in
+    let same = unchanged_first names c.execute.new.heap now.ready now.objects c.requires.within c.in-NoRoom.is c.in-Err.ensures.carried
+    c.in-Err.ensures.spare c.requires.shown in
+    let gone = c.ensure_room.ensures in
+    let one = told graph shown made in
+    let scavenged = scavenged_for same one gone.scavenged gone.shows gone.rooms gone.spare in
+    let (text, tries, out-is) = c.in-Err.ensures.carried graph (ready_shows now.ready shown) (now.objects ∙ made) in
     record {
-      heap = c.ensure_room.ensures.same
-          ∙ same_heap c.tries.heap (record { main = c.execute.new.main; spare = c.tries.heap.spare })
-          (told.same ∙ c.main_mut.ensures.main) refl
-          ∙ now.heap;
-      objects = c.in-Err-NoRoom.ensures.uncounted refl ∙ now.objects;
+      ready = IsReady.again (made_room scavenged one.apart told (gone.room.0 c.if-not-ensure_room.false));
+      objects = c.in-Err.ensures.uncounted refl ∙ now.objects;
       out = out-is ∙ now.out;
     }
 
 pub tries-smaller : goal.tries-smaller
 tries-smaller c =
     let now = c.tries.invariant in
+    let names = c.args.script.now.fields in
     let (graph, shown, made) = c.requires.shown in
-    let lent = c.main_mut.result.now in
-    let shows : MainShows lent graph = rw (c.main_mut.ensures.main, now.heap) shown.main in
-    let (text, carries, out-is) = c.in-Err-NoRoom.ensures.carried graph shows (now.objects ∙ made) in
-    let told = refused c.args.script.now.fields lent c.execute.new.main graph field_numbers c.args.command.now text
-    c.in-Err-NoRoom.need shows (rw (c.main_mut.ensures.main, now.heap) c.requires.within)
-    (rw c.in-Err-NoRoom.field-0-is at carries) in
-    let same = ap (λ (heap : HeapState). heap.main) c.ensure_room.ensures.same in
-    absurd (still_lacks lent c.execute.new.main c.ensure_room.new.heap.main c.in-Err-NoRoom.need told same
-    (c.ensure_room.ensures.room c.if-not-ensure_room.false))
+    let one = refused_always names c.execute.new.heap now.ready now.objects c.requires.within c.in-NoRoom.is c.in-Err.ensures.carried
+    graph shown made in
+    let first = was_first names c.execute.new.heap now.ready now.objects c.requires.within c.in-NoRoom.is c.in-Err.ensures.carried
+    c.requires.shown in
+    let same = unchanged_first names c.execute.new.heap now.ready now.objects c.requires.within c.in-NoRoom.is c.in-Err.ensures.carried
+    c.in-Err.ensures.spare c.requires.shown in
+    let gone = c.ensure_room.ensures in
+    fewer_tries first (scavenged_for same one gone.scavenged gone.shows gone.rooms gone.spare)
 
 pub returns-then-not-ensure_room-clause-carried : goal.returns-then-not-ensure_room-clause-carried
 returns-then-not-ensure_room-clause-carried c = λ graph shown made.
     let now = c.tries.invariant in
-    let shows : MainShows c.main_mut.result.now graph = rw (c.main_mut.ensures.main, now.heap) shown.main in
-    let (text, carries, out-is) = c.in-Err-NoRoom.ensures.carried graph shows (now.objects ∙ made) in
-    let refusal = rw c.in-Err-NoRoom.field-0-is at carries in
-    (text, rw c.ensure_room.ensures.same (rw (c.main_mut.ensures.main, now.heap) at refusal), out-is ∙ now.out)
+    let names = c.args.script.now.fields in
+    let one = refused_always names c.execute.new.heap now.ready now.objects c.requires.within c.in-NoRoom.is c.in-Err.ensures.carried
+    graph shown made in
+    let same = unchanged_first names c.execute.new.heap now.ready now.objects c.requires.within c.in-NoRoom.is c.in-Err.ensures.carried
+    c.in-Err.ensures.spare c.requires.shown in
+    let gone = c.ensure_room.ensures in
+    let scavenged = scavenged_for same one gone.scavenged gone.shows gone.rooms gone.spare in
+    let (text, tries, out-is) = c.in-Err.ensures.carried graph (ready_shows now.ready shown) (now.objects ∙ made) in
+    let kept = gives_up scavenged shown one tries c.in-NoRoom.is (λ has. let granted = gone.room.1 has in cc) in
+    (text, kept, out-is ∙ now.out)
 
-pub returns-in_default-2-clause-carried : goal.returns-in_default-2-clause-carried
-returns-in_default-2-clause-carried c = λ graph shown made.
+pub returns-in_default-clause-carried : goal.returns-in_default-clause-carried
+returns-in_default-clause-carried c = λ graph shown made.
     let now = c.tries.invariant in
-    let shows : MainShows c.main_mut.result.now graph = rw (c.main_mut.ensures.main, now.heap) shown.main in
-    rw (c.main_mut.ensures.main, now.heap, now.out) at (c.execute.ensures.carried graph shows (now.objects ∙ made))
+    let (text, tries, out-is) = c.in_default.ensures.carried graph (ready_shows now.ready shown) (now.objects ∙ made) in
+    (text, carried_at now.ready shown made (λ need is. cc) tries, rw now.out at out-is)
+
+pub returns-in_default-stop-clause-carried : goal.returns-in_default-stop-clause-carried
+returns-in_default-stop-clause-carried c = λ graph shown made.
+    let now = c.tries.invariant in
+    let (text, tries, out-is) = c.in-Err.ensures.carried graph (ready_shows now.ready shown) (now.objects ∙ made) in
+    (
+      text,
+      carried_at now.ready shown made
+          (λ need is. let same : c.in-Err.stop ≡ NoRoom need = cc in c.in_default-stop.not-NoRoom need same) tries,
+      out-is ∙ now.out,
+    )

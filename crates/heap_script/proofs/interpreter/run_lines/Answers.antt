@@ -8,9 +8,9 @@ use Rattle.write_barrier.specs.MutatorState.{heap_of}
 use Rattle.heap_script.proofs.Ways.{goes_on, past_end}
 use Rattle.heap_script.specs.Runs.{OutputHolds, IsDue}
 use Rattle.heap_script.proofs.Handing.{CutsOff-handed}
-use Rattle.heap_script.proofs.Running.{next-drop, same_heap, same_space, Running-start, Running-handed}
-use Rattle.heap_script.proofs.Running.{Running-line, TellsAt-line}
-use Rattle.heap_script.proofs.Ending.{EndsRun-end, EndsRun-limit, EndsRun-line, Pauses-stopped, same-line}
+use Rattle.heap_script.proofs.Running.{next-drop, Running-start, Running-handed}
+use Rattle.heap_script.proofs.LineCarried.{same_space, Running-line, TellsAt-line}
+use Rattle.heap_script.proofs.Ending.{EndsRun-end, EndsRun-limit, Pauses-line, stopped-line}
 use Rattle.heap_script.proofs.interpreter.run_lines.Goals as goal
 
 pub loop-at-init : goal.loop-at-init
@@ -124,18 +124,14 @@ returns-in-Err g c =
     let graph = r.reached.so_far.graph in
     let after = c.execute_line.new.heap in
     let (text, carries, out-is) = c.in-Err.ensures.carried graph r.shown r.made in
-    let same = same_heap heap after (same-line script.fields heap.main after.main graph _ text c.in-Err.stop carries)
-    c.in-Err.ensures.spare in
-    let comes = EndsRun-line script heap.main after.main _ n line.number _ _ text c.in-Err.stop r.shown.main.tied
-    r.reached
-    below goes carries in
+    let (shows, space) = stopped-line script.fields heap after graph _ text c.in-Err.stop r.shown c.in-Err.ensures.spare
+    carries in
     record {
-      pauses = rw (same, out-is, c.stopped.ensures)
-          (Pauses-stopped script (heap_of heap.main) c.flush_if_full.new.out n line.number c.in-Err.stop _ _ _ _ r.reached
-          r.spends comes
-          r.handed (c.in-Ok.ensures.steady ∙ c.loop-at.invariant.steady));
-      shows = rw same (graph, r.shown);
-      space = rw same c.loop-at.invariant.space;
+      pauses = rw (out-is, c.stopped.ensures)
+          (Pauses-line script heap after _ c.flush_if_full.new.out _ _ c.loop-at.at _ c.loop-at.turns _ n line.number _ text
+          c.in-Err.stop _ _ r below goes carries (c.in-Ok.ensures.steady ∙ c.loop-at.invariant.steady));
+      shows = (graph, shows);
+      space = space ∙ c.loop-at.invariant.space;
     }
 
 pub loop-at-preserved : goal.loop-at-preserved

@@ -1,0 +1,146 @@
+-- A run behind a line that was executed, whose command may have found the heap scavenged.
+use Rattle.std.proofs.Common.{◌≡◌, ℕ, ◌+◌, ◌<◌, ◌≤◌, List, [], ◌++◌, Option, Some, None, Ok, Err, ◌↔◌}
+use Rattle.std.proofs.Common.{refl, sym, ap, subst, ◌∙◌, add-zero, append-nil, arith}
+use Rattle.heap_model.specs.Types.{Command}
+use Rattle.object_graph.specs.Graphs.{Graph}
+use Rattle.object_graph.specs.Run.{Told, told_with, lines_most}
+use Rattle.script_text.specs.Scripts.{ScriptText}
+use Rattle.script_text.specs.Unrolled.{executed, executed_lines}
+use Rattle.script_text.specs.Left.{Goes}
+use Rattle.page_space.specs.Extents.{Space}
+use Rattle.heap_model.specs.Heaps.{Heap}
+use Rattle.heap_model.specs.Showing.{Shows}
+use Rattle.nursery.specs.Young.{Young}
+use Rattle.write_barrier.specs.MutatorState.{Mutator, heap_of, MainShows}
+use Rattle.scavenger.specs.Scavenged.{Scavenges}
+use Rattle.scavenger.specs.Laws.{KeepsGraphs}
+use Rattle.collector.specs.States.{HeapState}
+use Rattle.collector.proofs.Keeping.{same_heap, still_shows}
+use Rattle.heap_script.specs.Collecting.{Collects}
+use Rattle.heap_script.specs.Runs.{left_after, RanTo, Spends, IsCollected, TellsAt}
+use Rattle.heap_script.specs.Progress.{made_by, CarriesLine}
+use Rattle.heap_script.proofs.Running.{Running, Running-passed, Running-carried, next-drop, said-next, takes_space}
+
+-- what a command finds has the regions that there were
+pub found_space : {old mid : Mutator} {graph : Graph} {command : Command} → Collects old mid graph command
+    → mid.seat.space ≡ old.seat.space
+found_space (Collects.asked is scavenges) = scavenges.seat.space
+found_space (Collects.unchanged apart same) = ap (λ (main : Mutator). main.seat.space) same
+found_space (Collects.for_room apart lacks scavenges) = scavenges.seat.space
+
+-- what a scavenge leaves of a heap that shows a graph
+collected_by : {old new : Mutator} {graph : Graph} → Scavenges old new → KeepsGraphs old new → MainShows old graph
+    → IsCollected (heap_of old) (heap_of new) graph
+collected_by {graph = graph} scavenges keeps shows =
+    let survivors = ap (λ (young : Young). young.survivors) scavenges.young in
+    record {
+      space = scavenges.seat.space;
+      rooms = λ rooms. keeps.rooms graph rooms shows;
+      emptied = ap (λ (young : Young). young.used) scavenges.young;
+      few = omega (arith, survivors, scavenges.few);
+    }
+
+-- the run has come as far on another heap with these regions, which shows the graph
+abbrev reached_on : {script : ScriptText} {old mid : Heap} {n : ℕ} → (r : RanTo script old n) → mid.space ≡ old.space
+    → Shows mid r.so_far.graph → RanTo script mid n
+reached_on r space shows = record {
+  within = r.within;
+  few = r.few;
+  variables = ap (λ (space : Space). space.variables) space ∙ r.variables;
+  so_far = r.so_far;
+  said = r.said;
+  shown = shows;
+}
+
+-- it has spent what it had spent, and may have been scavenged
+pub spends_on : {script : ScriptText} {old mid : Mutator} {n : ℕ} {command : Command} → (r : RanTo script (heap_of old) n)
+    → Spends script (heap_of old) n → Collects old mid r.so_far.graph command → KeepsGraphs old mid
+    → MainShows old r.so_far.graph → RanTo script (heap_of mid) n → Spends script (heap_of mid) n
+spends_on {old = old} {mid} {n} r spends (Collects.asked is scavenges) keeps shows reached =
+    Spends.collected (heap_of old) (heap_of mid) n spends r reached (collected_by scavenges keeps shows)
+spends_on {script} {n = n} r spends (Collects.unchanged apart same) keeps shows reached =
+    subst (λ (main : Mutator). Spends script (heap_of main) n) (sym same) spends
+spends_on {old = old} {mid} {n} r spends (Collects.for_room apart lacks scavenges) keeps shows reached =
+    Spends.collected (heap_of old) (heap_of mid) n spends r reached (collected_by scavenges keeps shows)
+
+-- the heap with another mutator's side
+abbrev pub heap_with : HeapState → Mutator → HeapState
+heap_with heap main = record heap { main = main }
+
+-- between two lines, on the heap as the next command finds it
+abbrev pub Running-found : {script : ScriptText} {heap : HeapState} {mid : Mutator} {objects : ℕ} {waiting : List ℕ}
+    {old new : List ℕ → Type 0} {at : ℕ} {ts : List ℕ} {n : ℕ} {command : Command}
+    → (r : Running script heap objects waiting old new at ts n)
+    → Collects heap.main mid r.reached.so_far.graph command → KeepsGraphs heap.main mid
+    → Running script (heap_with heap mid) objects waiting old new at ts n
+Running-found {heap = heap} {mid} r collects keeps =
+    let graph = r.reached.so_far.graph in
+    let shows = keeps.shows graph r.shown.main in
+    let reached = reached_on r.reached (found_space collects) shows.shows in
+    record {
+      reached = reached;
+      spends = spends_on r.reached r.spends collects keeps r.shown.main reached;
+      shown = still_shows heap (heap_with heap mid) graph r.shown refl (found_space collects) shows;
+      left = r.left;
+      handed = r.handed;
+      made = r.made;
+      few = r.few;
+    }
+
+-- a line that was executed leaves the regions as they were
+pub same_space : (heap after : HeapState) (graph : Graph) (command : Option Command) (names : List (List ℕ))
+    (text : List ℕ) → MainShows heap.main graph
+    → CarriesLine names heap.main after.main graph command text (Ok tt) → after.main.seat.space ≡ heap.main.seat.space
+same_space heap after graph None names text shows (same, nothing, is) = ap (λ (m : Mutator). m.seat.space) same
+same_space heap after graph (Some command) names text shows carries =
+    let (next, does-is, shown, takes) = carries.carries in
+    takes_space command (carries.keeps.shows graph shows) takes ∙ found_space carries.collects
+
+-- a line was executed
+pub Running-line : (script : ScriptText) (heap after : HeapState) (objects : ℕ) (waiting : List ℕ)
+    (old new : List ℕ → Type 0) (at at' : ℕ) (ts ts' : List ℕ) (n number : ℕ) (command : Option Command)
+    (text : List ℕ)
+    → (r : Running script heap objects waiting old new at ts n) → n < lines_most
+    → Goes script.lines at' ts' (left_after script n) (executed number command)
+    → after.spare ≡ heap.spare
+    → CarriesLine script.fields heap.main after.main r.reached.so_far.graph command text (Ok tt)
+    → Running script after (objects + made_by command) (waiting ++ text) old new at' ts' (n + 1)
+Running-line script heap after objects waiting old new at at' ts ts' n number None text r below goes spare
+    (same, nothing, is) =
+    let passed = Running-passed script heap objects waiting old new at at' ts ts' n number r below goes in
+    rw (same_heap heap after same spare, nothing, append-nil, add-zero) passed
+Running-line script heap after objects waiting old new at at' ts ts' n number (Some command) text r below goes spare
+    carries =
+    let there = heap_with heap carries.mid in
+    let found = Running-found r carries.collects carries.keeps in
+    Running-carried script there after objects waiting old new at at' ts ts' n number command text found below goes
+    spare carries.carries
+
+-- and it told its text
+pub TellsAt-line : (script : ScriptText) (heap : Heap) (old new : Mutator) (at' : ℕ) (ts' : List ℕ) (n number : ℕ)
+    (command : Option Command) (text : List ℕ) → (r : RanTo script heap n)
+    → Goes script.lines at' ts' (left_after script n) (executed number command)
+    → CarriesLine script.fields old new r.so_far.graph command text (Ok tt) → TellsAt script n text
+TellsAt-line script heap old new at' ts' n number None text r goes (same, nothing, is) =
+    let line = executed number None in
+    let next = next-drop (executed_lines script.lines) n line goes.rest goes.is in
+    rw nothing
+    (record {
+      before = r.so_far;
+      said_before = r.said;
+      after = r.so_far;
+      said_after = said-next script n r.so_far r.so_far line goes.rest next r.said refl;
+      adds = sym (append-nil r.so_far.bytes);
+    })
+TellsAt-line script heap old new at' ts' n number (Some command) text r goes carries =
+    let (graph, does-is, shown, takes) = carries.carries in
+    let line = executed number (Some command) in
+    let next = next-drop (executed_lines script.lines) n line goes.rest goes.is in
+    let later : Told = record { graph = graph; bytes = r.so_far.bytes ++ text } in
+    record {
+      before = r.so_far;
+      said_before = r.said;
+      after = later;
+      said_after = said-next script n r.so_far later line goes.rest next r.said (ap (told_with r.so_far) does-is);
+      adds = refl;
+    }

@@ -1,0 +1,233 @@
+-- A heap on which a command is tried: it is as it was, or a scavenge made room for the command.
+use Rattle.std.proofs.Common.{◌≡◌, ◌≢◌, ◌∙◌, ℕ, ◌-◌, ◌<◌, List, Bool, true, false, length, Result, Ok, Err, if◌then◌else◌}
+use Rattle.std.proofs.Common.{ap, arith, sym, subst, refl}
+use Rattle.std.specs.Prelude.{◌==◌}
+use Rattle.std.proofs.lemmas.Bool.Decides.{nat_tests}
+use Rattle.heap_model.specs.Types.{Command}
+use Rattle.heap_command.specs.declared.command.Command.TheVariants.{Scavenge}
+use Rattle.heap_command.specs.Commands.{IsWithin}
+use Rattle.object_graph.specs.Graphs.{Graph}
+use Rattle.page_space.specs.Extents.{Space}
+use Rattle.heap_model.specs.Rooms.{Room, HasRooms, need_of}
+use Rattle.heap_model.proofs.ShownRooms.{shown_objects_have_rooms}
+use Rattle.nursery.specs.Young.{Young, HasRoom, other_half}
+use Rattle.write_barrier.specs.MutatorState.{Mutator, heap_of, MainShows}
+use Rattle.scavenger.specs.Scavenged.{Scavenges}
+use Rattle.scavenger.specs.Laws.{KeepsGraphs}
+use Rattle.collector.specs.States.{HeapState, HeapShows, Spare}
+use Rattle.collector.proofs.Keeping.{same_heap}
+use Rattle.mutator.specs.declared.stop.Stop.{Stop}
+use Rattle.mutator.specs.declared.stop.Stop.TheVariants.{NoRoom}
+use Rattle.mutator.specs.CarriesOut.{Carries, field_numbers}
+use Rattle.heap_script.specs.Collecting.{LacksWords, Finds, Collects, Tries, CarriesAtLast}
+use Rattle.heap_script.proofs.Carrying.{IsRefused, refused}
+
+-- a scavenge leads from one heap to another, which shows each graph that was shown, with the same memory for an image
+pub record IsScavenged (old new : HeapState) : Type 0 where
+  pub scavenges : Scavenges old.main new.main
+  pub shows : (graph : Graph) → HeapShows old graph → HeapShows new graph
+  pub keeps : KeepsGraphs old.main new.main
+  pub spare : new.spare ≡ old.spare
+
+-- The heap, which has so many objects, was scavenged for this command, since there was no room for it, and now there is.
+pub record MadeRoom (old now : HeapState) (objects : ℕ) (command : Command) : Type 0 where
+  pub apart : command ≢ Scavenge
+  pub scavenged : IsScavenged old now
+  pub lacks : (graph : Graph) → HeapShows old graph → objects ≡ length graph.objects
+      → LacksWords old.main graph command
+  pub room : (graph : Graph) (rooms : ℕ → Room) → HeapShows old graph → objects ≡ length graph.objects
+      → HasRooms (heap_of now.main) graph rooms → HasRoom now.main.young (need_of graph rooms command)
+
+-- the heap at a try: as it was, or with room that was made
+pub data IsReady (old now : HeapState) (objects : ℕ) (command : Command) : Type 0 where
+  first : now ≡ old → IsReady old now objects command
+  again : MadeRoom old now objects command → IsReady old now objects command
+
+-- how many more tries there may be: none once the half of the survivors was turned
+abbrev pub tries_left : HeapState → HeapState → ℕ
+tries_left old now = if now.main.young.half == old.main.young.half then 1 else 0
+
+-- a heap at a try shows what was shown
+pub ready_shows : {old now : HeapState} {objects : ℕ} {command : Command} {graph : Graph}
+    → IsReady old now objects command → HeapShows old graph → HeapShows now graph
+ready_shows {graph = graph} (IsReady.first same) shown = subst (λ (heap : HeapState). HeapShows heap graph) (sym same) shown
+ready_shows {graph = graph} (IsReady.again made) shown = made.scavenged.shows graph shown
+
+-- it has the regions that there were
+pub ready_space : {old now : HeapState} {objects : ℕ} {command : Command} → IsReady old now objects command
+    → now.main.seat.space ≡ old.main.seat.space
+ready_space (IsReady.first same) = ap (λ (heap : HeapState). heap.main.seat.space) same
+ready_space (IsReady.again made) = made.scavenged.scavenges.seat.space
+
+-- and the memory for an image
+pub ready_spare : {old now : HeapState} {objects : ℕ} {command : Command} → IsReady old now objects command
+    → now.spare ≡ old.spare
+ready_spare (IsReady.first same) = ap (λ (heap : HeapState). heap.spare) same
+ready_spare (IsReady.again made) = made.scavenged.spare
+
+-- no command is refused where room was made for it
+no_third : {old now : HeapState} {new : Mutator} {objects need : ℕ} {command : Command} {graph : Graph}
+    → MadeRoom old now objects command → HeapShows old graph → objects ≡ length graph.objects
+    → IsRefused now.main new graph command need → ⊥
+no_third {now = now} {graph = graph} made shown counted told =
+    let shows = (made.scavenged.shows graph shown).main.shows in
+    let (rooms, has) = shown_objects_have_rooms (heap_of now.main) graph shows in
+    told.lacks (subst (HasRoom now.main.young) (sym (told.needs rooms has)) (made.room graph rooms shown counted has))
+
+-- a command that is refused is tried for the first time
+at_first : {old now : HeapState} {new : Mutator} {objects need : ℕ} {command : Command} {graph : Graph}
+    → IsReady old now objects command → HeapShows old graph → objects ≡ length graph.objects
+    → IsRefused now.main new graph command need → now ≡ old
+at_first (IsReady.first same) shown counted told = same
+at_first (IsReady.again made) shown counted told = absurd (no_third made shown counted told)
+
+module _ (names : List (List ℕ)) {old now : HeapState} (after : HeapState) {objects counted need : ℕ} {command : Command}
+    {stop : Stop} {Rest : Type 0} (ready : IsReady old now objects command) (same : counted ≡ objects)
+    (within : IsWithin old.main.seat.space.variables field_numbers command) (is : stop ≡ NoRoom need)
+    (carried : (graph : Graph) → HeapShows now graph → counted ≡ length graph.objects
+    → (text : List ℕ) × Tries names now.main after.main graph command text (Err stop) × Rest) where
+  -- a command that was tried and stopped for want of room was refused
+  refused_now : (graph : Graph) → HeapShows old graph → objects ≡ length graph.objects
+      → IsRefused now.main after.main graph command need
+  refused_now graph shown made =
+      let shows = ready_shows ready shown in
+      let (text, tries, rest) = carried graph shows (same ∙ made) in
+      refused names old.main.seat.space.variables field_numbers shows.main within
+      (subst (λ (stop : Stop). Tries names now.main after.main graph command text (Err stop)) is tries)
+
+  -- so it was tried for the first time
+  pub was_first : (graph : Graph) × HeapShows old graph × (objects ≡ length graph.objects) → now ≡ old
+  was_first (graph, shown, made) = at_first ready shown made (refused_now graph shown made)
+
+  -- and refused on the heap as it was, whichever graph that shows
+  pub refused_always : (graph : Graph) → HeapShows old graph → objects ≡ length graph.objects
+      → IsRefused old.main after.main graph command need
+  refused_always graph shown made =
+      subst (λ (heap : HeapState). IsRefused heap.main after.main graph command need)
+      (was_first (graph, shown, made)) (refused_now graph shown made)
+
+  -- the heap is as it was
+  pub unchanged_first : after.spare ≡ now.spare → (graph : Graph) × HeapShows old graph × (objects ≡ length graph.objects)
+      → after ≡ old
+  unchanged_first spare (graph, shown, made) =
+      same_heap old after (refused_always graph shown made).same (spare ∙ ready_spare ready)
+
+-- a heap that was asked for the room that a refused command lacked was scavenged
+pub scavenged_for : {old mid new : HeapState} {graph : Graph} {command : Command} {need : ℕ} → mid ≡ old
+    → IsRefused old.main mid.main graph command need
+    → ((HasRoom mid.main.young need → ⊥) → Scavenges mid.main new.main)
+    → ((graph : Graph) → HeapShows mid graph → HeapShows new graph) → KeepsGraphs mid.main new.main
+    → new.spare ≡ mid.spare → IsScavenged old new
+scavenged_for {old} {mid} {new} {need = need} same told scavenges shows keeps spare =
+    subst (λ (heap : HeapState). IsScavenged heap new) same
+    (record {
+      scavenges = scavenges
+          (subst (λ (heap : HeapState). HasRoom heap.main.young need → ⊥) (sym same) told.lacks);
+      shows = shows;
+      keeps = keeps;
+      spare = spare;
+    })
+
+-- a heap that was scavenged for a command, where there is room then
+pub made_room : {old new : HeapState} {mid : Mutator} {objects need : ℕ} {command : Command}
+    → IsScavenged old new → command ≢ Scavenge
+    → ((graph : Graph) → HeapShows old graph → objects ≡ length graph.objects → IsRefused old.main mid graph command need)
+    → HasRoom new.main.young need → MadeRoom old new objects command
+made_room {old} {new} scavenged apart told room = record {
+  apart = apart;
+  scavenged = scavenged;
+  lacks = λ graph shown counted rooms has wanted.
+      let one = told graph shown counted in
+      one.lacks (subst (HasRoom old.main.young) (sym (one.needs rooms has)) wanted);
+  room = λ graph rooms shown counted has.
+      let one = told graph shown counted in
+      let had = (scavenged.keeps.rooms graph rooms shown.main).1 has in
+      subst (HasRoom new.main.young) (one.needs rooms had) room;
+}
+
+-- the survivors are in the other half, which is another one
+half_turned : (half : ℕ) → (other_half half == half) ≡ false
+half_turned half = grind (arith, nat_tests)
+
+-- a half is itself
+same_half : (half : ℕ) → (half == half) ≡ true
+same_half half = grind (arith, nat_tests)
+
+-- none is less than one
+counted_down : {after before : Bool} → after ≡ false → before ≡ true
+    → (if after then 1 else 0) < (if before then 1 else 0)
+counted_down fails holds = rw (fails, holds) (omega arith)
+
+-- a scavenge leaves fewer tries
+pub fewer_tries : {old now new : HeapState} → now ≡ old → IsScavenged old new → tries_left old new < tries_left old now
+fewer_tries {old} {now} {new} same scavenged =
+    let before : (now.main.young.half == old.main.young.half) ≡ true =
+    ap (λ (heap : HeapState). heap.main.young.half == old.main.young.half) same ∙ same_half old.main.young.half in
+    let turned : new.main.young.half ≡ other_half old.main.young.half =
+    ap (λ (young : Young). young.half) scavenged.scavenges.young in
+    let after : (new.main.young.half == old.main.young.half) ≡ false =
+    ap (λ half. half == old.main.young.half) turned ∙ half_turned old.main.young.half in
+    counted_down after before
+
+-- a command that stops for want of room on a heap that was scavenged for it
+pub gives_up : {names : List (List ℕ)} {old new : HeapState} {start mid : Mutator} {need : ℕ} {command : Command}
+    {graph : Graph} {text : List ℕ} {stop : Stop} → IsScavenged old new → HeapShows old graph
+    → IsRefused old.main mid graph command need → Tries names start mid graph command text (Err stop)
+    → stop ≡ NoRoom need → (HasRoom new.main.young need → ⊥)
+    → CarriesAtLast names old.main new.main graph command text (Err (NoRoom need))
+gives_up {names} {old} {new} {start} {mid} {need} {command} {graph} {text} scavenged shown told tries is lacks =
+    let (after, written, does-is, needs, lacked, same) =
+    subst (λ (stop : Stop). Carries names tries.mid mid graph command text (Err stop)) is tries.carries in
+    record {
+      mid = new.main;
+      collects = Collects.for_room told.apart
+          (λ rooms has room. told.lacks (subst (HasRoom old.main.young) (sym (told.needs rooms has)) room))
+          scavenged.scavenges;
+      keeps = scavenged.keeps;
+      carries = (
+        after,
+        written,
+        does-is,
+        λ rooms has. told.needs rooms ((scavenged.keeps.rooms graph rooms shown.main).1 has),
+        lacks,
+        refl,
+      );
+      gave_up = λ need is. scavenged.scavenges;
+    }
+
+-- what a command finds at its first try
+first_found : {old mid : Mutator} {graph : Graph} {command : Command} → Finds old mid command
+    → Collects old mid graph command
+first_found (Finds.scavenged is scavenges) = Collects.asked is scavenges
+first_found (Finds.unchanged apart same) = Collects.unchanged apart same
+
+-- a command that did not stop for want of room, at whichever try
+pub carried_at : {names : List (List ℕ)} {old now : HeapState} {new : Mutator} {objects : ℕ} {command : Command}
+    {graph : Graph} {text : List ℕ} {result : Result (Unit {0}) Stop} → IsReady old now objects command
+    → HeapShows old graph → objects ≡ length graph.objects → ((need : ℕ) → result ≡ Err (NoRoom need) → ⊥)
+    → Tries names now.main new graph command text result
+    → CarriesAtLast names old.main new graph command text result
+carried_at {names} {old} {now} {new} {objects} {command} {graph} {text} {result} (IsReady.first same) shown counted other
+    tries =
+    let main : now.main ≡ old.main = ap (λ (heap : HeapState). heap.main) same in
+    let there : Tries names old.main new graph command text result =
+    subst (λ (start : Mutator). Tries names start new graph command text result) main tries in
+    record {
+      mid = there.mid;
+      collects = first_found there.finds;
+      keeps = there.keeps;
+      carries = there.carries;
+      gave_up = λ need is. absurd (other need is);
+    }
+carried_at {names} {old} {now} {new} {objects} {command} {graph} {text} {result} (IsReady.again made) shown counted other
+    tries =
+    elim tries.finds [
+      | Finds.scavenged is scavenges ↦ absurd (made.apart is)
+      | Finds.unchanged apart same ↦ record {
+          mid = now.main;
+          collects = Collects.for_room apart (made.lacks graph shown counted) made.scavenged.scavenges;
+          keeps = made.scavenged.keeps;
+          carries = subst (λ (main : Mutator). Carries names main new graph command text result) same tries.carries;
+          gave_up = λ need is. absurd (other need is);
+        }
+    ]

@@ -1,0 +1,50 @@
+-- When a command finds its heap scavenged.
+use Rattle.std.specs.Prelude.{◌≡◌, ◌≢◌, ℕ, List, Result, Err}
+use Rattle.heap_model.specs.Types.{Command}
+use Rattle.heap_command.specs.declared.command.Command.TheVariants.{Scavenge}
+use Rattle.object_graph.specs.Graphs.{Graph}
+use Rattle.heap_model.specs.Rooms.{Room, HasRooms, need_of}
+use Rattle.nursery.specs.Young.{HasRoom}
+use Rattle.write_barrier.specs.MutatorState.{Mutator, heap_of}
+use Rattle.scavenger.specs.Scavenged.{Scavenges}
+use Rattle.scavenger.specs.Laws.{KeepsGraphs}
+use Rattle.mutator.specs.declared.stop.Stop.{Stop}
+use Rattle.mutator.specs.declared.stop.Stop.TheVariants.{NoRoom}
+use Rattle.mutator.specs.CarriesOut.{Carries}
+
+-- the heap has no room for the words that the command needs, whatever rooms objects have in it
+abbrev pub LacksWords : Mutator → Graph → Command → Type 0
+LacksWords main graph command =
+    (rooms : ℕ → Room) → HasRooms (heap_of main) graph rooms → HasRoom main.young (need_of graph rooms command) → ⊥
+
+-- What a command that is tried once finds of a heap: what a scavenge left of it, if it asks for one, and else the heap
+-- as it was.
+pub data Finds (old mid : Mutator) (command : Command) : Type 0 where
+  scavenged : command ≡ Scavenge → Scavenges old mid → Finds old mid command
+  unchanged : command ≢ Scavenge → mid ≡ old → Finds old mid command
+
+-- What a command finds of a heap, in which there may be room for it or not: what a scavenge left of it, if the command
+-- asks for one, or if there was no room; and else the heap as it was.
+pub data Collects (old mid : Mutator) (graph : Graph) (command : Command) : Type 0 where
+  asked : command ≡ Scavenge → Scavenges old mid → Collects old mid graph command
+  unchanged : command ≢ Scavenge → mid ≡ old → Collects old mid graph command
+  for_room : command ≢ Scavenge → LacksWords old graph command → Scavenges old mid
+      → Collects old mid graph command
+
+-- The command was tried once: it was carried out on what it found, or stopped there.
+pub record Tries (names : List (List ℕ)) (old new : Mutator) (graph : Graph) (command : Command) (text : List ℕ)
+    (result : Result (Unit {0}) Stop) : Type 0 where
+  pub mid : Mutator
+  pub finds : Finds old mid command
+  pub keeps : KeepsGraphs old mid
+  pub carries : Carries names mid new graph command text result
+
+-- The command was carried out on what it found, once there was room if need be, or stopped there. Where it stopped for
+-- want of room, the heap that is left is what a scavenge left.
+pub record CarriesAtLast (names : List (List ℕ)) (old new : Mutator) (graph : Graph) (command : Command) (text : List ℕ)
+    (result : Result (Unit {0}) Stop) : Type 0 where
+  pub mid : Mutator
+  pub collects : Collects old mid graph command
+  pub keeps : KeepsGraphs old mid
+  pub carries : Carries names mid new graph command text result
+  pub gave_up : (need : ℕ) → result ≡ Err (NoRoom need) → Scavenges old new

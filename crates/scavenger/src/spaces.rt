@@ -1,0 +1,64 @@
+//! Where a scavenge takes cells from, and where their copies go.
+ghost use Rattle.std.specs.Prelude.{ℕ, ◌≤◌, ◌↔◌, IsTrue};
+ghost use Rattle.page_space.specs.Extents.{Space};
+ghost use Rattle.scavenger.specs.Following.{IsLeft};
+ghost use Rattle.scavenger.specs.Walking.{AreSpaces};
+
+use page_space::{Region, Regions};
+
+/// Where eden and the half that is left begin and end, and the room that copies go to. They are
+/// computed once, since each slot asks for them.
+#[derive(Clone, Copy)]
+pub(crate) struct Spaces {
+    /// The first address of eden.
+    pub(crate) eden: u32,
+    /// The address behind the last word of eden.
+    pub(crate) eden_end: u32,
+    /// The half that is left: 0 or 1.
+    pub(crate) half: u32,
+    /// The first address of its segments.
+    pub(crate) left: u32,
+    /// The address behind the last word of them.
+    pub(crate) left_end: u32,
+    /// The first address of the main side's segment of the other half.
+    pub(crate) room: u32,
+    /// The address behind the last word of it.
+    pub(crate) room_end: u32,
+}
+
+impl Spaces {
+    /// The spaces of a scavenge that leaves a half.
+    pub(crate) fn new(regions: &Regions, half: u32) -> Spaces
+        requires { half ≤ 1 }
+        ensures { AreSpaces regions.now half result }
+    {
+        // The sizes are within their limits.
+        let _words_count = regions.count();
+        let sizes = regions.sizes();
+        let helpers = sizes.helpers;
+        let eden = regions.start(Region::Eden);
+        let left = regions.start(Region::Segment { half, worker: 0 });
+        let room = regions.start(Region::Segment {
+            half: 1 - half,
+            worker: helpers,
+        });
+        Spaces {
+            eden,
+            eden_end: eden + sizes.young,
+            half,
+            left,
+            left_end: left + sizes.young * (helpers + 1),
+            room,
+            room_end: room + sizes.young,
+        }
+    }
+
+    /// Whether an address is in eden or in the half that is left.
+    #[inline(always)]
+    pub(crate) fn are_left(&self, at: u32) -> bool
+        ensures { (space : Space) (half : ℕ) → AreSpaces space half self.now →
+            IsTrue result ↔ IsLeft space half at }
+    {
+        (self.eden <= at && at < self.eden_end) || (self.left <= at && at < self.left_end)
+    }
+}
