@@ -37,3 +37,4 @@ pub mod EndStands
 pub mod EndMoved
 pub mod Ended
 pub mod LoopEnds
+pub mod Tight
