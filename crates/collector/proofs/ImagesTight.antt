@@ -1,5 +1,5 @@
 -- An image keeps only what is reached, if the heap does.
-use Rattle.std.proofs.Common.{◌≡◌, ℕ, ◌<◌, List, Some, slice_get, sym, ◌∙◌, subst, arith}
+use Rattle.std.proofs.Common.{ℕ, List, sym, ◌∙◌, subst, arith}
 use Rattle.page_space.proofs.Starts.{layouts_start_is}
 use Rattle.handle_roots.specs.Roots.{root_at}
 use Rattle.heap_model.specs.Heaps.{Heap}

@@ -5,5 +5,5 @@ mod CellRegions
 mod RowWalks
 mod FilledWords
 pub mod ImageStores
-mod ImagesTight
+pub mod ImagesTight
 pub mod Keeping
