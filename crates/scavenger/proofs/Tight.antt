@@ -1,6 +1,7 @@
 -- After a scavenge the heap is tight: what was reached of the old heap is reached of the new one, where it stands there.
-use Rattle.std.proofs.Common.{◌≡◌, ℕ, ◌+◌, ◌<◌, List, Contains, Option, Some, None, IsTrue, slice_get, get_or}
+use Rattle.std.proofs.Common.{◌≡◌, ℕ, ◌+◌, ◌<◌, ◌≤◌, ◌⊎◌, inl, inr, List, Contains, Option, Some, None, IsTrue, slice_get, get_or}
 use Rattle.std.proofs.Common.{refl, sym, ◌∙◌, ap, subst, arith}
+use Rattle.std.proofs.lemmas.Bool.{cases_lt}
 use Rattle.std.proofs.lemmas.Option.{same_Some, slice_get-get_or}
 use Rattle.tagged_word.specs.declared.reading.Reading.{Reading}
 use Rattle.tagged_word.specs.Cells.{ReadsAs, scavenge_offsets, is_free_kind}
@@ -8,7 +9,7 @@ use Rattle.tagged_word.specs.Readings.{read_cell}
 use Rattle.tagged_word.proofs.Cells.{same_reading}
 use Rattle.tagged_word.proofs.CellReadings.{cell_from}
 use Rattle.tagged_word.proofs.Readings.{reference_from}
-use Rattle.page_space.specs.Extents.{Space, marks_start}
+use Rattle.page_space.specs.Extents.{Space, eden_start, marks_start}
 use Rattle.page_space.proofs.Starts.{layouts_start_is, marks_start_is}
 use Rattle.cell_layout.specs.Cells.{reading_of}
 use Rattle.cell_layout.proofs.OneCell.{slots_lie_within}
@@ -19,11 +20,11 @@ use Rattle.heap_model.specs.Slots.{reference_word}
 use Rattle.heap_model.specs.Kinds.{HasWord}
 use Rattle.heap_model.specs.Wholeness.{HasSizes}
 use Rattle.heap_model.specs.Collectable.{IsCollectable}
-use Rattle.heap_model.specs.Reaching.{IsReached, IsTight}
+use Rattle.heap_model.specs.Reaching.{IsReached, IsFreeInPage, IsTight}
 use Rattle.heap_model.proofs.CellsApart.{has_is_cell}
 use Rattle.heap_model.proofs.CellWords.{word_there}
-use Rattle.heap_moves.specs.Moved.{IsMovedWord, moved_to, IsMoved}
-use Rattle.heap_moves.proofs.MovedCells.{Origin, origin}
+use Rattle.heap_moves.specs.Moved.{IsMovedWord, moved_to, IsFrom, IsMoved}
+use Rattle.heap_moves.proofs.MovedCells.{came}
 use Rattle.heap_moves.proofs.MovedWords.{referred}
 use Rattle.scav_copy.specs.declared.places.Home.{Home}
 use Rattle.scav_copy.specs.Places.{Fixed, last_address, cell_before, offsets_in, offsets_of}
@@ -149,26 +150,53 @@ module _ {old new : Heap} {half : ℕ} {fixed : Fixed} {homes : List Home} {word
       let comes = reached_comes host from in
       slot_reaches host offset cell now comes (reaches host comes.now from comes.stays) slot refers stays
 
-  -- a cell that is not free came from its home, so it was reached
-  origin_reaches : {cell : Cell} {others : List ℕ} → IsCollectable old half
-      → (IsTrue (is_free_kind cell.layout.kind) → ⊥) → (from : Origin old (place_after old homes) cell others)
-      → StaysAt old homes from.was.at cell.at → IsReached new cell.at
-  origin_reaches {cell} collectable not_free from (StaysAt.in_page below same) =
-      let free = collectable.pages from.was from.words from.had below in
-      absurd (not_free (subst (λ (one : Cell). IsTrue (is_free_kind one.layout.kind)) from.same free))
-  origin_reaches {cell} collectable not_free from (StaysAt.at_home young found) =
-      reaches from.was.at cell.at
-      ((renaming.survivors from.was.at).0 (found.home, found.among, found.from)) from.stays
+  -- a home copy is reached
+  home_reached : (home : Home) → Contains homes home → IsReached new home.to
+  home_reached home there =
+      let reached = (renaming.survivors home.from).0 (home, there, refl) in
+      let is : IsYoungCell old home.from = (begins.cells home.from).0 (reached_is fixed home.from reached) in
+      reaches home.from home.to reached
+      (goes_home old homes home.from is.young ∙ home_found homes home renaming.one_each there)
 
-  -- so the new heap is tight
-  new_is_tight : IsCollectable old half → IsTight new
-  new_is_tight collectable = record {
-    reached = λ cell others has not_free.
-        let from = origin moved has not_free in
-        origin_reaches collectable not_free from (stays_at old homes from.was.at cell.at from.stays);
+  -- a cell that stays came from a page, where it was free, or is a home copy
+  stood_kept : {cell was : Cell} {body others : List ℕ} → IsCollectable old half → HasCell new cell others
+      → HasCell old was body → place_after old homes was.at ≡ Some cell.at → cell.at < eden_start old.space
+      → StaysAt old homes was.at cell.at → IsReached new cell.at ⊎ IsFreeInPage new cell
+  stood_kept {cell} {was} {body} collectable has had stays below (StaysAt.in_page page same) =
+      let free = collectable.pages was body had page in
+      inr record {
+        below = subst (λ space. cell.at < eden_start space) (sym moved.space) below;
+        free = subst (λ (one : Cell). IsTrue (is_free_kind one.layout.kind)) (came moved has had stays).same free;
+      }
+  stood_kept {cell} collectable has had stays below (StaysAt.at_home young found) =
+      inl (subst (IsReached new) found.to (home_reached found.home found.among))
+
+  -- a cell of a page was one before, and free
+  page_kept : {cell : Cell} {others : List ℕ} → IsCollectable old half → HasCell new cell others
+      → cell.at < eden_start old.space → IsFrom old (place_after old homes) cell
+      → IsReached new cell.at ⊎ IsFreeInPage new cell
+  page_kept {cell} collectable has below (IsFrom.stood was body had stays) =
+      stood_kept collectable has had stays below (stays_at old homes was.at cell.at stays)
+  page_kept {cell} collectable has below (IsFrom.free free none) =
+      inr record { below = subst (λ space. cell.at < eden_start space) (sym moved.space) below; free = free }
+
+  -- so the new heap is tight, where the young cells are home copies
+  new_is_tight : IsCollectable old half
+      → ((cell : Cell) (others : List ℕ) → HasCell new cell others → eden_start old.space ≤ cell.at
+      → (home : Home) × Contains homes home × (home.to ≡ cell.at))
+      → IsTight new
+  new_is_tight collectable alone = record {
+    each = λ cell others has.
+        elim (cases_lt cell.at (eden_start old.space)) [
+          | inl below ↦ page_kept collectable has below (moved.back cell others has)
+          | inr young ↦
+              let found = alone cell others has young in
+              inl (subst (IsReached new) found.2 (home_reached found.0 found.1))
+        ];
   }
 
 -- a scavenge leaves a tight heap
 pub scavenges_are_tight : ScavengesAreTight
 scavenges_are_tight old new graph shows scavenged =
     new_is_tight shows.shows.whole.sized scavenged.begins scavenged.renaming scavenged.moved shows.collectable
+    scavenged.alone
