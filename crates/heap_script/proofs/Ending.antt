@@ -79,7 +79,7 @@ EndsRun-limit script heap at' n number ts' command r goes most =
     ∙ ending-limit script.fields r.so_far.graph (executed number command) goes.rest in
     EndsAs-reached script heap n (limit_at number) r ends
 
--- eden is empty, and each cell that is kept is reached
+-- eden is empty, and only what is reached is kept
 record IsLeftBare (main : Mutator) : Type 0 where
   empty : main.young.used ≡ 0
   tight : IsTight (heap_of main)

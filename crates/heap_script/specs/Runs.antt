@@ -34,8 +34,8 @@ AreBuilt lines = All (λ line. IsBuilt unbuilt_keywords line.what) lines
 abbrev pub left_after : ScriptText → ℕ → List Executed
 left_after script executed = drop executed (executed_lines script.lines)
 
--- The heap is full for so many words, though it was scavenged for them: eden is empty, each cell that is kept is
--- reached from a variable, and the survivors and these words are more than the words of the young generation.
+-- The heap is full for so many words, though it was scavenged for them: eden is empty, only what is reached is kept,
+-- and the survivors and these words are more than the words of the young generation.
 pub record IsFull (heap : Heap) (need : ℕ) : Type 0 where
   pub empty : heap.used ≡ 0
   pub tight : IsTight heap
@@ -71,8 +71,8 @@ LineAllocates old new graph after None = new ≡ old
 LineAllocates old new graph after (Some command) = Allocates old new graph after command
 
 -- A scavenge leads from one heap to another, which show the same graph. The regions stay, and objects have the rooms
--- that they had. Eden is empty, the survivors are at most the survivors and the used words of before, and each cell that
--- is kept is reached from a variable.
+-- that they had. Eden is empty, the survivors are at most the survivors and the used words of before, and only what is
+-- reached is kept.
 pub record IsCollected (old new : Heap) (graph : Graph) : Type 0 where
   pub space : new.space ≡ old.space
   pub rooms : (rooms : ℕ → Room) → HasRooms old graph rooms ↔ HasRooms new graph rooms
