@@ -74,8 +74,8 @@ left_is_moved old new fixed homes words fill young is =
     (sym (new_is old new fixed homes words fill is)) (is_moved (ending_is old new fixed homes words fill young is))
 
 -- its young cells are home copies
-young_came : {heap : Heap} {homes : List Home} {cell : Cell} → CameFrom heap homes cell → eden_start heap.space ≤ cell.at
-    → (home : Home) × Contains homes home × (home.to ≡ cell.at)
+young_came : {heap : Heap} {homes : List Home} {cell : Cell} → CameFrom heap homes cell
+    → eden_start heap.space ≤ cell.at → (home : Home) × Contains homes home × (home.to ≡ cell.at)
 young_came (CameFrom.of_page had below) young = absurd (omega (arith, below, young))
 young_came (CameFrom.of_copy home there same) young = (home, there, same)
 

@@ -1,6 +1,6 @@
 -- What a scavenge comes to.
-use Rattle.std.specs.Prelude.{◌≡◌, ℕ, ◌+◌, ◌<◌, ◌≤◌, ◌⊎◌, List, [], ◌∷◌, Option, Some, None, Contains, sum_by, slice_get}
-use Rattle.std.specs.Prelude.{nat_lt, ◌==◌, if◌then◌else◌}
+use Rattle.std.specs.Prelude.{◌≡◌, ℕ, ◌+◌, ◌<◌, ◌≤◌, ◌⊎◌, List, [], ◌∷◌, Option, Some, None, Contains, sum_by}
+use Rattle.std.specs.Prelude.{slice_get, nat_lt, ◌==◌, if◌then◌else◌}
 use Rattle.page_space.specs.Extents.{eden_start, roots_start}
 use Rattle.nursery.specs.Young.{turned, other_half}
 use Rattle.heap_table.specs.Seats.{RestStays, heap_words}
