@@ -22,11 +22,8 @@ use Rattle.object_cells.specs.Contents.{next_at}
 use Rattle.object_cells.specs.Made.{store_content, with_content, content_word}
 use Rattle.object_cells.proofs.HeldContents.{HoldsValue}
 use Rattle.object_cells.proofs.MadeBoxes.{length-with_content}
-use Rattle.object_cells.proofs.OwnerWrites.{weak_owns}
 use Rattle.object_cells.proofs.TakenValues as taken
 use Rattle.object_cells.proofs.TakenValues.{TakesValue}
-use Rattle.object_cells.proofs.OwnContents as beside
-use Rattle.object_cells.proofs.OwnContents.{PutsBeside, takes_beside}
 use Rattle.object_cells.proofs.OwnCells.{cell_below_layouts}
 use Rattle.object_cells.proofs.SlotsNow.{word_at_offset}
 use Rattle.object_cells.proofs.FieldWords.{value_word}
@@ -39,14 +36,14 @@ use Rattle.weak_pairs.specs.Tables.{numbers, pairs_of, with_pair}
 use Rattle.weak_pairs.specs.declared.table.Table.{Table}
 use Rattle.weak_pairs.proofs.CountedPairs.{count_filled}
 use Rattle.ephemeron_table.proofs.KnownTables.{table_is_no_box, are_before, KnownMap, cell, cell_has, sound}
-use Rattle.ephemeron_table.proofs.KnownTables.{slot_there, of_map, other, known_store}
+use Rattle.ephemeron_table.proofs.KnownTables.{slot_there, of_map, other}
 use Rattle.weak_pairs.proofs.PairsPut.{at_place, length-with_pair}
-use Rattle.ephemeron_table.proofs.PutPairs.{pair, made, pairs_are_now, some, need, final, map_stays, head_stays}
-use Rattle.ephemeron_table.proofs.PutPairs.{puts_weak, box_word}
 use Rattle.object_cells.specs.OwnSlots.{ComesFrom}
 use Rattle.weak_pairs.proofs.FilledPairs.{filled_elsewhere}
 use Rattle.ephemeron_table.proofs.StayingTables as staying
 use Rattle.ephemeron_table.proofs.StayingTables.{WritesMap, StaysTable}
+use Rattle.object_cells.proofs.OwnContents as own
+use Rattle.ephemeron_table.proofs.PutPairs.{pair, made, pairs_are_now, some, putting}
 
 -- A pair came to a place of a map's table: the key's object, and the value.
 pub record ComesToPlace (old new : Mutator) (map place key count number : ℕ) (table : Table) (value : Held)
@@ -92,29 +89,15 @@ module _ {old new : Mutator} {map place key count number : ℕ} {table : Table} 
   abbrev pub after : List Pair
   after = pairs_of (heap_words new.seat) table
 
-  -- words of the map's cell and of its table were put
-  putting : PutsBeside kind.Weak kind.Table old new map_cell table_cell (need known below puts) (final known below puts)
-      (sound known).store
-  putting = record {
-    owns = weak_owns;
-    puts = puts_weak known below puts;
-    is = known_store known (some known below puts);
-    slot = slot_there known;
-    own_stays = λ k less.
-        subst (λ n. slice_get (heap_words new.seat) (n + k) ≡ slice_get (heap_words old.seat) (n + k))
-        (sym known.there.stands) (map_stays known below puts k less);
-    head_stays = head_stays known below puts;
-  }
-
   -- so the map takes the value, where the table is the one that it had
   pub takes : TakesValue kind.Weak kind.Table (heap_of old) (heap_of new) map_cell map_cell (table_cell ∷ []) []
       (store_content value) (next_at old) what (sound known).store
-  takes = takes_beside comes.objects putting (box_word known below puts) comes.fits comes.holds
+  takes = own.takes (putting known below puts) comes.objects comes.fits comes.holds
 
   -- the word of the map for the table stays
   pub slot_stays : slice_get (heap_words new.seat) (map_cell.at + store_slot)
       ≡ slice_get (heap_words old.seat) (map_cell.at + store_slot)
-  slot_stays = beside.slot_stays putting
+  slot_stays = own.slot_stays (putting known below puts)
 
   -- and the table stays where it is
   abbrev stays : StaysTable old new map table known (some known below puts) (table_cell ∷ []) boxes_made
@@ -213,6 +196,6 @@ module _ {old new : Mutator} {map place key count number : ℕ} {table : Table} 
   refills_weak = record {
     whole = known.whole;
     writes = takes.writes;
-    paths = (puts_weak known below puts).puts.paths;
+    paths = puts.words.paths;
     pairs = refills;
   }
