@@ -247,11 +247,6 @@ module _ {old : Mutator} {map : ℕ} {table : Table} (known : KnownMap old map t
     pub of_head : (k : ℕ) → k < 2 → IsOfCell other (other.at + k)
     of_head k below = record { from = omega arith; below = omega (arith, below, found.size) }
 
-    -- so none of them is a word of the map's cell
-    pub head_apart : (j k : ℕ) → j < 3 → k < 2 → other.at + k ≢ map + j
-    head_apart j k within below same =
-        map_apart (other.at + k) (subst (IsOfCell cell) (sym same) (of_map j within)) (of_head k below)
-
     -- so the words of the map's cell are beside the pairs
     pub map_beside : (k : ℕ) → k < 3 → IsOutsidePairs table (map + k)
     map_beside k below = cell_beside (map + k) cell_has map_no_table (of_map k below)

@@ -46,14 +46,6 @@ in_cell_below : {owner : Kind} {old new : Mutator} {cell one : Cell} {others : L
 in_cell_below a puts has inside = cell_below_layouts puts.whole has
     (record { from = inside.from; below = inside.below })
 
--- no word of a cell is one that was reserved
-pub not_reserved : {owner : Kind} {old new : Mutator} {cell one : Cell} {others : List Cell} {need : ℕ}
-    {words more : List ℕ} (a : ℕ) → PutsOwn owner old new cell others need words → HasCell (heap_of old) one more
-    → IsOfCell one a → next_at old ≤ a → a < next_at old + need → ⊥
-not_reserved {old = old} {need = need} a puts has of_cell from below =
-    cell_is_used puts.whole.rows has of_cell from
-    (omega (arith, below, next_before_segments old need puts.tied puts.room))
-
 -- so the sizes are there
 pub own_sized : {owner : Kind} {old new : Mutator} {cell : Cell} {others : List Cell} {need : ℕ} {words : List ℕ}
     → PutsOwn owner old new cell others need words → HasSizes (heap_of new)
