@@ -1,5 +1,4 @@
 mod PushNeeds
-mod SlotWords
 mod WrittenSlots
 mod PushedToNewStore
 mod PushOutcomes

@@ -50,6 +50,7 @@ pub mod StoreWords
 pub mod StoreRuns
 pub mod FilledRuns
 pub mod TakenValues
+pub mod StoresPut
 pub mod CopiedSlots
 pub mod StoresRead
 pub mod HeldNeeds
