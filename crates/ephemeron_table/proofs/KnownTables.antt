@@ -1,10 +1,9 @@
 -- What is known of a weak map and its table before words of them change.
+use Rattle.std.specs.Prelude.{option_map}
 use Rattle.std.proofs.Common.{◌≡◌, ◌≢◌, ℕ, ◌+◌, ◌*◌, ◌≤◌, ◌<◌, inl, inr, List, length, drop, Some, None, slice_get}
 use Rattle.std.proofs.Common.{unwrap_or, sym, ◌∙◌, ap, subst, arith, length-drop}
-use Rattle.std.specs.Prelude.{option_map}
 use Rattle.std.proofs.lemmas.Bool.{false≢true, cases_lt}
 use Rattle.std.proofs.lemmas.Option.{same_Some, none-some, slice_get-map}
-use Rattle.heap_model.specs.Types.{Kind, Cell}
 use Rattle.tagged_word.specs.declared.layout.Kind.TheVariants as kind
 use Rattle.tagged_word.specs.Cells.{store_head, store_slot}
 use Rattle.tagged_word.proofs.Readings.{reference_to, reference_from}
@@ -12,8 +11,10 @@ use Rattle.page_space.specs.Sizes.{AreWithin}
 use Rattle.linear_probing.specs.Tables.{FindsAll}
 use Rattle.linear_probing.specs.Tables as probing
 use Rattle.linear_probing.proofs.Findings.{still_probed}
+use Rattle.nursery.specs.Young.{HasRoom}
 use Rattle.object_graph.specs.Graphs.{Graph, WeakObject}
 use Rattle.heap_table.specs.Seats.{heap_words}
+use Rattle.heap_model.specs.Types.{Kind, Cell}
 use Rattle.heap_model.specs.Heaps.{HasCell, words_of_cell}
 use Rattle.heap_model.specs.Slots.{is_object_kind, RefersToPlace}
 use Rattle.heap_model.specs.Kinds.{HasWord, Pair, free_pair, HasTable, IsWeakCell, IsFoundPair, IsProbed, HasNoNumber}
@@ -25,27 +26,26 @@ use Rattle.heap_model.proofs.CellWords.{words_by_kind, words_are_size}
 use Rattle.heap_model.proofs.WordClasses.{same_reference}
 use Rattle.write_barrier.specs.MutatorState.{Mutator, heap_of, IsTied, MainShows, reserved}
 use Rattle.object_cells.specs.CellWrites.{IsInCell}
+use Rattle.object_cells.specs.Contents.{next_at}
+use Rattle.object_cells.specs.Made.{PutsWords, content_need, with_content}
+use Rattle.object_cells.specs.declared.content.SlotContent.{SlotContent}
 use Rattle.object_cells.proofs.CellsRead.{word_stands, cell_at_before_marks}
 use Rattle.object_cells.proofs.OwnPlaces.{has_own_words}
 use Rattle.object_cells.proofs.TakenValues.{IsItsStore}
 use Rattle.object_cells.proofs.OwnContents.{PutsBeside}
 use Rattle.object_cells.proofs.OwnerWrites.{weak_owns}
-use Rattle.object_cells.specs.Contents.{next_at}
-use Rattle.object_cells.specs.Made.{PutsWords, content_need, with_content}
-use Rattle.object_cells.specs.declared.content.SlotContent.{SlotContent}
-use Rattle.nursery.specs.Young.{HasRoom}
 use Rattle.object_cells.proofs.WordsTold.{cell_fits}
-use Rattle.ephemeron_table.specs.WeakObjects.{IsWeakAt}
 use Rattle.weak_pairs.specs.Pairs.{HasPairs}
-use Rattle.ephemeron_table.specs.Probes.{IsWeakCellAt, IsTableAt}
 use Rattle.weak_pairs.specs.Tables.{number_at, KeysOutsidePairs, IsKeyOutside, IsOutsidePairs, numbers, key_number}
 use Rattle.weak_pairs.specs.Tables.{pairs_of}
 use Rattle.weak_pairs.specs.declared.table.Table.{Table}
 use Rattle.weak_pairs.proofs.KeyedPairs.{free_or_filled}
 use Rattle.weak_pairs.proofs.PairNumbers.{keyed_filled, length-numbers, number_place}
 use Rattle.weak_pairs.proofs.CountedPairs.{count_filled}
-use Rattle.ephemeron_table.proofs.KeysFound.{number_is, weak_shown, shown_there}
 use Rattle.weak_pairs.proofs.PairLists.{pairs_are, length-pairs_in}
+use Rattle.ephemeron_table.specs.WeakObjects.{IsWeakAt}
+use Rattle.ephemeron_table.specs.Probes.{IsWeakCellAt, IsTableAt}
+use Rattle.ephemeron_table.proofs.KeysFound.{number_is, weak_shown, shown_there}
 use Rattle.ephemeron_table.proofs.TablesRead.{IsFoundTable, found_table, weak_sound, weak_pairs}
 
 -- The table that was read is that of the weak map at the address.

@@ -1,40 +1,35 @@
 -- A pair that was removed from a weak map's table refills the map.
-use Rattle.std.proofs.Common.{◌≡◌, ℕ, ◌+◌, ◌-◌, ◌<◌, inl, List, [], ◌∷◌, Some, slice_get, refl, ◌∙◌}
-use Rattle.std.proofs.Common.{ap, arith}
+use Rattle.std.proofs.Common.{◌≡◌, ℕ, ◌+◌, ◌-◌, ◌<◌, inl, List, [], ◌∷◌, Some, slice_get, refl, ◌∙◌, ap, arith}
+use Rattle.std.proofs.Common.{Contains}
 use Rattle.tagged_word.specs.declared.layout.Kind.TheVariants as kind
 use Rattle.tagged_word.specs.Cells.{store_slot}
 use Rattle.tagged_word.proofs.Members.{first_in}
-use Rattle.heap_model.specs.Types.{Cell}
 use Rattle.heap_table.specs.Seats.{heap_words}
+use Rattle.heap_model.specs.Types.{Cell}
 use Rattle.heap_model.specs.Heaps.{HasCell, words_of_cell}
-use Rattle.heap_model.specs.Slots.{RefersToPlace}
+use Rattle.heap_model.specs.Slots.{RefersToPlace, hole_word}
 use Rattle.heap_model.specs.Kinds.{HasWord, Pair, count_offset}
 use Rattle.heap_model.specs.Needs.{count_at}
 use Rattle.heap_model.proofs.BoundHeaps.{none_in}
 use Rattle.write_barrier.specs.MutatorState.{Mutator, heap_of}
+use Rattle.object_cells.specs.OwnSlots.{ComesFrom}
+use Rattle.object_cells.specs.declared.content.SlotContent.TheVariants as content
 use Rattle.object_cells.proofs.SlotsNow.{word_at_offset}
 use Rattle.object_cells.proofs.NothingUsed.{room_for_none, used_and_none}
+use Rattle.object_cells.proofs.TakenValues.{IsItsStore, only_store}
+use Rattle.object_cells.proofs.OwnContents as own
+use Rattle.object_cells.proofs.OwnContents.{PutsBeside}
 use Rattle.weak_pairs.specs.Pairs.{HasPairs, IsFilledAt}
-use Rattle.object_cells.specs.OwnSlots.{ComesFrom}
-use Rattle.ephemeron_table.specs.PairWrites.{RefillsPairs, ShowsPair}
-use Rattle.ephemeron_table.specs.PairLaws.{RefillsWeak}
-use Rattle.ephemeron_table.specs.Removals.{RemovesAt}
 use Rattle.weak_pairs.specs.Tables.{pairs_of}
 use Rattle.weak_pairs.specs.declared.table.Table.{Table}
 use Rattle.weak_pairs.proofs.CountedPairs.{count_filled}
-use Rattle.ephemeron_table.proofs.KnownTables.{KnownMap, cell, sound, slot_there, count_is, of_map}
-use Rattle.ephemeron_table.proofs.KnownTables.{finds_all, other}
-use Rattle.ephemeron_table.proofs.KnownTables.{are_before}
+use Rattle.ephemeron_table.specs.PairWrites.{RefillsPairs, ShowsPair}
+use Rattle.ephemeron_table.specs.PairLaws.{RefillsWeak}
+use Rattle.ephemeron_table.specs.Removals.{RemovesAt}
+use Rattle.ephemeron_table.proofs.KnownTables.{KnownMap, cell, sound, slot_there, count_is, of_map, finds_all, other}
+use Rattle.ephemeron_table.proofs.KnownTables.{are_before, known_store, table_is_no_box, puts_beside}
 use Rattle.ephemeron_table.proofs.StayingTables as staying
 use Rattle.ephemeron_table.proofs.StayingTables.{WritesMap, StaysTable}
-use Rattle.object_cells.proofs.TakenValues.{IsItsStore, only_store}
-use Rattle.ephemeron_table.proofs.KnownTables.{known_store, table_is_no_box}
-use Rattle.std.proofs.Common.{Contains}
-use Rattle.object_cells.proofs.OwnContents as own
-use Rattle.object_cells.proofs.OwnContents.{PutsBeside}
-use Rattle.object_cells.specs.declared.content.SlotContent.TheVariants as content
-use Rattle.heap_model.specs.Slots.{hole_word}
-use Rattle.ephemeron_table.proofs.KnownTables.{puts_beside}
 
 module _ {old new : Mutator} {map place : ℕ} {table : Table} (known : KnownMap old map table)
     (some : 0 < table.capacity)

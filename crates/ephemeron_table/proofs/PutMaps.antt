@@ -1,25 +1,28 @@
 -- A weak map to whose table a pair came is refilled.
-use Rattle.std.proofs.Common.{◌≡◌, ◌≢◌, ℕ, ◌+◌, ◌<◌, inl, inr, List, [], ◌∷◌, length, Some, false}
-use Rattle.std.proofs.Common.{slice_get, refl, sym, ◌∙◌, ap, subst, arith}
 use Rattle.std.specs.Prelude.{slice_set}
+use Rattle.std.proofs.Common.{◌≡◌, ◌≢◌, ℕ, ◌+◌, ◌<◌, inl, inr, List, [], ◌∷◌, length, Some, false, slice_get, refl, sym}
+use Rattle.std.proofs.Common.{◌∙◌, ap, subst, arith}
 use Rattle.std.proofs.lemmas.Bool.{cases_eq}
+use Rattle.std.proofs.lemmas.Option.{same_Some, none-some}
 use Rattle.tagged_word.specs.declared.layout.Kind.TheVariants as kind
 use Rattle.tagged_word.specs.Cells.{store_slot}
 use Rattle.tagged_word.proofs.Members.{first_in}
 use Rattle.page_space.proofs.Starts.{marks_start_is}
-use Rattle.heap_model.specs.Types.{Value, Cell, Held}
+use Rattle.linear_probing.specs.Tables.{FindsAll}
 use Rattle.object_graph.specs.declared.value.Rep.TheVariants as rep
 use Rattle.object_graph.specs.Values.{rep_of}
 use Rattle.object_graph.specs.Invariants.{IsValue}
 use Rattle.object_graph.proofs.Lists.{slice_get-set_same}
-use Rattle.linear_probing.specs.Tables.{FindsAll}
 use Rattle.heap_table.specs.Seats.{heap_words}
+use Rattle.heap_model.specs.Types.{Value, Cell, Held}
 use Rattle.heap_model.specs.Heaps.{words_of_cell}
 use Rattle.heap_model.specs.Slots.{RefersToPlace, IsPlace}
 use Rattle.heap_model.specs.Kinds.{HasWord, Pair, IsFilledPair, count_offset}
+use Rattle.heap_model.specs.Showing.{ShowsEntry}
 use Rattle.write_barrier.specs.MutatorState.{Mutator, heap_of}
 use Rattle.object_cells.specs.Contents.{next_at}
 use Rattle.object_cells.specs.Made.{store_content, with_content, content_word}
+use Rattle.object_cells.specs.OwnSlots.{ComesFrom}
 use Rattle.object_cells.proofs.HeldContents.{HoldsValue}
 use Rattle.object_cells.proofs.MadeBoxes.{made_boxes, length-with_content}
 use Rattle.object_cells.proofs.TakenValues as taken
@@ -27,29 +30,23 @@ use Rattle.object_cells.proofs.TakenValues.{TakesValue}
 use Rattle.object_cells.proofs.OwnCells.{cell_below_layouts}
 use Rattle.object_cells.proofs.SlotsNow.{word_at_offset}
 use Rattle.object_cells.proofs.FieldWords.{value_word}
+use Rattle.object_cells.proofs.OwnContents as own
 use Rattle.weak_pairs.specs.Pairs.{IsFilledAt}
-use Rattle.ephemeron_table.proofs.PairComes.{PairComes, value_comes, pair_shows}
-use Rattle.ephemeron_table.specs.PairWrites.{RefillsPairs, HasValue}
-use Rattle.ephemeron_table.specs.PairLaws.{RefillsWeak}
-use Rattle.ephemeron_table.specs.Puttings.{PutsInTable}
 use Rattle.weak_pairs.specs.Tables.{numbers, pairs_of, with_pair}
 use Rattle.weak_pairs.specs.declared.table.Table.{Table}
 use Rattle.weak_pairs.proofs.CountedPairs.{count_filled}
-use Rattle.ephemeron_table.proofs.KnownTables.{table_is_no_box, are_before, KnownMap, cell, cell_has, sound}
-use Rattle.ephemeron_table.proofs.KnownTables.{slot_there, of_map, other}
 use Rattle.weak_pairs.proofs.PairsPut.{at_place, length-with_pair}
+use Rattle.weak_pairs.proofs.FilledPairs.{filled_elsewhere, still_filled}
+use Rattle.ephemeron_table.specs.PairWrites.{RefillsPairs, HasValue}
+use Rattle.ephemeron_table.specs.PairLaws.{RefillsWeak, PutsOne}
+use Rattle.ephemeron_table.specs.Puttings.{PutsInTable}
+use Rattle.ephemeron_table.proofs.PairComes.{PairComes, value_comes, pair_shows}
+use Rattle.ephemeron_table.proofs.KnownTables.{table_is_no_box, are_before, KnownMap, cell, cell_has, sound, slot_there}
+use Rattle.ephemeron_table.proofs.KnownTables.{of_map, other, pairs_long}
 use Rattle.ephemeron_table.proofs.PutPairs.{pair, pairs_are_now, some, putting}
-use Rattle.object_cells.proofs.OwnContents as own
-use Rattle.object_cells.specs.OwnSlots.{ComesFrom}
-use Rattle.weak_pairs.proofs.FilledPairs.{filled_elsewhere}
 use Rattle.ephemeron_table.proofs.StayingTables as staying
 use Rattle.ephemeron_table.proofs.StayingTables.{WritesMap, StaysTable}
-use Rattle.std.proofs.lemmas.Option.{same_Some, none-some}
-use Rattle.heap_model.specs.Showing.{ShowsEntry}
-use Rattle.ephemeron_table.specs.PairLaws.{PutsOne}
 use Rattle.ephemeron_table.proofs.KeysFound.{key_filled}
-use Rattle.ephemeron_table.proofs.KnownTables.{pairs_long}
-use Rattle.weak_pairs.proofs.FilledPairs.{still_filled}
 
 -- A pair came to a place of a map's table: the key's object, and the value.
 pub record ComesToPlace (old new : Mutator) (map place key count number : ℕ) (table : Table) (value : Held)
@@ -218,13 +215,15 @@ module _ {old new : Mutator} {map place key count number : ℕ} {table : Table} 
 
   after_filled : (at : ℕ) (one : Pair) → IsFilledAt (slice_set (before comes) place (put comes)) at one
       → IsFilledAt (after comes) at one
-  after_filled at one is = subst (λ pairs. IsFilledAt pairs at one) (sym (pairs_are_now comes.known comes.below comes.puts)) is
+  after_filled at one is =
+      subst (λ pairs. IsFilledAt pairs at one) (sym (pairs_are_now comes.known comes.below comes.puts)) is
 
   -- the pair stands at the place
   pair_stands : IsFilledAt (after comes) place (put comes)
   pair_stands =
       after_filled place (put comes) (record {
-        stands = slice_get-set_same (before comes) place (put comes) (omega (arith, comes.below, pairs_long comes.known));
+        stands = slice_get-set_same (before comes) place (put comes)
+            (omega (arith, comes.below, pairs_long comes.known));
         filled = key_filled (put comes) key refl;
       })
 

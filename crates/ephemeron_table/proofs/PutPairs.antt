@@ -1,12 +1,11 @@
 -- A pair that was put at a place of a weak map's table refills the map.
-use Rattle.std.proofs.Common.{◌≡◌, ℕ, ◌+◌, ◌*◌, ◌≤◌, ◌<◌, List, length, ◌∙◌}
-use Rattle.std.proofs.Common.{ap, arith, length-set}
 use Rattle.std.specs.Prelude.{slice_set}
+use Rattle.std.proofs.Common.{◌≡◌, ℕ, ◌+◌, ◌*◌, ◌≤◌, ◌<◌, List, length, ◌∙◌, ap, arith, length-set}
 use Rattle.tagged_word.specs.declared.layout.Kind.TheVariants as kind
 use Rattle.tagged_word.specs.Cells.{store_head}
 use Rattle.object_graph.proofs.Lists.{slice_get-set_other}
-use Rattle.heap_model.specs.Types.{Cell, Held}
 use Rattle.heap_table.specs.Seats.{heap_words}
+use Rattle.heap_model.specs.Types.{Cell, Held}
 use Rattle.heap_model.specs.Slots.{reference_word}
 use Rattle.heap_model.specs.Kinds.{Pair, count_offset}
 use Rattle.write_barrier.specs.MutatorState.{Mutator}
@@ -14,13 +13,13 @@ use Rattle.object_cells.specs.Contents.{next_at}
 use Rattle.object_cells.specs.Made.{with_content, content_need, content_word, store_content}
 use Rattle.object_cells.proofs.MadeBoxes.{made_boxes, length-with_content, with_content_stays}
 use Rattle.object_cells.proofs.OwnContents.{PutsBeside, not_made}
-use Rattle.ephemeron_table.specs.Puttings.{PutsInTable}
 use Rattle.weak_pairs.specs.Tables.{pairs_of, with_pair, made_pair}
 use Rattle.weak_pairs.specs.declared.table.Table.{Table}
-use Rattle.ephemeron_table.proofs.KnownTables.{KnownMap, cell, within_words, found, other, sound, puts_beside}
-use Rattle.ephemeron_table.proofs.KnownTables.{other_has, other_long, map_beside}
 use Rattle.weak_pairs.proofs.PairsPut.{pairs_now, pairs_beside, beside_put, length-with_pair}
 use Rattle.weak_pairs.proofs.PairLists.{pairs_stay}
+use Rattle.ephemeron_table.specs.Puttings.{PutsInTable}
+use Rattle.ephemeron_table.proofs.KnownTables.{KnownMap, cell, within_words, found, other, sound, puts_beside}
+use Rattle.ephemeron_table.proofs.KnownTables.{other_has, other_long, map_beside}
 
 module _ {old new : Mutator} {map place key count : ℕ} {table : Table} {value : Held} (known : KnownMap old map table)
     (below : place < table.capacity) (puts : PutsInTable old new map table place key count value) where

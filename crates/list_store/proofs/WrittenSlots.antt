@@ -1,36 +1,35 @@
 -- A value that comes to a slot that the store of a list has is shown as the element of this number.
-use Rattle.std.proofs.Common.{◌≡◌, ◌≢◌, ℕ, ◌+◌, ◌≤◌, ◌<◌, inl, List, [], ◌∷◌, length, slice_get, sym}
-use Rattle.std.proofs.Common.{◌∙◌, ap, subst, arith, length-set, drop, Some, false, length-drop}
 use Rattle.std.specs.Prelude.{slice_set}
+use Rattle.std.proofs.Common.{◌≡◌, ◌≢◌, ℕ, ◌+◌, ◌≤◌, ◌<◌, inl, List, [], ◌∷◌, length, slice_get, sym, ◌∙◌, ap, subst}
+use Rattle.std.proofs.Common.{arith, length-set, drop, Some, false, length-drop}
+use Rattle.std.proofs.lemmas.Option.{same_Some}
 use Rattle.tagged_word.specs.declared.layout.Kind.TheVariants as kind
 use Rattle.tagged_word.specs.Cells.{store_head, store_slot}
 use Rattle.tagged_word.proofs.Members.{first_in, one_in}
+use Rattle.page_space.proofs.Starts.{marks_start_is}
 use Rattle.object_graph.specs.Graphs.{Graph, ListObject}
-use Rattle.heap_model.specs.Types.{Value, Cell, Held}
+use Rattle.object_graph.specs.Meaning.{relist}
 use Rattle.object_graph.proofs.Lists.{slice_get-set_other, slice_get-set_same}
 use Rattle.heap_table.specs.Seats.{heap_words}
+use Rattle.heap_model.specs.Types.{Value, Cell, Held}
 use Rattle.heap_model.specs.Heaps.{HasCell, words_of_cell}
 use Rattle.heap_model.specs.Kinds.{count_offset, HasWord, IsSoundOf}
+use Rattle.heap_model.specs.Needs.{capacity_at}
+use Rattle.heap_model.specs.Showing.{ShowsValue}
+use Rattle.heap_model.specs.Slots.{HoldsStore}
 use Rattle.heap_model.proofs.CellsApart.{IsOfCell}
+use Rattle.heap_model.proofs.CellWords.{words_by_kind}
 use Rattle.write_barrier.specs.MutatorState.{Mutator, heap_of, MainShows}
 use Rattle.object_cells.specs.Contents.{next_at}
 use Rattle.object_cells.specs.Made.{IsStoreAt, with_content, content_need, content_word, store_content}
 use Rattle.object_cells.specs.declared.stores.Store.{Store}
+use Rattle.object_cells.specs.Capacities.{ChangesObject}
+use Rattle.object_cells.specs.OwnSlots.{ComesFrom}
 use Rattle.object_cells.proofs.MadeBoxes.{made_boxes, length-with_content, with_content_stays}
 use Rattle.object_cells.proofs.OwnPlaces.{has_own_words}
 use Rattle.object_cells.proofs.StoresRead.{StoredAt}
-use Rattle.list_store.specs.Pushes.{WritesSlot, with_count}
-use Rattle.object_cells.proofs.ListChanging.{Changing, changing_store, list_word, Elements}
-use Rattle.object_cells.proofs.ListChanging.{slot_stands, slot_few, store_is_no_box}
-use Rattle.std.proofs.lemmas.Option.{same_Some}
-use Rattle.page_space.proofs.Starts.{marks_start_is}
-use Rattle.object_graph.specs.Meaning.{relist}
-use Rattle.heap_model.specs.Needs.{capacity_at}
-use Rattle.heap_model.specs.Showing.{ShowsValue}
-use Rattle.heap_model.specs.Slots.{HoldsStore}
-use Rattle.heap_model.proofs.CellWords.{words_by_kind}
-use Rattle.object_cells.specs.Capacities.{ChangesObject}
-use Rattle.object_cells.specs.OwnSlots.{ComesFrom}
+use Rattle.object_cells.proofs.ListChanging.{Changing, changing_store, list_word, Elements, slot_stands, slot_few}
+use Rattle.object_cells.proofs.ListChanging.{store_is_no_box}
 use Rattle.object_cells.proofs.HeldNeeds.{new_value_held}
 use Rattle.object_cells.proofs.OneElement.{PutsElement, element_refills}
 use Rattle.object_cells.proofs.OwnCells.{cell_below_layouts, list_size}
@@ -44,6 +43,7 @@ use Rattle.object_cells.proofs.OwnCapacities.{object_keeps}
 use Rattle.object_cells.proofs.CellsRead.{word_stands}
 use Rattle.object_cells.proofs.OwnContents as beside
 use Rattle.object_cells.proofs.OwnContents.{PutsBeside, not_made, apart}
+use Rattle.list_store.specs.Pushes.{WritesSlot, with_count}
 
 module _ {old new : Mutator} {graph : Graph} {at slot count : ℕ} {list : ListObject} {value : Held} {what : Value}
     {store : Store} (known : Changing old graph at list value what) (becomes : Elements graph list what slot count)
@@ -194,8 +194,8 @@ module _ {old new : Mutator} {graph : Graph} {at slot count : ℕ} {list : ListO
       ∙ slice_get-set_same put (at + count_offset) count within ∙ ap (λ n. Some n) (sym becomes.long)
 
   -- so an element is pushed
-  puts_element : PutsElement (heap_of old) (heap_of new) cell (other ∷ []) (made_boxes (store_content value) (next_at old))
-      list.elements becomes.after slot what
+  puts_element : PutsElement (heap_of old) (heap_of new) cell (other ∷ [])
+      (made_boxes (store_content value) (next_at old)) list.elements becomes.after slot what
   puts_element =
       let shown = known.shown.shows in
       record {

@@ -1,7 +1,7 @@
 -- Words of an object's cell and of the one store or table that it owns were put, and the box made that a slot came to
 -- hold: so words of the object's own cells were written, and it takes the value.
-use Rattle.std.proofs.Common.{◌≡◌, ◌≢◌, ℕ, ◌+◌, ◌≤◌, ◌<◌, List, [], ◌∷◌, Contains, false, length, slice_get}
-use Rattle.std.proofs.Common.{refl, ◌∙◌, sym, ap, subst, arith, add-zero}
+use Rattle.std.proofs.Common.{◌≡◌, ◌≢◌, ℕ, ◌+◌, ◌≤◌, ◌<◌, List, [], ◌∷◌, Contains, false, length, slice_get, refl, ◌∙◌}
+use Rattle.std.proofs.Common.{sym, ap, subst, arith, add-zero}
 use Rattle.std.proofs.lemmas.Bool.{false≢true}
 use Rattle.tagged_word.specs.Cells.{has_length, store_head, store_slot}
 use Rattle.tagged_word.proofs.Members.{first_in, one_in}
@@ -30,8 +30,8 @@ use Rattle.object_cells.proofs.OwnPuts.{PutsOwn, own_sized, own_writes, one_owne
 use Rattle.object_cells.proofs.TakenValues.{TakesValue, IsItsStore, only_store}
 use Rattle.object_cells.proofs.UnusedWords.{cell_is_used, next_before_segments}
 
--- Once the box was made that a slot came to hold, only the count of the object was put, and words behind the head of the
--- cell to which the object's slot for a store or table refers.
+-- Once the box was made that a slot came to hold, only the count of the object was put, and words behind the head of
+-- the cell to which the object's slot for a store or table refers.
 pub record PutsBeside (owner owned : Kind) (old new : Mutator) (cell other : Cell) (store : ℕ) (holds : SlotContent)
     (words : List ℕ) : Type 0 where
   pub owns : Owns owner owned
