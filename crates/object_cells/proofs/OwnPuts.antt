@@ -14,7 +14,6 @@ use Rattle.cell_layout.specs.Cells.{IsRow}
 use Rattle.heap_table.specs.Seats.{heap_words}
 use Rattle.heap_model.specs.Heaps.{Heap, HasCell, words_of_cell}
 use Rattle.heap_model.specs.Wholeness.{Whole, HasSizes}
-use Rattle.heap_model.proofs.CellsApart.{IsOfCell}
 use Rattle.write_barrier.specs.MutatorState.{Mutator, heap_of, IsTied, reserved}
 use Rattle.object_cells.specs.CellWrites.{IsInCell, IsWrittenOfKind, Becomes, WritesOwnCells}
 use Rattle.object_cells.specs.declared.content.SlotContent.{SlotContent}
@@ -22,7 +21,7 @@ use Rattle.object_cells.specs.Contents.{next_at}
 use Rattle.object_cells.specs.Made.{PutsWords, content_need, with_content}
 use Rattle.object_cells.proofs.MadeBoxes.{BoxStands, put_box}
 use Rattle.object_cells.proofs.OwnCells.{cell_below_layouts}
-use Rattle.object_cells.proofs.UnusedWords.{next_before_segments, cell_is_used}
+use Rattle.object_cells.proofs.UnusedWords.{next_before_segments}
 
 -- So many words were reserved, and then words were put: those of the cell of an object of this
 -- kind, of these others, and newly used ones.
