@@ -23,7 +23,6 @@ pub mod PairComes
 pub mod PutMaps
 pub mod EntryPairs
 pub mod ReplacedValues
-pub mod PutEntries
 pub mod NewKeys
 pub mod FreeKeys
 pub mod NewEntries

@@ -42,8 +42,7 @@ use Rattle.ephemeron_table.proofs.KnownTables.{KnownMap, cell}
 use Rattle.ephemeron_table.proofs.NewKeys.{LacksKey, shown, known, no_pair_refers, entries_counted}
 use Rattle.ephemeron_table.proofs.NewKeys.{not_full_for, is_full_for, lacks_where_free}
 use Rattle.ephemeron_table.proofs.PairsByKey.{lacks_pair, pairs_shown}
-use Rattle.ephemeron_table.proofs.PutEntries.{puts_one}
-use Rattle.ephemeron_table.proofs.PutMaps.{ComesToPlace, refills_weak, slot_stays}
+use Rattle.ephemeron_table.proofs.PutMaps.{ComesToPlace, puts_one, refills_weak, slot_stays}
 use Rattle.ephemeron_table.proofs.PutPairs.{pair, pairs_are_now}
 use Rattle.ephemeron_table.proofs.PutPlaces.{puts_to_table}
 use Rattle.ephemeron_table.proofs.PutShown.{CountsPut, PutsShown}

@@ -223,10 +223,10 @@ carried_at {names} {old} {now} {new} {objects} {command} {graph} {text} {result}
     elim tries.finds [
       | Finds.scavenged is scavenges ↦ absurd (made.apart is)
       | Finds.unchanged apart same ↦ record {
-          mid = now.main;
-          collects = Collects.for_room apart (made.lacks graph shown counted) made.scavenged.scavenges;
-          keeps = made.scavenged.keeps;
-          carries = subst (λ (main : Mutator). Carries names main new graph command text result) same tries.carries;
-          gave_up = λ need is. absurd (other need is);
-        }
+        mid = now.main;
+        collects = Collects.for_room apart (made.lacks graph shown counted) made.scavenged.scavenges;
+        keeps = made.scavenged.keeps;
+        carries = subst (λ (main : Mutator). Carries names main new graph command text result) same tries.carries;
+        gave_up = λ need is. absurd (other need is);
+      }
     ]

@@ -38,3 +38,4 @@ pub mod EndStands
 pub mod EndMoved
 pub mod Ended
 pub mod LoopEnds
+pub mod Tight
