@@ -6,7 +6,7 @@ use Rattle.std.proofs.lemmas.List.Elements.{All-weaker, All-contains, All-contai
 use Rattle.tagged_word.specs.Shapes.{shapes_most}
 use Rattle.tagged_word.proofs.Members.{in_map}
 use Rattle.heap_model.specs.Types.{Region, Cell}
-use Rattle.page_space.specs.declared.region.Region.TheVariants.{Page, Eden, Segment, Root, Layout, Mark, Board, Outside}
+use Rattle.page_space.specs.declared.region.Region.TheVariants.{Page, Eden, Segment}
 use Rattle.page_space.specs.Extents.{Space, Extent, cell_stretches, roots_start, layouts_start}
 use Rattle.page_space.proofs.Covering.{between}
 use Rattle.cell_layout.specs.Cells.{IsCell, IsRow, layouts_in}

@@ -22,7 +22,7 @@ use Rattle.object_cells.specs.CellWrites.{reshaped}
 use Rattle.object_cells.specs.OwnSlots.{IsNoBoxOf, ComesFrom}
 use Rattle.object_cells.specs.SlotChanges.{IsTaggedSlot, HasTagged, ShowsSlot, RefillsSlots}
 use Rattle.object_cells.proofs.OwnerWrites.{becomes_cap}
-use Rattle.object_cells.proofs.SlotPlaces.{one_slots}
+use Rattle.heap_model.proofs.OneBeside.{one_slots}
 use Rattle.object_cells.proofs.FieldsFound.{field_at}
 use Rattle.object_cells.proofs.PlainFields.{plain_sound}
 use Rattle.object_cells.proofs.FieldWords.{path_field, field_is_tagged, tagged_is_field}

@@ -12,6 +12,7 @@ use Rattle.heap_model.specs.Types.{Cell}
 use Rattle.heap_model.specs.Heaps.{Heap, Row, IsUsedRow, words_of_cell}
 use Rattle.heap_model.specs.Wholeness.{HasRows, Whole}
 use Rattle.heap_model.specs.Collectable.{IsCollectable}
+use Rattle.heap_model.proofs.RegionRows.{row_is}
 use Rattle.heap_model.proofs.CellsApart.{has_is_cell, ends_within, used_few}
 use Rattle.nursery.specs.Young.{other_half}
 use Rattle.write_barrier.specs.MutatorState.{heap_of}
@@ -89,12 +90,9 @@ fixed_begins heap rows half = record {
 -- each row stands in its region
 rows_stand : (heap : Heap) (rows : HasRows heap) → All (StandsIn heap) rows.rows
 rows_stand heap rows =
-    let Among : Row → List Extent → Type 0 = λ row all. Contains all row.extent in
     let each : (row : Row) → Contains rows.rows row → StandsIn heap row = λ row there.
-    let used : IsUsedRow heap row = All-contains (IsUsedRow heap) rows.rows row rows.are.each there in
-    let among = in_map (λ (one : Row). one.extent) rows.rows row there in
-    let in_region = subst (Among row) rows.are.everywhere among in
-    record { stands = used.stands; within = ends_within heap row (used_few rows) in_region used } in
+    let is = row_is row rows.are there in
+    record { stands = is.used.stands; within = ends_within heap row (used_few rows) is.among is.used } in
     All-weaker (Contains rows.rows) (StandsIn heap) each rows.rows (All-contains_itself rows.rows)
 
 -- the cells ascend

@@ -17,7 +17,7 @@ use Rattle.shape_change.specs.Shifts.{slot_at}
 use Rattle.shape_change.specs.Deletions.{TakesFieldOut}
 use Rattle.shape_change.proofs.FieldsLess.{origin_of, origin_of-before, origin_of-behind}
 use Rattle.object_cells.proofs.PlainFields.{plain_sound}
-use Rattle.object_cells.proofs.SlotPlaces.{one_slots}
+use Rattle.heap_model.proofs.OneBeside.{one_slots}
 use Rattle.object_cells.proofs.StoreCells.{store_at, slots_counted}
 use Rattle.shape_change.proofs.SlotAddresses.{slot_at-own, SlotsStand, slots_stand}
 use Rattle.shape_change.proofs.SlotAddresses.{slots_are_apart, slot_read}

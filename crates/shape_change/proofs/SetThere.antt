@@ -31,7 +31,7 @@ use Rattle.object_cells.proofs.HeldContents.{HoldsValue, held_rep_is, value_held
 use Rattle.object_cells.proofs.PlainFields.{plain_sound, plain_shown, shape_there}
 use Rattle.shape_change.proofs.Settings.{Setting, mapped, setting, slot_is_field}
 use Rattle.shape_change.proofs.SetShown.{FillsAt, was_field_word}
-use Rattle.object_cells.proofs.SlotPlaces.{one_slots}
+use Rattle.heap_model.proofs.OneBeside.{one_slots}
 use Rattle.object_cells.proofs.SlotsNow.{numbered_stands}
 
 -- The slot of the field is at the place, in the object itself or not; the field had this representation, and the

@@ -13,7 +13,7 @@ use Rattle.object_cells.proofs.FieldsFound.{value_found}
 use Rattle.object_cells.proofs.FieldWords.{path_field}
 use Rattle.shape_change.proofs.ShownFields.{shown_cell, shown_shape, name_is_new, field_found, found_there}
 use Rattle.object_cells.proofs.PlainFields.{plain_sound, plain_shown, names_distinct}
-use Rattle.object_cells.proofs.SlotPlaces.{one_slots}
+use Rattle.heap_model.proofs.OneBeside.{one_slots}
 use Rattle.write_barrier.proofs.Headers.{has_header}
 use Rattle.shape_change.proofs.get_field.get.Goals as goal
 
