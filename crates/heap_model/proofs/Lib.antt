@@ -24,9 +24,9 @@ pub mod ReachedStays
 pub mod ShownGraphs
 pub mod CountsStay
 pub mod RegionStarts
-pub mod WordsAlike
 pub mod RegionRows
 pub mod RegionSeams
+pub mod WordsAlike
 pub mod BoundRoots
 pub mod BoundHeaps
 pub mod BoundGraphs

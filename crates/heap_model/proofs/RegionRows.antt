@@ -4,30 +4,21 @@ use Rattle.std.proofs.lemmas.List.Elements.{All-contains}
 use Rattle.tagged_word.proofs.Members.{in_map, map_from}
 use Rattle.page_space.specs.Extents.{Space, Extent, IsIn, words_count}
 use Rattle.page_space.specs.RegionLaws.{IsSpace}
-use Rattle.page_space.proofs.Starts.{layouts_start_is, marks_start_is, board_start_is, words_count_is}
+use Rattle.page_space.proofs.Covering.{ends_within as words_end}
 use Rattle.cell_layout.proofs.Rows.{row_ascends}
 use Rattle.heap_model.specs.Types.{Region}
 use Rattle.heap_model.specs.Heaps.{Heap, Row, IsUsedRow, AreRows, cell_extents}
 use Rattle.heap_model.specs.RegionRows.{StandsBetween, IsRowFrom}
 use Rattle.heap_model.proofs.CellsApart.{ends_within}
-use Rattle.heap_model.proofs.RegionStarts.{one_extent, region_at_start, holds_first}
+use Rattle.heap_model.proofs.RegionStarts.{start_is_in, one_extent, region_at_start}
 use Rattle.heap_model.proofs.RowEnds.{AreOneRow, one_used_row}
-use Rattle.heap_model.proofs.WordsAlike.{extent_below_roots}
 
 -- a region of cells begins at a word of the heap
 pub start_inside : (space : Space) (start end : ℕ) → IsSpace space → StandsBetween space start end
     → start < words_count space
 start_inside space start end limits stands =
-    omega (
-      arith,
-      (holds_first space stands.extent limits stands.among).below,
-      extent_below_roots space stands.extent stands.among,
-      stands.starts,
-      layouts_start_is space,
-      marks_start_is space,
-      board_start_is space,
-      words_count_is space,
-    )
+    let inside = start_is_in space stands.extent limits stands.among in
+    omega (arith, inside.holds.below, words_end space inside.extent inside.stands, stands.starts)
 
 -- each of the rows of a heap is the used row of its region
 pub row_is : {heap : Heap} {rows : List Row} (row : Row) → AreRows heap rows → Contains rows row
