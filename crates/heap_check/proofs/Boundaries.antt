@@ -17,6 +17,7 @@ use Rattle.heap_model.proofs.RowEnds.{one_used_row}
 use Rattle.heap_model.proofs.CellsApart.{IsOfCell, first_of_cell, cell_extent_stands, ends_within, used_few}
 use Rattle.heap_model.proofs.CellsApart.{cells_apart}
 use Rattle.heap_model.proofs.Patches.{row_holds}
+use Rattle.heap_model.specs.RegionRows.{StandsBetween}
 use Rattle.heap_check.specs.NextCell.{IsBoundary}
 use Rattle.heap_model.proofs.RegionRows.{row_of}
 
@@ -109,6 +110,29 @@ boundary_first heap = record {
   apart = λ cell words has before. absurd (omega (arith, before));
   reached = λ row among used holds. omega arith;
 }
+
+-- the first address of a region of cells
+pub boundary_start : (heap : Heap) (start end : ℕ) → HasRows heap → StandsBetween heap.space start end → start < end
+    → IsBoundary heap start
+boundary_start heap start end rows stands some =
+    let extent = stands.extent in
+    let here : ContainsAddress extent start =
+    record { from = omega (arith, stands.starts); below = omega (arith, stands.ends, some) } in
+    let one = λ (other : Extent) (among : Contains (cell_extents heap.space) other) (holds : ContainsAddress other start).
+    disjoint heap.space other extent start (cell_extent_stands heap.space other among)
+    (cell_extent_stands heap.space extent stands.among) holds here in
+    record {
+      apart = λ cell words has before. elim (cases_lt start (cell.at + cell.size)) [
+        | inl over ↦
+            let of_cell : IsOfCell cell start = record { from = omega arith; below = over } in
+            let same = one has.row.extent has.in_region (row_holds rows has.in_region has.used has.in_row of_cell) in
+            let first = row_holds rows has.in_region has.used has.in_row (first_of_cell has) in
+            absurd (omega (arith, first.from, ap (λ (e : Extent). e.start) same, stands.starts, before))
+        | inr within ↦ within
+      ];
+      reached = λ row among used holds. reached_from heap row start used holds (λ within.
+          absurd (omega (arith, within, ap (λ (e : Extent). e.start) (one row.extent among holds), stands.starts)));
+    }
 
 -- the address behind a cell
 pub boundary_behind : (heap : Heap) (cell : Cell) (words : List ℕ) → HasRows heap → HasCell heap cell words

@@ -1,5 +1,6 @@
 -- The used row of a region as a walk within a bound.
 use Rattle.std.proofs.Common.{◌≡◌, ℕ, ◌+◌, ◌-◌, ◌≤◌, inl, inr, List, Contains, false}
+use Rattle.std.proofs.Common.{Option, Some, None, MatchOption}
 use Rattle.std.proofs.Common.{refl, sym, ◌∙◌, ap, subst, arith, IsTrue}
 use Rattle.std.proofs.lemmas.Bool.{false≢true}
 use Rattle.heap_model.specs.Types.{Region, Cell}
@@ -12,8 +13,6 @@ use Rattle.page_space.proofs.Standing.{length_of}
 use Rattle.page_space.proofs.Starts.{layouts_start_is, marks_start_is, board_start_is, words_count_is}
 use Rattle.page_space.proofs.Limits.{words_count_most}
 use Rattle.cell_layout.specs.Cells.{IsRow}
-use Rattle.cell_layout.proofs.OneCell.{cells_have_words}
-use Rattle.cell_layout.proofs.Rows.{cell_within, rows_part_around}
 use Rattle.heap_model.specs.Heaps.{Heap, Row, EndsUsed, cell_extents, survivors_in}
 use Rattle.heap_model.proofs.CellsApart.{cell_extent_stands}
 use Rattle.heap_model.proofs.WordsAlike.{extent_below_roots}
@@ -21,8 +20,8 @@ use Rattle.heap_model.proofs.RegionStarts.{region_at_start, holds_first}
 use Rattle.heap_model.proofs.RegionRows.{LiesBetween, of_region, region_is, lies_between}
 use Rattle.heap_model.specs.RegionRows.{StandsBetween, IsRowFrom}
 use Rattle.heap_check.specs.declared.row.Bound.{Bound}
-use Rattle.heap_check.specs.Walks.{Stops, IsWalk, IsFirstAmong}
-use Rattle.heap_check.specs.RegionRows.{IsFew, BoundsFrom, IsBoundOf, EndsRowAt, CountsRowAt}
+use Rattle.heap_check.specs.Walks.{Stops, IsWalk, HasNoWalk, EndsWalk}
+use Rattle.heap_check.specs.RegionRows.{IsFew, BoundsFrom, IsBoundOf, HasNoRowAt, EndsRowAt, CountsRowAt}
 use Rattle.heap_check.specs.RegionRows.{bound_in, survivors_by}
 
 -- a walk within a limit that may end nowhere else ends there
@@ -128,7 +127,7 @@ used_within heap start end within few stands =
     )
 
 -- the used row of the region is a walk within the bound
-pub row_walks : (heap : Heap) (start end : ℕ) (bound : Bound) (row : Row) → BoundsFrom heap start end bound
+row_walks : (heap : Heap) (start end : ℕ) (bound : Bound) (row : Row) → BoundsFrom heap start end bound
     → IsRowFrom heap start row → IsWalk heap bound start row.end row.cells
 row_walks heap start end bound row bounds is =
     let same = of_region bounds.limits bounds.stands is in
@@ -141,7 +140,7 @@ row_walks heap start end bound row bounds is =
     }
 
 -- a walk within the bound is the used row of the region
-pub walk_is_row : (heap : Heap) (start end at : ℕ) (bound : Bound) (cells : List Cell) → BoundsFrom heap start end bound
+walk_is_row : (heap : Heap) (start end at : ℕ) (bound : Bound) (cells : List Cell) → BoundsFrom heap start end bound
     → IsWalk heap bound start at cells → EndsRowAt heap start at
 walk_is_row heap start end at bound cells bounds walk =
     let stands = bounds.stands in
@@ -156,14 +155,13 @@ walk_is_row heap start end at bound cells bounds walk =
       ends = refl;
     }
 
--- no walk has a cell at its limit
-pub no_cell_at_limit : (heap : Heap) (bound : Bound) (from end : ℕ) (cells : List Cell) (cell : Cell)
-    → IsWalk heap bound from end cells → IsFirstAmong cells bound.limit cell → ⊥
-no_cell_at_limit heap bound from end cells cell walk first =
-    let within = cell_within heap.space heap.words from end cells cell walk.row first.among in
-    let parts = rows_part_around heap.space heap.words from end cells cell walk.row first.among in
-    let some = (cells_have_words heap.space heap.words cell parts.is_cell).0 in
-    omega (arith, within.1, walk.within, first.reached, some)
+-- so the used row of the region ends where the walk does
+pub row_by_walk : (heap : Heap) (start end : ℕ) (bound : Bound) (found : Option ℕ) → BoundsFrom heap start end bound
+    → MatchOption found (HasNoWalk heap bound start) (λ at. EndsWalk heap bound start at)
+    → MatchOption found (HasNoRowAt heap start) (λ at. EndsRowAt heap start at)
+row_by_walk heap start end bound None bounds none =
+    λ row is. none row.end row.cells (row_walks heap start end bound row bounds is)
+row_by_walk heap start end bound (Some at) bounds ends = walk_is_row heap start end at bound ends.cells bounds ends.walk
 
 -- the words of survivors of a row, by its region
 pub counts_by : (row : Row) (region : Region)

@@ -6,7 +6,7 @@ ghost use Rattle.heap_check.specs.Walks.{HasWords};
 ghost use Rattle.heap_check.specs.RegionRows.{BoundsFrom, bound_in, survivors_by};
 ghost use Rattle.heap_check.specs.RegionRows.{HasNoRowAt, EndsRowAt, CountsRowAt, IsFew};
 
-use crate::row::{Bound, Step, first_of_row};
+use crate::row::{Bound, end_of_row};
 use heap_model::HeapImage;
 use page_space::Region;
 
@@ -51,13 +51,7 @@ pub(crate) fn row_end(image: &HeapImage, start: u32, end: u32) -> Option<u32>
     ensures { MatchOption result (HasNoRowAt (image_heap image.now) start)
         (λ row_end. EndsRowAt (image_heap image.now) start row_end) }
 {
-    let bound = bound_of(image, start, end);
-    match first_of_row(image, start, bound, bound.limit) {
-        Step::Ended(row_end) => Some(row_end),
-        // No cell of a row is at its limit.
-        Step::Found(_) => None,
-        Step::Broken => None,
-    }
+    end_of_row(image, start, bound_of(image, start, end))
 }
 
 /// How many words of survivors a row has.

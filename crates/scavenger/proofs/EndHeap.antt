@@ -2,9 +2,9 @@
 use Rattle.std.proofs.Common.{◌≡◌, ℕ, ◌+◌, ◌<◌, ◌≤◌, inl, inr, List, [], ◌∷◌, map, All, Contains, sum_by}
 use Rattle.std.proofs.Common.{refl, sym, ◌∙◌, ap, subst, arith}
 use Rattle.std.proofs.lemmas.Bool.{cases_lt}
-use Rattle.std.proofs.lemmas.List.Elements.{All-nil, All-cons, All-contains}
+use Rattle.std.proofs.lemmas.List.Elements.{All-nil, All-cons}
 use Rattle.std.proofs.lemmas.List.Sums.{sum_by-cons}
-use Rattle.tagged_word.proofs.Members.{first_in, rest_in, in_map, map_from}
+use Rattle.tagged_word.proofs.Members.{first_in, rest_in, map_from}
 use Rattle.page_space.specs.declared.region.Region.TheVariants.{Eden}
 use Rattle.page_space.specs.Extents.{Extent, eden_start}
 use Rattle.page_space.proofs.Covering.{disjoint}

@@ -4,7 +4,7 @@ use Rattle.std.specs.List.{All, AllPairs}
 use Rattle.std.proofs.lemmas.List.{map-append}
 use Rattle.std.proofs.lemmas.List.Elements.{All-nil, All-cons, All-head, All-tail, All-weaker}
 use Rattle.std.proofs.lemmas.List.Kept.{AllPairs-cons}
-use Rattle.page_space.specs.declared.region.Region.TheVariants.{Page, Eden, Segment, Root, Layout, Mark, Board, Outside}
+use Rattle.page_space.specs.declared.region.Region.TheVariants.{Eden, Segment}
 use Rattle.page_space.specs.Extents.{Space, Stretch, Extent, words_in, extents_from}
 use Rattle.page_space.proofs.Stretches.{words_in-cons}
 use Rattle.cell_layout.specs.Cells.{IsRow}

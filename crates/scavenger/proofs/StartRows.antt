@@ -1,9 +1,7 @@
 -- The cells of the young generation, row by row, and that these are all that stand from the first address of eden on.
 use Rattle.std.proofs.Common.{◌≡◌, ℕ, ◌+◌, ◌≤◌, ◌<◌, List, [], Contains, refl, sym, ap, subst, arith}
 use Rattle.std.specs.List.{flat_map}
-use Rattle.std.proofs.lemmas.List.Elements.{All-contains}
-use Rattle.tagged_word.proofs.Members.{in_map, map_from}
-use Rattle.page_space.specs.declared.region.Region.TheVariants.{Page, Eden, Segment, Root, Layout, Mark, Board, Outside}
+use Rattle.page_space.specs.declared.region.Region.TheVariants.{Page, Eden, Segment}
 use Rattle.page_space.specs.Extents.{Extent, IsRegion, eden_start}
 use Rattle.page_space.proofs.Lists.{contains_none}
 use Rattle.page_space.proofs.Standing.{start_of, length_of}
@@ -11,7 +9,7 @@ use Rattle.page_space.proofs.Placed.{placed}
 use Rattle.page_space.proofs.CellAddresses.{page_ends}
 use Rattle.cell_layout.proofs.Rows.{cell_within}
 use Rattle.heap_model.specs.Types.{Region, Cell}
-use Rattle.heap_model.specs.Heaps.{Heap, Row, EndsUsed, IsUsedRow, HasCell, cell_extents, words_of_cell}
+use Rattle.heap_model.specs.Heaps.{Heap, Row, EndsUsed, HasCell, words_of_cell}
 use Rattle.heap_model.specs.Wholeness.{HasRows}
 use Rattle.heap_model.proofs.RowEnds.{one_used_row}
 use Rattle.heap_model.proofs.RegionRows.{row_is, row_of}

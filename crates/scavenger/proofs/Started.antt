@@ -2,14 +2,14 @@
 use Rattle.std.proofs.Common.{◌≡◌, ℕ, ◌+◌, ◌≤◌, ◌<◌, ◌↔◌, List, [], ◌∷◌, map, Contains, inl, inr, refl, sym, ◌∙◌}
 use Rattle.std.proofs.Common.{ap, subst, arith}
 use Rattle.std.specs.List.{All, AllPairs, range_with_len, sum_by}
-use Rattle.std.proofs.lemmas.List.Elements.{All-contains, All-contains_itself, All-weaker}
+use Rattle.std.proofs.lemmas.List.Elements.{All-contains_itself, All-weaker}
 use Rattle.tagged_word.proofs.Members.{in_map, map_from, in_range, range_bounds}
-use Rattle.page_space.specs.Extents.{Space, Extent, eden_start, cell_stretches}
+use Rattle.page_space.specs.Extents.{Space, eden_start, cell_stretches}
 use Rattle.page_space.specs.RegionLaws.{IsSpace}
 use Rattle.cell_layout.specs.Cells.{layouts_in}
 use Rattle.handle_roots.specs.Roots.{root_at}
 use Rattle.heap_model.specs.Types.{Cell}
-use Rattle.heap_model.specs.Heaps.{Heap, Row, IsUsedRow, words_of_cell}
+use Rattle.heap_model.specs.Heaps.{Heap, Row, words_of_cell}
 use Rattle.heap_model.specs.Wholeness.{HasRows, Whole}
 use Rattle.heap_model.specs.Collectable.{IsCollectable}
 use Rattle.heap_model.proofs.RegionRows.{row_is}
