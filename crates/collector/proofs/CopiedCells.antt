@@ -2,12 +2,11 @@
 use Rattle.std.proofs.Common.{◌≡◌, ℕ, ◌+◌, inl, inr, List, All, Contains, slice_get}
 use Rattle.std.proofs.Common.{refl, sym, ◌∙◌, subst, arith}
 use Rattle.std.proofs.lemmas.Bool.{cases_lt}
-use Rattle.std.proofs.lemmas.List.Elements.{All-contains, All-weaker, All-contains_itself}
+use Rattle.std.proofs.lemmas.List.Elements.{All-weaker, All-contains_itself}
 use Rattle.tagged_word.specs.Shapes.{shapes_most}
-use Rattle.tagged_word.proofs.Members.{in_map}
 use Rattle.heap_model.specs.Types.{Region, Cell}
-use Rattle.page_space.specs.declared.region.Region.TheVariants.{Page, Eden, Segment, Root, Layout, Mark, Board, Outside}
-use Rattle.page_space.specs.Extents.{Extent, layouts_start}
+use Rattle.page_space.specs.declared.region.Region.TheVariants.{Page, Eden, Segment}
+use Rattle.page_space.specs.Extents.{layouts_start}
 use Rattle.page_space.proofs.Starts.{marks_start_is}
 use Rattle.cell_layout.specs.Cells.{IsRow, layouts_in}
 use Rattle.cell_layout.specs.CellLaws.{ReadsAlike}

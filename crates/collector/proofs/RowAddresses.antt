@@ -1,8 +1,6 @@
 -- Which addresses of a region are of cells: those of its used row, and no others.
-use Rattle.std.proofs.Common.{◌≡◌, ℕ, ◌+◌, ◌≤◌, ◌<◌, List, Contains, refl, sym, subst, arith}
-use Rattle.std.proofs.lemmas.List.Elements.{All-contains}
-use Rattle.tagged_word.proofs.Members.{map_from}
-use Rattle.page_space.specs.Extents.{Extent, ContainsAddress}
+use Rattle.std.proofs.Common.{◌≡◌, ℕ, ◌+◌, ◌≤◌, ◌<◌, Contains, refl, arith}
+use Rattle.page_space.specs.Extents.{ContainsAddress}
 use Rattle.page_space.proofs.Covering.{disjoint}
 use Rattle.cell_layout.proofs.Rows.{cell_within, row_ascends}
 use Rattle.heap_model.specs.Heaps.{Heap, Row, IsUsedRow, cell_extents, words_of_cell}

@@ -1,5 +1,5 @@
 -- The end of the used row of a region, and the walk to it in a segment.
-use Rattle.std.proofs.Common.{◌≡◌, ℕ, ◌+◌, ◌≤◌, ◌⊎◌, inl, inr, List, [], ◌∷◌, Contains, Some}
+use Rattle.std.proofs.Common.{◌≡◌, ℕ, ◌+◌, ◌≤◌, ◌⊎◌, inl, inr, List, [], ◌∷◌, Some}
 use Rattle.std.proofs.Common.{slice_get, refl, sym, ◌∙◌, ap, subst, arith}
 use Rattle.heap_model.specs.Types.{Region, Cell}
 use Rattle.page_space.specs.declared.region.Region.TheVariants.{Page, Eden, Segment}
@@ -8,9 +8,9 @@ use Rattle.page_space.specs.RegionLaws.{IsSpace}
 use Rattle.cell_layout.specs.Cells.{IsCell, IsRow, HasNoCell}
 use Rattle.cell_layout.proofs.OneCell.{one_cell}
 use Rattle.cell_layout.proofs.Rows.{row_begins, row_of_none, first_ends}
-use Rattle.heap_model.specs.Heaps.{Heap, Row, EndsUsed, cell_extents}
+use Rattle.heap_model.specs.Heaps.{Heap, Row, EndsUsed}
 use Rattle.heap_model.specs.Wholeness.{HasRows}
-use Rattle.heap_model.proofs.RowEnds.{one_used_row, first_word_counts}
+use Rattle.heap_model.proofs.RowEnds.{first_word_counts}
 use Rattle.heap_model.specs.RegionRows.{StandsBetween, IsRowFrom}
 use Rattle.heap_model.proofs.RegionStarts.{region_at_start}
 use Rattle.heap_model.proofs.RegionRows.{row_of, one_row_from, region_ends, region_is}

@@ -1,8 +1,8 @@
 -- How the words of an image are put: stretch by stretch, and region by region.
-use Rattle.std.specs.Prelude.{◌≡◌, ℕ, ◌+◌, ◌<◌, ◌≤◌, ◌⊎◌, List, length, Contains, Some, slice_get}
+use Rattle.std.specs.Prelude.{◌≡◌, ℕ, ◌<◌, ◌≤◌, ◌⊎◌, List, length, Some, slice_get}
 use Rattle.page_space.specs.declared.region.Region.TheVariants.{Segment}
-use Rattle.page_space.specs.Extents.{Space, Extent}
-use Rattle.heap_model.specs.Heaps.{Heap, Row, IsUsedRow, cell_extents}
+use Rattle.page_space.specs.Extents.{Space}
+use Rattle.heap_model.specs.Heaps.{Heap, Row}
 use Rattle.heap_model.specs.RegionRows.{StandsBetween, IsRowFrom}
 use Rattle.collector.specs.Images.{IsOfSomeCell}
 
