@@ -1,12 +1,12 @@
 -- Addresses up to which the cells of a heap may be passed, and the cell that stands at one.
 use Rattle.std.proofs.Common.{◌≡◌, ℕ, ◌+◌, ◌-◌, ◌≤◌, ◌<◌, inl, inr, Contains, List, ◌++◌}
-use Rattle.std.proofs.Common.{sym, ◌∙◌, ap, subst, arith}
+use Rattle.std.proofs.Common.{sym, ◌∙◌, ap, subst, arith, append_assoc}
 use Rattle.std.proofs.lemmas.Bool.{cases_lt}
 use Rattle.heap_model.specs.Types.{Region, Cell}
 use Rattle.page_space.specs.Extents.{Space, Stretch, Extent, ContainsAddress, StartsAt, CellsEndAt, words_in, extents}
 use Rattle.page_space.specs.Extents.{cell_stretches, root_stretches, layout_stretches, mark_stretches, board_stretches}
 use Rattle.page_space.specs.Extents.{extents_from, roots_start}
-use Rattle.page_space.proofs.Stretches.{words_in-append, stands_cases}
+use Rattle.page_space.proofs.Stretches.{stands_cases}
 use Rattle.page_space.proofs.Covering.{between, disjoint}
 use Rattle.page_space.proofs.LawsHold.{regions_stand_once}
 use Rattle.page_space.proofs.CellEnds.{before_end, end_before_roots}
@@ -44,18 +44,12 @@ pub among_cells : (space : Space) (extent : Extent) → Contains (extents space)
 unfolding extents roots_start
 among_cells space extent there below =
     let cells = cell_stretches space in
-    let roots = cells ++ root_stretches space in
-    let layouts = roots ++ layout_stretches in
-    let marks = layouts ++ mark_stretches space in
-    let in_roots = words_in-append cells (root_stretches space) in
-    let in_layouts = words_in-append roots layout_stretches in
-    let in_marks = words_in-append layouts (mark_stretches space) in
-    among_first cells (root_stretches space) extent
-    (among_first roots layout_stretches extent
-    (among_first layouts (mark_stretches space) extent
-    (among_first marks board_stretches extent there (omega (arith, in_roots, in_layouts, in_marks)))
-    (omega (arith, in_roots, in_layouts)))
-    (omega (arith, in_roots))) below
+    let roots = root_stretches space in
+    let more = roots ++ (layout_stretches ++ (mark_stretches space ++ board_stretches)) in
+    let same : cells ++ roots ++ layout_stretches ++ mark_stretches space ++ board_stretches ≡ cells ++ more =
+    simp append_assoc in
+    let All : List Stretch → Type 0 = λ all. Contains (extents_from 0 all) extent in
+    among_first cells more extent (subst All same there) below
 
 -- the used row of the region of cells that an address is in
 pub record RowThere (heap : Heap) (at end : ℕ) : Type 0 where
@@ -103,13 +97,6 @@ reached_from heap row at used holds inside =
       | inr begins ↦
           omega (arith, begins, row_ascends heap.space heap.words row.extent.start row.end row.cells used.stands)
     ]
-
--- nothing is before the first address
-pub boundary_first : (heap : Heap) → IsBoundary heap 0
-boundary_first heap = record {
-  apart = λ cell words has before. absurd (omega (arith, before));
-  reached = λ row among used holds. omega arith;
-}
 
 -- the first address of a region of cells
 pub boundary_start : (heap : Heap) (start end : ℕ) → HasRows heap → StandsBetween heap.space start end → start < end

@@ -38,10 +38,6 @@ pub record Passes (heap : Heap) (bound : Bound) (from at : ℕ) : Type 0 where
   pub on : (end : ℕ) → EndsWalk heap bound from end → EndsWalk heap bound at end
   pub back : (end : ℕ) → EndsWalk heap bound at end → EndsWalk heap bound from end
 
--- nothing was passed
-pub passes_none : (heap : Heap) (bound : Bound) (from : ℕ) → Passes heap bound from from
-passes_none heap bound from = record { on = λ end walk. walk; back = λ end walk. walk }
-
 -- the walks from a cell's address go on behind it
 behind_cell : (heap : Heap) (bound : Bound) (at end : ℕ) (cell : Cell) (cells : List Cell) → GoesOn heap bound at cell
     → IsWalk heap bound at end cells → EndsWalk heap bound (at + cell.size) end
@@ -97,9 +93,3 @@ pub ends_there : (heap : Heap) (bound : Bound) (from at end : ℕ) → Passes he
 ends_there heap bound from at end passes within same stops =
     subst (EndsWalk heap bound from) (sym same)
     (passes.back at record { cells = []; walk = record { row = none at; within = within; stops = stops } })
-
--- where none goes on, none came
-pub none_there : (heap : Heap) (bound : Bound) (from at : ℕ) → Passes heap bound from at → HasNoWalk heap bound at
-    → HasNoWalk heap bound from
-none_there heap bound from at passes no_walk end cells walk =
-    let on = passes.on end record { cells = cells; walk = walk } in no_walk end on.cells on.walk

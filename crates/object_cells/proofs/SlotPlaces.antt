@@ -1,9 +1,9 @@
 -- Where the slots of a plain object stand.
-use Rattle.std.proofs.Common.{◌≡◌, ℕ, ◌+◌, ◌-◌, ◌≤◌, ◌<◌, List, ◌++◌, length, drop, Some, None}
+use Rattle.std.proofs.Common.{◌≡◌, ℕ, ◌+◌, ◌-◌, ◌≤◌, ◌<◌, List, length, drop, Some, None}
 use Rattle.std.proofs.Common.{slice_get}
 use Rattle.std.proofs.Common.{get_or, refl, sym}
-use Rattle.std.proofs.Common.{◌∙◌, ap, subst, arith, length-drop, length-append}
-use Rattle.std.proofs.lemmas.Option.{slice_get_within, slice_get-get_or, none-some, same_Some}
+use Rattle.std.proofs.Common.{◌∙◌, ap, arith, length-drop, length-append}
+use Rattle.std.proofs.lemmas.Option.{slice_get_within, slice_get-get_or, none-some}
 use Rattle.tagged_word.specs.declared.layout.Kind.TheVariants as kind
 use Rattle.tagged_word.specs.Cells.{plain_head, store_head}
 use Rattle.tagged_word.specs.Readings.{reference_in}
@@ -17,8 +17,7 @@ use Rattle.heap_model.specs.Kinds.{HasWord, HasSlots}
 use Rattle.heap_model.specs.Wholeness.{HasSizes}
 use Rattle.heap_model.proofs.CellWords.{slice_get-drop, slice_get-append_left, slice_get-append_right, words_by_kind}
 use Rattle.heap_model.proofs.CellWords.{words_are_size}
-use Rattle.heap_model.proofs.WordClasses.{same_reference, undefined_refers_not}
-use Rattle.heap_model.proofs.CellsApart.{one_at, one_words}
+use Rattle.heap_model.proofs.WordClasses.{same_reference}
 use Rattle.object_cells.proofs.CellsRead.{word_stands, cell_before_marks}
 use Rattle.object_cells.proofs.WordsTold.{cell_fits}
 
