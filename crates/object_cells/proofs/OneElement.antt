@@ -1,7 +1,6 @@
 -- The elements of a list of which one was put, or one pushed, slot by slot.
-use Rattle.std.proofs.Common.{◌≡◌, ◌≢◌, ℕ, ◌<◌, ◌≤◌, ◌⊎◌, inl, inr, List, [], ◌∷◌, ◌++◌}
-use Rattle.std.proofs.Common.{length, Contains, Some, slice_get, set, length-set, length-append, sym, ◌∙◌, ap, subst}
-use Rattle.std.proofs.Common.{arith}
+use Rattle.std.proofs.Common.{◌≡◌, ◌≢◌, ℕ, ◌<◌, ◌≤◌, ◌⊎◌, inl, inr, List, [], ◌∷◌, ◌++◌, length, Contains, Some}
+use Rattle.std.proofs.Common.{slice_get, set, length-set, length-append, sym, ◌∙◌, ap, subst, arith}
 use Rattle.std.proofs.lemmas.Bool.{cases_eq, cases_lt}
 use Rattle.std.proofs.lemmas.Option.{same_Some, slice_get_within, slice_get_past}
 use Rattle.tagged_word.specs.declared.layout.Kind.TheVariants as kind

@@ -1,6 +1,5 @@
 -- A heap to whose plain object a field of a new name came shows the graph in which the object has it.
-use Rattle.std.proofs.Common.{◌≡◌, ℕ, List, [], ◌∷◌, ◌++◌, length, Some, None, sym}
-use Rattle.std.proofs.Common.{◌∙◌, ap, subst, arith}
+use Rattle.std.proofs.Common.{◌≡◌, ℕ, List, [], ◌∷◌, ◌++◌, length, Some, None, sym, ◌∙◌, ap, subst, arith}
 use Rattle.std.proofs.lemmas.List.{length-map}
 use Rattle.heap_model.specs.Types.{Header, Value, Field, Path, Cell, Held}
 use Rattle.object_graph.specs.Objects.{field_value, with_field}

@@ -18,8 +18,7 @@ use Rattle.tagged_word.specs.declared.layout.Kind.TheVariants as kind
 use Rattle.object_cells.specs.CellWrites.{IsInCell, IsWrittenOfKind, Becomes}
 use Rattle.object_cells.specs.SlotChanges.{WritesFields}
 use Rattle.object_cells.proofs.StoreCells.{store_cells, is_store_cell}
-use Rattle.shape_change.proofs.SlotAddresses.{head_is_apart}
-use Rattle.shape_change.proofs.SlotAddresses.{IsOfObject, slot_is_of_object}
+use Rattle.shape_change.proofs.SlotAddresses.{head_is_apart, IsOfObject, slot_is_of_object}
 use Rattle.shape_change.proofs.DeletedSlots.{Deleting, cap_is, room_is, address, address_is}
 
 module _ {old new : Mutator} {cell : Cell} {slot : ℕ} {fields : List Field}

@@ -19,8 +19,7 @@ use Rattle.shape_change.proofs.FieldsLess.{origin_of, origin_of-before, origin_o
 use Rattle.object_cells.proofs.PlainFields.{plain_sound}
 use Rattle.object_cells.proofs.SlotPlaces.{one_slots}
 use Rattle.object_cells.proofs.StoreCells.{store_at, slots_counted}
-use Rattle.shape_change.proofs.SlotAddresses.{slot_at-own, SlotsStand, slots_stand}
-use Rattle.shape_change.proofs.SlotAddresses.{slots_are_apart, slot_read}
+use Rattle.shape_change.proofs.SlotAddresses.{slot_at-own, SlotsStand, slots_stand, slots_are_apart, slot_read}
 use Rattle.shape_change.proofs.StoresFound.{store_is_there}
 use Rattle.shape_change.proofs.TakenOut.{slot_stands}
 

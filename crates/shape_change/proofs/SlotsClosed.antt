@@ -1,7 +1,6 @@
 -- Slots of a plain object that moved down by one, in the object and in its store.
-use Rattle.std.proofs.Common.{◌≡◌, ◌≢◌, ℕ, suc, ◌+◌, ◌-◌}
-use Rattle.std.proofs.Common.{◌<◌, ◌≤◌, ◌⊎◌, inl, inr, slice_get}
-use Rattle.std.proofs.Common.{Some, length, sym, ◌∙◌, ap, subst, arith, length-set}
+use Rattle.std.proofs.Common.{◌≡◌, ◌≢◌, ℕ, suc, ◌+◌, ◌-◌, ◌<◌, ◌≤◌, ◌⊎◌, inl, inr, slice_get, Some, length, sym, ◌∙◌}
+use Rattle.std.proofs.Common.{ap, subst, arith, length-set}
 use Rattle.std.specs.Prelude.{slice_set}
 use Rattle.std.proofs.lemmas.Bool.{cases_lt}
 use Rattle.tagged_word.specs.Cells.{plain_head, store_head}

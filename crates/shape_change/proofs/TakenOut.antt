@@ -1,7 +1,6 @@
 -- A field is taken out of a plain object: its path is added, its slots are closed, and its header is put.
-use Rattle.std.proofs.Common.{◌≡◌, ◌≢◌, ℕ, suc, ◌+◌, ◌<◌, ◌≤◌, List, length, Some}
-use Rattle.std.proofs.Common.{slice_get, sym, ◌∙◌, ap, subst, arith, length-append, length-take, length-drop, take}
-use Rattle.std.proofs.Common.{drop}
+use Rattle.std.proofs.Common.{◌≡◌, ◌≢◌, ℕ, suc, ◌+◌, ◌<◌, ◌≤◌, List, length, Some, slice_get, sym, ◌∙◌, ap, subst}
+use Rattle.std.proofs.Common.{arith, length-append, length-take, length-drop, take, drop}
 use Rattle.std.specs.Prelude.{slice_set}
 use Rattle.std.proofs.lemmas.Bool.Decides.{nat_tests}
 use Rattle.heap_model.specs.Types.{Header, Path}

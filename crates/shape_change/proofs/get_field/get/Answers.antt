@@ -1,6 +1,5 @@
 -- A field's value is read where it stands.
-use Rattle.std.proofs.Common.{ℕ, ap, sym, ◌∙◌, subst, refl, Some, slice_get}
-use Rattle.std.proofs.Common.{get_or, nat_lt, length, arith}
+use Rattle.std.proofs.Common.{ℕ, ap, sym, ◌∙◌, subst, refl, Some, slice_get, get_or, nat_lt, length, arith}
 use Rattle.std.specs.Prelude.{List, unwrap_or}
 use Rattle.std.proofs.lemmas.Option.{slice_get_within, slice_get-get_or}
 use Rattle.heap_model.specs.Types.{Path}
