@@ -5,7 +5,7 @@ use Rattle.heap_model.specs.Types.{Path}
 use Rattle.shape_tree.specs.Shapes.{IsPathShape}
 use Rattle.write_barrier.specs.MutatorState.{Mutator}
 use Rattle.shape_change.proofs.StoresFound.{store_there, first_there, field_shape}
-use Rattle.shape_change.proofs.TakenFields.{found_again, one_fewer, own_before_marks, slots_within, beside_taken}
+use Rattle.shape_change.proofs.TakenOut.{found_again, one_fewer, own_before_marks, slots_within, beside_taken}
 use Rattle.shape_change.proofs.delete_field.take_out_beside.Goals as goal
 
 pub store_of-store-requires-clause-there : goal.store_of-store-requires-clause-there

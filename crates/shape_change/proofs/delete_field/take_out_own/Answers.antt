@@ -5,7 +5,7 @@ use Rattle.heap_model.specs.Types.{Path}
 use Rattle.shape_tree.specs.Shapes.{IsPathShape}
 use Rattle.write_barrier.specs.MutatorState.{Mutator}
 use Rattle.shape_change.proofs.StoresFound.{field_shape}
-use Rattle.shape_change.proofs.TakenFields.{found_again, one_fewer, own_before_marks, own_taken}
+use Rattle.shape_change.proofs.TakenOut.{found_again, one_fewer, own_before_marks, own_taken}
 use Rattle.shape_change.proofs.delete_field.take_out_own.Goals as goal
 
 pub shape_without-requires-clause-path : goal.shape_without-requires-clause-path
