@@ -1,4 +1,5 @@
--- Where a field was taken out of a plain object, only words of its own cells were written.
+-- Where a field was taken out of a plain object, only words of its own cells were written, and its cell has as many
+-- slots.
 use Rattle.std.proofs.Common.{◌≡◌, ◌≢◌, ℕ, ◌+◌, ◌<◌, inl, List, [], Contains, Some, slice_get, refl, sym, ◌∙◌, ap}
 use Rattle.std.proofs.Common.{subst, arith, ◌∷◌, ◌++◌, length}
 use Rattle.tagged_word.specs.Cells.{store_head, length_offset, store_slot}

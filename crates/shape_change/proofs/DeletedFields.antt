@@ -1,5 +1,5 @@
 -- Once a field was taken out, each slot of a plain object shows the field that moved there, and names what that slot
--- named from which it moved.
+-- named from which it moved; so the object's fields become those without the one.
 use Rattle.std.proofs.Common.{◌≡◌, ℕ, ◌<◌, ◌≤◌, true, List, [], length, Some, slice_get, get_or, nat_lt, ltb-true, refl}
 use Rattle.std.proofs.Common.{sym, ◌∙◌, ap, subst, arith, ◌+◌, ◌++◌, Contains, inl}
 use Rattle.std.proofs.lemmas.Bool.{lt-ltb}
@@ -76,7 +76,7 @@ module _ {old new : Mutator} {cell : Cell} {slot : ℕ} {fields : List Field}
       shows.of_kind shape in_path
       (λ test wide. not_wide name one field less there tagged (ltb-true one cell.layout.cap (alike ∙ test)) wide)
 
-  -- there is one
+  -- each slot before the last shows one
   field_moved : (one : ℕ) → one < deleting.taken.last → FieldMoved fields slot one
   field_moved one below =
       let none : Field = record { name = 0; rep = rep.Small; value = Undefined } in

@@ -92,7 +92,7 @@ raw_not_tagged {new = new} {cell} {shape} {slot = slot} {before = before} {field
     of_path.apart (ap (λ (f : PathField). f.rep) (same_Some of_path.field _ (sym of_path.there ∙ there)) ∙ wide)
 
 module _ {old : Mutator} {graph : Graph} {object slot : ℕ} {plain : PlainObject} {what : Value} {name : ℕ} where
-  -- so it stands
+  -- the slot of the field stands so
   pub slot_apart : (at : ℕ) (s : Setting old graph object slot plain what name)
       → IsNumbered (heap_of old) s.cell (words_of_cell (heap_of old) s.cell) slot at → SlotApart s at
   slot_apart at s numbered =

@@ -59,13 +59,13 @@ room_for_none {old} known =
 module _ {old : Mutator} {graph : Graph} {plain : PlainObject} {object : ℕ} {header : Header} {name : ℕ} {value : Held}
     {what : Value} (known : Adding old graph plain object header name value what)
     (own : count_of old.paths header.shape < (shape_path old.paths header.shape).cap) where
-  -- it is one of the object's cell, where that has the slot
+  -- where the object has the slot, its address is one of the object's cell
   own_of_cell : IsOfCell known.cell (own_place old object header)
   own_of_cell =
       let size = plain_cell_size known.has known.shown.of_kind in
       record { from = omega (arith, known.stands); below = omega (arith, known.stands, known.cap, own, size) }
 
-  -- it is that of the slot of this number
+  -- namely that of the slot of this number
   own_numbered : IsNumbered (heap_of old) known.cell (words_of_cell (heap_of old) known.cell) (length plain.fields)
       (own_place old object header)
   own_numbered =

@@ -173,7 +173,7 @@ module _ {old : Mutator} {graph : Graph} {object slot : ℕ} {plain : PlainObjec
         added = ap (with_path (Some paths_most) old.paths) stays ∙ path_is_there s ∙ ap Some (sym paths);
       }
 
-  -- so the field has the value where its slot was filled and its representation stays
+  -- the field has the value where its slot was filled and its representation stays
   pub set_as_it_is : {new : Mutator} (place : Place) (word : ℕ) (content : SlotContent)
       → AreWithin old.seat.space.sizes old.seat.space.variables
       → IsPlaceOf (heap_of old) s.cell.at s.cell.layout.cap slot place

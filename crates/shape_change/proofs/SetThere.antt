@@ -66,7 +66,7 @@ shown_setting {old} {slot = slot} shown there fits =
 
 module _ {old : Mutator} {graph : Graph} {object slot : ℕ} {plain : PlainObject} {what : Value} {name : ℕ}
     (s : Setting old graph object slot plain what name) where
-  -- so it is read off the shapes
+  -- this is read off the shapes
   pub is_read : (tree : List Path) (shape cap : ℕ) (place : Place) (own : Bool) (known : PathField)
       → HasField (heap_of old) object shape slot → tree ≡ old.paths → cap ≡ (shape_path tree shape).cap
       → IsPlaceOf (heap_of old) object cap slot place → own ≡ nat_lt slot cap

@@ -33,7 +33,6 @@ rest_then old mid new before then = record {
   count = then.count ∙ before.count;
 }
 
--- words moved down, and then one was put in the last place
 module _ {old mid new : Mutator} {from to : ℕ} (word : ℕ) (moves : MovesDown old mid from to)
     (is : new ≡ with_word mid to word) (heap : heap_words new.seat ≡ slice_set (heap_words mid.seat) to word)
     (ordered : from ≤ to) (below : to < marks_start old.seat.space) (within : to < length (heap_words old.seat)) where
