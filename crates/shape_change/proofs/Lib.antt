@@ -26,13 +26,10 @@ mod AddedSlots
 mod FieldsLess
 mod StoresFound
 mod TakenOut
-mod TakenFields
 mod DeletedSlots
 mod DeletedCells
-mod DeletedCame
 mod MovedInFields
 mod DeletedFields
-mod DeletedHeaps
 mod DeletedGraphs
 mod AddedWords
 mod OneAdded
@@ -42,8 +39,6 @@ mod OneAdding
 mod OwnAdded
 mod StoreAdded
 mod GrownWords
-mod GrownStores
-mod GrownSlots
 mod GrownAdded
 mod FieldAdded
 mod NewNames
