@@ -1,4 +1,4 @@
--- Cells as they are read: their words by address, their headers, and which shape is that of boxes.
+-- Cells as they are read: their words by address, their layouts, and which shape is that of boxes.
 use Rattle.std.proofs.Common.{◌≡◌, ℕ, ◌+◌, ◌-◌, ◌≤◌, ◌<◌, List, length, map, drop, Some}
 use Rattle.std.proofs.Common.{◌%◌, Option}
 use Rattle.std.proofs.Common.{slice_get, refl, sym, ◌∙◌, ap, subst, arith, length-append, unwrap_or}
