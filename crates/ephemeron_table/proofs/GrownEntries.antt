@@ -6,36 +6,30 @@ use Rattle.std.proofs.lemmas.Option.{none-some, same_Some, slice_get_within}
 use Rattle.tagged_word.specs.Cells.{store_head}
 use Rattle.page_space.specs.Sizes.{AreWithin}
 use Rattle.heap_model.specs.Types.{Value, Entry, Held}
-use Rattle.object_graph.specs.declared.value.Rep.TheVariants as rep
-use Rattle.object_graph.specs.Values.{rep_of}
 use Rattle.object_graph.specs.Objects.{entry_value, with_entry}
 use Rattle.object_graph.specs.Graphs.{Graph, WeakObject}
-use Rattle.object_graph.specs.Invariants.{IsValue}
 use Rattle.heap_table.specs.Seats.{heap_words}
-use Rattle.heap_model.specs.Slots.{RefersToPlace, IsPlace}
+use Rattle.heap_model.specs.Slots.{RefersToPlace}
 use Rattle.heap_model.specs.Kinds.{Pair}
 use Rattle.heap_model.specs.Showing.{ShowsEntry}
 use Rattle.heap_model.specs.Needs.{box_need, capacity_at, count_at, grown_table, table_need}
 use Rattle.heap_model.specs.Rooms.{is_wide, wput_need, wput_need_by}
 use Rattle.write_barrier.specs.MutatorState.{Mutator, heap_of, MainShows}
 use Rattle.object_cells.specs.HeldValues.{IsValueHeld}
-use Rattle.object_cells.specs.Made.{store_content}
-use Rattle.object_cells.proofs.HeldContents.{HoldsValue}
 use Rattle.object_cells.proofs.HeldNeeds.{content_need_is, wide_is}
-use Rattle.object_cells.proofs.ContentValues.{content_shows}
-use Rattle.ephemeron_table.specs.Rehashing.{CanGrow, PutsInNewTable, new_table_need}
+use Rattle.object_cells.proofs.TakenValues as taken
+use Rattle.ephemeron_table.specs.Rehashing.{CanGrow, new_table_need}
 use Rattle.weak_pairs.specs.Pairs.{IsFilledAt}
 use Rattle.ephemeron_table.specs.PairLaws.{PutsOne}
 use Rattle.ephemeron_table.specs.Probes.{IsTableAt}
 use Rattle.weak_pairs.specs.Tables.{pairs_of}
 use Rattle.ephemeron_table.specs.WeakObjects.{IsKeyAt, IsWeakAt}
 use Rattle.weak_pairs.specs.declared.table.Table.{Table}
-use Rattle.weak_pairs.proofs.CountedPairs.{count_filled}
 use Rattle.ephemeron_table.proofs.GrowableMaps.{can_grow}
-use Rattle.ephemeron_table.proofs.GrownMaps.{places, refers_back, refers_box, refills_weak}
+use Rattle.ephemeron_table.proofs.GrownMaps.{GrowsEntry, refers_back, refills_weak, takes}
 use Rattle.ephemeron_table.proofs.GrownPairs.{before, origin_other, moved, moved_apart, moved_stands, NowFilled}
 use Rattle.ephemeron_table.proofs.GrownPairs.{now_filled, one_stands}
-use Rattle.ephemeron_table.proofs.GrownWords.{behind, pair}
+use Rattle.ephemeron_table.proofs.GrownWords.{GrowsTable, pair}
 use Rattle.ephemeron_table.proofs.KeysFound.{WeakShown, weak_shown, shown_pairs}
 use Rattle.ephemeron_table.proofs.KnownTables.{shown_known, KnownMap, pairs_long, within_words}
 use Rattle.ephemeron_table.proofs.NoPair.{no_pair}
@@ -43,50 +37,38 @@ use Rattle.ephemeron_table.specs.EntryChanges.{map_room}
 use Rattle.weak_pairs.proofs.PairLists.{pairs_are}
 
 module _ {old new : Mutator} {map key count earlier number : ℕ} {table : Table} {value : Held} {what : Value}
-    (known : KnownMap old map table) (can : CanGrow old map table key earlier)
-    (puts : PutsInNewTable old new map table key count value) (objects : ℕ)
-    (key_place : IsPlace (heap_of old) number key)
-    (holds : HoldsValue (heap_of old) false rep.Small (rep_of what) what (store_content value))
-    (fits : IsValue objects what) (counted : count ≡ count_filled (before known can puts) + 1)
-    (none : (at : ℕ) (one : Pair) → IsFilledAt (before known can puts) at one
+    (entry : GrowsEntry old new map key count earlier number table value what)
+    (none : (at : ℕ) (one : Pair) → IsFilledAt (before entry.grows) at one
     → RefersToPlace (heap_of old) one.key number → ⊥)
   where
+    abbrev grows : GrowsTable old new map key count earlier table value
+    grows = entry.grows
+
     -- the pair that was put shows the entry
     pair_shows : (put : Value) → ◌≡◌ {A = Value} what put
-        → ShowsEntry (heap_of new) (pair known can puts) (record { key = number; value = put })
+        → ShowsEntry (heap_of new) (pair grows) (record { key = number; value = put })
     pair_shows put same =
-        subst (λ v. ShowsEntry (heap_of new) (pair known can puts) (record { key = number; value = v })) same (record {
-          key = record {
-            at = key;
-            refers = refl;
-            place = places known can puts objects key_place holds fits counted number key key_place;
-          };
-          value = content_shows (behind known can puts) holds
-              (places known can puts objects key_place holds fits counted)
-              (refers_box known can puts objects key_place holds fits counted);
+        subst (λ v. ShowsEntry (heap_of new) (pair grows) (record { key = number; value = v })) same (record {
+          key = record { at = key; refers = refl; place = taken.places (takes entry) number key entry.key_place };
+          value = taken.value_shows (takes entry);
         })
 
     -- all pairs before are kept, and it is the one of its key
-    pub puts_one : PutsOne (heap_of old) (heap_of new)
-        (refills_weak known can puts objects key_place holds fits counted).pairs number (Some what)
+    pub puts_one : PutsOne (heap_of old) (heap_of new) (refills_weak entry).pairs number (Some what)
     puts_one = record {
       kept = λ at one is other.
           let below : at < table.capacity =
-          omega (arith, slice_get_within (before known can puts) at one is.stands, pairs_long known) in
-          let kept = (moved known can puts).kept at one is below in
-          let apart = moved_apart known can puts kept.0 one kept.1 in (
-            kept.0,
-            moved_stands known can puts kept.0 one kept.1,
-            origin_other known can puts kept.0 apart ∙ kept.2,
-            apart,
-          );
-      own = λ at one is refers. elim (now_filled known can puts at one is) [
+          omega (arith, slice_get_within (before grows) at one is.stands, pairs_long grows.known) in
+          let kept = (moved grows).kept at one is below in
+          let apart = moved_apart grows kept.0 one kept.1 in
+          (kept.0, moved_stands grows kept.0 one kept.1, origin_other grows kept.0 apart ∙ kept.2, apart);
+      own = λ at one is refers. elim (now_filled grows at one is) [
         | NowFilled.here same put_is ↦ (same, refl)
         | NowFilled.elsewhere apart now ↦
-            absurd (none ((moved known can puts).origin at) one ((moved known can puts).from at one now).0
-            (refers_back known can puts objects key_place holds fits counted one.key number refers))
+            absurd (none ((moved grows).origin at) one ((moved grows).from at one now).0
+            (refers_back entry one.key number refers))
       ];
-      shown = λ put is. (pair known can puts, one_stands known can puts, pair_shows put (same_Some what put is));
+      shown = λ put is. (pair grows, one_stands grows, pair_shows put (same_Some what put is));
       none_put = λ is. absurd (none-some what (sym is));
     }
 

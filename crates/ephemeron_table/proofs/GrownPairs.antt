@@ -18,16 +18,16 @@ use Rattle.write_barrier.specs.MutatorState.{Mutator, heap_of}
 use Rattle.object_cells.specs.Contents.{next_at}
 use Rattle.object_cells.specs.Made.{store_content, content_need}
 use Rattle.weak_pairs.specs.Rehashing.{AreRehashed}
-use Rattle.ephemeron_table.specs.Rehashing.{CanGrow, IsUsed, PutsInNewTable}
+use Rattle.ephemeron_table.specs.Rehashing.{IsUsed}
 use Rattle.weak_pairs.specs.Pairs.{IsFilledAt}
 use Rattle.weak_pairs.specs.Tables.{number_at, numbers, key_number, pairs_of}
 use Rattle.weak_pairs.specs.declared.table.Table.{Table}
 use Rattle.weak_pairs.proofs.CountedPairs.{count_filled, count_put}
 use Rattle.ephemeron_table.proofs.GrowingTables.{boxed_pairs, grown_pairs_stay}
-use Rattle.ephemeron_table.proofs.GrownWords.{pair, made_table, capacity, need, ends, keys_boxed, fits_boxed}
+use Rattle.ephemeron_table.proofs.GrownWords.{GrowsTable, pair, made_table, capacity, need, run, keys_boxed, fits_boxed}
 use Rattle.ephemeron_table.proofs.GrownWords.{begun_stays, boxed_stays, run_word, fits_new, inserted_as_long}
 use Rattle.ephemeron_table.proofs.KeysFound.{key_filled}
-use Rattle.ephemeron_table.proofs.KnownTables.{KnownMap, pairs_long}
+use Rattle.ephemeron_table.proofs.KnownTables.{pairs_long}
 use Rattle.weak_pairs.proofs.PairsPut.{at_place}
 use Rattle.weak_pairs.proofs.PairLists.{pairs_stay}
 use Rattle.weak_pairs.proofs.KeyedPairs.{free_or_filled}
@@ -64,48 +64,48 @@ abbrev origin_by : Bool → ℕ → ℕ → ℕ
 origin_by true here there = here
 origin_by false here there = there
 
-module _ {old new : Mutator} {map key count earlier : ℕ} {table : Table} {value : Held} (known : KnownMap old map table)
-    (can : CanGrow old map table key earlier) (puts : PutsInNewTable old new map table key count value) where
+module _ {old new : Mutator} {map key count earlier : ℕ} {table : Table} {value : Held}
+    (grows : GrowsTable old new map key count earlier table value) where
   -- the pairs before, those that were moved, and those after
   abbrev pub before : List Pair
   before = pairs_of (heap_words old.seat) table
 
   abbrev far : List Pair
-  far = pairs_of (heap_words puts.moved.seat) (made_table known can puts)
+  far = pairs_of (heap_words grows.puts.moved.seat) (made_table grows)
 
   abbrev pub after : List Pair
-  after = pairs_of (heap_words new.seat) (made_table known can puts)
+  after = pairs_of (heap_words new.seat) (made_table grows)
 
   abbrev pub place : ℕ
-  place = puts.inserts.place
+  place = grows.puts.inserts.place
 
   abbrev one : Pair
-  one = pair known can puts
+  one = pair grows
 
-  boxed_same : pairs_of (heap_words puts.boxed.seat) (made_table known can puts) ≡ far
+  boxed_same : pairs_of (heap_words grows.puts.boxed.seat) (made_table grows) ≡ far
   boxed_same =
-      boxed_pairs can known.whole.sized.words (next_at old) (capacity known can puts)
+      boxed_pairs grows.can grows.known.whole.sized.words (next_at old) (capacity grows)
       (content_need (store_content value))
-      puts.room refl refl refl puts.begins (store_content value) puts.moves puts.boxes
+      grows.puts.room refl refl refl grows.puts.begins (store_content value) grows.puts.moves grows.puts.boxes
 
-  inserted_are : pairs_of (heap_words puts.inserted.seat) (made_table known can puts) ≡ slice_set far place one
+  inserted_are : pairs_of (heap_words grows.puts.inserted.seat) (made_table grows) ≡ slice_set far place one
   inserted_are =
-      rehashed_pairs (fits_boxed known can puts) (keys_boxed known can puts) puts.inserts
+      rehashed_pairs (fits_boxed grows) (keys_boxed grows) grows.puts.inserts
       ∙ ap (λ pairs. slice_set pairs place one) boxed_same
 
   -- the pairs after are those that were moved, with the new one
   pub after_is : after ≡ slice_set far place one
   after_is =
-      sym (pairs_stay (heap_words new.seat) (heap_words puts.inserted.seat) (made_table known can puts)
-      (fits_new known can puts) (inserted_as_long known can puts)
-      (λ a from below. sym (run_word known can puts a (omega (arith, from)) (omega (arith, below)))))
+      sym (pairs_stay (heap_words new.seat) (heap_words grows.puts.inserted.seat) (made_table grows)
+      (fits_new grows) (inserted_as_long grows)
+      (λ a from below. sym (run_word grows a (omega (arith, from)) (omega (arith, below)))))
       ∙ inserted_are
 
   -- its place was free
   place_free : slice_get far place ≡ Some free_pair
   place_free =
       ap (λ all. slice_get all place) (sym boxed_same)
-      ∙ inserted_free (fits_boxed known can puts) (keys_boxed known can puts) puts.inserts.first
+      ∙ inserted_free (fits_boxed grows) (keys_boxed grows) grows.puts.inserts.first
 
   one_filled : one ≢ free_pair
   one_filled = key_filled one key refl
@@ -114,8 +114,8 @@ module _ {old new : Mutator} {map key count earlier : ℕ} {table : Table} {valu
   pub moved : AreRehashed before far table.capacity
   moved =
       subst (λ all. AreRehashed all far table.capacity)
-      (grown_pairs_stay can known.whole.sized.words (next_at old) (capacity known can puts)
-      (content_need (store_content value)) puts.room refl refl refl puts.begins) puts.moves.moved
+      (grown_pairs_stay grows.can grows.known.whole.sized.words (next_at old) (capacity grows)
+      (content_need (store_content value)) grows.puts.room refl refl refl grows.puts.begins) grows.puts.moves.moved
 
   -- what is filled is the new pair, or was moved
   pub data NowFilled (at : ℕ) (found : Pair) : Type 0 where
@@ -184,37 +184,37 @@ module _ {old new : Mutator} {map key count earlier : ℕ} {table : Table} {valu
         ap count_filled after_is,
         count_put far place one place_free one_filled,
         moved.counted,
-        none_behind before table.capacity (omega (arith, pairs_long known)),
+        none_behind before table.capacity (omega (arith, pairs_long grows.known)),
       )
 
   -- what is used was not reserved
-  used_not_new : (a : ℕ) → IsUsed old a → next_at old ≤ a → a < next_at old + need known can puts → ⊥
+  used_not_new : (a : ℕ) → IsUsed old a → next_at old ≤ a → a < next_at old + need grows → ⊥
   used_not_new a used from below = elim used [
     | inl before_it ↦ omega (arith, before_it, from)
-    | inr behind ↦ omega (arith, behind, below, ends known can puts)
+    | inr behind ↦ omega (arith, behind, below, (run grows).ends)
   ]
 
   -- the numbers of the keys are those in the heap before
-  far_numbers : numbers (heap_of puts.begun) far ≡ numbers (heap_of old) far
-  far_numbers = numbers_same (heap_of puts.begun) (heap_of old) far (λ at found there. elim (free_or_filled found) [
+  far_numbers : numbers (heap_of grows.puts.begun) far ≡ numbers (heap_of old) far
+  far_numbers = numbers_same (heap_of grows.puts.begun) (heap_of old) far (λ at found there. elim (free_or_filled found) [
     | inl free ↦
-        ap (key_number (heap_of puts.begun)) free ∙ sym (ap (key_number (heap_of old)) free)
+        ap (key_number (heap_of grows.puts.begun)) free ∙ sym (ap (key_number (heap_of old)) free)
     | inr filled ↦
-        let known_key = can.keys (moved.origin at) found
+        let known_key = grows.can.keys (moved.origin at) found
         (moved.from at found (record { stands = there; filled = filled })).0 in
-        ap (option_map (number_at (heap_of puts.begun))) known_key.1
-        ∙ ap (λ n. Some n) (number_stays (heap_of puts.begun) (heap_of old) known_key.0
-        (begun_stays known can puts known_key.0 (used_not_new known_key.0 known_key.3)))
+        ap (option_map (number_at (heap_of grows.puts.begun))) known_key.1
+        ∙ ap (λ n. Some n) (number_stays (heap_of grows.puts.begun) (heap_of old) known_key.0
+        (begun_stays grows known_key.0 (used_not_new known_key.0 known_key.3)))
         ∙ sym (ap (option_map (number_at (heap_of old))) known_key.1)
   ])
 
   -- probing finds each
   pub all_found : reference_in (reference_word key) ≡ Some key → FindsAll (numbers (heap_of old) after)
   all_found refers =
-      let boxed_number = number_stays (heap_of puts.boxed) (heap_of old) key
-      (boxed_stays known can puts key (used_not_new key can.key_used)) in
-      let far_found : FindsAll (numbers (heap_of old) far) = subst FindsAll far_numbers puts.moves.found in
+      let boxed_number = number_stays (heap_of grows.puts.boxed) (heap_of old) key
+      (boxed_stays grows key (used_not_new key grows.can.key_used)) in
+      let far_found : FindsAll (numbers (heap_of old) far) = subst FindsAll far_numbers grows.puts.moves.found in
       let boxed_found = subst (λ pairs. FindsAll (numbers (heap_of old) pairs)) (sym boxed_same) far_found in
-      let inserted = rehashed_found (heap_of old) (fits_boxed known can puts) (keys_boxed known can puts) puts.inserts
+      let inserted = rehashed_found (heap_of old) (fits_boxed grows) (keys_boxed grows) grows.puts.inserts
       boxed_number boxed_found refers in
       subst (λ pairs. FindsAll (numbers (heap_of old) pairs)) (inserted_are ∙ sym after_is) inserted

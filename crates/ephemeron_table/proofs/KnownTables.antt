@@ -28,6 +28,7 @@ use Rattle.write_barrier.specs.MutatorState.{Mutator, heap_of, IsTied, MainShows
 use Rattle.object_cells.specs.CellWrites.{IsInCell}
 use Rattle.object_cells.proofs.CellsRead.{word_stands, cell_at_before_marks}
 use Rattle.object_cells.proofs.OwnPlaces.{has_own_words}
+use Rattle.object_cells.proofs.TakenValues.{IsItsStore}
 use Rattle.object_cells.proofs.WordsTold.{cell_fits}
 use Rattle.ephemeron_table.specs.WeakObjects.{IsWeakAt}
 use Rattle.weak_pairs.specs.Pairs.{HasPairs}
@@ -268,3 +269,7 @@ module _ {old : Mutator} {map : ℕ} {table : Table} (known : KnownMap old map t
     other_number =
         (subst (λ k. IsSoundOf k (heap_of old) other found.words) found.of_kind
         (known.whole.sound other found.words found.refers.has)).no_number
+
+    -- so it is the map's
+    pub known_store : IsItsStore kind.Table sound.store other
+    known_store = record { of_kind = found.of_kind; no_number = other_number; refers = found.refers.refers }

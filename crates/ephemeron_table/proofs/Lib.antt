@@ -28,13 +28,10 @@ pub mod NewKeys
 pub mod FreeKeys
 pub mod NewEntries
 pub mod FullTables
-pub mod NewTables
 pub mod GrownWords
-pub mod LinkedMaps
 pub mod GrownPairs
 pub mod GrownMaps
 pub mod SlotValues
-pub mod BoxedValues
 pub mod BoxedMaps
 pub mod PutKeys
 pub mod NoPair
@@ -45,5 +42,6 @@ pub mod PairsByKey
 pub mod PutRefusals
 pub mod PutPlaces
 pub mod PutShown
+mod EntriesPut
 pub mod DeletedPairs
 pub mod ToldPairs

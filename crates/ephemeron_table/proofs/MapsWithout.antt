@@ -1,36 +1,40 @@
 -- A pair that was removed from a weak map's table refills the map.
-use Rattle.std.proofs.Common.{◌≡◌, ℕ, ◌+◌, ◌-◌, ◌<◌, inl, List, [], ◌∷◌, Contains, Some, slice_get, refl, sym, ◌∙◌}
-use Rattle.std.proofs.Common.{ap, subst, arith, add-zero}
+use Rattle.std.proofs.Common.{◌≡◌, ℕ, ◌+◌, ◌-◌, ◌<◌, inl, List, [], ◌∷◌, Some, slice_get, refl, sym, ◌∙◌}
+use Rattle.std.proofs.Common.{ap, subst, arith}
 use Rattle.tagged_word.specs.declared.layout.Kind.TheVariants as kind
 use Rattle.tagged_word.specs.Cells.{store_slot}
 use Rattle.tagged_word.proofs.Members.{first_in, one_in}
 use Rattle.heap_model.specs.Types.{Cell}
 use Rattle.heap_table.specs.Seats.{heap_words}
 use Rattle.heap_model.specs.Heaps.{HasCell, words_of_cell}
-use Rattle.heap_model.specs.Slots.{reference_word, RefersToPlace}
-use Rattle.heap_model.specs.Kinds.{HasWord, Pair, count_offset, HasNoNumber}
-use Rattle.heap_model.specs.Wholeness.{NamesFrom}
+use Rattle.heap_model.specs.Slots.{RefersToPlace}
+use Rattle.heap_model.specs.Kinds.{HasWord, Pair, count_offset}
 use Rattle.heap_model.specs.Needs.{count_at}
 use Rattle.heap_model.proofs.BoundHeaps.{none_in}
 use Rattle.write_barrier.specs.MutatorState.{Mutator, heap_of}
 use Rattle.object_cells.specs.Contents.{next_at}
 use Rattle.object_cells.proofs.SlotsNow.{word_at_offset}
 use Rattle.object_cells.proofs.NothingUsed.{room_for_none, used_and_none}
-use Rattle.object_cells.proofs.OwnPuts.{PutsOwn, own_writes, one_owned}
+use Rattle.object_cells.proofs.OwnPuts.{PutsOwn}
+use Rattle.object_cells.proofs.OwnerWrites.{weak_owns}
 use Rattle.object_cells.proofs.MadeBoxes.{row_of_none}
 use Rattle.weak_pairs.specs.Pairs.{HasPairs, IsFilledAt}
 use Rattle.object_cells.specs.OwnSlots.{ComesFrom}
-use Rattle.ephemeron_table.specs.PairWrites.{WritesWeak, RefillsPairs, ShowsPair}
+use Rattle.ephemeron_table.specs.PairWrites.{RefillsPairs, ShowsPair}
 use Rattle.ephemeron_table.specs.PairLaws.{RefillsWeak}
 use Rattle.ephemeron_table.specs.Removals.{RemovesAt}
 use Rattle.weak_pairs.specs.Tables.{pairs_of}
 use Rattle.weak_pairs.specs.declared.table.Table.{Table}
 use Rattle.weak_pairs.proofs.CountedPairs.{count_filled}
 use Rattle.ephemeron_table.proofs.KnownTables.{KnownMap, cell, cell_has, sound, slot_there, count_is, of_map}
-use Rattle.ephemeron_table.proofs.KnownTables.{finds_all, found, other, other_has, map_beside, other_belongs}
-use Rattle.ephemeron_table.proofs.KnownTables.{other_number, are_before, head_apart, beside_table, table_is_no_box}
+use Rattle.ephemeron_table.proofs.KnownTables.{finds_all, found, other, other_has, map_beside}
+use Rattle.ephemeron_table.proofs.KnownTables.{are_before, head_apart, beside_table}
 use Rattle.ephemeron_table.proofs.StayingTables as staying
 use Rattle.ephemeron_table.proofs.StayingTables.{WritesMap, StaysTable}
+use Rattle.object_cells.proofs.OwnContents.{PutsBeside, writes, belong}
+use Rattle.object_cells.proofs.TakenValues.{IsItsStore, only_store}
+use Rattle.ephemeron_table.proofs.KnownTables.{known_store, table_is_no_box}
+use Rattle.std.proofs.Common.{Contains}
 
 module _ {old new : Mutator} {map place : ℕ} {table : Table} (known : KnownMap old map table)
     (some : 0 < table.capacity)
@@ -88,23 +92,16 @@ module _ {old new : Mutator} {map place : ℕ} {table : Table} (known : KnownMap
       (sym known.there.stands)
       (removes.beside (map + k) (map_beside known some k (omega (arith, below))) (λ same. omega (arith, same, below)))
 
-  -- cells were written so
-  pub writes : WritesWeak (heap_of old) (heap_of new) map_cell (table_cell ∷ []) []
-  writes =
-      let first : map_cell.at + 0 ≡ map_cell.at = add-zero map_cell.at in
-      own_writes [] puts
-      (subst (λ n. slice_get (heap_words new.seat) n ≡ slice_get (heap_words old.seat) n) first
-      (map_stays 0 (omega arith)))
-      (one_owned (other_has known some) (found known some).of_kind head_stays)
-      (row_of_none (heap_of new) (next_at old))
-
-  -- the table belongs to the map
-  pub belong : (one : Cell) → Contains (table_cell ∷ []) one → (slot : ℕ) × NamesFrom (heap_of old) map_cell slot one.at
-  belong one among = (
-    map_cell.at + store_slot,
-    subst (λ (c : Cell). NamesFrom (heap_of old) map_cell (map_cell.at + store_slot) c.at) (one_in table_cell one among)
-        (other_belongs known some),
-  )
+  -- so words of both cells were put
+  pub putting : PutsBeside kind.Weak kind.Table old new map_cell table_cell 0 (heap_words new.seat) (sound known).store
+  putting = record {
+    owns = weak_owns;
+    puts = puts;
+    is = known_store known some;
+    slot = slot_there known;
+    own_stays = map_stays;
+    head_stays = head_stays;
+  }
 
   -- the word of the map for its table stays
   pub slot_stays : slice_get (heap_words new.seat) (map_cell.at + store_slot)
@@ -114,10 +111,17 @@ module _ {old new : Mutator} {map place : ℕ} {table : Table} (known : KnownMap
   -- so words of the map's own cells were written
   abbrev written : WritesMap old new map table known (table_cell ∷ []) []
   written = record {
-    writes = writes;
-    belong = belong;
+    writes = writes putting [] (row_of_none (heap_of new) (next_at old));
+    belong = belong putting;
     kinds = λ one among. absurd (none_in one among);
   }
+
+  -- only the table is among them, and it is no box
+  pub its_table : (one : Cell) → Contains (table_cell ∷ []) one → IsItsStore kind.Table (sound known).store one
+  its_table = only_store (known_store known some)
+
+  pub no_box : (one : Cell) → Contains (table_cell ∷ []) one → one.layout.kind ≡ kind.Boxed → ⊥
+  no_box one among box = table_is_no_box (its_table one among).of_kind box
 
   -- and the table stays where it is
   abbrev stays : StaysTable old new map table known some (table_cell ∷ []) []
@@ -146,11 +150,6 @@ module _ {old new : Mutator} {map place : ℕ} {table : Table} (known : KnownMap
       ∙ ap (λ n. slice_get (heap_words new.seat) (n + count_offset)) known.there.stands ∙ removes.counted
       ∙ ap (λ n. Some n) less
 
-  -- the table alone was written
-  pub is_table : (one : Cell) → Contains (table_cell ∷ []) one → one.layout.kind ≡ kind.Table
-  is_table one among =
-      ap (λ (c : Cell). c.layout.kind) (sym (one_in table_cell one among)) ∙ (found known some).of_kind
-
   -- so the map is refilled
   abbrev pub refills : RefillsPairs (heap_of old) (heap_of new) map_cell (table_cell ∷ []) []
   refills = record {
@@ -167,17 +166,15 @@ module _ {old new : Mutator} {map place : ℕ} {table : Table} (known : KnownMap
       store = (sound known).store;
       has_store = are_after.slot;
       store_comes = inl (slot_there known);
-      belong = belong;
-      kinds = λ one among. absurd (none_in one among);
-      stores = λ one among is.
-          subst (λ (c : Cell). HasNoNumber c × ((sound known).store ≡ reference_word c.at))
-          (one_in table_cell one among) (other_number known some, (found known some).refers.refers);
-      boxes = λ one among box. absurd (table_is_no_box (is_table one among) box);
+      belong = written.belong;
+      kinds = written.kinds;
+      stores = λ one among is. ((its_table one among).no_number, (its_table one among).refers);
+      boxes = λ one among box. absurd (no_box one among box);
     };
     each_pair = λ at pair is. ShowsPair.kept (removes.removed.from at pair is).0
-        (λ one among box same. table_is_no_box (is_table one among) box);
+        (λ one among box same. no_box one among box);
     probed = staying.probed known written after (removes.found (finds_all known));
   }
 
   abbrev pub refills_weak : RefillsWeak (heap_of old) (heap_of new) map_cell (table_cell ∷ []) []
-  refills_weak = record { whole = known.whole; writes = writes; paths = removes.paths; pairs = refills }
+  refills_weak = record { whole = known.whole; writes = written.writes; paths = removes.paths; pairs = refills }

@@ -1,24 +1,19 @@
 -- The pair of a key that is new came to a free place of a weak map's table: so its entry is put.
-use Rattle.std.proofs.Common.{◌≡◌, ℕ, suc, ◌+◌, ◌*◌, ◌<◌, ◌≤◌, false, nat_lt, List, [], ◌∷◌, length, None, Some}
+use Rattle.std.proofs.Common.{◌≡◌, ℕ, suc, ◌+◌, ◌*◌, ◌<◌, ◌≤◌, false, nat_lt, List, length, None, Some}
 use Rattle.std.proofs.Common.{Err, refl, sym, ◌∙◌, ap, subst, arith}
 use Rattle.std.specs.Prelude.{slice_set}
 use Rattle.std.proofs.lemmas.Bool.{cond-false}
 use Rattle.std.proofs.lemmas.Bool.Decides.{nat_tests}
-use Rattle.std.proofs.lemmas.Option.{same_Some}
 use Rattle.tagged_word.specs.Cells.{store_head}
 use Rattle.nursery.specs.Young.{HasRoom}
 use Rattle.heap_model.specs.Types.{Value, Held}
-use Rattle.object_graph.specs.declared.value.Rep.TheVariants as rep
-use Rattle.object_graph.specs.Values.{rep_of}
-use Rattle.object_graph.specs.Objects.{with_entry}
 use Rattle.object_graph.specs.Graphs.{Graph, WeakObject}
 use Rattle.object_graph.specs.Meaning.{weak_most}
 use Rattle.object_graph.specs.Invariants.{IsValue}
 use Rattle.page_space.specs.Sizes.{AreWithin}
 use Rattle.heap_table.specs.Seats.{heap_words}
-use Rattle.heap_model.specs.Heaps.{words_of_cell}
 use Rattle.heap_model.specs.Slots.{reference_word}
-use Rattle.heap_model.specs.Kinds.{HasWord, Pair, count_offset}
+use Rattle.heap_model.specs.Kinds.{Pair}
 use Rattle.heap_model.specs.Needs.{capacity_at, count_at, grown_table, box_need}
 use Rattle.object_graph.specs.Objects.{entry_value}
 use Rattle.heap_model.specs.Rooms.{Room, is_wide, room_put, wput_need, wput_need_by}
@@ -27,33 +22,29 @@ use Rattle.write_barrier.specs.MutatorState.{Mutator, heap_of, MainShows}
 use Rattle.object_cells.specs.Capacities.{ChangesObject}
 use Rattle.object_cells.specs.HeldValues.{IsValueHeld}
 use Rattle.object_cells.specs.Made.{store_content, content_need, RefusesRoom}
-use Rattle.object_cells.specs.Uses.{UsesMore}
-use Rattle.object_cells.proofs.HeldContents.{HoldsValue}
 use Rattle.object_cells.proofs.HeldNeeds.{new_value_held, content_need_is, wide_is}
-use Rattle.object_cells.proofs.RestOfWords.{keeps_regions}
 use Rattle.ephemeron_table.proofs.KeptTables.{tables_stay}
 use Rattle.ephemeron_table.specs.EntryChanges.{map_room, HasPutEntry, PutsEntry}
 use Rattle.ephemeron_table.specs.declared.stop.TableStop.TheVariants as stop
 use Rattle.weak_pairs.specs.Pairs.{HasPairsAt}
 use Rattle.ephemeron_table.specs.PairChanges.{PutsPair}
-use Rattle.ephemeron_table.specs.PairLaws.{PutsOne, RefillsWeak, WrittenEntriesShow, IsNewValue}
+use Rattle.ephemeron_table.specs.PairLaws.{PutsOne, WrittenEntriesShow}
 use Rattle.ephemeron_table.specs.WeakObjects.{IsKeyAt, IsWeakAt}
 use Rattle.ephemeron_table.specs.Probes.{EndsBy, IsTableAt}
 use Rattle.ephemeron_table.specs.declared.probing.End.TheVariants as probe_end
 use Rattle.ephemeron_table.specs.Puttings.{PutsInTable}
-use Rattle.weak_pairs.specs.Tables.{pairs_of, numbers}
+use Rattle.weak_pairs.specs.Tables.{pairs_of}
 use Rattle.weak_pairs.specs.declared.table.Table.{Table}
-use Rattle.linear_probing.specs.Tables.{FindsAll}
 use Rattle.weak_pairs.proofs.CountedPairs.{count_filled}
+use Rattle.ephemeron_table.proofs.EntriesPut.{entry_put}
 use Rattle.ephemeron_table.proofs.FreeKeys.{ComesToFree, below, finds_put, counted_put, not_filled}
-use Rattle.ephemeron_table.proofs.GrownEntries.{length-with_entry_new}
-use Rattle.ephemeron_table.proofs.KnownTables.{KnownMap, cell, other}
+use Rattle.ephemeron_table.proofs.KnownTables.{KnownMap, cell}
 use Rattle.ephemeron_table.proofs.NewKeys.{LacksKey, shown, known, no_pair_refers, entries_counted}
 use Rattle.ephemeron_table.proofs.NewKeys.{not_full_for, is_full_for, lacks_where_free}
 use Rattle.ephemeron_table.proofs.PairsByKey.{lacks_pair, pairs_shown}
 use Rattle.ephemeron_table.proofs.PutEntries.{puts_one}
-use Rattle.ephemeron_table.proofs.PutMaps.{refills_weak, slot_stays, count_after}
-use Rattle.ephemeron_table.proofs.PutPairs.{pair, pairs_are_now, made, some}
+use Rattle.ephemeron_table.proofs.PutMaps.{ComesToPlace, refills_weak, slot_stays}
+use Rattle.ephemeron_table.proofs.PutPairs.{pair, pairs_are_now}
 use Rattle.ephemeron_table.proofs.PutPlaces.{puts_to_table}
 use Rattle.ephemeron_table.proofs.PutShown.{CountsPut, PutsShown}
 
@@ -146,24 +137,25 @@ module _ {old : Mutator} {graph : Graph} {map key : ℕ} {weak : WeakObject} {nu
       abbrev put : Pair
       put = pair map_known (below ends) puts
 
-      holds : HoldsValue (heap_of old) false rep.Small (rep_of what) what (store_content value)
-      holds = new_value_held false value what fitting.held.shows
-
-      all : FindsAll (numbers (heap_of old) (slice_set (pairs_of (heap_words old.seat) table) place put))
-      all = finds_put ends put refl
-
       counted : count + 1 ≡ count_filled (slice_set (pairs_of (heap_words old.seat) table) place put)
       counted = ap (λ n. n + 1) (sym fitting.counted) ∙ counted_put ends put refl
 
-      abbrev refills : RefillsWeak (heap_of old) (heap_of new) (cell map_known)
-          (other map_known (some map_known (below ends) puts) ∷ []) (made map_known (below ends) puts)
-      refills =
-          refills_weak map_known (below ends) puts (length graph.objects) ends.lacks.is_key.place holds is all counted
+      abbrev comes_there : ComesToPlace old new map place key (count + 1) number table value what
+      comes_there = record {
+        known = map_known;
+        below = below ends;
+        puts = puts;
+        objects = length graph.objects;
+        key_place = ends.lacks.is_key.place;
+        holds = new_value_held false value what fitting.held.shows;
+        fits = is;
+        all = finds_put ends put refl;
+        counted = counted;
+      }
 
-      one : PutsOne (heap_of old) (heap_of new) refills.pairs number (Some what)
+      one : PutsOne (heap_of old) (heap_of new) (refills_weak comes_there).pairs number (Some what)
       one =
-          puts_one map_known (below ends) puts (length graph.objects) ends.lacks.is_key.place holds is all counted
-          (λ at other filled refers. absurd (no_pair_refers ends.lacks at other filled refers))
+          puts_one comes_there (λ at other filled refers. absurd (no_pair_refers ends.lacks at other filled refers))
           (λ other filled. absurd (not_filled ends other filled))
 
       -- one more pair holds something
@@ -171,48 +163,14 @@ module _ {old : Mutator} {graph : Graph} {map key : ℕ} {weak : WeakObject} {nu
       filled_more =
           omega (arith, ap count_filled (pairs_are_now map_known (below ends) puts), counted, fitting.counted)
 
-      -- so many entries are counted
-      counts : HasWord (words_of_cell (heap_of new) (cell map_known)) count_offset
-          (length (with_entry weak.entries number what))
-      counts =
-          let same
-          : count_filled (pairs_of (heap_words new.seat) table) ≡ length (with_entry weak.entries number what) =
-          omega (
-            arith,
-            filled_more,
-            entries_counted ends.lacks,
-            length-with_entry_new weak.entries number what ends.lacks.fresh,
-          ) in
-          subst (HasWord (words_of_cell (heap_of new) (cell map_known)) count_offset) same
-          (count_after map_known (below ends) puts (length graph.objects) ends.lacks.is_key.place holds is all counted)
-
       -- only words of the map have changed, and its table stays
       changes : ChangesObject (heap_of old) (heap_of new) map (capacity_at (heap_of old) map)
       changes =
           let heap = heap_of old in
           subst (λ at. ChangesObject heap (heap_of new) at (capacity_at heap at)) (shown ends.lacks).stands
-          (tables_stay refills
-          (slot_stays map_known (below ends) puts (length graph.objects) ends.lacks.is_key.place holds is all
-          counted))
+          (tables_stay (refills_weak comes_there) (slot_stays comes_there))
 
-      -- so the entry is put
-      pub puts_new_entry : WrittenEntriesShow → HasPutEntry old new graph map key weak number what
-      puts_new_entry entries_show =
-          let heap = heap_of old in
-          let weak_is = shown ends.lacks in
-          record {
-            few = not_full_for ends.lacks not_full;
-            room = subst (HasRoom old.young) need_is puts.room;
-            uses = subst (UsesMore old new) need_is (record { beside = puts.words.beside; young = puts.words.young });
-            changes = subst (ChangesObject heap (heap_of new) map) capacity_is changes;
-            shows = entries_show old new graph weak (cell map_known) _ _ number (Some what) ends.lacks.shows
-                ends.lacks.is.object ends.lacks.is.reached ends.lacks.is_key.reached weak_is.carries weak_is.shows
-                (λ one is_one. subst (IsNewValue graph) (same_Some what one is_one)
-                (record { is = is; reached = fitting.held.reached }))
-                (keeps_regions puts.words.beside puts.words.young) refills one counts;
-          }
-
-      -- and its pair
+      -- the pair is put
       pub puts_new_pair : PutsShown old new graph map key weak number value what
       puts_new_pair = record {
         shows = ends.lacks.shows;
@@ -228,12 +186,18 @@ module _ {old : Mutator} {graph : Graph} {map key : ℕ} {weak : WeakObject} {nu
         others = _;
         made = _;
         stands = (shown ends.lacks).stands;
-        refills = refills;
+        refills = refills_weak comes_there;
         one = one;
         capacity = _;
         changes = changes;
         counted = CountsPut.fresh ends.lacks.fresh filled_more;
       }
+
+      -- so the entry is
+      pub puts_new_entry : WrittenEntriesShow → HasPutEntry old new graph map key weak number what
+      unfolding puts_new_pair
+      puts_new_entry entries_show =
+          entry_put puts_new_pair entries_show is need_is capacity_is puts.room puts.words.beside puts.words.young
 
 -- What is known of a weak map, of a key for which probing ends at a free place of its table, and of a value.
 pub record EndsFree (old : Mutator) (graph : Graph) (map key : ℕ) (weak : WeakObject) (number count place : ℕ)

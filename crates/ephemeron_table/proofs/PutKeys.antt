@@ -7,7 +7,7 @@ use Rattle.object_graph.specs.Invariants.{IsValue}
 use Rattle.handle_roots.specs.Roots.{FitsHeld}
 use Rattle.heap_model.specs.Slots.{IsSlotWord}
 use Rattle.heap_model.specs.Needs.{word_at}
-use Rattle.heap_model.specs.Rooms.{wput_need}
+use Rattle.heap_model.specs.Rooms.{room_put, wput_need}
 use Rattle.write_barrier.specs.MutatorState.{Mutator, heap_of}
 use Rattle.write_barrier.specs.declared.room.NoRoom.{NoRoom}
 use Rattle.object_cells.specs.Contents.{next_at, box_in, filling_at, filling_of, filling_need, HoldsSlotWord}
@@ -24,11 +24,12 @@ use Rattle.ephemeron_table.specs.PairLaws.{WrittenEntriesShow}
 use Rattle.weak_pairs.specs.Tables.{value_in, value_offset}
 use Rattle.weak_pairs.specs.declared.table.Table.{Table}
 use Rattle.ephemeron_table.proofs.BoxedMaps.{box_replaces}
+use Rattle.ephemeron_table.proofs.EntriesPut.{entry_put}
 use Rattle.ephemeron_table.proofs.EntryPairs.{HasEntryPair, known, entry_need, value_read, value_slot}
 use Rattle.ephemeron_table.proofs.KnownTables.{cell}
 use Rattle.ephemeron_table.proofs.PutPlaces.{puts_to_pair}
 use Rattle.ephemeron_table.proofs.PutShown.{CountsPut, PutsShown}
-use Rattle.ephemeron_table.proofs.ReplacedValues.{ReplacesValue, changes, filled_as_many, puts_one, replaces_entry}
+use Rattle.ephemeron_table.proofs.ReplacedValues.{ReplacesValue, changes, filled_as_many, puts_one}
 use Rattle.ephemeron_table.proofs.SlotValues.{slot_replaces}
 
 module _ {old : Mutator} {graph : Graph} {map key : ℕ} {weak : WeakObject} {number place : ℕ} {table : Table}
@@ -87,18 +88,7 @@ replaces_value {old} {new} {place = place} {table} value what has is_value held 
     (slot_filled fills has.shows.tied (omega (arith, has.is_table.within, has.below)) room
     (λ w. no_raw w (new_value_held false value what held.shows)))
 
--- and so the entry has the value
-pub has_put_value : {old new : Mutator} {graph : Graph} {map key : ℕ} {weak : WeakObject} {number place : ℕ}
-    {table : Table} (value : Held) (what : Value) (has : HasEntryPair old graph map key weak number place table)
-    → FitsHeld value → IsValueHeld old graph value what → WrittenEntriesShow
-    → FillsSlot old new (table.at + value_offset place) (store_content value)
-    → HasPutEntry old new graph map key weak number what
-has_put_value value what has fits held entries_show fills =
-    let is_value = held_is_value value what has.shows fits held.shows in
-    let replaces = replaces_value value what has is_value held fills in
-    replaces_entry has replaces.1 entries_show is_value held.reached replaces.2
-
--- and its pair was put
+-- and so its pair was put
 pub puts_value_pair : {old new : Mutator} {graph : Graph} {map key : ℕ} {weak : WeakObject} {number place : ℕ}
     {table : Table} (value : Held) (what : Value) (has : HasEntryPair old graph map key weak number place table)
     → FitsHeld value → IsValueHeld old graph value what
@@ -128,3 +118,17 @@ puts_value_pair {old} {new} {table = table} value what has fits held fills =
       changes = changes has replaces;
       counted = CountsPut.there has.told.value has.told.is_entry (filled_as_many has replaces);
     }
+
+-- and the entry has the value
+pub has_put_value : {old new : Mutator} {graph : Graph} {map key : ℕ} {weak : WeakObject} {number place : ℕ}
+    {table : Table} (value : Held) (what : Value) (has : HasEntryPair old graph map key weak number place table)
+    → FitsHeld value → IsValueHeld old graph value what → WrittenEntriesShow
+    → FillsSlot old new (table.at + value_offset place) (store_content value)
+    → HasPutEntry old new graph map key weak number what
+unfolding puts_value_pair
+has_put_value {old} {map = map} {weak = weak} value what has fits held entries_show fills =
+    let is_value = held_is_value value what has.shows fits held.shows in
+    let replaces = replaces_value value what has is_value held fills in
+    entry_put (puts_value_pair value what has fits held fills) entries_show is_value replaces.2
+    (ap (λ found. (room_put (map_room old map weak) found).capacity) (sym has.told.is_entry)) replaces.1.room
+    replaces.1.beside replaces.1.young

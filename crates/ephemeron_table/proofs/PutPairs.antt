@@ -1,6 +1,6 @@
 -- A pair that was put at a place of a weak map's table refills the map.
-use Rattle.std.proofs.Common.{◌≡◌, ◌≢◌, ℕ, ◌+◌, ◌*◌, ◌≤◌, ◌<◌, inl, List, [], ◌∷◌, refl, length, slice_get, sym, ◌∙◌}
-use Rattle.std.proofs.Common.{ap, subst, arith, add-zero, length-set}
+use Rattle.std.proofs.Common.{◌≡◌, ◌≢◌, ℕ, ◌+◌, ◌*◌, ◌≤◌, ◌<◌, inl, List, [], ◌∷◌, length, slice_get, ◌∙◌}
+use Rattle.std.proofs.Common.{ap, subst, arith, length-set}
 use Rattle.std.specs.Prelude.{slice_set}
 use Rattle.tagged_word.specs.declared.layout.Kind.TheVariants as kind
 use Rattle.tagged_word.specs.Cells.{store_head}
@@ -14,9 +14,8 @@ use Rattle.heap_model.specs.Kinds.{Pair, count_offset}
 use Rattle.write_barrier.specs.MutatorState.{Mutator, heap_of}
 use Rattle.object_cells.specs.Contents.{next_at}
 use Rattle.object_cells.specs.Made.{with_content, content_need, content_word, store_content}
-use Rattle.object_cells.proofs.MadeBoxes.{made_boxes, BoxStands, made_row, length-with_content, with_content_stays}
-use Rattle.object_cells.proofs.OwnPuts.{PutsOwn, not_reserved, own_sized, own_writes, one_owned, box_put}
-use Rattle.ephemeron_table.specs.PairWrites.{WritesWeak}
+use Rattle.object_cells.proofs.MadeBoxes.{made_boxes, length-with_content, with_content_stays}
+use Rattle.object_cells.proofs.OwnPuts.{PutsOwn, not_reserved}
 use Rattle.ephemeron_table.specs.Puttings.{PutsInTable}
 use Rattle.weak_pairs.specs.Tables.{IsOutsidePairs, pairs_of, with_pair, made_pair}
 use Rattle.weak_pairs.specs.declared.table.Table.{Table}
@@ -36,19 +35,19 @@ module _ {old new : Mutator} {map place key count : ℕ} {table : Table} {value 
   abbrev table_cell : Cell
   table_cell = other known some
 
-  abbrev need : ℕ
+  abbrev pub need : ℕ
   need = content_need (store_content value)
 
   abbrev pub pair : Pair
   pair = made_pair (reference_word key) (content_word (store_content value) (next_at old))
 
-  abbrev boxed : List ℕ
+  abbrev pub boxed : List ℕ
   boxed = with_content (heap_words old.seat) (store_content value) (next_at old)
 
-  abbrev put : List ℕ
+  abbrev pub put : List ℕ
   put = with_pair boxed table.at place pair
 
-  abbrev final : List ℕ
+  abbrev pub final : List ℕ
   final = slice_set put (map + count_offset) count
 
   -- a word beside the pairs that is neither the count nor one of a box is as before
@@ -121,33 +120,15 @@ module _ {old new : Mutator} {map place key count : ℕ} {table : Table} {value 
       }))))
 
   -- a word of a box that is made
-  box_word : (b : ℕ) → next_at old ≤ b → b < next_at old + need
-      → slice_get (heap_words new.seat) b ≡ slice_get boxed b
+  pub box_word : (b : ℕ) → next_at old ≤ b → b < next_at old + need → slice_get final b ≡ slice_get boxed b
   box_word b from less =
-      ap (λ all. slice_get all b) puts.words.heap
-      ∙ slice_get-set_other put (map + count_offset) b count (λ same.
+      slice_get-set_other put (map + count_offset) b count (λ same.
       let of_cell = of_map known 2 (omega arith) in
       not_reserved b puts_weak (cell_has known)
       (record { from = omega (arith, same, of_cell.from); below = omega (arith, same, of_cell.below) }) from less)
       ∙ beside_put boxed table place b pair below (beside_table known some b (λ inside.
       not_reserved b puts_weak (other_has known some) (record { from = inside.from; below = inside.below }) from less))
 
-  -- the box stands there
-  pub box_stands : BoxStands (heap_of new) (store_content value) (next_at old)
-  box_stands =
-      box_put (heap_words old.seat) (store_content value) (next_at old) puts_weak refl (omega arith) (omega arith)
-      box_word
-
   -- the cells that are made
   abbrev pub made : List Cell
   made = made_boxes (store_content value) (next_at old)
-
-  -- so cells were written
-  pub writes : WritesWeak (heap_of old) (heap_of new) map_cell (table_cell ∷ []) made
-  writes =
-      let first : map + 0 ≡ map_cell.at = add-zero map ∙ sym known.there.stands in
-      own_writes made puts_weak
-      (subst (λ n. slice_get (heap_words new.seat) n ≡ slice_get (heap_words old.seat) n) first
-      (map_stays 0 (omega arith)))
-      (one_owned (other_has known some) (found known some).of_kind head_stays)
-      (made_row (heap_of new) (store_content value) (next_at old) (own_sized puts_weak) box_stands)

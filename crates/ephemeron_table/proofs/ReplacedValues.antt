@@ -9,29 +9,22 @@ use Rattle.nursery.specs.Young.{HasRoom}
 use Rattle.heap_model.specs.Types.{Value, Entry, Cell}
 use Rattle.object_graph.specs.Objects.{entry_value, with_entry}
 use Rattle.object_graph.specs.Graphs.{Graph, WeakObject}
-use Rattle.object_graph.specs.Invariants.{IsValue}
 use Rattle.object_graph.proofs.Lists.{slice_get-set_same}
 use Rattle.heap_table.specs.Seats.{heap_words, RestStays}
-use Rattle.heap_model.specs.Heaps.{words_of_cell}
 use Rattle.heap_model.specs.Slots.{reference_word, RefersToPlace}
-use Rattle.heap_model.specs.Kinds.{HasWord, Pair, count_offset}
+use Rattle.heap_model.specs.Kinds.{Pair}
 use Rattle.heap_model.specs.Showing.{ShowsValue}
 use Rattle.heap_model.specs.Needs.{capacity_at, count_at}
-use Rattle.heap_model.specs.Rooms.{room_put, wput_need}
 use Rattle.heap_model.proofs.WordsStay.{PlacesStay}
 use Rattle.write_barrier.specs.MutatorState.{Mutator, heap_of}
-use Rattle.object_cells.specs.HeldValues.{IsReachedValue}
 use Rattle.object_cells.specs.Capacities.{ChangesObject}
-use Rattle.object_cells.specs.Uses.{UsesMore}
-use Rattle.object_cells.proofs.RestOfWords.{keeps_regions}
 use Rattle.ephemeron_table.proofs.KeptTables.{tables_stay}
-use Rattle.ephemeron_table.specs.EntryChanges.{map_room, HasPutEntry}
 use Rattle.weak_pairs.specs.Pairs.{IsFilledAt}
-use Rattle.ephemeron_table.specs.PairLaws.{RefillsWeak, PutsOne, WrittenEntriesShow, IsNewValue}
+use Rattle.ephemeron_table.specs.PairLaws.{RefillsWeak, PutsOne}
 use Rattle.weak_pairs.specs.Tables.{pairs_of}
 use Rattle.weak_pairs.specs.declared.table.Table.{Table}
 use Rattle.weak_pairs.proofs.CountedPairs.{count_filled, count_kept}
-use Rattle.ephemeron_table.proofs.EntryPairs.{HasEntryPair, shown, known, entry_filled, entry_refers, entry_only}
+use Rattle.ephemeron_table.proofs.EntryPairs.{HasEntryPair, known, entry_filled, entry_refers, entry_only}
 use Rattle.ephemeron_table.proofs.KeysFound.{key_filled}
 use Rattle.ephemeron_table.proofs.KnownTables.{KnownMap, cell, count_is}
 use Rattle.weak_pairs.proofs.FilledPairs.{filled_elsewhere, still_filled, same_filled}
@@ -129,39 +122,9 @@ module _ {old new : Mutator} {graph : Graph} {map key : ℕ} {weak : WeakObject}
       (key_filled replaces.now key replaces.key_is)
       ∙ sym (count_is (known has))
 
-  -- and as many entries are counted
-  counted : HasWord (words_of_cell (heap_of new) (cell (known has))) count_offset
-      (length (with_entry weak.entries number what))
-  counted =
-      let all : count_at (heap_of old) map ≡ length weak.entries =
-      has.shows.counts weak.number map weak.entries has.is.object has.is.reached has.is.place in
-      let same : count_filled replaces.refills.pairs.now ≡ length (with_entry weak.entries number what) =
-      filled_as_many ∙ all ∙ sym (length-with_entry_there weak.entries number has.told.value what has.told.is_entry) in
-      subst (HasWord (words_of_cell (heap_of new) (cell (known has))) count_offset) same replaces.refills.pairs.counted
-
   -- only words of the map have changed, and its table stays
   pub changes : ChangesObject (heap_of old) (heap_of new) map (capacity_at (heap_of old) map)
   changes =
       let heap = heap_of old in
       subst (λ at. ChangesObject heap (heap_of new) at (capacity_at heap at)) (known has).there.stands
       (tables_stay replaces.refills replaces.slot_stays)
-
-  -- so the entry has the value
-  pub replaces_entry : WrittenEntriesShow → IsValue (length graph.objects) what → IsReachedValue graph what
-      → need ≡ wput_need (map_room old map weak) weak what number
-      → HasPutEntry old new graph map key weak number what
-  replaces_entry entries_show fits reached need_is =
-      let heap = heap_of old in
-      record {
-        few = λ lacks. none-some has.told.value (sym lacks.fresh ∙ has.told.is_entry);
-        room = subst (HasRoom old.young) need_is replaces.room;
-        uses = subst (UsesMore old new) need_is (record { beside = replaces.beside; young = replaces.young });
-        changes = subst (λ found. ChangesObject heap (heap_of new) map
-            (room_put (map_room old map weak) found).capacity)
-            (sym has.told.is_entry) changes;
-        shows = entries_show old new graph weak (cell (known has)) replaces.others replaces.made number (Some what)
-            has.shows has.is.object has.is.reached has.is_key.reached
-            (shown has).carries (shown has).shows
-            (λ value is. subst (IsNewValue graph) (same_Some what value is) (record { is = fits; reached = reached }))
-            (keeps_regions replaces.beside replaces.young) replaces.refills puts_one counted;
-      }

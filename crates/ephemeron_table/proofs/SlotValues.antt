@@ -26,7 +26,6 @@ use Rattle.object_cells.proofs.FilledSlots.{set_there}
 use Rattle.object_cells.proofs.HeldContents.{HoldsValue}
 use Rattle.object_cells.proofs.MadeBoxes.{with_content_stays}
 use Rattle.object_cells.proofs.UnusedWords.{cell_is_used, next_before_segments}
-use Rattle.object_cells.proofs.ContentValues.{content_shows}
 use Rattle.weak_pairs.specs.Tables.{number_at, key_offset, value_offset, numbers, key_number, pairs_of}
 use Rattle.ephemeron_table.specs.Puttings.{PutsInTable}
 use Rattle.weak_pairs.specs.declared.table.Table.{Table}
@@ -35,8 +34,9 @@ use Rattle.ephemeron_table.proofs.EntryPairs.{HasEntryPair, known, some, entry_f
 use Rattle.ephemeron_table.proofs.KeysFound.{key_filled}
 use Rattle.ephemeron_table.proofs.KnownTables.{cell_has, sound, pairs_same, of_map, finds_all, found, other_has}
 use Rattle.ephemeron_table.proofs.KnownTables.{other_long, map_beside}
-use Rattle.ephemeron_table.proofs.PutMaps.{refills_weak, refers_back, refers_box, places, slot_stays}
-use Rattle.ephemeron_table.proofs.PutPairs.{pair, made, pairs_are_now}
+use Rattle.ephemeron_table.proofs.PutMaps.{ComesToPlace, boxes_made, refills_weak, refers_back, slot_stays, takes}
+use Rattle.object_cells.proofs.TakenValues as taken
+use Rattle.ephemeron_table.proofs.PutPairs.{pair, pairs_are_now}
 use Rattle.ephemeron_table.proofs.ReplacedValues.{ReplacesValue}
 
 -- where a pair takes the place of one that has the same key, the numbers stay
@@ -129,28 +129,36 @@ module _ {old new : Mutator} {graph : Graph} {map key : ℕ} {weak : WeakObject}
       ∙ sym (count_kept (pairs_of (heap_words old.seat) table) place has.told.pair now (entry_filled has).stands
       (entry_filled has).filled (key_filled now key refl))
 
+  abbrev comes : ComesToPlace old new map place key count number table value what
+  comes = record {
+    known = known has;
+    below = has.below;
+    puts = puts;
+    objects = length graph.objects;
+    key_place = has.is_key.place;
+    holds = holds;
+    fits = fits;
+    all = all;
+    counted = counted;
+  }
+
   -- and has another value
   pub slot_replaces : ReplacesValue old new (known has) place key what (content_need (store_content value))
-  slot_replaces =
-      let k = known has in
-      let objects : ℕ = length graph.objects in
-      let stay = places k has.below puts objects has.is_key.place holds fits all counted in
-      record {
-        others = _;
-        made = made k has.below puts;
-        refills = refills_weak k has.below puts objects has.is_key.place holds fits all counted;
-        now = now;
-        before_is = refl;
-        now_is = pairs_are_now k has.below puts;
-        origin_is = λ at. refl;
-        one_is = refl;
-        key_is = refl;
-        shows = content_shows (next_at old) holds stay
-            (refers_box k has.below puts objects has.is_key.place holds fits all counted);
-        places = stay;
-        back = refers_back k has.below puts objects has.is_key.place holds fits all counted;
-        slot_stays = slot_stays k has.below puts objects has.is_key.place holds fits all counted;
-        room = room;
-        beside = words.beside;
-        young = words.young;
-      }
+  slot_replaces = record {
+    others = _;
+    made = boxes_made comes;
+    refills = refills_weak comes;
+    now = now;
+    before_is = refl;
+    now_is = pairs_are_now (known has) has.below puts;
+    origin_is = λ at. refl;
+    one_is = refl;
+    key_is = refl;
+    shows = taken.value_shows (takes comes);
+    places = taken.places (takes comes);
+    back = refers_back comes;
+    slot_stays = slot_stays comes;
+    room = room;
+    beside = words.beside;
+    young = words.young;
+  }

@@ -1,7 +1,5 @@
 mod PushNeeds
-mod SlotWords
 mod WrittenSlots
-mod NewStoreWords
 mod PushedToNewStore
 mod PushOutcomes
 mod BoxedElements

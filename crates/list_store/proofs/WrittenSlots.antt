@@ -1,125 +1,195 @@
 -- A value that comes to a slot that the store of a list has is shown as the element of this number.
-use Rattle.std.proofs.Common.{◌≡◌, ◌≢◌, ℕ, ◌+◌, ◌≤◌, ◌<◌, inl, inr, List, [], ◌∷◌, length, refl}
-use Rattle.std.proofs.Common.{drop, Contains, Some, false, slice_get, sym, ◌∙◌, ap, subst, arith, length-set}
-use Rattle.std.proofs.Common.{length-drop}
-use Rattle.std.proofs.lemmas.Bool.{false≢true}
-use Rattle.std.proofs.lemmas.Option.{same_Some}
-use Rattle.std.specs.Prelude.{ℤ}
-use Rattle.tagged_word.specs.Cells.{store_head, store_slot}
+use Rattle.std.proofs.Common.{◌≡◌, ◌≢◌, ℕ, ◌+◌, ◌≤◌, ◌<◌, ◌⊎◌, inl, inr, List, [], ◌∷◌, length, slice_get, sym}
+use Rattle.std.proofs.Common.{◌∙◌, ap, subst, arith, length-set, drop, Some, false, length-drop}
+use Rattle.std.specs.Prelude.{slice_set}
 use Rattle.tagged_word.specs.declared.layout.Kind.TheVariants as kind
-use Rattle.tagged_word.proofs.Members.{first_in, rest_in, one_in}
-use Rattle.page_space.proofs.Starts.{marks_start_is}
+use Rattle.tagged_word.specs.Cells.{store_head, store_slot}
+use Rattle.tagged_word.proofs.Members.{first_in, one_in}
 use Rattle.object_graph.specs.Graphs.{Graph, ListObject}
-use Rattle.object_graph.specs.Meaning.{relist}
-use Rattle.object_graph.specs.Values.{rep_of}
-use Rattle.object_graph.specs.declared.value.Rep.TheVariants as rep
 use Rattle.heap_model.specs.Types.{Value, Cell, Held}
-use Rattle.object_graph.proofs.Lists.{slice_get-set_same, slice_get-set_other}
+use Rattle.object_graph.proofs.Lists.{slice_get-set_other, slice_get-set_same}
 use Rattle.heap_table.specs.Seats.{heap_words}
-use Rattle.heap_model.specs.Changes.{CellsChange}
 use Rattle.heap_model.specs.Heaps.{HasCell, words_of_cell}
-use Rattle.heap_model.specs.Kinds.{HasWord, HasNoNumber, IsSoundOf, count_offset}
+use Rattle.heap_model.specs.Kinds.{count_offset, HasWord, IsSoundOf}
+use Rattle.heap_model.proofs.CellsApart.{IsOfCell, cells_apart}
+use Rattle.write_barrier.specs.MutatorState.{Mutator, heap_of, MainShows}
+use Rattle.object_cells.specs.Contents.{next_at}
+use Rattle.object_cells.specs.Made.{IsStoreAt, with_content, content_need, content_word, store_content}
+use Rattle.object_cells.specs.declared.stores.Store.{Store}
+use Rattle.object_cells.proofs.MadeBoxes.{made_boxes, length-with_content, with_content_stays}
+use Rattle.object_cells.proofs.OwnPlaces.{has_own_words}
+use Rattle.object_cells.proofs.OwnPuts.{PutsOwn, not_reserved}
+use Rattle.object_cells.proofs.StoresRead.{StoredAt}
+use Rattle.list_store.specs.Pushes.{WritesSlot, with_count}
+use Rattle.object_cells.proofs.ListChanging.{Changing, changing_store, list_is_no_store, list_word, Elements}
+use Rattle.object_cells.proofs.ListChanging.{slot_stands, slot_few, store_is_no_box}
+use Rattle.std.proofs.lemmas.Option.{same_Some}
+use Rattle.page_space.proofs.Starts.{marks_start_is}
+use Rattle.object_graph.specs.Meaning.{relist}
 use Rattle.heap_model.specs.Needs.{capacity_at}
 use Rattle.heap_model.specs.Showing.{ShowsValue}
-use Rattle.heap_model.specs.Slots.{is_object_kind, reference_word, HoldsStore, RefersToBox}
-use Rattle.heap_model.specs.Wholeness.{NamesFrom}
+use Rattle.heap_model.specs.Slots.{HoldsStore}
 use Rattle.heap_model.proofs.CellWords.{words_by_kind}
-use Rattle.heap_model.proofs.CellsApart.{IsOfCell}
-use Rattle.heap_model.proofs.OneOwner.{names_store}
-use Rattle.heap_model.proofs.WordsStay.{PlacesStay}
-use Rattle.write_barrier.specs.MutatorState.{Mutator, heap_of, MainShows}
 use Rattle.object_cells.specs.Capacities.{ChangesObject}
-use Rattle.object_cells.specs.Contents.{next_at}
 use Rattle.object_cells.specs.OwnSlots.{ComesFrom}
-use Rattle.object_cells.specs.ElementChanges.{WritesList}
-use Rattle.object_cells.specs.Made.{IsStoreAt, store_content}
-use Rattle.object_cells.specs.declared.content.SlotContent.TheVariants as content
-use Rattle.object_cells.specs.declared.stores.Store.{Store}
-use Rattle.object_cells.proofs.CellsRead.{word_stands}
-use Rattle.object_cells.proofs.ContentValues.{content_shows, content_comes, is_made_box}
-use Rattle.object_cells.proofs.HeldContents.{HoldsValue}
 use Rattle.object_cells.proofs.HeldNeeds.{new_value_held}
-use Rattle.object_cells.proofs.OwnCapacities.{object_keeps}
-use Rattle.object_cells.proofs.MadeBoxes.{BoxStands, made_box, boxed_integer, refers_to_made, made_boxed}
-use Rattle.object_cells.proofs.MadeBoxes.{length-with_content, boxes_sound, only_first}
-use Rattle.object_cells.proofs.NewBoxes.{box_cell}
 use Rattle.object_cells.proofs.OneElement.{PutsElement, element_refills}
-use Rattle.object_cells.proofs.OwnCells.{cell_below_layouts}
+use Rattle.object_cells.proofs.OwnCells.{cell_below_layouts, list_size}
 use Rattle.object_cells.proofs.RefilledLists.{written_elements_show}
 use Rattle.object_cells.proofs.SlotsNow.{word_at_offset}
-use Rattle.object_cells.proofs.StoresRead.{StoredAt}
-use Rattle.object_cells.proofs.OwnSteps.{written_places_stay}
-use Rattle.object_cells.proofs.OwnerWrites.{written_own_keeps_cells, list_owns}
-use Rattle.list_store.specs.Pushes.{WritesSlot}
-use Rattle.object_cells.proofs.ListChanging.{Changing, Elements, store_is_no_box, slot_stands, slot_few, list_word}
+use Rattle.object_cells.proofs.OwnerWrites.{list_owns}
 use Rattle.object_cells.proofs.RestOfWords.{keeps_regions}
-use Rattle.list_store.proofs.SlotWords as of_slot
-use Rattle.list_store.proofs.SlotWords.{SlotWriting}
+use Rattle.object_cells.proofs.OwnContents.{PutsBeside, slot_stays, takes_beside}
+use Rattle.object_cells.proofs.TakenValues as taken
+use Rattle.object_cells.proofs.TakenValues.{TakesValue}
+use Rattle.object_cells.proofs.OwnCapacities.{object_keeps}
+use Rattle.object_cells.proofs.CellsRead.{word_stands}
 
 module _ {old new : Mutator} {graph : Graph} {at slot count : ℕ} {list : ListObject} {value : Held} {what : Value}
     {store : Store} (known : Changing old graph at list value what) (becomes : Elements graph list what slot count)
     (is_store : IsStoreAt (heap_of old) at store) (below : slot < store.capacity) (enough : count ≤ store.capacity)
     (pushes : WritesSlot old new at slot count value store) where
-  -- how the words were put
-  abbrev writing : SlotWriting old new graph at slot count list value what store
-  writing = record { known = known; is_store = is_store; below = below; pushes = pushes }
-
-  -- the list's cell, its store's, and the box that is made
+  -- the list's cell
   abbrev cell : Cell
   cell = known.shown.cell
 
-  abbrev there : StoredAt (heap_of old) known.shown.shows.store known.shown.shows.slots store
-  there = of_slot.there writing
+  -- the store's
+  there : StoredAt (heap_of old) known.shown.shows.store known.shown.shows.slots store
+  there = changing_store slot known is_store below
 
   abbrev other : Cell
-  other = of_slot.other writing
+  other = there.found.cell
 
-  abbrev made : List Cell
-  made = of_slot.made writing
+  -- it stands there with its words
+  other_has : HasCell (heap_of old) other (words_of_cell (heap_of old) other)
+  other_has = has_own_words there.found.refers.has
 
-  -- the address of the slot, its word, and the words before and after that was put
+  -- the address of the slot, its word, and the words before and after the two were put
   abbrev place : ℕ
-  place = of_slot.place writing
+  place = store.at + (store_head + slot)
 
   abbrev word : ℕ
-  word = of_slot.word writing
+  word = content_word (store_content value) (next_at old)
+
+  abbrev need : ℕ
+  need = content_need (store_content value)
 
   abbrev boxed : List ℕ
-  boxed = of_slot.boxed writing
+  boxed = with_content (heap_words old.seat) (store_content value) (next_at old)
 
   abbrev put : List ℕ
-  put = of_slot.put writing
+  put = slice_set boxed place word
+
+  -- a word of the list is none of the store
+  apart : (a : ℕ) → IsOfCell cell a → IsOfCell other a → ⊥
+  apart a of_cell of_other =
+      let same = cells_apart a known.shows.shows.whole.rows known.shown.has other_has of_cell of_other in
+      list_is_no_store known.shown.shows.of_kind (ap (λ (c : Cell). c.layout.kind) same ∙ there.found.of_kind)
 
   -- the slot is one of the store
-  abbrev of_store : IsOfCell other place
-  of_store = of_slot.of_store writing
+  of_store : IsOfCell other place
+  of_store = record {
+    from = omega (arith, there.found.stands);
+    below = omega (arith, there.found.stands, there.found.size, there.capacity, below);
+  }
 
-  -- cells of the list were written, and a box stands there
-  abbrev writes : WritesList (heap_of old) (heap_of new) cell (other ∷ []) made
-  writes = of_slot.writes writing
+  -- nor is its length
+  not_count : (a : ℕ) → IsOfCell other a → a ≢ at + count_offset
+  not_count a of_other same =
+      apart a (subst (IsOfCell cell) (sym same) (list_word 2 known.shown (omega arith))) of_other
 
-  abbrev box_stands : BoxStands (heap_of new) (store_content value) (next_at old)
-  box_stands = of_slot.box_stands writing
+  -- a word that is neither of the two nor one of a box is as before
+  word_stays : (a : ℕ) → a ≢ at + count_offset → a ≢ place → (next_at old ≤ a → a < next_at old + need → ⊥)
+      → slice_get (with_count put at count) a ≡ slice_get (heap_words old.seat) a
+  word_stays a not_count not_place not_new =
+      slice_get-set_other put (at + count_offset) a count not_count
+      ∙ slice_get-set_other boxed place a word not_place
+      ∙ with_content_stays (heap_words old.seat) (store_content value) (next_at old) a not_new
 
-  -- cells stand in the new heap
-  cells : CellsChange (heap_of old) (heap_of new) (cell ∷ other ∷ []) (cell ∷ other ∷ []) made
-  cells =
-      (written_own_keeps_cells list_owns known.shows.shows.whole writes).1
+  -- there are as many words
+  long : length (with_count put at count) ≡ length (heap_words old.seat)
+  long =
+      length-set put (at + count_offset) count ∙ length-set boxed place word
+      ∙ length-with_content (heap_words old.seat) (store_content value) (next_at old)
 
-  -- the list's, with its words
-  cell_has : HasCell (heap_of new) cell (words_of_cell (heap_of new) cell)
-  cell_has = cells.comes cell (first_in cell (other ∷ made))
+  -- so words of the list's own cells were put
+  puts : PutsOwn kind.List old new cell (other ∷ []) need (with_count put at count)
+  puts = record {
+    tied = known.shows.tied;
+    whole = known.shows.shows.whole;
+    has = known.shown.has;
+    of_kind = known.shown.shows.of_kind;
+    stood = λ one among. subst (λ (c : Cell). HasCell (heap_of old) c (words_of_cell (heap_of old) c))
+        (one_in other one among) other_has;
+    room = pushes.room;
+    puts = pushes.words;
+    long = long;
+    stay = λ a not_cell not_others not_new. word_stays a
+        (λ same. let of_cell = list_word 2 known.shown (omega arith) in
+        not_cell (record { from = omega (arith, same, of_cell.from); below = omega (arith, same, of_cell.below) }))
+        (λ same. not_others other (first_in other [])
+        (record { from = omega (arith, same, of_store.from); below = omega (arith, same, of_store.below) }))
+        not_new;
+  }
 
-  -- the store's
+  -- a word of one of the two cells but these stays
+  kept : (a : ℕ) → IsOfCell cell a ⊎ IsOfCell other a → a ≢ at + count_offset → a ≢ place
+      → slice_get (heap_words new.seat) a ≡ slice_get (heap_words old.seat) a
+  kept a of_one not_count not_place =
+      ap (λ all. slice_get all a) pushes.words.heap ∙ word_stays a not_count not_place (elim of_one [
+        | inl of_cell ↦ not_reserved a puts known.shown.has of_cell
+        | inr of_other ↦ not_reserved a puts other_has of_other
+      ])
+
+  -- a word of a box that is made
+  box_word : (b : ℕ) → next_at old ≤ b → b < next_at old + need
+      → slice_get (with_count put at count) b ≡ slice_get boxed b
+  box_word b from below =
+      slice_get-set_other put (at + count_offset) b count (λ same.
+      let of_cell = list_word 2 known.shown (omega arith) in
+      not_reserved b puts known.shown.has
+      (record { from = omega (arith, same, of_cell.from); below = omega (arith, same, of_cell.below) }) from below)
+      ∙ slice_get-set_other boxed place b word (λ same. not_reserved b puts other_has
+      (record { from = omega (arith, same, of_store.from); below = omega (arith, same, of_store.below) }) from below)
+
+  -- so words of the list's cell and of its store were put
+  putting : PutsBeside kind.List kind.Store old new cell other need (with_count put at count) known.shown.shows.store
+  putting =
+      let store_is = there.found in
+      record {
+        owns = list_owns;
+        puts = puts;
+        is = record {
+          of_kind = store_is.of_kind;
+          no_number = (subst (λ k. IsSoundOf k (heap_of old) other store_is.words) store_is.of_kind
+              (known.shows.shows.whole.sound other store_is.words store_is.refers.has)).no_number;
+          refers = store_is.refers.refers;
+        };
+        slot = known.shown.shows.slot;
+        own_stays = λ k less.
+            let of_cell = subst (λ n. IsOfCell cell (n + k)) (sym known.shown.stands)
+            (list_word k known.shown (omega (arith, less))) in
+            kept (cell.at + k) (inl of_cell) (λ same. omega (arith, same, less, known.shown.stands))
+            (λ same. apart (cell.at + k) of_cell (subst (IsOfCell other) (sym same) of_store));
+        head_stays = λ k less.
+            let of_other : IsOfCell other (other.at + k) =
+            record { from = omega arith; below = omega (arith, less, store_is.size) } in
+            kept (other.at + k) (inr of_other) (not_count (other.at + k) of_other)
+            (λ same. omega (arith, same, less, store_is.stands));
+      }
+
+  -- and the list takes the value
+  takes : TakesValue kind.List kind.Store (heap_of old) (heap_of new) cell cell (other ∷ []) [] (store_content value)
+      (next_at old) what known.shown.shows.store
+  takes =
+      takes_beside (length graph.objects) putting box_word known.fits (new_value_held false value what known.held.shows)
+
+  -- its store stands in the new heap
   store_has : HasCell (heap_of new) other (words_of_cell (heap_of new) other)
-  store_has = cells.comes other (rest_in cell (other ∷ made) other (first_in other made))
-
-  -- and that of a box that was made
-  made_has : (one : Cell) → Contains made one → HasCell (heap_of new) one (words_of_cell (heap_of new) one)
-  made_has one among = cells.comes one (rest_in cell (other ∷ made) one (rest_in other made one among))
+  store_has = taken.others_have takes other (first_in other [])
 
   -- the slots of the store
-  abbrev pub now : List ℕ
+  abbrev now : List ℕ
   now = drop store_head (words_of_cell (heap_of new) other)
 
   -- each but the one that was put holds what it held
@@ -130,9 +200,7 @@ module _ {old new : Mutator} {graph : Graph} {at slot count : ℕ} {list : ListO
       let of_other : IsOfCell other a =
       record { from = omega arith; below = omega (arith, inside, there.found.size) } in
       ap (λ all. slice_get all k) there.found.are ∙ slot_stands k there.found.refers.has there.found.of_kind inside
-      ∙ sym (of_slot.kept writing a (inr of_other)
-      (of_slot.not_count writing a of_other)
-      (λ same. not_one (omega (arith, same, there.found.stands))))
+      ∙ sym (kept a (inr of_other) (not_count a of_other) (λ same. not_one (omega (arith, same, there.found.stands))))
       ∙ sym (slot_stands k store_has there.found.of_kind inside) ∙ holds
 
   -- that holds the word
@@ -149,45 +217,12 @@ module _ {old new : Mutator} {graph : Graph} {at slot count : ℕ} {list : ListO
         below,
       ) in
       same_Some word x (sym (slice_get-set_same boxed place word within)
-      ∙ sym (slice_get-set_other put (at + count_offset) place count
-      (of_slot.not_count writing place of_store))
+      ∙ sym (slice_get-set_other put (at + count_offset) place count (not_count place of_store))
       ∙ sym (ap (λ all. slice_get all place) pushes.words.heap)
       ∙ ap (slice_get (heap_words new.seat)) (sym at_place)
       ∙ sym (slot_stands slot store_has there.found.of_kind inside) ∙ holds)
 
-  -- how the value is held
-  abbrev holds_all : HoldsValue (heap_of old) false rep.Small (rep_of what) what (store_content value)
-  holds_all = new_value_held false value what known.held.shows
-
-  -- the places of objects stay
-  places : PlacesStay (heap_of old) (heap_of new)
-  places = written_places_stay list_owns known.shows.shows.whole writes
-
-  -- the box that was made holds the integer
-  refers_box : (v : ℤ) → store_content value ≡ content.Boxed v
-      → RefersToBox (heap_of new) (reference_word (next_at old)) v
-  refers_box v is_box =
-      refers_to_made (store_content value) (next_at old) v is_box
-      (boxed_integer (length graph.objects) v holds_all known.fits is_box) box_stands
-      (made_has (box_cell (next_at old)) (made_box (store_content value) (next_at old) v is_box))
-
-  -- the list's slot for a store stays
-  slot_stays : slice_get (heap_words new.seat) (cell.at + store_slot)
-      ≡ slice_get (heap_words old.seat) (cell.at + store_slot)
-  slot_stays =
-      let of_cell : IsOfCell cell (cell.at + store_slot) =
-      subst (λ n. IsOfCell cell (n + store_slot)) (sym known.shown.stands) (list_word 1 known.shown (omega arith)) in
-      of_slot.kept writing (cell.at + store_slot) (inl of_cell) (λ same. omega (arith, same, known.shown.stands))
-      (λ same. of_slot.apart writing (cell.at + store_slot) of_cell (subst (IsOfCell other) (sym same) of_store))
-
-  -- so it refers to the same store
-  slot_now : HasWord (words_of_cell (heap_of new) cell) store_slot known.shown.shows.store
-  slot_now =
-      let size = list_word 1 known.shown (omega arith) in
-      word_at_offset store_slot cell_has (omega (arith, size.below, known.shown.stands)) ∙ slot_stays
-      ∙ word_stands store_slot known.shown.shows.store known.shown.has known.shown.shows.slot
-
-  -- and its length is that of the elements
+  -- the list's length is that of the elements
   count_now : HasWord (words_of_cell (heap_of new) cell) count_offset (length becomes.after)
   count_now =
       let size = list_word 2 known.shown (omega arith) in
@@ -200,31 +235,27 @@ module _ {old new : Mutator} {graph : Graph} {at slot count : ℕ} {list : ListO
         marks_start_is old.seat.space,
         cell_below_layouts known.shows.shows.whole known.shown.has size,
       ) in
-      word_at_offset count_offset cell_has (omega (arith, size.below, known.shown.stands))
+      word_at_offset count_offset (taken.came_has takes) (omega (arith, size.below, known.shown.stands))
       ∙ ap (λ n. slice_get (heap_words new.seat) (n + count_offset)) known.shown.stands
       ∙ ap (λ all. slice_get all (at + count_offset)) pushes.words.heap
       ∙ slice_get-set_same put (at + count_offset) count within ∙ ap (λ n. Some n) (sym becomes.long)
 
-  -- the store is the one that the list had
-  store_number : HasNoNumber other
-  store_number =
-      (subst (λ k. IsSoundOf k (heap_of old) other there.found.words) there.found.of_kind
-      (known.shows.shows.whole.sound other there.found.words there.found.refers.has)).no_number
-
   -- so an element is pushed
-  puts_element : PutsElement (heap_of old) (heap_of new) cell (other ∷ []) made list.elements becomes.after
-      slot what
+  puts_element : PutsElement (heap_of old) (heap_of new) cell (other ∷ []) (made_boxes (store_content value) (next_at old))
+      list.elements becomes.after slot what
   puts_element =
+      let shown = known.shown.shows in
       record {
         whole = known.shows.shows.whole;
-        shown = known.shown.shows;
-        writes = writes;
+        shown = shown;
+        writes = takes.writes;
         differs = becomes.differs;
         now = now;
         are = record {
-          store = known.shown.shows.store;
-          slot = slot_now;
-          stands = HoldsStore.store known.shown.shows.store other (words_of_cell (heap_of new) other)
+          store = shown.store;
+          slot = taken.slot_is takes (omega (arith, list_size known.shown.has shown.of_kind))
+              (slot_stays putting ∙ word_stands store_slot shown.store known.shown.has shown.slot);
+          stands = HoldsStore.store shown.store other (words_of_cell (heap_of new) other)
               (record { refers = there.found.refers.refers; has = store_has }) there.found.of_kind;
         };
         counted = count_now;
@@ -240,44 +271,25 @@ module _ {old new : Mutator} {graph : Graph} {at slot count : ℕ} {list : ListO
         keeps = λ k x not_one holds. inl (keeps k x not_one holds);
         no_box = λ k x not_one holds one among is_box same. store_is_no_box
             (ap (λ (c : Cell). c.layout.kind) (sym (one_in other one among)) ∙ there.found.of_kind) is_box;
-        comes = λ x holds.
-            subst (ComesFrom (heap_of new) (HasWord known.shown.shows.slots) made slot slot slot) (holds_word x holds)
-            (content_comes (HasWord known.shown.shows.slots) made slot slot (next_at old) holds_all places
-            (λ own wide. false≢true own)
-            (λ v is_box. is_made_box (next_at old) (made_box (store_content value) (next_at old) v is_box)));
-        shows = λ x holds. subst (λ w. ShowsValue (heap_of new) w what)
-            (holds_word x holds)
-            (content_shows (next_at old) holds_all places refers_box);
-        store_comes = inl known.shown.shows.slot;
-        belong = λ one among. (
-          cell.at + store_slot,
-          subst (λ (c : Cell). NamesFrom (heap_of old) cell (cell.at + store_slot) c.at) (one_in other one among)
-              (names_store known.shown.shows.store known.shown.has (ap is_object_kind known.shown.shows.of_kind)
-              known.shown.shows.slot there.found.refers (inl there.found.of_kind)),
-        );
-        kinds = λ one among. inr (made_boxed (store_content value) (next_at old) one among);
-        stores = λ one among is. subst (λ (c : Cell). HasNoNumber c × (known.shown.shows.store ≡ reference_word c.at))
-            (only_first (store_content value) (next_at old) kind.Store (store_is_no_box refl) one among is)
-            (store_number, there.found.refers.refers);
-        boxes = boxes_sound (length graph.objects) (next_at old) (store_is_no_box there.found.of_kind) holds_all
-            known.fits box_stands made_has;
+        comes = λ x holds. subst
+            (ComesFrom (heap_of new) (HasWord shown.slots) (made_boxes (store_content value) (next_at old)) slot slot
+            slot) (holds_word x holds) (taken.value_comes takes (HasWord shown.slots) slot slot);
+        shows = λ x holds. subst (λ w. ShowsValue (heap_of new) w what) (holds_word x holds) (taken.value_shows takes);
+        store_comes = inl shown.slot;
+        belong = takes.belong;
+        kinds = taken.made_kinds takes;
+        stores = taken.stores_told takes;
+        boxes = taken.boxes_told takes;
       }
 
   -- and the graph is shown in which it is the last
   pub slot_shown : MainShows new (relist graph list becomes.after)
   slot_shown =
-      written_elements_show old new graph list cell (other ∷ []) made becomes.after known.shows
-      known.is.object known.shown.carries known.shown.shows
-      becomes.are_new
-      (keeps_regions pushes.words.beside pushes.words.young) pushes.words.paths writes (element_refills puts_element)
+      written_elements_show old new graph list cell (other ∷ []) (made_boxes (store_content value) (next_at old))
+      becomes.after known.shows known.is.object known.shown.carries known.shown.shows becomes.are_new
+      (keeps_regions pushes.words.beside pushes.words.young) pushes.words.paths takes.writes
+      (element_refills puts_element)
 
   -- each store has as many slots as before
   pub slot_keeps : ChangesObject (heap_of old) (heap_of new) cell.at (capacity_at (heap_of old) cell.at)
-  slot_keeps =
-      object_keeps (record {
-        owns = list_owns;
-        whole = known.shows.shows.whole;
-        writes = writes;
-        belong = puts_element.belong;
-        kinds = λ one among. inr (made_boxed (store_content value) (next_at old) one among);
-      }) slot_stays
+  slot_keeps = object_keeps (taken.taken_beside takes) (slot_stays putting)

@@ -25,6 +25,7 @@ pub mod OwnerWrites
 pub mod NothingUsed
 pub mod OwnPuts
 pub mod OwnIntegers
+pub mod OwnContents
 pub mod ContentValues
 pub mod KeptCapacities
 pub mod OwnCapacities
@@ -47,6 +48,10 @@ pub mod PutRanges
 pub mod NewStores
 pub mod MadeBoxes
 pub mod StoreWords
+pub mod StoreRuns
+pub mod FilledRuns
+pub mod TakenValues
+pub mod CopiedSlots
 pub mod StoresRead
 pub mod HeldNeeds
 pub mod SlotBoxes

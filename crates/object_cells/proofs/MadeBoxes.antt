@@ -1,12 +1,13 @@
 -- The box that is made for what a slot comes to hold, if it needs one.
 use Rattle.std.proofs.Common.{◌≡◌, ℕ, ◌+◌, ◌≤◌, ◌<◌, length, length-set, Bool, List, [], ◌∷◌}
-use Rattle.std.proofs.Common.{inl, inr, Contains, Some, slice_get, refl, sym, ◌∙◌, ap, subst, arith}
+use Rattle.std.proofs.Common.{Contains, Some, slice_get, refl, sym, ◌∙◌, ap, subst, arith}
 use Rattle.std.specs.Prelude.{ℤ, FitsSigned, slice_set}
 use Rattle.std.specs.Int.{w64}
-use Rattle.heap_model.specs.Types.{Kind, Value, Rep, Cell}
+use Rattle.std.proofs.lemmas.List.{set_comm}
+use Rattle.heap_model.specs.Types.{Value, Rep, Cell}
 use Rattle.tagged_word.specs.declared.layout.Kind.TheVariants as kind
 use Rattle.tagged_word.specs.Headers.{header_bits}
-use Rattle.tagged_word.proofs.Members.{first_in, one_in, in_cases}
+use Rattle.tagged_word.proofs.Members.{first_in, one_in}
 use Rattle.page_space.specs.Extents.{eden_start, segments_start}
 use Rattle.object_graph.specs.Invariants.{IsValue}
 use Rattle.object_graph.proofs.Lists.{slice_get-set_same, slice_get-set_other}
@@ -19,6 +20,7 @@ use Rattle.heap_model.proofs.BoundHeaps.{none_in}
 use Rattle.object_cells.specs.Formats.{box_header}
 use Rattle.object_cells.specs.declared.content.SlotContent.{SlotContent}
 use Rattle.object_cells.specs.declared.content.SlotContent.TheVariants as content
+use Rattle.object_cells.specs.FilledRuns.{HasBoxWords}
 use Rattle.object_cells.specs.Made.{content_need, with_content}
 use Rattle.object_cells.proofs.HeldContents.{HoldsValue}
 use Rattle.object_cells.proofs.NewBoxes.{box_cell, box_is_cell, row_of_box}
@@ -151,14 +153,21 @@ with_content_stays words (content.Boxed v) box a beside =
     ∙ slice_get-set_other words box a (header_bits box_header)
     (λ same. beside (omega (arith, same)) (omega (arith, same)))
 
--- The words of a box with this integer stand at this address.
-pub record BoxWords (words : List ℕ) (box : ℕ) (v : ℤ) : Type 0 where
-  pub header : slice_get words box ≡ Some (header_bits box_header)
-  pub raw : slice_get words (box + 1) ≡ Some (raw_word v)
+-- a word that is put beside the box is put before it as well
+pub with_content_set : (words : List ℕ) (holds : SlotContent) (box a word : ℕ)
+    → (box ≤ a → a < box + content_need holds → ⊥)
+    → with_content (slice_set words a word) holds box ≡ slice_set (with_content words holds box) a word
+with_content_set words (content.Tagged one) box a word beside = refl
+with_content_set words (content.Raw one) box a word beside = refl
+with_content_set words (content.Boxed v) box a word beside =
+    ap (λ all. slice_set all (box + 1) (raw_word v))
+    (set_comm words a box word (header_bits box_header) (λ same. beside (omega (arith, same)) (omega (arith, same))))
+    ∙ set_comm (slice_set words box (header_bits box_header)) a (box + 1) word (raw_word v)
+    (λ same. beside (omega (arith, same)) (omega (arith, same)))
 
 -- and those are the words of the box
 pub with_content_box : (words : List ℕ) (holds : SlotContent) (box : ℕ) (v : ℤ) → holds ≡ content.Boxed v
-    → box + 1 < length words → BoxWords (with_content words holds box) box v
+    → box + 1 < length words → HasBoxWords (with_content words holds box) box v
 with_content_box words (content.Tagged word) box v boxed within = cc
 with_content_box words (content.Raw word) box v boxed within = cc
 with_content_box words (content.Boxed w) box v boxed within =
@@ -196,24 +205,3 @@ row_with_box heap first holds end is sized stands ends =
     let behind : ℕ = first.at + first.size in
     subst (λ to. IsRow heap.space heap.words first.at to (first ∷ made_boxes holds behind)) ends
     (next first (behind + content_need holds) (made_boxes holds behind) is (made_row heap holds behind sized stands))
-
--- of a cell and the boxes beside it that were made only the cell is of a kind that boxes are not
-pub only_first : (holds : SlotContent) (box : ℕ) (k : Kind) {first : Cell} → (k ≡ kind.Boxed → ⊥) → (one : Cell)
-    → Contains (first ∷ made_boxes holds box) one → one.layout.kind ≡ k → first ≡ one
-only_first holds box k {first} no_box one among is = elim (in_cases first (made_boxes holds box) one among) [
-  | inl same ↦ same
-  | inr is_made ↦ absurd (no_box (sym is ∙ made_boxed holds box one is_made))
-]
-
--- and where the cell is no box, each that is one is sound
-pub boxes_sound : {heap old : Heap} {own : Bool} {was one : Rep} {what : Value} {holds : SlotContent} (count box : ℕ)
-    {first : Cell} → (first.layout.kind ≡ kind.Boxed → ⊥) → HoldsValue old own was one what holds → IsValue count what
-    → BoxStands heap holds box
-    → ((other : Cell) → Contains (made_boxes holds box) other → HasCell heap other (words_of_cell heap other))
-    → (other : Cell) → Contains (first ∷ made_boxes holds box) other → other.layout.kind ≡ kind.Boxed
-    → IsBoxCell other (words_of_cell heap other)
-boxes_sound {holds = holds} count box {first} no_box value fits stands has other among is =
-    elim (in_cases first (made_boxes holds box) other among) [
-      | inl same ↦ absurd (no_box (ap (λ (c : Cell). c.layout.kind) same ∙ is))
-      | inr is_made ↦ made_sound count box other value fits stands (has other is_made) is_made
-    ]

@@ -1,19 +1,21 @@
 -- The words where a store was made in place of another one of an object.
 use Rattle.std.proofs.Common.{◌≡◌, ◌≢◌, ℕ, ◌+◌, ◌≤◌, ◌<◌, ◌⊎◌, inl, inr, List, [], ◌∷◌}
-use Rattle.std.proofs.Common.{length, Some, slice_get, slice_range, replicate, refl, ◌∙◌, ap, arith, length-set}
+use Rattle.std.proofs.Common.{length, Some, slice_get, slice_range, replicate, refl, ◌∙◌, ap, arith}
 use Rattle.std.proofs.lemmas.Bool.{cases_lt}
 use Rattle.std.proofs.lemmas.List.{length-replicate, get_or-replicate}
 use Rattle.std.proofs.lemmas.Option.{slice_get-get_or}
 use Rattle.tagged_word.specs.Headers.{header_bits}
 use Rattle.tagged_word.specs.Cells.{store_head, store_slot}
-use Rattle.object_graph.proofs.Lists.{slice_get-set_same, slice_get-set_other}
 use Rattle.word_store.proofs.CopiedWords.{length-piece, length-copied}
-use Rattle.heap_model.specs.Slots.{hole_word, reference_word}
+use Rattle.heap_model.specs.Slots.{hole_word}
 use Rattle.heap_model.proofs.CellWords.{slice_get-append_right}
 use Rattle.write_barrier.specs.Values.{with_range}
 use Rattle.object_cells.specs.Formats.{store_header, empty_store}
 use Rattle.object_cells.specs.declared.stores.Store.{Store}
-use Rattle.object_cells.specs.Made.{begun_store, with_store}
+use Rattle.object_cells.specs.FilledRuns.{run_words}
+use Rattle.object_cells.specs.Made.{begun_store}
+use Rattle.object_cells.specs.declared.content.SlotContent.{SlotContent}
+use Rattle.object_cells.proofs.NewStores.{store_cell}
 use Rattle.object_cells.proofs.PutRanges.{length-with_range, with_range_before, with_range_inside, with_range_behind}
 use Rattle.object_cells.proofs.PutRanges.{copied_is}
 use Rattle.object_cells.proofs.PutRanges.{slice_get-slice_range}
@@ -31,22 +33,26 @@ empty_store_hole capacity k below =
     ∙ slice_get-get_or holes k 0 (omega (arith, below, length-replicate capacity hole_word))
     ∙ ap (λ n. Some n) (get_or-replicate capacity k hole_word 0 below)
 
--- The store before and the one that is made stand among the words, and have no word in common; the slot for the
--- store is a word of neither.
-pub record MakesStore (words : List ℕ) (object : ℕ) (store : Store) (capacity at : ℕ) : Type 0 where
-  pub more : store.capacity ≤ capacity
-  pub within : at + (store_head + capacity) ≤ length words
+-- The store before and the one that is made, with a box behind it, stand among the words, and have no word in common;
+-- the object's slot for the store is a word of neither, nor is the other word that is put.
+pub record MakesStore (words : List ℕ) (object own : ℕ) (store : Store) (capacity at : ℕ) (holds : SlotContent)
+    : Type 0 where
+  pub more : store.capacity < capacity
+  pub within : at + run_words (store_cell at capacity) holds ≤ length words
   pub other : store.at + (store_head + store.capacity) ≤ length words
   pub apart : (store.at + (store_head + store.capacity) ≤ at) ⊎ (at + (store_head + capacity) ≤ store.at)
   pub slot : object + store_slot < length words
-  pub named : at ≤ object + store_slot → object + store_slot < at + (store_head + capacity) → ⊥
+  pub own_in : own < length words
+  pub named : at ≤ object + store_slot → object + store_slot < at + run_words (store_cell at capacity) holds → ⊥
+  pub beside : at ≤ own → own < at + run_words (store_cell at capacity) holds → ⊥
+  pub not_slot : own ≢ object + store_slot
 
 -- the words with a store of no values
 abbrev filled : List ℕ → ℕ → ℕ → List ℕ
 filled words capacity at = with_range words at (empty_store capacity)
 
-module _ (words : List ℕ) (object : ℕ) (store : Store) (capacity at : ℕ)
-    (makes : MakesStore words object store capacity at) where
+module _ {words : List ℕ} {object own : ℕ} {store : Store} {capacity at : ℕ} {holds : SlotContent}
+    (makes : MakesStore words object own store capacity at holds) where
   -- with a store of no values there are as many words as before
   filled_long : length (filled words capacity at) ≡ length words
   filled_long =
@@ -59,11 +65,6 @@ module _ (words : List ℕ) (object : ℕ) (store : Store) (capacity at : ℕ)
       length-copied (filled words capacity at) (store.at + store_head) (at + store_head) store.capacity
       (omega (arith, makes.more, makes.other, filled_long)) (omega (arith, makes.more, makes.within, filled_long))
       ∙ filled_long
-
-  -- and with its reference put
-  pub length-with_store : length (with_store words object store capacity at) ≡ length words
-  length-with_store = length-set (begun_store words store capacity at) (object + store_slot) (reference_word at)
-      ∙ copied_long
 
   -- a word beside the store stays
   filled_stays : (a : ℕ) → (at ≤ a → a < at + (store_head + capacity) → ⊥)
@@ -159,39 +160,3 @@ module _ (words : List ℕ) (object : ℕ) (store : Store) (capacity at : ℕ)
         | inl head ↦ inl (omega (arith, head))
         | inr behind ↦ inr (omega (arith, behind))
       ]) ∙ filled_word k below
-
-  -- a word but the slot for the store is that before it was put
-  last_stays : (a : ℕ) → a ≢ object + store_slot
-      → slice_get (with_store words object store capacity at) a ≡ slice_get (begun_store words store capacity at) a
-  last_stays a apart =
-      slice_get-set_other (begun_store words store capacity at) (object + store_slot) a (reference_word at) apart
-
-  -- the slot for the store refers to it
-  pub with_store_named : slice_get (with_store words object store capacity at) (object + store_slot)
-      ≡ Some (reference_word at)
-  with_store_named =
-      slice_get-set_same (begun_store words store capacity at) (object + store_slot) (reference_word at)
-      (omega (arith, makes.slot, copied_long))
-
-  -- any other word that is not the store's stays
-  pub with_store_stays : (a : ℕ) → a ≢ object + store_slot → (at ≤ a → a < at + (store_head + capacity) → ⊥)
-      → slice_get (with_store words object store capacity at) a ≡ slice_get words a
-  with_store_stays a apart beside = last_stays a apart ∙ begun_stays a beside
-
-  -- no word of the store is that of the slot for it
-  store_apart : (k : ℕ) → k < store_head + capacity → at + k ≢ object + store_slot
-  store_apart k below same = makes.named (omega (arith, same)) (omega (arith, same, below))
-
-  -- the words of its head, and the slots behind those that were copied
-  pub with_store_word : (k : ℕ) → k < store_head + capacity
-      → (k < store_head) ⊎ (store_head + store.capacity ≤ k)
-      → slice_get (with_store words object store capacity at) (at + k) ≡ slice_get (empty_store capacity) k
-  with_store_word k below beside = last_stays (at + k) (store_apart k below) ∙ begun_word k below beside
-
-  -- its first slots hold what those of the other held
-  pub with_store_copied : (k : ℕ) → k < store.capacity
-      → slice_get (with_store words object store capacity at) (at + (store_head + k))
-      ≡ slice_get words (store.at + (store_head + k))
-  with_store_copied k below =
-      last_stays (at + (store_head + k)) (store_apart (store_head + k) (omega (arith, below, makes.more)))
-      ∙ copied_word k below

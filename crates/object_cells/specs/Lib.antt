@@ -12,4 +12,5 @@ pub mod SlotChanges
 pub mod ListObjects
 pub mod ElementChanges
 pub mod Made
+pub mod FilledRuns
 pub mod OwnWords

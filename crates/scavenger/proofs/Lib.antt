@@ -16,6 +16,7 @@ pub mod StartTargets
 pub mod StartLaid
 pub mod Started
 pub mod CodeChanges
+pub mod CodeReadings
 pub mod LoopTargets
 pub mod LoopFollows
 pub mod CodeSegments

@@ -22,87 +22,83 @@ use Rattle.shape_change.proofs.SlotAddresses.{head_is_apart}
 use Rattle.shape_change.proofs.SlotAddresses.{IsOfObject, slot_is_of_object}
 use Rattle.shape_change.proofs.DeletedSlots.{Deleting, cap_is, room_is, address, address_is}
 
--- the store of the object, if it has one
-abbrev pub others_of : {old new : Mutator} {cell : Cell} {slot : ℕ} {fields : List Field}
-    → Deleting old new cell slot fields → List Cell
-others_of deleting = store_cells deleting.shows.has.stands
+module _ {old new : Mutator} {cell : Cell} {slot : ℕ} {fields : List Field}
+    (deleting : Deleting old new cell slot fields) where
+  -- the store of the object, if it has one
+  abbrev pub others_of : List Cell
+  others_of = store_cells deleting.shows.has.stands
 
--- neither the header nor the length of the store changed
-head_stays : {old new : Mutator} {cell : Cell} {slot : ℕ} {fields : List Field} (k : ℕ)
-    (deleting : Deleting old new cell slot fields) (other : Cell) → Contains (others_of deleting) other → k < store_head
-    → slice_get (heap_words new.seat) (other.at + k) ≡ slice_get (heap_words old.seat) (other.at + k)
-head_stays {old} k deleting other there head =
-    let shows = deleting.shows in
-    let is = is_store_cell shows.has.stands other there in
-    let apart = head_is_apart k deleting.whole deleting.has shows.of_kind shows.has is head in
-    deleting.taken.stay (other.at + k) (omega (arith, apart.below, layouts_start_is old.seat.space)) apart.object
-    (λ one low high same. apart.slots one (omega (arith, room_is deleting, high))
-    (sym (address_is one deleting high) ∙ same))
+  -- neither the header nor the length of the store changed
+  head_stays : (k : ℕ) (other : Cell) → Contains others_of other → k < store_head
+      → slice_get (heap_words new.seat) (other.at + k) ≡ slice_get (heap_words old.seat) (other.at + k)
+  head_stays k other there head =
+      let shows = deleting.shows in
+      let is = is_store_cell shows.has.stands other there in
+      let apart = head_is_apart k deleting.whole deleting.has shows.of_kind shows.has is head in
+      deleting.taken.stay (other.at + k) (omega (arith, apart.below, layouts_start_is old.seat.space)) apart.object
+      (λ one low high same. apart.slots one (omega (arith, room_is deleting, high))
+      (sym (address_is deleting one high) ∙ same))
 
--- the store is written beside the object
-written_beside : {old new : Mutator} {cell : Cell} {slot : ℕ} {fields : List Field}
-    (deleting : Deleting old new cell slot fields) (other : Cell) → Contains (others_of deleting) other
-    → IsWrittenOfKind kind.Store (heap_of old) (heap_of new) other
-written_beside {old} {new} deleting other there =
-    let is = is_store_cell deleting.shows.has.stands other there in
-    let first : other.at + 0 ≡ other.at = omega arith in
-    record {
-      stood = is.refers.has;
-      of_kind = inl is.of_kind;
-      header = ap (slice_get (heap_words new.seat)) (sym first) ∙ head_stays 0 deleting other there (omega arith)
-          ∙ ap (slice_get (heap_words old.seat)) first;
-      length = λ store. head_stays length_offset deleting other there (omega arith);
-    }
+  -- the store is written beside the object
+  written_beside : (other : Cell) → Contains others_of other
+      → IsWrittenOfKind kind.Store (heap_of old) (heap_of new) other
+  written_beside other there =
+      let is = is_store_cell deleting.shows.has.stands other there in
+      let first : other.at + 0 ≡ other.at = omega arith in
+      record {
+        stood = is.refers.has;
+        of_kind = inl is.of_kind;
+        header = ap (slice_get (heap_words new.seat)) (sym first) ∙ head_stays 0 other there (omega arith)
+            ∙ ap (slice_get (heap_words old.seat)) first;
+        length = λ store. head_stays length_offset other there (omega arith);
+      }
 
--- no other word changed
-others_stay : {old new : Mutator} {cell : Cell} {slot : ℕ} {fields : List Field} (at : ℕ)
-    (deleting : Deleting old new cell slot fields) → at < layouts_start old.seat.space → (IsInCell at cell → ⊥)
-    → ((other : Cell) → Contains (others_of deleting) other → IsInCell at other → ⊥)
-    → slice_get (heap_words new.seat) at ≡ slice_get (heap_words old.seat) at
-others_stay {cell = cell} at deleting below not_own not_beside =
-    let shows = deleting.shows in
-    let first = first_of_cell deleting.has in
-    let of_cell : cell.at ≢ at = λ same.
-    not_own (record { from = omega (arith, same); below = omega (arith, same, first.below) }) in
-    deleting.taken.stay at below of_cell (λ one low high same.
-    let is = slot_is_of_object one deleting.has shows.of_kind shows.has (omega (arith, room_is deleting, high)) in
-    let stands : address deleting one ≡ at = sym (address_is one deleting high) ∙ same in
-    elim is [
-      | IsOfObject.in_object in_cell ↦ not_own (subst (λ n. IsInCell n cell) stands in_cell)
-      | IsOfObject.in_store other there in_cell ↦
-          not_beside other there (subst (λ n. IsInCell n other) stands in_cell)
-    ])
+  -- no other word changed
+  others_stay : (at : ℕ) → at < layouts_start old.seat.space → (IsInCell at cell → ⊥)
+      → ((other : Cell) → Contains others_of other → IsInCell at other → ⊥)
+      → slice_get (heap_words new.seat) at ≡ slice_get (heap_words old.seat) at
+  others_stay at below not_own not_beside =
+      let shows = deleting.shows in
+      let first = first_of_cell deleting.has in
+      let of_cell : cell.at ≢ at = λ same.
+      not_own (record { from = omega (arith, same); below = omega (arith, same, first.below) }) in
+      deleting.taken.stay at below of_cell (λ one low high same.
+      let is = slot_is_of_object one deleting.has shows.of_kind shows.has (omega (arith, room_is deleting, high)) in
+      let stands : address deleting one ≡ at = sym (address_is deleting one high) ∙ same in
+      elim is [
+        | IsOfObject.in_object in_cell ↦ not_own (subst (λ n. IsInCell n cell) stands in_cell)
+        | IsOfObject.in_store other there in_cell ↦
+            not_beside other there (subst (λ n. IsInCell n other) stands in_cell)
+      ])
 
--- only words of the object's own cells were written
-pub deleted_writes : {old new : Mutator} {cell : Cell} {slot : ℕ} {fields : List Field}
-    (deleting : Deleting old new cell slot fields)
-    → WritesFields (heap_of old) (heap_of new) cell deleting.taken.next (others_of deleting) []
-deleted_writes {old} {new} {cell} {slot} deleting =
-    let taken = deleting.taken in
-    let used = ap (λ (young : Young). young.used) taken.young in
-    let survivors = ap (λ (young : Young). young.survivors) taken.young in
-    let young = ap (λ (space : Space). space.sizes.young) taken.beside.space in
-    let path : Path = without (shape_path old.paths cell.header.shape) slot in
-    let behind : ℕ = eden_start old.seat.space + old.young.used in
-    record {
-      same_space = taken.beside.space;
-      same_survivors = survivors;
-      grown = omega (arith, used);
-      room = omega (arith, used, survivors, young, deleting.whole.rows.few);
-      more = missing old.paths path;
-      paths = sym (with_path-is (Some paths_most) old.paths new.paths path taken.leads.added);
-      sized = taken.sized;
-      stood = deleting.has;
-      of_kind = deleting.shows.of_kind;
-      becomes = Becomes.other_shape (record {
-        plain = deleting.shows.of_kind;
-        is = refl;
-        is_shape = taken.leads.shape_is.is_shape;
-        cap = ap (λ (p : Path). p.cap) taken.leads.shape_is.of_path ∙ taken.caps ∙ cap_is deleting;
-        header = taken.headed;
-      });
-      beside = λ other there. written_beside deleting other there;
-      made_stand = subst (λ n. IsRow new.seat.space (heap_words new.seat) behind n [])
-          (ap (λ n. eden_start old.seat.space + n) (sym used)) (IsRow.none behind);
-      stay = λ at below not_own not_beside not_new. others_stay at deleting below not_own not_beside;
-    }
+  -- only words of the object's own cells were written
+  pub deleted_writes : WritesFields (heap_of old) (heap_of new) cell deleting.taken.next others_of []
+  deleted_writes =
+      let taken = deleting.taken in
+      let used = ap (λ (young : Young). young.used) taken.young in
+      let survivors = ap (λ (young : Young). young.survivors) taken.young in
+      let young = ap (λ (space : Space). space.sizes.young) taken.beside.space in
+      let path : Path = without (shape_path old.paths cell.header.shape) slot in
+      let behind : ℕ = eden_start old.seat.space + old.young.used in
+      record {
+        same_space = taken.beside.space;
+        same_survivors = survivors;
+        grown = omega (arith, used);
+        room = omega (arith, used, survivors, young, deleting.whole.rows.few);
+        more = missing old.paths path;
+        paths = sym (with_path-is (Some paths_most) old.paths new.paths path taken.leads.added);
+        sized = taken.sized;
+        stood = deleting.has;
+        of_kind = deleting.shows.of_kind;
+        becomes = Becomes.other_shape (record {
+          plain = deleting.shows.of_kind;
+          is = refl;
+          is_shape = taken.leads.shape_is.is_shape;
+          cap = ap (λ (p : Path). p.cap) taken.leads.shape_is.of_path ∙ taken.caps ∙ cap_is deleting;
+          header = taken.headed;
+        });
+        beside = λ other there. written_beside other there;
+        made_stand = subst (λ n. IsRow new.seat.space (heap_words new.seat) behind n [])
+            (ap (λ n. eden_start old.seat.space + n) (sym used)) (IsRow.none behind);
+        stay = λ at below not_own not_beside not_new. others_stay at below not_own not_beside;
+      }

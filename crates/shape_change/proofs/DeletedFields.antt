@@ -27,124 +27,120 @@ use Rattle.shape_change.proofs.DeletedCells.{others_of, deleted_writes}
 use Rattle.shape_change.proofs.DeletedCame.{one_of, slots_now, now_read}
 use Rattle.shape_change.proofs.MovedInFields.{drawn_shown, drawn_is, no_box, drawn_field}
 
--- the path of the new shape is that of the fields without the one
-pub path_now : {old new : Mutator} {cell : Cell} {slot : ℕ} {fields : List Field} (name : ℕ)
-    (deleting : Deleting old new cell slot fields) → AreLess cell.layout.cap fields slot name
-    → shape_path new.paths deleting.taken.next ≡ path_of cell.layout.cap (without_field fields name)
-path_now {slot = slot} name deleting less =
-    deleting.taken.leads.shape_is.of_path ∙ ap (λ (p : Path). without p slot) deleting.shows.path ∙ less.path
-
--- in the object a slot of the new shape is tagged only where its field is not wide
-not_wide : {old new : Mutator} {cell : Cell} {slot : ℕ} {fields : List Field} (name one : ℕ) (field : Field)
-    (deleting : Deleting old new cell slot fields) → AreLess cell.layout.cap fields slot name
-    → slice_get fields (origin_of slot one) ≡ Some field → IsTaggedSlot (one_of deleting) one → one < cell.layout.cap
-    → field.rep ≡ rep.Wide → ⊥
-not_wide {new = new} {cell} {slot} {fields} name one field deleting less there tagged below wide =
-    let path : Path = shape_path new.paths deleting.taken.next in
-    let after : List Field = without_field fields name in
-    let caps : path.cap ≡ cell.layout.cap = becomes_cap (deleted_writes deleting).becomes in
-    let is = tagged_is_field (one_of deleting) path one refl tagged (omega (arith, caps, below)) in
-    let found : slice_get path.fields one ≡ Some (record { name = field.name; rep = field.rep }) =
-    ap (λ (p : Path). slice_get p.fields one) (path_now name deleting less)
-    ∙ path_field cell.layout.cap after one field (less.at one ∙ there) in
-    is.apart (ap (λ (f : PathField). f.rep) (same_Some is.field _ (sym is.there ∙ found)) ∙ wide)
-
--- a tagged slot was tagged before it moved, where it stands in the object exactly if it did
-was_tagged : {old new : Mutator} {cell : Cell} {slot : ℕ} {fields : List Field} (name one : ℕ) (field : Field)
-    (deleting : Deleting old new cell slot fields) → AreLess cell.layout.cap fields slot name
-    → slice_get fields (origin_of slot one) ≡ Some field → IsTaggedSlot (one_of deleting) one
-    → nat_lt one cell.layout.cap ≡ nat_lt (origin_of slot one) cell.layout.cap → IsTaggedSlot cell (origin_of slot one)
-was_tagged {old} {cell = cell} {slot} {fields} name one field deleting less there tagged alike =
-    let shows = deleting.shows in
-    let origin : ℕ = origin_of slot one in
-    let in_path : slice_get (shape_path old.paths cell.header.shape).fields origin
-    ≡ Some (record { name = field.name; rep = field.rep }) =
-    ap (λ (p : Path). slice_get p.fields origin) shows.path ∙ path_field cell.layout.cap fields origin field there in
-    let shape = (plain_sound deleting.whole deleting.has shows.of_kind).shape in
-    field_is_tagged origin (record { name = field.name; rep = field.rep }) deleting.whole.sized deleting.has
-    shows.of_kind shape in_path
-    (λ test wide. not_wide name one field deleting less there tagged (ltb-true one cell.layout.cap (alike ∙ test)) wide)
-
 -- the field that a slot before the last shows
 pub record FieldMoved (fields : List Field) (slot one : ℕ) : Type 0 where
   pub field : Field
   pub there : slice_get fields (origin_of slot one) ≡ Some field
 
--- there is one
-field_moved : {old new : Mutator} {cell : Cell} {slot : ℕ} {fields : List Field} (one : ℕ)
-    (deleting : Deleting old new cell slot fields) → one < deleting.taken.last → FieldMoved fields slot one
-field_moved {slot = slot} {fields} one deleting below =
-    let none : Field = record { name = 0; rep = rep.Small; value = Undefined } in
-    let few : origin_of slot one < length fields = omega (arith, origins_few slot one, count_is deleting, below) in
-    record {
-      field = get_or fields (origin_of slot one) none;
-      there = slice_get-get_or fields (origin_of slot one) none few;
-    }
+module _ {old new : Mutator} {cell : Cell} {slot : ℕ} {fields : List Field}
+    (deleting : Deleting old new cell slot fields) where
+  -- the path of the new shape is that of the fields without the one
+  pub path_now : (name : ℕ) → AreLess cell.layout.cap fields slot name
+      → shape_path new.paths deleting.taken.next ≡ path_of cell.layout.cap (without_field fields name)
+  path_now name less =
+      deleting.taken.leads.shape_is.of_path ∙ ap (λ (p : Path). without p slot) deleting.shows.path ∙ less.path
 
--- what a tagged slot holds comes from the slot from which it moved, or names nothing
-pub slot_comes : {old new : Mutator} {cell : Cell} {slot : ℕ} {fields : List Field} (name one word : ℕ)
-    (deleting : Deleting old new cell slot fields) → AreLess cell.layout.cap fields slot name
-    → HasWord (slots_now deleting).now one word → IsTaggedSlot (one_of deleting) one
-    → ComesFrom (heap_of new) (HasTagged cell deleting.shows.slots) [] (origin_of slot one) 0 one word
-slot_comes {old} {new} {cell} {slot} {fields} name one word deleting less there tagged =
-    elim (now_read one word deleting there) [
-      | NowHolds.moved below stands alike ↦
-          let moved = field_moved one deleting below in
-          ComesFrom.moved (stands, was_tagged name one moved.field deleting less moved.there tagged alike)
-      | NowHolds.drawn_in from below caps is ↦
-          let moved = field_moved one deleting below in
-          let behind : origin_of slot one ≡ cell.layout.cap = origin_of-behind slot one from ∙ caps in
-          let drawn = drawn_field moved.field deleting (omega (arith, caps, below))
-          (ap (slice_get fields) (sym behind) ∙ moved.there) in
-          let same : word ≡ drawn.word =
-          is ∙ drawn_is (heap_of old) drawn.word deleting.taken.first moved.field.rep drawn.drawn
-          (not_wide name one moved.field deleting less moved.there tagged (omega (arith, caps))) in
-          ComesFrom.moved (
-            ap (slice_get deleting.shows.slots) behind ∙ drawn.stands ∙ ap (λ w. Some w) (sym same),
-            λ below_cap. absurd (omega (arith, below_cap, behind)),
-          )
-      | NowHolds.hole from is ↦
-          ComesFrom.none (subst (NamesNone (heap_of new)) (sym is) hole_names_none)
-    ]
+  -- in the object a slot of the new shape is tagged only where its field is not wide
+  not_wide : (name one : ℕ) (field : Field) → AreLess cell.layout.cap fields slot name
+      → slice_get fields (origin_of slot one) ≡ Some field → IsTaggedSlot (one_of deleting) one → one < cell.layout.cap
+      → field.rep ≡ rep.Wide → ⊥
+  not_wide name one field less there tagged below wide =
+      let path : Path = shape_path new.paths deleting.taken.next in
+      let after : List Field = without_field fields name in
+      let caps : path.cap ≡ cell.layout.cap = becomes_cap (deleted_writes deleting).becomes in
+      let is = tagged_is_field (one_of deleting) path one refl tagged (omega (arith, caps, below)) in
+      let found : slice_get path.fields one ≡ Some (record { name = field.name; rep = field.rep }) =
+      ap (λ (p : Path). slice_get p.fields one) (path_now name less)
+      ∙ path_field cell.layout.cap after one field (less.at one ∙ there) in
+      is.apart (ap (λ (f : PathField). f.rep) (same_Some is.field _ (sym is.there ∙ found)) ∙ wide)
 
--- each slot shows the field that moved there
-pub slot_shows : {old new : Mutator} {cell : Cell} {slot : ℕ} {fields : List Field} (name one word : ℕ) (field : Field)
-    (deleting : Deleting old new cell slot fields) → AreLess cell.layout.cap fields slot name
-    → slice_get (without_field fields name) one ≡ Some field → HasWord (slots_now deleting).now one word
-    → ShowsSlot (heap_of new) cell deleting.shows.slots (others_of deleting) fields (origin_of slot one) one word field
-slot_shows {old} {new} {cell} {slot} {fields} name one word field deleting less of_field there =
-    let was : slice_get fields (origin_of slot one) ≡ Some field = sym (less.at one) ∙ of_field in
-    elim (now_read one word deleting there) [
-      | NowHolds.moved below stands alike ↦
-          ShowsSlot.kept field was refl refl stands alike (λ tagged. no_box word deleting)
-      | NowHolds.drawn_in from below caps is ↦
-          let behind : origin_of slot one ≡ cell.layout.cap = origin_of-behind slot one from ∙ caps in
-          let drawn = drawn_field field deleting (omega (arith, caps, below))
-          (ap (slice_get fields) (sym behind) ∙ was) in
-          let writes = deleted_writes deleting in
-          let places = written_places_stay plain_owns deleting.whole writes in
-          let box = written_box_stays plain_owns deleting.whole writes drawn.word (no_box drawn.word deleting) in
-          let shown = drawn_shown drawn.word deleting.taken.first field.rep field.value places box drawn.drawn
-          drawn.shows in
-          let test : nat_lt one cell.layout.cap ≡ true = lt-ltb one cell.layout.cap (omega (arith, caps)) in
-          ShowsSlot.fresh (subst (λ own. ShowsField (heap_of new) own word field.rep field.value) (sym test)
-          (subst (λ w. ShowsField (heap_of new) true w field.rep field.value) (sym is) shown))
-      | NowHolds.hole from is ↦
-          absurd (omega (
-            arith,
-            slice_get_within (without_field fields name) one field of_field,
-            less.count,
-            count_is deleting,
-            from,
-          ))
-    ]
+  -- a tagged slot was tagged before it moved, where it stands in the object exactly if it did
+  was_tagged : (name one : ℕ) (field : Field) → AreLess cell.layout.cap fields slot name
+      → slice_get fields (origin_of slot one) ≡ Some field → IsTaggedSlot (one_of deleting) one
+      → nat_lt one cell.layout.cap ≡ nat_lt (origin_of slot one) cell.layout.cap
+      → IsTaggedSlot cell (origin_of slot one)
+  was_tagged name one field less there tagged alike =
+      let shows = deleting.shows in
+      let origin : ℕ = origin_of slot one in
+      let in_path : slice_get (shape_path old.paths cell.header.shape).fields origin
+      ≡ Some (record { name = field.name; rep = field.rep }) =
+      ap (λ (p : Path). slice_get p.fields origin) shows.path ∙ path_field cell.layout.cap fields origin field there in
+      let shape = (plain_sound deleting.whole deleting.has shows.of_kind).shape in
+      field_is_tagged origin (record { name = field.name; rep = field.rep }) deleting.whole.sized deleting.has
+      shows.of_kind shape in_path
+      (λ test wide. not_wide name one field less there tagged (ltb-true one cell.layout.cap (alike ∙ test)) wide)
 
--- what is behind the fields is a hole
-pub rest_is_hole : {old new : Mutator} {cell : Cell} {slot : ℕ} {fields : List Field} (name one word : ℕ)
-    (deleting : Deleting old new cell slot fields) → AreLess cell.layout.cap fields slot name
-    → length (without_field fields name) ≤ one → HasWord (slots_now deleting).now one word → word ≡ hole_word
-rest_is_hole name one word deleting less from there = elim (now_read one word deleting there) [
-  | NowHolds.moved below stands alike ↦ absurd (omega (arith, below, from, less.count, count_is deleting))
-  | NowHolds.drawn_in behind below caps is ↦ absurd (omega (arith, below, from, less.count, count_is deleting))
-  | NowHolds.hole behind is ↦ is
-]
+  -- there is one
+  field_moved : (one : ℕ) → one < deleting.taken.last → FieldMoved fields slot one
+  field_moved one below =
+      let none : Field = record { name = 0; rep = rep.Small; value = Undefined } in
+      let few : origin_of slot one < length fields = omega (arith, origins_few slot one, count_is deleting, below) in
+      record {
+        field = get_or fields (origin_of slot one) none;
+        there = slice_get-get_or fields (origin_of slot one) none few;
+      }
+
+  -- what a tagged slot holds comes from the slot from which it moved, or names nothing
+  pub slot_comes : (name one word : ℕ) → AreLess cell.layout.cap fields slot name
+      → HasWord (slots_now deleting).now one word → IsTaggedSlot (one_of deleting) one
+      → ComesFrom (heap_of new) (HasTagged cell deleting.shows.slots) [] (origin_of slot one) 0 one word
+  slot_comes name one word less there tagged =
+      elim (now_read deleting one word there) [
+        | NowHolds.moved below stands alike ↦
+            let moved = field_moved one below in
+            ComesFrom.moved (stands, was_tagged name one moved.field less moved.there tagged alike)
+        | NowHolds.drawn_in from below caps is ↦
+            let moved = field_moved one below in
+            let behind : origin_of slot one ≡ cell.layout.cap = origin_of-behind slot one from ∙ caps in
+            let drawn = drawn_field moved.field deleting (omega (arith, caps, below))
+            (ap (slice_get fields) (sym behind) ∙ moved.there) in
+            let same : word ≡ drawn.word =
+            is ∙ drawn_is (heap_of old) drawn.word deleting.taken.first moved.field.rep drawn.drawn
+            (not_wide name one moved.field less moved.there tagged (omega (arith, caps))) in
+            ComesFrom.moved (
+              ap (slice_get deleting.shows.slots) behind ∙ drawn.stands ∙ ap (λ w. Some w) (sym same),
+              λ below_cap. absurd (omega (arith, below_cap, behind)),
+            )
+        | NowHolds.hole from is ↦ ComesFrom.none (subst (NamesNone (heap_of new)) (sym is) hole_names_none)
+      ]
+
+  -- each slot shows the field that moved there
+  pub slot_shows : (name one word : ℕ) (field : Field) → AreLess cell.layout.cap fields slot name
+      → slice_get (without_field fields name) one ≡ Some field → HasWord (slots_now deleting).now one word
+      → ShowsSlot (heap_of new) cell deleting.shows.slots (others_of deleting) fields (origin_of slot one) one word
+      field
+  slot_shows name one word field less of_field there =
+      let was : slice_get fields (origin_of slot one) ≡ Some field = sym (less.at one) ∙ of_field in
+      elim (now_read deleting one word there) [
+        | NowHolds.moved below stands alike ↦
+            ShowsSlot.kept field was refl refl stands alike (λ tagged. no_box word deleting)
+        | NowHolds.drawn_in from below caps is ↦
+            let behind : origin_of slot one ≡ cell.layout.cap = origin_of-behind slot one from ∙ caps in
+            let drawn = drawn_field field deleting (omega (arith, caps, below))
+            (ap (slice_get fields) (sym behind) ∙ was) in
+            let writes = deleted_writes deleting in
+            let places = written_places_stay plain_owns deleting.whole writes in
+            let box = written_box_stays plain_owns deleting.whole writes drawn.word (no_box drawn.word deleting) in
+            let shown = drawn_shown drawn.word deleting.taken.first field.rep field.value places box drawn.drawn
+            drawn.shows in
+            let test : nat_lt one cell.layout.cap ≡ true = lt-ltb one cell.layout.cap (omega (arith, caps)) in
+            ShowsSlot.fresh (subst (λ own. ShowsField (heap_of new) own word field.rep field.value) (sym test)
+            (subst (λ w. ShowsField (heap_of new) true w field.rep field.value) (sym is) shown))
+        | NowHolds.hole from is ↦
+            absurd (omega (
+              arith,
+              slice_get_within (without_field fields name) one field of_field,
+              less.count,
+              count_is deleting,
+              from,
+            ))
+      ]
+
+  -- what is behind the fields is a hole
+  pub rest_is_hole : (name one word : ℕ) → AreLess cell.layout.cap fields slot name
+      → length (without_field fields name) ≤ one → HasWord (slots_now deleting).now one word → word ≡ hole_word
+  rest_is_hole name one word less from there = elim (now_read deleting one word there) [
+    | NowHolds.moved below stands alike ↦ absurd (omega (arith, below, from, less.count, count_is deleting))
+    | NowHolds.drawn_in behind below caps is ↦ absurd (omega (arith, below, from, less.count, count_is deleting))
+    | NowHolds.hole behind is ↦ is
+  ]

@@ -42,8 +42,6 @@ mod OneAdding
 mod OwnAdded
 mod StoreAdded
 mod GrownWords
-mod GrownStores
-mod GrownSlots
 mod GrownAdded
 mod FieldAdded
 mod NewNames

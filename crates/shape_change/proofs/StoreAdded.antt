@@ -11,7 +11,6 @@ use Rattle.object_graph.specs.Values.{rep_of}
 use Rattle.object_graph.specs.Objects.{with_field}
 use Rattle.object_graph.specs.Graphs.{Graph, PlainObject}
 use Rattle.page_space.specs.Extents.{Space, eden_start, segments_start, marks_start}
-use Rattle.page_space.proofs.Starts.{roots_start_is, layouts_start_is, marks_start_is}
 use Rattle.shape_tree.specs.Shapes.{shape_path}
 use Rattle.heap_table.specs.Seats.{heap_words}
 use Rattle.heap_model.specs.Heaps.{HasCell, words_of_cell}
@@ -37,7 +36,7 @@ use Rattle.object_cells.specs.Capacities.{ChangesObject}
 use Rattle.object_cells.proofs.OwnCapacities.{one_keeps}
 use Rattle.object_cells.proofs.OwnSteps.{written_places_stay}
 use Rattle.object_cells.proofs.OwnerWrites.{plain_owns}
-use Rattle.object_cells.proofs.UnusedWords.{next_before_segments, cell_is_used}
+use Rattle.object_cells.proofs.UnusedWords.{next_before_marks, next_before_segments, cell_is_used}
 use Rattle.object_cells.proofs.HeldNeeds.{new_value_held}
 use Rattle.shape_change.proofs.AddedContents.{content_shows}
 use Rattle.object_cells.specs.SlotChanges.{HasTagged}
@@ -47,7 +46,7 @@ use Rattle.shape_change.proofs.AddedWords.{PutsOver, over_last, over_sized, over
 use Rattle.shape_change.proofs.AddedShown.{Adding, added_shows}
 use Rattle.object_cells.proofs.MadeBoxes.{made_boxes, BoxStands, made_row, made_box, boxed_integer, refers_to_made}
 use Rattle.object_cells.proofs.MadeBoxes.{made_boxed}
-use Rattle.object_cells.proofs.MadeBoxes.{made_sound, length-with_content, with_content_stays, with_content_box}
+use Rattle.object_cells.proofs.MadeBoxes.{made_sound, length-with_content, with_content_stays, put_box}
 use Rattle.object_cells.proofs.NewBoxes.{box_cell}
 use Rattle.shape_change.proofs.OneAdded.{one_adds}
 use Rattle.shape_change.proofs.OneAdding.{OneAdding, one_adding}
@@ -156,22 +155,11 @@ module _ {old new : Mutator} {graph : Graph} {plain : PlainObject} {object : ℕ
       let adds = adding.adds in
       let space : new.seat.space ≡ old.seat.space = over_space over in
       let ends = next_before_segments old (content_need (store_content value)) adding.known.can.tied adds.room in
-      let start = ap (λ (s : Space). eden_start s) space in
-      let segments = ap (λ (s : Space). segments_start s) space in
       let count = adds.path.sized.words ∙ ap (λ (s : Space). marks_start s) adds.path.beside.space in
-      let within : segments_start old.seat.space ≤ marks_start old.seat.space =
-      omega (arith, roots_start_is old.seat.space, layouts_start_is old.seat.space, marks_start_is old.seat.space) in
-      let words = λ (v : ℤ) (boxed : store_content value ≡ content.Boxed v).
-      with_content_box (heap_words adds.mid.seat) (store_content value) (next_at old) v boxed
-      (omega (arith, count, ends, within, ap content_need boxed)) in
-      record {
-        header = λ v boxed. run_word (next_at old) (omega arith) (omega (arith, ap content_need boxed))
-            ∙ (words v boxed).header;
-        raw = λ v boxed. run_word (next_at old + 1) (omega arith) (omega (arith, ap content_need boxed))
-            ∙ (words v boxed).raw;
-        from = λ v boxed. omega (arith, start);
-        below = λ v boxed. omega (arith, ends, segments, ap content_need boxed);
-      }
+      let marks = next_before_marks old (content_need (store_content value)) adding.known.can.tied adds.room in
+      put_box (heap_of new) (heap_words adds.mid.seat) (store_content value) (next_at old) (omega (arith, count, marks))
+      (omega (arith, ap (λ (s : Space). eden_start s) space))
+      (omega (arith, ends, ap (λ (s : Space). segments_start s) space)) run_word
 
   -- so the field is added
   one : OneAdding (heap_of old) (heap_of new) adding.known.cell adding.adds.next (store_place old header store)

@@ -1,11 +1,10 @@
 -- A field is taken out of a plain object: its path is added, its slots are closed, and its header is put.
-use Rattle.std.proofs.Common.{◌≡◌, ◌≢◌, ℕ, suc, ◌+◌, ◌-◌, ◌<◌, ◌≤◌, inl, inr, List, length, Some}
+use Rattle.std.proofs.Common.{◌≡◌, ◌≢◌, ℕ, suc, ◌+◌, ◌<◌, ◌≤◌, List, length, Some}
 use Rattle.std.proofs.Common.{slice_get, sym, ◌∙◌, ap, subst, arith, length-append, length-take, length-drop, take}
 use Rattle.std.proofs.Common.{drop}
 use Rattle.std.specs.Prelude.{slice_set}
-use Rattle.std.proofs.lemmas.Bool.{cases_lt}
+use Rattle.std.proofs.lemmas.Bool.Decides.{nat_tests}
 use Rattle.heap_model.specs.Types.{Header, Path}
-use Rattle.tagged_word.specs.Cells.{plain_head, store_head}
 use Rattle.page_space.specs.Extents.{Space, layouts_start, marks_start}
 use Rattle.page_space.proofs.Starts.{layouts_start_is, marks_start_is}
 use Rattle.object_graph.proofs.Lists.{slice_get-set_same, slice_get-set_other}
@@ -18,7 +17,7 @@ use Rattle.write_barrier.specs.MutatorState.{Mutator, heap_of, with_word}
 use Rattle.shape_change.specs.Shifts.{KeepsRest, ClosesSlots, slot_at}
 use Rattle.shape_change.specs.Deletions.{AddsPaths, HasFirstInStore, shaped_bits, TakesFieldOut}
 use Rattle.shape_change.proofs.SlotsClosed.{rest_put, rest_then}
-use Rattle.shape_change.proofs.SlotAddresses.{SlotsStand, slot_at-own, slot_at-beside}
+use Rattle.shape_change.proofs.SlotAddresses.{SlotsStand}
 
 -- a path has one field fewer without one
 pub without_counted : (path : Path) (at : ℕ) → at < length path.fields
@@ -39,25 +38,10 @@ pub record SlotStands (main : Mutator) (object cap store one : ℕ) : Type 0 whe
 -- so does that of each of so many
 pub slot_stands : (main : Mutator) (object cap store count one : ℕ) → SlotsStand (heap_of main) object cap store count
     → one < count → SlotStands main object cap store one
-slot_stands main object cap store count one stand few = elim (cases_lt one cap) [
-  | inl own ↦
-      let at : slot_at object cap store one ≡ object + (plain_head + one) = slot_at-own object cap store one own in
-      record {
-        below = omega (arith, at, stand.own, own, layouts_start_is main.seat.space);
-        behind = λ same. omega (arith, at, same);
-      }
-  | inr beside ↦
-      let at : slot_at object cap store one ≡ store + (store_head + (one - cap)) =
-      slot_at-beside object cap store one beside in
-      let some : cap < count = omega (arith, beside, few) in
-      record {
-        below = omega (arith, at, stand.beside some, beside, few, layouts_start_is main.seat.space);
-        behind = λ same. elim (stand.apart some) [
-          | inl before ↦ omega (arith, at, same, before)
-          | inr behind ↦ omega (arith, at, same, behind, beside, few)
-        ];
-      }
-]
+slot_stands main object cap store count one stand few = record {
+  below = grind (arith, nat_tests, stand.own, stand.beside, layouts_start_is main.seat.space);
+  behind = λ same. grind (arith, nat_tests, stand.apart);
+}
 
 -- the sizes stay where nothing changes from the layout words on
 sized_stays : (old new : Mutator) → HasSizes (heap_of old) → KeepsRest old new

@@ -3,9 +3,7 @@ use Rattle.collector.proofs.Keeping.{still_shows}
 use Rattle.collector.proofs.script_heap.Heap.scavenge.Goals as goal
 
 pub scavenge-requires : goal.scavenge-requires
-scavenge-requires c =
-    let (graph, shown) = c.requires.shown in
-    record { shown = (graph, rw (← c.self.view_is) at shown.main) }
+scavenge-requires c = let (graph, shown) = c.requires.shown in record { shown = (graph, rw (← c.self.view_is) at shown.main) }
 
 pub returns : goal.returns
 returns c =
