@@ -154,7 +154,7 @@ Pauses-line script heap after objects waiting old new at at' ts ts' n number (So
     let graph = r.reached.so_far.graph in
     let (next, written, does-is, needs, lacks, same) = carries.carries in
     let apart = no_room_apart mid graph need command (carries.keeps.shows graph r.shown.main) needs lacks in
-    let found = Running-found r apart (λ short. wants_room r.reached below goes r.shown.main.tied does-is short)
+    let found = Running-found r apart (λ short. wants_room heap.main r.reached below goes r.shown.main.tied does-is short)
     carries.collects carries.keeps in
     let left : IsLeftBare mid = subst IsLeftBare same (left_bare r.shown.main (carries.gave_up need refl)) in
     let comes = EndsRun-full script mid at' n number ts' command need next written found.shown.main.tied left

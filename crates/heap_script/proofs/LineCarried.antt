@@ -62,12 +62,12 @@ reached_on r space shows = record {
 }
 
 -- where the run goes on at a command for which there was no room, the heap wants room
-wants_room : {script : ScriptText} {main : Mutator} {at' n number : ℕ} {ts' : List ℕ} {command : Command} {after : Graph}
+pub wants_room : {script : ScriptText} (main : Mutator) {at' n number : ℕ} {ts' : List ℕ} {command : Command} {after : Graph}
     {written : List ℕ} → (r : RanTo script (heap_of main) n) → n < lines_most
     → Goes script.lines at' ts' (left_after script n) (executed number (Some command)) → IsTied main
     → does ideal_limits script.fields r.so_far.graph command ≡ done after written
     → LacksWords main r.so_far.graph command → WantsRoom script (heap_of main) n r.so_far
-wants_room {script} {main} {at'} {n} {number} {ts'} {command} {after} {written} r below goes tied does-is lacks =
+wants_room {script} main {at'} {n} {number} {ts'} {command} {after} {written} r below goes tied does-is lacks =
     let graph = r.so_far.graph in
     record {
       goes_on = goes-on script graph after written at' n number ts' command below goes does-is;
@@ -135,7 +135,7 @@ Running-apart script heap after objects waiting old new at at' ts ts' n number c
     carries =
     let (graph, does-is, shown, takes) = carries.carries in
     let there = heap_with heap carries.mid in
-    let found = Running-found r apart (λ lacks. wants_room r.reached below goes r.shown.main.tied does-is lacks)
+    let found = Running-found r apart (λ lacks. wants_room heap.main r.reached below goes r.shown.main.tied does-is lacks)
     carries.collects carries.keeps in
     Running-carried script there after objects waiting old new at at' ts ts' n number command text graph found below goes
     spare (takes_space command found.shown.main takes) does-is shown

@@ -212,23 +212,12 @@ first_found : {old mid : Mutator} {graph : Graph} {command : Command} → Finds 
 first_found (Finds.scavenged is scavenges) = Collects.asked is scavenges
 first_found (Finds.unchanged apart same) = Collects.unchanged apart same
 
--- a command that stops at a fault means it
-fault_told : {names : List (List ℕ)} {mid new : Mutator} {graph : Graph} {command : Command} {text : List ℕ}
-    {result : Result (Unit {0}) Stop} (word : FaultWord) → Carries names mid new graph command text result
-    → result ≡ Err (Fault word) → does ideal_limits names graph command ≡ fault word
-fault_told {names} {mid} {new} {graph} {command} {text} word carries is =
-    let there : Carries names mid new graph command text (Err (Fault word)) =
-    subst (λ (one : Result (Unit {0}) Stop). Carries names mid new graph command text one) is carries in
-    there.0
-
--- and changes nothing of what it found
-fault_leaves : {names : List (List ℕ)} {mid new : Mutator} {graph : Graph} {command : Command} {text : List ℕ}
-    {result : Result (Unit {0}) Stop} (word : FaultWord) → Carries names mid new graph command text result
-    → result ≡ Err (Fault word) → new ≡ mid
-fault_leaves {names} {mid} {new} {graph} {command} {text} word carries is =
-    let there : Carries names mid new graph command text (Err (Fault word)) =
-    subst (λ (one : Result (Unit {0}) Stop). Carries names mid new graph command text one) is carries in
-    there.1
+-- what is known of a command that was tried and faulted
+fault_carried : {names : List (List ℕ)} {old new : Mutator} {graph : Graph} {command : Command} {text : List ℕ}
+    {result : Result (Unit {0}) Stop} (word : FaultWord) → (tries : Tries names old new graph command text result)
+    → result ≡ Err (Fault word) → (does ideal_limits names graph command ≡ fault word) × (new ≡ tries.mid)
+fault_carried {names} {old} {new} {graph} {command} {text} word tries is =
+    subst (λ (one : Result (Unit {0}) Stop). Carries names tries.mid new graph command text one) is tries.carries
 
 -- the command `scavenge` does not fault
 scavenge_is_sound : (names : List (List ℕ)) (graph : Graph) (command : Command) (word : FaultWord) → command ≡ Scavenge
@@ -244,8 +233,8 @@ faulted_first : {names : List (List ℕ)} {old new : Mutator} {graph : Graph} {c
 faulted_first {names} {old} {new} {graph} {command} word tries is =
     elim tries.finds [
       | Finds.scavenged asked scavenges ↦
-          absurd (scavenge_is_sound names graph command word asked (fault_told word tries.carries is))
-      | Finds.unchanged apart same ↦ fault_leaves word tries.carries is ∙ same
+          absurd (scavenge_is_sound names graph command word asked (fault_carried word tries is).0)
+      | Finds.unchanged apart same ↦ (fault_carried word tries is).1 ∙ same
     ]
 
 -- a command that did not stop for want of room, at whichever try
@@ -278,7 +267,7 @@ carried_at {names} {old} {now} {new} {objects} {command} {graph} {text} {result}
         keeps = made.scavenged.keeps;
         carries = subst (λ (main : Mutator). Carries names main new graph command text result) same tries.carries;
         asked = λ is. absurd (made.apart is);
-        faulted = λ word is. absurd (made.sound graph word shown counted (fault_told word tries.carries is));
+        faulted = λ word is. absurd (made.sound graph word shown counted (fault_carried word tries is).0);
         gave_up = λ need is. absurd (other need is);
       }
     ]
