@@ -1,13 +1,12 @@
 -- How a run that goes no further has ended.
-use Rattle.std.proofs.Common.{◌≡◌, ℕ, ◌<◌, ◌≤◌, false, List, [], ◌∷◌, Option}
-use Rattle.std.proofs.Common.{Some, None, Err, cond, refl, sym, ap, subst, ◌∙◌, arith}
-use Rattle.std.specs.Prelude.{slice_get, ◌==◌, nat_lt}
-use Rattle.std.proofs.lemmas.Bool.Decides.{nat_tests}
+use Rattle.std.proofs.Common.{◌≡◌, ℕ, ◌<◌, List, [], ◌∷◌, Option}
+use Rattle.std.proofs.Common.{Some, None, Err, refl, sym, ap, subst, ◌∙◌}
+use Rattle.std.specs.Prelude.{slice_get}
 use Rattle.heap_model.specs.Types.{Command, FaultWord}
 use Rattle.heap_command.specs.Executed.{Executed}
 use Rattle.object_graph.specs.Graphs.{Graph}
 use Rattle.object_graph.specs.Meaning.{does, done, fault}
-use Rattle.object_graph.specs.Run.{lines_most, Ending, end, fault_at, limit_at, fault_in, fault_of, ending_here, ending}
+use Rattle.object_graph.specs.Run.{lines_most, Ending, end, fault_at, limit_at, fault_in, ending}
 use Rattle.script_text.specs.Scripts.{ScriptText}
 use Rattle.script_text.specs.Unrolled.{executed}
 use Rattle.script_text.specs.Left.{IsLeft, Goes}
@@ -26,8 +25,8 @@ use Rattle.collector.specs.States.{HeapState, HeapShows}
 use Rattle.collector.proofs.Keeping.{still_shows}
 use Rattle.mutator.specs.CarriesOut.{Carries}
 use Rattle.heap_script.specs.declared.finished.How.TheVariants as how
-use Rattle.heap_script.specs.Runs.{left_after, RanTo, Spends, EndsAs, EndsRun, IsFull, IsFullAt}
-use Rattle.heap_script.specs.Progress.{how_of, CarriesLine, Handed, Pauses}
+use Rattle.heap_script.specs.Runs.{left_after, RanTo, EndsAs, EndsRun, IsFull, IsFullAt}
+use Rattle.heap_script.specs.Progress.{how_of, CarriesLine, Pauses}
 use Rattle.heap_script.proofs.Lacking.{full_for}
 use Rattle.heap_script.proofs.Running.{Running}
 use Rattle.heap_script.proofs.Carrying.{no_room_apart}
