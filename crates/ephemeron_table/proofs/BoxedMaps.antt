@@ -1,17 +1,17 @@
 -- The integer of an entry's value is put into the box to which the pair refers: so the entry has the value.
-use Rattle.std.proofs.Common.{◌≡◌, ◌≢◌, ℕ, ◌+◌, inl, inr, List, [], ◌∷◌, length, Some, false, slice_get, refl, sym, ◌∙◌, ap}
-use Rattle.std.proofs.Common.{subst}
 use Rattle.std.specs.Prelude.{ℤ}
+use Rattle.std.proofs.Common.{◌≡◌, ◌≢◌, ℕ, ◌+◌, inl, inr, List, [], ◌∷◌, length, Some, false, slice_get, refl, sym, ◌∙◌}
+use Rattle.std.proofs.Common.{ap, subst}
 use Rattle.std.proofs.lemmas.Bool.{cases_eq}
 use Rattle.std.proofs.lemmas.Option.{same_Some}
 use Rattle.tagged_word.specs.declared.layout.Kind.TheVariants as kind
 use Rattle.tagged_word.proofs.Members.{one_in}
-use Rattle.heap_model.specs.Types.{Value, Cell, Held}
 use Rattle.object_graph.specs.declared.value.Rep.TheVariants as rep
 use Rattle.object_graph.specs.Values.{rep_of}
 use Rattle.object_graph.specs.Graphs.{Graph, WeakObject}
 use Rattle.object_graph.specs.Invariants.{IsValue}
 use Rattle.heap_table.specs.Seats.{heap_words}
+use Rattle.heap_model.specs.Types.{Value, Cell, Held}
 use Rattle.heap_model.specs.Heaps.{words_of_cell}
 use Rattle.heap_model.specs.Slots.{is_object_kind, reference_word, raw_word, RefersTo}
 use Rattle.heap_model.specs.Kinds.{HasWord, Pair, IsFilledPair, HasTable, count_offset}

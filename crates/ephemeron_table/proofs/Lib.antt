@@ -23,7 +23,6 @@ pub mod PairComes
 pub mod PutMaps
 pub mod EntryPairs
 pub mod ReplacedValues
-pub mod PutEntries
 pub mod NewKeys
 pub mod FreeKeys
 pub mod NewEntries
@@ -36,7 +35,7 @@ pub mod BoxedMaps
 pub mod PutKeys
 pub mod NoPair
 pub mod GrowableMaps
-pub mod GrownEntries
+pub mod EntryCounts
 pub mod NewTableEntries
 pub mod PairsByKey
 pub mod PutRefusals

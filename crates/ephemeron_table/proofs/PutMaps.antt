@@ -1,52 +1,52 @@
 -- A weak map to whose table a pair came is refilled.
-use Rattle.std.proofs.Common.{◌≡◌, ℕ, ◌+◌, ◌<◌, inl, inr, List, [], ◌∷◌, length, Some, false}
-use Rattle.std.proofs.Common.{slice_get, refl, sym, ◌∙◌, ap, subst, arith}
 use Rattle.std.specs.Prelude.{slice_set}
+use Rattle.std.proofs.Common.{◌≡◌, ◌≢◌, ℕ, ◌+◌, ◌<◌, inl, inr, List, [], ◌∷◌, length, Some, false, slice_get, refl, sym}
+use Rattle.std.proofs.Common.{◌∙◌, ap, subst, arith}
 use Rattle.std.proofs.lemmas.Bool.{cases_eq}
+use Rattle.std.proofs.lemmas.Option.{same_Some, none-some}
 use Rattle.tagged_word.specs.declared.layout.Kind.TheVariants as kind
 use Rattle.tagged_word.specs.Cells.{store_slot}
 use Rattle.tagged_word.proofs.Members.{first_in}
 use Rattle.page_space.proofs.Starts.{marks_start_is}
-use Rattle.heap_model.specs.Types.{Value, Cell, Held}
+use Rattle.linear_probing.specs.Tables.{FindsAll}
 use Rattle.object_graph.specs.declared.value.Rep.TheVariants as rep
 use Rattle.object_graph.specs.Values.{rep_of}
 use Rattle.object_graph.specs.Invariants.{IsValue}
 use Rattle.object_graph.proofs.Lists.{slice_get-set_same}
-use Rattle.linear_probing.specs.Tables.{FindsAll}
 use Rattle.heap_table.specs.Seats.{heap_words}
+use Rattle.heap_model.specs.Types.{Value, Cell, Held}
 use Rattle.heap_model.specs.Heaps.{words_of_cell}
 use Rattle.heap_model.specs.Slots.{RefersToPlace, IsPlace}
 use Rattle.heap_model.specs.Kinds.{HasWord, Pair, IsFilledPair, count_offset}
+use Rattle.heap_model.specs.Showing.{ShowsEntry}
 use Rattle.write_barrier.specs.MutatorState.{Mutator, heap_of}
 use Rattle.object_cells.specs.Contents.{next_at}
 use Rattle.object_cells.specs.Made.{store_content, with_content, content_word}
+use Rattle.object_cells.specs.OwnSlots.{ComesFrom}
 use Rattle.object_cells.proofs.HeldContents.{HoldsValue}
-use Rattle.object_cells.proofs.MadeBoxes.{length-with_content}
-use Rattle.object_cells.proofs.OwnerWrites.{weak_owns}
+use Rattle.object_cells.proofs.MadeBoxes.{made_boxes, length-with_content}
 use Rattle.object_cells.proofs.TakenValues as taken
 use Rattle.object_cells.proofs.TakenValues.{TakesValue}
-use Rattle.object_cells.proofs.OwnContents as beside
-use Rattle.object_cells.proofs.OwnContents.{PutsBeside, takes_beside}
 use Rattle.object_cells.proofs.OwnCells.{cell_below_layouts}
 use Rattle.object_cells.proofs.SlotsNow.{word_at_offset}
 use Rattle.object_cells.proofs.FieldWords.{value_word}
+use Rattle.object_cells.proofs.OwnContents as own
 use Rattle.weak_pairs.specs.Pairs.{IsFilledAt}
-use Rattle.ephemeron_table.proofs.PairComes.{PairComes, value_comes, pair_shows}
-use Rattle.ephemeron_table.specs.PairWrites.{RefillsPairs, HasValue}
-use Rattle.ephemeron_table.specs.PairLaws.{RefillsWeak}
-use Rattle.ephemeron_table.specs.Puttings.{PutsInTable}
 use Rattle.weak_pairs.specs.Tables.{numbers, pairs_of, with_pair}
 use Rattle.weak_pairs.specs.declared.table.Table.{Table}
 use Rattle.weak_pairs.proofs.CountedPairs.{count_filled}
-use Rattle.ephemeron_table.proofs.KnownTables.{table_is_no_box, are_before, KnownMap, cell, cell_has, sound}
-use Rattle.ephemeron_table.proofs.KnownTables.{slot_there, of_map, other, known_store}
 use Rattle.weak_pairs.proofs.PairsPut.{at_place, length-with_pair}
-use Rattle.ephemeron_table.proofs.PutPairs.{pair, made, pairs_are_now, some, need, final, map_stays, head_stays}
-use Rattle.ephemeron_table.proofs.PutPairs.{puts_weak, box_word}
-use Rattle.object_cells.specs.OwnSlots.{ComesFrom}
-use Rattle.weak_pairs.proofs.FilledPairs.{filled_elsewhere}
+use Rattle.weak_pairs.proofs.FilledPairs.{filled_elsewhere, still_filled}
+use Rattle.ephemeron_table.specs.PairWrites.{RefillsPairs, HasValue}
+use Rattle.ephemeron_table.specs.PairLaws.{RefillsWeak, PutsOne}
+use Rattle.ephemeron_table.specs.Puttings.{PutsInTable}
+use Rattle.ephemeron_table.proofs.PairComes.{PairComes, value_comes, pair_shows}
+use Rattle.ephemeron_table.proofs.KnownTables.{table_is_no_box, are_before, KnownMap, cell, cell_has, sound, slot_there}
+use Rattle.ephemeron_table.proofs.KnownTables.{of_map, other, pairs_long}
+use Rattle.ephemeron_table.proofs.PutPairs.{pair, pairs_are_now, some, putting}
 use Rattle.ephemeron_table.proofs.StayingTables as staying
 use Rattle.ephemeron_table.proofs.StayingTables.{WritesMap, StaysTable}
+use Rattle.ephemeron_table.proofs.KeysFound.{key_filled}
 
 -- A pair came to a place of a map's table: the key's object, and the value.
 pub record ComesToPlace (old new : Mutator) (map place key count number : ℕ) (table : Table) (value : Held)
@@ -84,7 +84,7 @@ module _ {old new : Mutator} {map place key count number : ℕ} {table : Table} 
   table_cell = other known (some known below puts)
 
   abbrev pub boxes_made : List Cell
-  boxes_made = made known below puts
+  boxes_made = made_boxes (store_content value) (next_at old)
 
   abbrev pub before : List Pair
   before = pairs_of (heap_words old.seat) table
@@ -92,29 +92,15 @@ module _ {old new : Mutator} {map place key count number : ℕ} {table : Table} 
   abbrev pub after : List Pair
   after = pairs_of (heap_words new.seat) table
 
-  -- words of the map's cell and of its table were put
-  putting : PutsBeside kind.Weak kind.Table old new map_cell table_cell (need known below puts) (final known below puts)
-      (sound known).store
-  putting = record {
-    owns = weak_owns;
-    puts = puts_weak known below puts;
-    is = known_store known (some known below puts);
-    slot = slot_there known;
-    own_stays = λ k less.
-        subst (λ n. slice_get (heap_words new.seat) (n + k) ≡ slice_get (heap_words old.seat) (n + k))
-        (sym known.there.stands) (map_stays known below puts k less);
-    head_stays = head_stays known below puts;
-  }
+  -- the word of the map for its table stays
+  pub slot_stays : slice_get (heap_words new.seat) (map_cell.at + store_slot)
+      ≡ slice_get (heap_words old.seat) (map_cell.at + store_slot)
+  slot_stays = own.slot_stays (putting known below puts)
 
   -- so the map takes the value, where the table is the one that it had
   pub takes : TakesValue kind.Weak kind.Table (heap_of old) (heap_of new) map_cell map_cell (table_cell ∷ []) []
       (store_content value) (next_at old) what (sound known).store
-  takes = takes_beside comes.objects putting (box_word known below puts) comes.fits comes.holds
-
-  -- the word of the map for the table stays
-  pub slot_stays : slice_get (heap_words new.seat) (map_cell.at + store_slot)
-      ≡ slice_get (heap_words old.seat) (map_cell.at + store_slot)
-  slot_stays = beside.slot_stays putting
+  takes = own.takes (putting known below puts) comes.objects comes.fits comes.holds
 
   -- and the table stays where it is
   abbrev stays : StaysTable old new map table known (some known below puts) (table_cell ∷ []) boxes_made
@@ -213,6 +199,63 @@ module _ {old new : Mutator} {map place key count number : ℕ} {table : Table} 
   refills_weak = record {
     whole = known.whole;
     writes = takes.writes;
-    paths = (puts_weak known below puts).puts.paths;
+    paths = puts.words.paths;
     pairs = refills;
+  }
+
+module _ {old new : Mutator} {map place key count number : ℕ} {table : Table} {value : Held} {what : Value}
+    (comes : ComesToPlace old new map place key count number table value what)
+    (once : (at : ℕ) (one : Pair) → IsFilledAt (before comes) at one → RefersToPlace (heap_of old) one.key number
+    → at ≡ place)
+    (its : (one : Pair) → IsFilledAt (before comes) place one → RefersToPlace (heap_of old) one.key number) where
+  -- what is filled after is so with the pair put
+  now_filled : (at : ℕ) (one : Pair) → IsFilledAt (after comes) at one
+      → IsFilledAt (slice_set (before comes) place (put comes)) at one
+  now_filled at one is = subst (λ pairs. IsFilledAt pairs at one) (pairs_are_now comes.known comes.below comes.puts) is
+
+  after_filled : (at : ℕ) (one : Pair) → IsFilledAt (slice_set (before comes) place (put comes)) at one
+      → IsFilledAt (after comes) at one
+  after_filled at one is =
+      subst (λ pairs. IsFilledAt pairs at one) (sym (pairs_are_now comes.known comes.below comes.puts)) is
+
+  -- the pair stands at the place
+  pair_stands : IsFilledAt (after comes) place (put comes)
+  pair_stands =
+      after_filled place (put comes) (record {
+        stands = slice_get-set_same (before comes) place (put comes)
+            (omega (arith, comes.below, pairs_long comes.known));
+        filled = key_filled (put comes) key refl;
+      })
+
+  -- and shows the entry
+  entry_shows : (one : Value) → ◌≡◌ {A = Value} what one
+      → ShowsEntry (heap_of new) (put comes) (record { key = number; value = one })
+  entry_shows one same =
+      subst (λ v. ShowsEntry (heap_of new) (put comes) (record { key = number; value = v })) same (record {
+        key = record {
+          at = key;
+          refers = refl;
+          place = taken.places (takes comes) number key comes.key_place;
+        };
+        value = taken.value_shows (takes comes);
+      })
+
+  -- so all other pairs are kept, and this is the one of its key
+  pub puts_one : PutsOne (heap_of old) (heap_of new)
+      (refills_weak comes).pairs number (Some what)
+  puts_one = record {
+    kept = λ at one is other.
+        let apart : at ≢ place = λ same. other (its one (subst (λ n. IsFilledAt (before comes) n one) same is)) in
+        (at, after_filled at one (still_filled (before comes) place at (put comes) one apart is), refl, apart);
+    own = λ at one is refers. elim (cases_eq at place) [
+      | inl same ↦ (same, refl)
+      | inr apart ↦
+          let was = filled_elsewhere (before comes) place at (put comes) one apart (now_filled at one is) in (
+            once at one was
+                (refers_back comes one.key number refers),
+            refl,
+          )
+    ];
+    shown = λ one is. (put comes, pair_stands, entry_shows one (same_Some what one is));
+    none_put = λ none. absurd (none-some what (sym none));
   }

@@ -1,8 +1,7 @@
 -- The integer of a wide element is put into the box to which its slot refers.
-use Rattle.std.proofs.Common.{◌≡◌, ℕ, ◌+◌, ◌≤◌, inl, [], ◌∷◌, length, Some, false}
-use Rattle.std.proofs.Common.{sym, ◌∙◌, ap, subst, arith}
-use Rattle.std.proofs.lemmas.Option.{same_Some}
 use Rattle.std.specs.Prelude.{ℤ}
+use Rattle.std.proofs.Common.{◌≡◌, ℕ, ◌+◌, ◌≤◌, inl, [], ◌∷◌, length, Some, false, sym, ◌∙◌, ap, subst, arith}
+use Rattle.std.proofs.lemmas.Option.{same_Some}
 use Rattle.tagged_word.specs.declared.layout.Kind.TheVariants as kind
 use Rattle.object_graph.specs.Graphs.{Graph, ListObject}
 use Rattle.object_graph.specs.Meaning.{relist}
@@ -79,7 +78,8 @@ module _ {old new : Mutator} {graph : Graph} {at slot count : ℕ} {list : ListO
   refills = integer.refills put_it (HasWord known.shown.shows.slots) slot known.shown.shows.store known.shown.shows.slot
 
   -- and an element is put
-  puts_element : PutsElement (heap_of old) (heap_of new) cell (box_of.cell ∷ []) [] list.elements becomes.after slot what
+  puts_element : PutsElement (heap_of old) (heap_of new) cell (box_of.cell ∷ []) [] list.elements becomes.after slot
+      what
   puts_element =
       let shown = known.shown.shows in
       record {

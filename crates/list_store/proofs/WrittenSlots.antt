@@ -1,37 +1,35 @@
 -- A value that comes to a slot that the store of a list has is shown as the element of this number.
-use Rattle.std.proofs.Common.{◌≡◌, ◌≢◌, ℕ, ◌+◌, ◌≤◌, ◌<◌, ◌⊎◌, inl, inr, List, [], ◌∷◌, length, slice_get, sym}
-use Rattle.std.proofs.Common.{◌∙◌, ap, subst, arith, length-set, drop, Some, false, length-drop}
 use Rattle.std.specs.Prelude.{slice_set}
+use Rattle.std.proofs.Common.{◌≡◌, ◌≢◌, ℕ, ◌+◌, ◌≤◌, ◌<◌, inl, List, [], ◌∷◌, length, slice_get, sym, ◌∙◌, ap, subst}
+use Rattle.std.proofs.Common.{arith, length-set, drop, Some, false, length-drop}
+use Rattle.std.proofs.lemmas.Option.{same_Some}
 use Rattle.tagged_word.specs.declared.layout.Kind.TheVariants as kind
 use Rattle.tagged_word.specs.Cells.{store_head, store_slot}
 use Rattle.tagged_word.proofs.Members.{first_in, one_in}
+use Rattle.page_space.proofs.Starts.{marks_start_is}
 use Rattle.object_graph.specs.Graphs.{Graph, ListObject}
-use Rattle.heap_model.specs.Types.{Value, Cell, Held}
+use Rattle.object_graph.specs.Meaning.{relist}
 use Rattle.object_graph.proofs.Lists.{slice_get-set_other, slice_get-set_same}
 use Rattle.heap_table.specs.Seats.{heap_words}
+use Rattle.heap_model.specs.Types.{Value, Cell, Held}
 use Rattle.heap_model.specs.Heaps.{HasCell, words_of_cell}
 use Rattle.heap_model.specs.Kinds.{count_offset, HasWord, IsSoundOf}
-use Rattle.heap_model.proofs.CellsApart.{IsOfCell, cells_apart}
+use Rattle.heap_model.specs.Needs.{capacity_at}
+use Rattle.heap_model.specs.Showing.{ShowsValue}
+use Rattle.heap_model.specs.Slots.{HoldsStore}
+use Rattle.heap_model.proofs.CellsApart.{IsOfCell}
+use Rattle.heap_model.proofs.CellWords.{words_by_kind}
 use Rattle.write_barrier.specs.MutatorState.{Mutator, heap_of, MainShows}
 use Rattle.object_cells.specs.Contents.{next_at}
 use Rattle.object_cells.specs.Made.{IsStoreAt, with_content, content_need, content_word, store_content}
 use Rattle.object_cells.specs.declared.stores.Store.{Store}
-use Rattle.object_cells.proofs.MadeBoxes.{made_boxes, length-with_content, with_content_stays}
-use Rattle.object_cells.proofs.OwnPlaces.{has_own_words}
-use Rattle.object_cells.proofs.OwnPuts.{PutsOwn, not_reserved}
-use Rattle.object_cells.proofs.StoresRead.{StoredAt}
-use Rattle.list_store.specs.Pushes.{WritesSlot, with_count}
-use Rattle.object_cells.proofs.ListChanging.{Changing, changing_store, list_is_no_store, list_word, Elements}
-use Rattle.object_cells.proofs.ListChanging.{slot_stands, slot_few, store_is_no_box}
-use Rattle.std.proofs.lemmas.Option.{same_Some}
-use Rattle.page_space.proofs.Starts.{marks_start_is}
-use Rattle.object_graph.specs.Meaning.{relist}
-use Rattle.heap_model.specs.Needs.{capacity_at}
-use Rattle.heap_model.specs.Showing.{ShowsValue}
-use Rattle.heap_model.specs.Slots.{HoldsStore}
-use Rattle.heap_model.proofs.CellWords.{words_by_kind}
 use Rattle.object_cells.specs.Capacities.{ChangesObject}
 use Rattle.object_cells.specs.OwnSlots.{ComesFrom}
+use Rattle.object_cells.proofs.MadeBoxes.{made_boxes, length-with_content, with_content_stays}
+use Rattle.object_cells.proofs.OwnPlaces.{has_own_words}
+use Rattle.object_cells.proofs.StoresRead.{StoredAt}
+use Rattle.object_cells.proofs.ListChanging.{Changing, changing_store, list_word, Elements, slot_stands, slot_few}
+use Rattle.object_cells.proofs.ListChanging.{store_is_no_box}
 use Rattle.object_cells.proofs.HeldNeeds.{new_value_held}
 use Rattle.object_cells.proofs.OneElement.{PutsElement, element_refills}
 use Rattle.object_cells.proofs.OwnCells.{cell_below_layouts, list_size}
@@ -39,11 +37,13 @@ use Rattle.object_cells.proofs.RefilledLists.{written_elements_show}
 use Rattle.object_cells.proofs.SlotsNow.{word_at_offset}
 use Rattle.object_cells.proofs.OwnerWrites.{list_owns}
 use Rattle.object_cells.proofs.RestOfWords.{keeps_regions}
-use Rattle.object_cells.proofs.OwnContents.{PutsBeside, slot_stays, takes_beside}
 use Rattle.object_cells.proofs.TakenValues as taken
 use Rattle.object_cells.proofs.TakenValues.{TakesValue}
 use Rattle.object_cells.proofs.OwnCapacities.{object_keeps}
 use Rattle.object_cells.proofs.CellsRead.{word_stands}
+use Rattle.object_cells.proofs.OwnContents as beside
+use Rattle.object_cells.proofs.OwnContents.{PutsBeside, not_made, apart}
+use Rattle.list_store.specs.Pushes.{WritesSlot, with_count}
 
 module _ {old new : Mutator} {graph : Graph} {at slot count : ℕ} {list : ListObject} {value : Held} {what : Value}
     {store : Store} (known : Changing old graph at list value what) (becomes : Elements graph list what slot count)
@@ -80,12 +80,6 @@ module _ {old new : Mutator} {graph : Graph} {at slot count : ℕ} {list : ListO
   abbrev put : List ℕ
   put = slice_set boxed place word
 
-  -- a word of the list is none of the store
-  apart : (a : ℕ) → IsOfCell cell a → IsOfCell other a → ⊥
-  apart a of_cell of_other =
-      let same = cells_apart a known.shows.shows.whole.rows known.shown.has other_has of_cell of_other in
-      list_is_no_store known.shown.shows.of_kind (ap (λ (c : Cell). c.layout.kind) same ∙ there.found.of_kind)
-
   -- the slot is one of the store
   of_store : IsOfCell other place
   of_store = record {
@@ -93,72 +87,27 @@ module _ {old new : Mutator} {graph : Graph} {at slot count : ℕ} {list : ListO
     below = omega (arith, there.found.stands, there.found.size, there.capacity, below);
   }
 
-  -- nor is its length
-  not_count : (a : ℕ) → IsOfCell other a → a ≢ at + count_offset
-  not_count a of_other same =
-      apart a (subst (IsOfCell cell) (sym same) (list_word 2 known.shown (omega arith))) of_other
-
-  -- a word that is neither of the two nor one of a box is as before
-  word_stays : (a : ℕ) → a ≢ at + count_offset → a ≢ place → (next_at old ≤ a → a < next_at old + need → ⊥)
-      → slice_get (with_count put at count) a ≡ slice_get (heap_words old.seat) a
-  word_stays a not_count not_place not_new =
-      slice_get-set_other put (at + count_offset) a count not_count
-      ∙ slice_get-set_other boxed place a word not_place
-      ∙ with_content_stays (heap_words old.seat) (store_content value) (next_at old) a not_new
-
-  -- there are as many words
-  long : length (with_count put at count) ≡ length (heap_words old.seat)
-  long =
-      length-set put (at + count_offset) count ∙ length-set boxed place word
-      ∙ length-with_content (heap_words old.seat) (store_content value) (next_at old)
-
-  -- so words of the list's own cells were put
-  puts : PutsOwn kind.List old new cell (other ∷ []) need (with_count put at count)
-  puts = record {
-    tied = known.shows.tied;
-    whole = known.shows.shows.whole;
-    has = known.shown.has;
-    of_kind = known.shown.shows.of_kind;
-    stood = λ one among. subst (λ (c : Cell). HasCell (heap_of old) c (words_of_cell (heap_of old) c))
-        (one_in other one among) other_has;
-    room = pushes.room;
-    puts = pushes.words;
-    long = long;
-    stay = λ a not_cell not_others not_new. word_stays a
-        (λ same. let of_cell = list_word 2 known.shown (omega arith) in
-        not_cell (record { from = omega (arith, same, of_cell.from); below = omega (arith, same, of_cell.below) }))
-        (λ same. not_others other (first_in other [])
-        (record { from = omega (arith, same, of_store.from); below = omega (arith, same, of_store.below) }))
-        not_new;
-  }
-
-  -- a word of one of the two cells but these stays
-  kept : (a : ℕ) → IsOfCell cell a ⊎ IsOfCell other a → a ≢ at + count_offset → a ≢ place
-      → slice_get (heap_words new.seat) a ≡ slice_get (heap_words old.seat) a
-  kept a of_one not_count not_place =
-      ap (λ all. slice_get all a) pushes.words.heap ∙ word_stays a not_count not_place (elim of_one [
-        | inl of_cell ↦ not_reserved a puts known.shown.has of_cell
-        | inr of_other ↦ not_reserved a puts other_has of_other
-      ])
-
-  -- a word of a box that is made
-  box_word : (b : ℕ) → next_at old ≤ b → b < next_at old + need
-      → slice_get (with_count put at count) b ≡ slice_get boxed b
-  box_word b from below =
-      slice_get-set_other put (at + count_offset) b count (λ same.
-      let of_cell = list_word 2 known.shown (omega arith) in
-      not_reserved b puts known.shown.has
-      (record { from = omega (arith, same, of_cell.from); below = omega (arith, same, of_cell.below) }) from below)
-      ∙ slice_get-set_other boxed place b word (λ same. not_reserved b puts other_has
-      (record { from = omega (arith, same, of_store.from); below = omega (arith, same, of_store.below) }) from below)
+  -- a word that is neither of the two is as it was once the box was made
+  word_stays : (a : ℕ) → a ≢ at + count_offset → a ≢ place
+      → slice_get (with_count put at count) a ≡ slice_get boxed a
+  word_stays a not_count not_place =
+      slice_get-set_other put (at + count_offset) a count not_count ∙ slice_get-set_other boxed place a word not_place
 
   -- so words of the list's cell and of its store were put
-  putting : PutsBeside kind.List kind.Store old new cell other need (with_count put at count) known.shown.shows.store
+  putting : PutsBeside kind.List kind.Store old new cell other known.shown.shows.store (store_content value)
+      (with_count put at count)
   putting =
       let store_is = there.found in
+      let size = list_size known.shown.has known.shown.shows.of_kind in
       record {
         owns = list_owns;
-        puts = puts;
+        tied = known.shows.tied;
+        whole = known.shows.shows.whole;
+        has = known.shown.has;
+        of_kind = known.shown.shows.of_kind;
+        counts = size;
+        other_has = other_has;
+        other_long = omega (arith, store_is.size);
         is = record {
           of_kind = store_is.of_kind;
           no_number = (subst (λ k. IsSoundOf k (heap_of old) other store_is.words) store_is.of_kind
@@ -166,23 +115,24 @@ module _ {old new : Mutator} {graph : Graph} {at slot count : ℕ} {list : ListO
           refers = store_is.refers.refers;
         };
         slot = known.shown.shows.slot;
-        own_stays = λ k less.
-            let of_cell = subst (λ n. IsOfCell cell (n + k)) (sym known.shown.stands)
-            (list_word k known.shown (omega (arith, less))) in
-            kept (cell.at + k) (inl of_cell) (λ same. omega (arith, same, less, known.shown.stands))
-            (λ same. apart (cell.at + k) of_cell (subst (IsOfCell other) (sym same) of_store));
-        head_stays = λ k less.
-            let of_other : IsOfCell other (other.at + k) =
-            record { from = omega arith; below = omega (arith, less, store_is.size) } in
-            kept (other.at + k) (inr of_other) (not_count (other.at + k) of_other)
-            (λ same. omega (arith, same, less, store_is.stands));
+        room = pushes.room;
+        puts = pushes.words;
+        long = length-set put (at + count_offset) count ∙ length-set boxed place word
+            ∙ length-with_content (heap_words old.seat) (store_content value) (next_at old);
+        beside = λ a not_count not_slot. word_stays a (λ same. not_count (omega (arith, same, known.shown.stands)))
+            (λ same. not_slot (omega (arith, same, store_is.stands)) (omega (arith, same, of_store.below)));
       }
+
+  -- the length is no word of the store
+  not_count : (a : ℕ) → IsOfCell other a → a ≢ at + count_offset
+  not_count a of_other same =
+      apart putting (at + count_offset) a (list_word 2 known.shown (omega arith)) of_other (sym same)
 
   -- and the list takes the value
   takes : TakesValue kind.List kind.Store (heap_of old) (heap_of new) cell cell (other ∷ []) [] (store_content value)
       (next_at old) what known.shown.shows.store
   takes =
-      takes_beside (length graph.objects) putting box_word known.fits (new_value_held false value what known.held.shows)
+      beside.takes putting (length graph.objects) known.fits (new_value_held false value what known.held.shows)
 
   -- its store stands in the new heap
   store_has : HasCell (heap_of new) other (words_of_cell (heap_of new) other)
@@ -200,7 +150,10 @@ module _ {old new : Mutator} {graph : Graph} {at slot count : ℕ} {list : ListO
       let of_other : IsOfCell other a =
       record { from = omega arith; below = omega (arith, inside, there.found.size) } in
       ap (λ all. slice_get all k) there.found.are ∙ slot_stands k there.found.refers.has there.found.of_kind inside
-      ∙ sym (kept a (inr of_other) (not_count a of_other) (λ same. not_one (omega (arith, same, there.found.stands))))
+      ∙ sym (ap (λ all. slice_get all a) pushes.words.heap
+      ∙ word_stays a (not_count a of_other) (λ same. not_one (omega (arith, same, there.found.stands)))
+      ∙ with_content_stays (heap_words old.seat) (store_content value) (next_at old) a
+      (not_made putting a other_has of_other))
       ∙ sym (slot_stands k store_has there.found.of_kind inside) ∙ holds
 
   -- that holds the word
@@ -241,8 +194,8 @@ module _ {old new : Mutator} {graph : Graph} {at slot count : ℕ} {list : ListO
       ∙ slice_get-set_same put (at + count_offset) count within ∙ ap (λ n. Some n) (sym becomes.long)
 
   -- so an element is pushed
-  puts_element : PutsElement (heap_of old) (heap_of new) cell (other ∷ []) (made_boxes (store_content value) (next_at old))
-      list.elements becomes.after slot what
+  puts_element : PutsElement (heap_of old) (heap_of new) cell (other ∷ [])
+      (made_boxes (store_content value) (next_at old)) list.elements becomes.after slot what
   puts_element =
       let shown = known.shown.shows in
       record {
@@ -254,7 +207,7 @@ module _ {old new : Mutator} {graph : Graph} {at slot count : ℕ} {list : ListO
         are = record {
           store = shown.store;
           slot = taken.slot_is takes (omega (arith, list_size known.shown.has shown.of_kind))
-              (slot_stays putting ∙ word_stands store_slot shown.store known.shown.has shown.slot);
+              (beside.slot_stays putting ∙ word_stands store_slot shown.store known.shown.has shown.slot);
           stands = HoldsStore.store shown.store other (words_of_cell (heap_of new) other)
               (record { refers = there.found.refers.refers; has = store_has }) there.found.of_kind;
         };
@@ -292,4 +245,4 @@ module _ {old new : Mutator} {graph : Graph} {at slot count : ℕ} {list : ListO
 
   -- each store has as many slots as before
   pub slot_keeps : ChangesObject (heap_of old) (heap_of new) cell.at (capacity_at (heap_of old) cell.at)
-  slot_keeps = object_keeps (taken.taken_beside takes) (slot_stays putting)
+  slot_keeps = object_keeps (taken.taken_beside takes) (beside.slot_stays putting)

@@ -1,11 +1,10 @@
--- An integer is put into a box to which a word of an object refers: so a word of the object's own cells was written, its
--- slots hold what they held, and the word refers to a box with the integer.
-use Rattle.std.proofs.Common.{◌≡◌, ◌≢◌, ℕ, ◌+◌, ◌<◌, inl, inr, List, [], ◌∷◌}
-use Rattle.std.proofs.Common.{slice_get, sym, ◌∙◌, ap, subst, arith, length-set}
+-- An integer is put into a box to which a word of an object refers: so a word of the object's own cells was written,
+-- its slots hold what they held, and the word refers to a box with the integer.
 use Rattle.std.specs.Int.{w64}
 use Rattle.std.specs.Prelude.{ℤ, FitsSigned, slice_set}
+use Rattle.std.proofs.Common.{◌≡◌, ◌≢◌, ℕ, ◌+◌, ◌<◌, inl, inr, List, [], ◌∷◌, slice_get, sym, ◌∙◌, ap, subst, arith}
+use Rattle.std.proofs.Common.{length-set}
 use Rattle.std.proofs.lemmas.Bool.{false≢true}
-use Rattle.heap_model.specs.Types.{Kind, Cell}
 use Rattle.tagged_word.specs.declared.layout.Kind.TheVariants as kind
 use Rattle.tagged_word.specs.Cells.{has_length, store_slot}
 use Rattle.tagged_word.proofs.Members.{first_in, rest_in, one_in, in_cases}
@@ -13,6 +12,7 @@ use Rattle.page_space.specs.Extents.{marks_start}
 use Rattle.object_graph.proofs.Lists.{slice_get-set_same, slice_get-set_other}
 use Rattle.heap_table.specs.Seats.{heap_words, RestStays}
 use Rattle.heap_table.specs.Staying.{rest_stays_itself}
+use Rattle.heap_model.specs.Types.{Kind, Cell}
 use Rattle.heap_model.specs.Changes.{CellsChange}
 use Rattle.heap_model.specs.Heaps.{HasCell, words_of_cell}
 use Rattle.heap_model.specs.Kinds.{HasWord, IsBoxCell, IsSoundOf}
@@ -192,7 +192,8 @@ module _ {owner owned : Kind} {old new : Mutator} {cell : Cell} {word box : ℕ}
     | inl same ↦ false≢true (sym writing.owns.short ∙ sym (ap has_length writing.of_kind)
         ∙ ap (λ (c : Cell). has_length c.layout.kind) same ∙ ap has_length is ∙ writing.owns.long)
     | inr among ↦
-        owned_is_no_box writing.owns is (ap (λ (c : Cell). c.layout.kind) (sym (one_in one_box one among)) ∙ writing.box_of.box)
+        owned_is_no_box writing.owns is
+        (ap (λ (c : Cell). c.layout.kind) (sym (one_in one_box one among)) ∙ writing.box_of.box)
   ])
 
   -- and so its store has the slots that it had
@@ -238,7 +239,8 @@ module _ {owner owned : Kind} {old new : Mutator} {cell : Cell} {word box : ℕ}
   }
 
   -- and where the object's slots hold what they held, they are refilled
-  abbrev pub refills : (was : ℕ → ℕ → Type 0) (one store : ℕ) → HasWord (words_of_cell (heap_of old) cell) store_slot store
+  abbrev pub refills : (was : ℕ → ℕ → Type 0) (one store : ℕ)
+      → HasWord (words_of_cell (heap_of old) cell) store_slot store
       → Refills owned (heap_of old) (heap_of new) cell cell others [] was was
   refills was one store slot = record {
     origin = λ k. k;

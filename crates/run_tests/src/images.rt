@@ -82,6 +82,29 @@ fn a_scavenge_leaves_the_words_of_what_lives(rt: HostRuntime) -> Result<(), Fail
     Ok(())
 }
 
+/// With one helper each half has two segments of 64 words: half 1 begins at 2,240, the main side's segment of
+/// it at 2,304, and the roots at 2,368. The object that is dead is not copied.
+#[test]
+fn copies_go_to_the_segment_of_the_main_side(rt: HostRuntime) -> Result<(), Fail> {
+    let given = "run --pages 1 --young 64 --helpers 1";
+    let seen = came(&rt, given, "new x 0; drop x; new x 0; scavenge", SURE)?;
+    let places = [
+        (2_048usize, 0u64),
+        (2_112, 0),
+        (2_176, 0),
+        (2_240, 0),
+        (2_304, 4_294_967_330),
+        (2_305, 3),
+        (2_306, 0),
+        (2_368, 9_217),
+    ];
+    for (at, word) in places {
+        assert_eq!(rt; seen.words.get(at).copied(), Some(word), "at {at}");
+    }
+    assert_eq!(rt; (seen.used, seen.survivors), (0, 2));
+    Ok(())
+}
+
 /// Free pages are gaps. With 8,192 young words and two helpers there are 6 segments, and behind them the
 /// roots begin at 188,416. A variable has two root words, and a path its layout word.
 #[test]

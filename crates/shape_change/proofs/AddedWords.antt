@@ -47,7 +47,7 @@ reserved_none main =
     let none : main.young.used + 0 ≡ main.young.used = omega arith in
     ap (λ (n : ℕ). record main { young = record main.young { used = n } }) none
 
--- so it is where the words are those from before, but for newly used ones, with one word put and then the header
+-- words were put over others where they are those from before, but for newly used ones, with one word put and then the header
 pub over_last : {old mid new : Mutator} {path : Path} {cell : Cell} {header : Header} (shape place word need object : ℕ)
     (words : List ℕ) → IsTied old → HasRoom old.young need → AddsPath (reserved old need) mid path shape
     → PutsWords mid new (with_shape (slice_set words place word) object header shape)
@@ -105,7 +105,7 @@ module _ {old mid new : Mutator} {path : Path} {cell : Cell} {shape at word need
         layouts_start_is old.seat.space,
       ))
 
-  -- so the sizes are there
+  -- the sizes are there
   pub over_sized : PutsOver old mid new path cell shape at word need words → HasSizes (heap_of new)
   over_sized over =
       let sized = over.adds.sized in
@@ -135,7 +135,7 @@ module _ {old mid new : Mutator} {path : Path} {cell : Cell} {shape at word need
   pub over_space : PutsOver old mid new path cell shape at word need words → new.seat.space ≡ old.seat.space
   over_space over = (over_beside over).space
 
-  -- so one word was put
+  -- one word of the cells was put
   pub over_writes_one : (made : List Cell) → PutsOver old mid new path cell shape at word need words
       → IsRow new.seat.space (heap_words new.seat) (next_at old) (next_at old + need) made
       → WritesOne (heap_of old) (heap_of new) cell shape at word made

@@ -1,22 +1,23 @@
 -- The slot of a field that is set comes to refer to a box that is made, or the box to which it refers is written.
-use Rattle.std.proofs.Common.{◌≡◌, ◌≢◌, ℕ, ◌+◌, ◌<◌, ◌≤◌, List, [], ◌∷◌, length, Some}
-use Rattle.std.proofs.Common.{slice_get, nat_lt, refl, sym, ◌∙◌, ap, subst, arith, inl, inr}
 use Rattle.std.specs.Prelude.{ℤ, FitsSigned}
 use Rattle.std.specs.Int.{w64}
+use Rattle.std.proofs.Common.{◌≡◌, ◌≢◌, ℕ, ◌+◌, ◌<◌, ◌≤◌, List, [], ◌∷◌, length, Some, slice_get, nat_lt, refl, sym}
+use Rattle.std.proofs.Common.{◌∙◌, ap, subst, arith, inl, inr}
 use Rattle.std.proofs.lemmas.List.Elements.{Contains-append_right}
 use Rattle.tagged_word.specs.declared.layout.Kind.TheVariants as kind
 use Rattle.tagged_word.specs.Headers.{header_bits}
 use Rattle.tagged_word.proofs.Members.{one_in, first_in}
-use Rattle.heap_model.specs.Types.{Value, Path, Cell}
-use Rattle.object_graph.specs.Objects.{revalued}
-use Rattle.object_graph.specs.Graphs.{Graph, PlainObject}
 use Rattle.page_space.specs.Extents.{Space, eden_start, segments_start, layouts_start, marks_start}
 use Rattle.page_space.proofs.Starts.{roots_start_is, layouts_start_is, marks_start_is}
+use Rattle.object_graph.specs.Objects.{revalued}
+use Rattle.object_graph.specs.Graphs.{Graph, PlainObject}
 use Rattle.heap_table.specs.Seats.{heap_words}
+use Rattle.heap_model.specs.Types.{Value, Path, Cell}
 use Rattle.heap_model.specs.Heaps.{HasCell, words_of_cell}
 use Rattle.heap_model.specs.Slots.{reference_word, raw_word}
 use Rattle.heap_model.specs.Kinds.{HasWord, IsBoxCell}
 use Rattle.heap_model.specs.Needs.{box_words}
+use Rattle.heap_model.specs.Wholeness.{HasSizes}
 use Rattle.heap_model.proofs.CellsApart.{IsOfCell, first_of_cell}
 use Rattle.write_barrier.specs.MutatorState.{Mutator, heap_of, with_word}
 use Rattle.object_cells.specs.Formats.{box_header}
@@ -25,14 +26,9 @@ use Rattle.object_cells.specs.Contents.{next_at, with_box}
 use Rattle.object_cells.specs.CellWrites.{reshaped}
 use Rattle.object_cells.specs.OwnSlots.{ComesFrom}
 use Rattle.object_cells.specs.SlotChanges.{IsTaggedSlot}
-use Rattle.shape_change.proofs.ContentsShown.{box_shows}
 use Rattle.object_cells.proofs.SlotBoxes.{IsBoxOf}
 use Rattle.object_cells.proofs.FieldWords.{path_field, field_is_tagged}
-use Rattle.shape_change.proofs.FilledFields.{next_head, head_below, address, slot_below, before_marks}
-use Rattle.shape_change.proofs.FilledFields.{slot_puts, slot_shown}
 use Rattle.object_cells.proofs.MadeBoxes.{BoxStands, boxed_integer, made_is_box, refers_to_made, made_row, row_of_none}
-use Rattle.heap_model.specs.Wholeness.{HasSizes}
-use Rattle.shape_change.proofs.FilledSlots.{RefersToOld, fills_box}
 use Rattle.object_cells.proofs.HeldContents.{HoldsValue}
 use Rattle.object_cells.proofs.NewBoxes.{box_cell}
 use Rattle.object_cells.proofs.NumberedSlots.{IsNumbered}
@@ -40,12 +36,16 @@ use Rattle.object_cells.proofs.OneWord.{IsReady}
 use Rattle.object_cells.proofs.OwnPlaces.{box_size, box_place, store_not_in_box}
 use Rattle.object_cells.proofs.OwnCells.{cell_below_layouts, beside_not_header}
 use Rattle.object_cells.proofs.PlainFields.{plain_sound}
-use Rattle.shape_change.proofs.ReadyHeaps.{ready_boxed, puts_box}
-use Rattle.shape_change.proofs.Settings.{Setting}
-use Rattle.shape_change.proofs.SetFields.{IsNextShape, ShowsSet, sets_one, field_shown}
 use Rattle.object_cells.proofs.SlotPlaces.{one_slots}
 use Rattle.object_cells.proofs.UnusedWords.{cell_is_used, next_before_segments}
 use Rattle.object_cells.proofs.WordsPut.{PutsTwo, HasHead, puts_two, sizes_put}
+use Rattle.shape_change.proofs.ContentsShown.{box_shows}
+use Rattle.shape_change.proofs.FilledFields.{next_head, head_below, address, slot_below, before_marks, slot_puts}
+use Rattle.shape_change.proofs.FilledFields.{slot_shown}
+use Rattle.shape_change.proofs.FilledSlots.{RefersToOld, fills_box}
+use Rattle.shape_change.proofs.ReadyHeaps.{ready_boxed, puts_box}
+use Rattle.shape_change.proofs.Settings.{Setting}
+use Rattle.shape_change.proofs.SetFields.{IsNextShape, ShowsSet, sets_one, field_shown}
 
 -- A field that is set comes to hold a box of an integer.
 module _ {old : Mutator} {graph : Graph} {object slot : ℕ} {plain : PlainObject} {what : Value} {name : ℕ}

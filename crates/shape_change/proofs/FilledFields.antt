@@ -1,20 +1,20 @@
 -- The ways to fill the slot of a field that is set: with a tagged word, a raw one, or a box that is made.
-use Rattle.std.proofs.Common.{◌≡◌, ◌≢◌, ℕ, ◌+◌, ◌<◌, List, [], length, Some, slice_get, set, nat_lt, true}
-use Rattle.std.proofs.Common.{refl, sym, ◌∙◌, ap, subst, arith}
+use Rattle.std.proofs.Common.{◌≡◌, ◌≢◌, ℕ, ◌+◌, ◌<◌, List, [], length, Some, slice_get, set, nat_lt, true, refl, sym}
+use Rattle.std.proofs.Common.{◌∙◌, ap, subst, arith}
 use Rattle.std.proofs.lemmas.Bool.Decides.{nat_tests}
 use Rattle.std.proofs.lemmas.Option.{same_Some}
-use Rattle.heap_model.specs.Types.{Word, Value, Field, Path, PathField, Cell}
 use Rattle.tagged_word.specs.Headers.{header_bits}
 use Rattle.tagged_word.specs.Cells.{store_slot}
+use Rattle.page_space.specs.Extents.{Space, layouts_start, marks_start}
+use Rattle.page_space.proofs.Starts.{marks_start_is}
+use Rattle.cell_layout.specs.Cells.{IsRow}
+use Rattle.shape_tree.specs.Shapes.{shape_path}
 use Rattle.object_graph.specs.declared.value.Rep.TheVariants as rep
 use Rattle.object_graph.specs.Objects.{revalued}
 use Rattle.object_graph.specs.Graphs.{Graph, PlainObject}
 use Rattle.object_graph.proofs.Lists.{slice_get-set_same}
-use Rattle.page_space.specs.Extents.{Space, layouts_start, marks_start}
-use Rattle.page_space.proofs.Starts.{marks_start_is}
-use Rattle.shape_tree.specs.Shapes.{shape_path}
-use Rattle.cell_layout.specs.Cells.{IsRow}
 use Rattle.heap_table.specs.Seats.{heap_words}
+use Rattle.heap_model.specs.Types.{Word, Value, Field, Path, PathField, Cell}
 use Rattle.heap_model.specs.Heaps.{Heap, words_of_cell}
 use Rattle.heap_model.specs.Showing.{ShowsField}
 use Rattle.heap_model.proofs.BoundHeaps.{none_in}
@@ -25,22 +25,22 @@ use Rattle.object_cells.specs.Contents.{next_at}
 use Rattle.object_cells.specs.CellWrites.{reshaped}
 use Rattle.object_cells.specs.OwnSlots.{ComesFrom}
 use Rattle.object_cells.specs.SlotChanges.{IsTaggedSlot, HasTagged}
-use Rattle.shape_change.proofs.ContentsShown.{word_shows, raw_shows}
 use Rattle.object_cells.proofs.FieldWords.{path_field, tagged_is_field}
-use Rattle.shape_change.proofs.FilledSlots.{AreBoxes, fills_slot}
 use Rattle.object_cells.proofs.HeldContents.{HoldsValue}
 use Rattle.object_cells.proofs.NumberedSlots.{IsNumbered, number_is_not_store}
 use Rattle.object_cells.proofs.OneWord.{IsReady}
 use Rattle.object_cells.proofs.OneField.{SetsOne}
 use Rattle.object_cells.proofs.OwnPlaces.{IsSlotPlace, plain_is_object, slot_place}
 use Rattle.object_cells.proofs.OwnCells.{cell_below_layouts}
-use Rattle.shape_change.proofs.Settings.{Setting}
-use Rattle.shape_change.proofs.SetFields.{IsNextShape, ShowsSet, sets_one, field_shown}
 use Rattle.object_cells.proofs.MadeBoxes.{row_of_none}
 use Rattle.object_cells.proofs.SlotsNow.{IsSlotAddress, numbered_address}
 use Rattle.object_cells.proofs.WordsPut.{PutsTwo, HasHead, puts_two}
 use Rattle.object_cells.proofs.OwnSteps.{written_places_stay}
 use Rattle.object_cells.proofs.OwnerWrites.{plain_owns, becomes_cap}
+use Rattle.shape_change.proofs.ContentsShown.{word_shows, raw_shows}
+use Rattle.shape_change.proofs.FilledSlots.{AreBoxes, fills_slot}
+use Rattle.shape_change.proofs.Settings.{Setting}
+use Rattle.shape_change.proofs.SetFields.{IsNextShape, ShowsSet, sets_one, field_shown}
 
 -- an address before the layout words is before the marks
 pub before_marks : {old mid : Mutator} {need : ℕ} (a : ℕ) → IsReady old mid need → a < layouts_start old.seat.space

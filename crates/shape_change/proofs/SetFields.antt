@@ -1,22 +1,21 @@
 -- A heap in which a slot of a plain object was filled shows the graph in which the field of this slot has the value.
-use Rattle.std.proofs.Common.{◌≡◌, ◌≢◌, ℕ, ◌+◌, ◌<◌, List, Some, set}
-use Rattle.std.proofs.Common.{sym, ◌∙◌, ap, subst}
+use Rattle.std.proofs.Common.{◌≡◌, ◌≢◌, ℕ, ◌+◌, ◌<◌, List, Some, set, sym, ◌∙◌, ap, subst}
 use Rattle.tagged_word.specs.Headers.{header_bits}
 use Rattle.tagged_word.specs.Cells.{store_slot}
-use Rattle.heap_model.specs.Types.{Value, Field, Path, Cell}
+use Rattle.page_space.specs.Extents.{layouts_start}
+use Rattle.nursery.specs.Young.{Young}
+use Rattle.cell_layout.specs.Cells.{IsRow}
+use Rattle.shape_tree.specs.Shapes.{IsShapeOf}
 use Rattle.object_graph.specs.Paths.{path_of, with_path}
 use Rattle.object_graph.specs.Objects.{with_field, revalued}
 use Rattle.object_graph.specs.Graphs.{Graph, PlainObject}
 use Rattle.object_graph.specs.Limits.{paths_most}
-use Rattle.page_space.specs.Extents.{layouts_start}
-use Rattle.shape_tree.specs.Shapes.{IsShapeOf}
-use Rattle.cell_layout.specs.Cells.{IsRow}
 use Rattle.heap_table.specs.Seats.{heap_words}
+use Rattle.heap_model.specs.Types.{Value, Field, Path, Cell}
 use Rattle.heap_model.specs.Heaps.{words_of_cell}
 use Rattle.heap_model.specs.Needs.{capacity_at}
 use Rattle.heap_model.specs.Showing.{ShowsPlain}
 use Rattle.heap_model.proofs.CellsApart.{first_of_cell}
-use Rattle.nursery.specs.Young.{Young}
 use Rattle.write_barrier.specs.MutatorState.{Mutator, heap_of}
 use Rattle.object_cells.specs.PlainObjects.{ShowsRefilled}
 use Rattle.object_cells.specs.Refills.{AreNewFields}
@@ -50,58 +49,59 @@ module _ {old : Mutator} {graph : Graph} {object slot : ℕ} {plain : PlainObjec
     pub changes : ChangesObject (heap_of old) (heap_of new) s.cell.at (capacity_at (heap_of old) s.cell.at)
 
   module _ {mid new : Mutator} {next need at word : ℕ} (shape : IsNextShape new next) (ready : IsReady old mid need)
-      where
-    -- a word of the object's own cells was put, and its header, and cells were made
-    pub sets_one : (others made : List Cell) → IsOwnWord (heap_of old) s.cell others at
-        → s.cell.at + store_slot ≢ at → at < layouts_start old.seat.space
-        → PutsTwo mid new s.cell.at (header_bits (record s.cell.header { shape = next })) at word
-        → IsRow new.seat.space (heap_words new.seat) (next_at old) (next_at old + need) made
-        → SetsOne (heap_of old) (heap_of new) s.cell next at word slot others made plain.fields (revalued s.field what)
-    sets_one others made own not_store below puts row =
-        let whole = s.shows.shows.whole in
-        let cap = ap (λ (p : Path). p.cap) shape.is_shape.of_path ∙ sym s.cap in
-        let one = writes_two s.cell.at (header_bits (record s.cell.header { shape = next })) at word need made
-        s.shows.tied ready (cell_below_layouts whole s.has (first_of_cell s.has)) below puts row in
-        let writes = writes_cells s.cell next at word others made whole s.has s.shown.of_kind shape.is_shape.is_shape
-        cap own one in
-        let puts_own : PutsOwn (heap_of old) (heap_of new) s.cell next at word others made = record {
-          whole = whole;
-          has = s.has;
-          plain = s.shown.of_kind;
-          one = one;
-          writes = writes;
-          cells = (written_own_keeps_cells plain_owns whole writes).1;
-          not_store = not_store;
-        } in
-        record {
-          puts = puts_own;
-          shown = s.shown;
-          after = slots_after puts_own s.shown.has;
-          path = shape.is_shape.of_path ∙ ap (λ n. path_of n fields) (sym s.cap);
-          there = slot_is_field s;
-        }
+    where
+      -- a word of the object's own cells was put, and its header, and cells were made
+      pub sets_one : (others made : List Cell) → IsOwnWord (heap_of old) s.cell others at
+          → s.cell.at + store_slot ≢ at → at < layouts_start old.seat.space
+          → PutsTwo mid new s.cell.at (header_bits (record s.cell.header { shape = next })) at word
+          → IsRow new.seat.space (heap_words new.seat) (next_at old) (next_at old + need) made
+          → SetsOne (heap_of old) (heap_of new) s.cell next at word slot others made plain.fields
+          (revalued s.field what)
+      sets_one others made own not_store below puts row =
+          let whole = s.shows.shows.whole in
+          let cap = ap (λ (p : Path). p.cap) shape.is_shape.of_path ∙ sym s.cap in
+          let one = writes_two s.cell.at (header_bits (record s.cell.header { shape = next })) at word need made
+          s.shows.tied ready (cell_below_layouts whole s.has (first_of_cell s.has)) below puts row in
+          let writes = writes_cells s.cell next at word others made whole s.has s.shown.of_kind shape.is_shape.is_shape
+          cap own one in
+          let puts_own : PutsOwn (heap_of old) (heap_of new) s.cell next at word others made = record {
+            whole = whole;
+            has = s.has;
+            plain = s.shown.of_kind;
+            one = one;
+            writes = writes;
+            cells = (written_own_keeps_cells plain_owns whole writes).1;
+            not_store = not_store;
+          } in
+          record {
+            puts = puts_own;
+            shown = s.shown;
+            after = slots_after puts_own s.shown.has;
+            path = shape.is_shape.of_path ∙ ap (λ n. path_of n fields) (sym s.cap);
+            there = slot_is_field s;
+          }
 
-    -- so the heap shows the graph with the field
-    pub field_shown : {others made : List Cell} {head : ℕ} → PutsTwo mid new s.cell.at head at word
-        → (sets : SetsOne (heap_of old) (heap_of new) s.cell next at word slot others made plain.fields
-        (revalued s.field what)) → FillsOne sets → ShowsSet new
-    field_shown {others} {made} puts sets fills =
-        let heap = heap_of old in
-        let same : with_field plain.fields name what ≡ fields = fields_are s in
-        let new_fields = subst (AreNewFields graph) same (fields_are_new s) in
-        let shown = subst (λ n. ShowsPlain heap s.cell (words_of_cell heap s.cell) n plain.fields) s.cap s.shown in
-        let added =
-        ap (λ paths. with_path (Some paths_most) paths (path_of plain.cap fields)) (sym s.shows.shows.paths)
-        ∙ shape.added in
-        let regions : KeepsRegions old new = record {
-          space = puts.beside.space ∙ ready.space;
-          phase = puts.beside.phase ∙ ready.phase;
-          of_young = ap (λ (y : Young). y.space) (puts.young ∙ ready.young);
-          half = ap (λ (y : Young). y.half) (puts.young ∙ ready.young);
-        } in
-        record {
-          shows = subst (ShowsRefilled new graph plain) (sym same)
-              (written_fields_show old new graph plain s.cell next others made fields s.shows s.is.object s.carries s.cap
-              shown new_fields added regions sets.puts.writes (refills_slots sets fills));
-          changes = one_keeps sets.puts fills.belong fills.kinds;
-        }
+      -- so the heap shows the graph with the field
+      pub field_shown : {others made : List Cell} {head : ℕ} → PutsTwo mid new s.cell.at head at word
+          → (sets : SetsOne (heap_of old) (heap_of new) s.cell next at word slot others made plain.fields
+          (revalued s.field what)) → FillsOne sets → ShowsSet new
+      field_shown {others} {made} puts sets fills =
+          let heap = heap_of old in
+          let same : with_field plain.fields name what ≡ fields = fields_are s in
+          let new_fields = subst (AreNewFields graph) same (fields_are_new s) in
+          let shown = subst (λ n. ShowsPlain heap s.cell (words_of_cell heap s.cell) n plain.fields) s.cap s.shown in
+          let added =
+          ap (λ paths. with_path (Some paths_most) paths (path_of plain.cap fields)) (sym s.shows.shows.paths)
+          ∙ shape.added in
+          let regions : KeepsRegions old new = record {
+            space = puts.beside.space ∙ ready.space;
+            phase = puts.beside.phase ∙ ready.phase;
+            of_young = ap (λ (y : Young). y.space) (puts.young ∙ ready.young);
+            half = ap (λ (y : Young). y.half) (puts.young ∙ ready.young);
+          } in
+          record {
+            shows = subst (ShowsRefilled new graph plain) (sym same)
+                (written_fields_show old new graph plain s.cell next others made fields s.shows s.is.object s.carries
+                s.cap shown new_fields added regions sets.puts.writes (refills_slots sets fills));
+            changes = one_keeps sets.puts fills.belong fills.kinds;
+          }

@@ -1,17 +1,17 @@
 -- What came of setting a field that is there.
-use Rattle.std.proofs.Common.{◌≡◌, ℕ, ◌+◌, List, ◌++◌, length, Some, slice_get, set}
-use Rattle.std.proofs.Common.{refl, sym, ◌∙◌, ap, subst, arith, inl, inr, nat_lt}
+use Rattle.std.proofs.Common.{◌≡◌, ℕ, ◌+◌, List, ◌++◌, length, Some, slice_get, set, refl, sym, ◌∙◌, ap, subst, arith}
+use Rattle.std.proofs.Common.{inl, inr, nat_lt}
 use Rattle.std.proofs.lemmas.Option.{cond_some}
-use Rattle.heap_model.specs.Types.{Header, Value, Path, Field}
 use Rattle.tagged_word.specs.Headers.{header_bits}
+use Rattle.page_space.specs.Sizes.{AreWithin}
+use Rattle.nursery.specs.Young.{Young, HasRoom}
+use Rattle.shape_tree.specs.Shapes.{IsShapeOf}
 use Rattle.object_graph.specs.Paths.{path_of, with_path, missing, may_have}
 use Rattle.object_graph.specs.Objects.{revalued}
 use Rattle.object_graph.specs.Graphs.{Graph, PlainObject}
 use Rattle.object_graph.specs.Limits.{paths_most}
-use Rattle.page_space.specs.Sizes.{AreWithin}
-use Rattle.shape_tree.specs.Shapes.{IsShapeOf}
-use Rattle.nursery.specs.Young.{Young, HasRoom}
 use Rattle.heap_table.specs.Seats.{heap_words, RestStays}
+use Rattle.heap_model.specs.Types.{Header, Value, Path, Field}
 use Rattle.heap_model.specs.Heaps.{Heap, words_of_cell}
 use Rattle.heap_model.specs.Needs.{capacity_at}
 use Rattle.heap_model.specs.Rooms.{on_found, field_need, set_need, set_need_by, set_capacity, set_capacity_by}
@@ -20,27 +20,27 @@ use Rattle.write_barrier.specs.MutatorState.{Mutator, heap_of, with_word}
 use Rattle.object_cells.specs.declared.content.SlotContent.{SlotContent}
 use Rattle.object_cells.specs.declared.content.SlotWrite.{SlotWrite}
 use Rattle.object_cells.specs.declared.content.SlotWrite.TheVariants as filling
-use Rattle.shape_change.specs.declared.slots.Place.{Place}
 use Rattle.object_cells.specs.Uses.{UsesMore}
 use Rattle.object_cells.specs.Capacities.{ChangesObject}
-use Rattle.shape_change.specs.FieldChanges.{HasSetField}
 use Rattle.object_cells.specs.Contents.{box_in, next_at, filling_of, filling_at, filling_need, filled, FillsSlot}
+use Rattle.object_cells.proofs.NothingUsed.{room_for_none}
+use Rattle.object_cells.proofs.OneWord.{IsReady}
+use Rattle.object_cells.proofs.OwnCells.{cell_below_layouts}
+use Rattle.object_cells.proofs.PlainFields.{plain_sound, names_distinct}
+use Rattle.object_cells.proofs.UnusedWords.{cell_is_used, next_before_segments}
+use Rattle.object_cells.proofs.WordsPut.{HasHead}
+use Rattle.shape_change.specs.declared.slots.Place.{Place}
+use Rattle.shape_change.specs.FieldChanges.{HasSetField}
 use Rattle.shape_change.specs.Fillings.{FillsWider}
 use Rattle.shape_change.specs.Places.{place_at}
 use Rattle.shape_change.proofs.FieldsSet.{place_found, path_stays}
 use Rattle.shape_change.proofs.Filled.{allocates_paths}
 use Rattle.shape_change.proofs.FilledFields.{next_head}
-use Rattle.object_cells.proofs.NothingUsed.{room_for_none}
-use Rattle.object_cells.proofs.OneWord.{IsReady}
-use Rattle.object_cells.proofs.OwnCells.{cell_below_layouts}
-use Rattle.object_cells.proofs.PlainFields.{plain_sound, names_distinct}
 use Rattle.shape_change.proofs.ReadyHeaps.{ready_allocated, ready_laid}
 use Rattle.shape_change.proofs.Settings.{Setting, name_is_there, path_is_there}
 use Rattle.shape_change.proofs.SettingNeeds.{need_there}
 use Rattle.shape_change.proofs.SetFields.{IsNextShape}
 use Rattle.shape_change.proofs.SetShown.{FillsAt, fill_shown}
-use Rattle.object_cells.proofs.UnusedWords.{cell_is_used, next_before_segments}
-use Rattle.object_cells.proofs.WordsPut.{HasHead}
 
 -- where a slot is filled, what is used stays
 filled_young : (main : Mutator) (at : ℕ) (filling : SlotWrite) → (filled main at filling).young ≡ main.young

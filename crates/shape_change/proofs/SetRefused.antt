@@ -1,24 +1,24 @@
 -- What comes of setting a field that is there, where it is refused too.
-use Rattle.std.proofs.Common.{◌≡◌, ℕ, Some, None, set, refl, sym, ◌∙◌, ap}
 use Rattle.std.specs.Prelude.{Result, Ok, Err}
+use Rattle.std.proofs.Common.{◌≡◌, ℕ, Some, None, set, refl, sym, ◌∙◌, ap}
 use Rattle.std.proofs.lemmas.Option.{none-some}
-use Rattle.heap_model.specs.Types.{Value, Path, ShapesFull}
+use Rattle.page_space.specs.Sizes.{AreWithin}
+use Rattle.shape_tree.specs.Shapes.{LacksPathsFor}
 use Rattle.object_graph.specs.Paths.{path_of, with_path}
 use Rattle.object_graph.specs.Objects.{with_field, revalued}
 use Rattle.object_graph.specs.Graphs.{Graph, PlainObject}
 use Rattle.object_graph.specs.Limits.{paths_most}
-use Rattle.shape_tree.specs.Shapes.{LacksPathsFor}
-use Rattle.page_space.specs.Sizes.{AreWithin}
+use Rattle.heap_model.specs.Types.{Value, Path, ShapesFull}
 use Rattle.heap_model.specs.Needs.{capacity_at}
 use Rattle.write_barrier.specs.MutatorState.{Mutator, heap_of}
 use Rattle.write_barrier.specs.declared.room.NoRoom.{NoRoom}
 use Rattle.object_cells.specs.declared.content.SlotContent.{SlotContent}
+use Rattle.object_cells.specs.Contents.{filling_at, LacksRoom}
+use Rattle.object_cells.proofs.SlotBoxes.{lacks_need}
 use Rattle.shape_change.specs.declared.slots.Place.{Place}
 use Rattle.shape_change.specs.declared.stop.FieldStop.{FieldStop}
 use Rattle.shape_change.specs.declared.stop.FieldStop.TheVariants as stop
 use Rattle.shape_change.specs.FieldChanges.{SetsField, IsFullOfPaths}
-use Rattle.object_cells.proofs.SlotBoxes.{lacks_need}
-use Rattle.object_cells.specs.Contents.{filling_at, LacksRoom}
 use Rattle.shape_change.specs.Fillings.{SetsWider}
 use Rattle.shape_change.specs.Places.{place_at}
 use Rattle.shape_change.proofs.FieldsSet.{path_stays}

@@ -1,10 +1,9 @@
 -- A field that is there was set: as it is, or with a wider representation.
-use Rattle.std.proofs.Common.{◌≡◌, ℕ, Option, Some, None, nat_lt}
-use Rattle.std.proofs.Common.{sym, ap}
 use Rattle.std.specs.Prelude.{ℤ}
-use Rattle.heap_model.specs.Types.{Value}
+use Rattle.std.proofs.Common.{◌≡◌, ℕ, Option, Some, None, nat_lt, sym, ap}
 use Rattle.object_graph.specs.Objects.{revalued}
 use Rattle.object_graph.specs.Graphs.{Graph, PlainObject}
+use Rattle.heap_model.specs.Types.{Value}
 use Rattle.heap_model.specs.Heaps.{words_of_cell}
 use Rattle.heap_model.specs.Slots.{IsSlotWord, IsFieldWord}
 use Rattle.heap_model.specs.Kinds.{HasWord}
@@ -13,16 +12,16 @@ use Rattle.write_barrier.specs.MutatorState.{Mutator, heap_of}
 use Rattle.object_cells.specs.declared.content.SlotContent.{SlotContent}
 use Rattle.object_cells.specs.declared.content.SlotContent.TheVariants as content
 use Rattle.object_cells.specs.Contents.{box_in, next_at, filling_of, filling_at, filling_need, filled}
-use Rattle.shape_change.proofs.BoxedFields.{new_box_shown, old_box_shown}
 use Rattle.object_cells.proofs.SlotBoxes.{box_of_word}
 use Rattle.object_cells.proofs.FieldWords.{field_word as is_field_word}
-use Rattle.shape_change.proofs.FilledFields.{next_head, tagged_shown, raw_shown}
 use Rattle.object_cells.proofs.HeldContents.{HoldsValue, held_slot_word}
 use Rattle.object_cells.proofs.NumberedSlots.{IsNumbered}
 use Rattle.object_cells.proofs.OneWord.{IsReady}
+use Rattle.object_cells.proofs.WordsPut.{HasHead}
+use Rattle.shape_change.proofs.BoxedFields.{new_box_shown, old_box_shown}
+use Rattle.shape_change.proofs.FilledFields.{next_head, tagged_shown, raw_shown}
 use Rattle.shape_change.proofs.Settings.{Setting}
 use Rattle.shape_change.proofs.SetFields.{IsNextShape, ShowsSet}
-use Rattle.object_cells.proofs.WordsPut.{HasHead}
 
 module _ {old : Mutator} {graph : Graph} {object slot : ℕ} {plain : PlainObject} {what : Value} {name : ℕ}
     (s : Setting old graph object slot plain what name) where
@@ -44,7 +43,8 @@ module _ {old : Mutator} {graph : Graph} {object slot : ℕ} {plain : PlainObjec
     -- where the slot comes to refer to a box, by whether it refers to one
     boxed_shown : (v : ℤ) (found : Option ℕ) → FillsAt at word (content.Boxed v) → box_in (heap_of old) word ≡ found
         → IsReady old mid (filling_need (filling_of found (next_at old) (content.Boxed v)))
-        → HasHead mid (filled mid at (filling_of found (next_at old) (content.Boxed v))) new s.cell.at (next_head s next)
+        → HasHead mid (filled mid at (filling_of found (next_at old) (content.Boxed v))) new s.cell.at
+        (next_head s next)
         → ShowsSet s new
     boxed_shown v None fills is ready head = new_box_shown s v fills.comes at fills.numbered ready shape head
     boxed_shown v (Some box) fills is ready head =
