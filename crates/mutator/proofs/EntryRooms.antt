@@ -5,7 +5,7 @@ use Rattle.heap_model.specs.Types.{Operand, Command, Value, Entry}
 use Rattle.heap_command.specs.declared.command.Command.TheVariants as command
 use Rattle.object_graph.specs.declared.value.Value.TheVariants.{Ref}
 use Rattle.object_graph.specs.declared.object.Object.TheVariants.{Weak}
-use Rattle.object_graph.specs.Graphs.{Graph, WeakObject, value_of, object_in}
+use Rattle.object_graph.specs.Graphs.{Graph, WeakObject, value_of, object_in, as_weak}
 use Rattle.object_graph.specs.Objects.{entry_value, with_entry, without_entry}
 use Rattle.heap_model.specs.Laws.{ReachesNoMore}
 use Rattle.heap_model.specs.Needs.{capacity_at}
@@ -17,9 +17,8 @@ use Rattle.ephemeron_table.specs.EntryChanges.{map_room}
 use Rattle.ephemeron_table.proofs.EntryCounts.{length-with_entry_new, length-with_entry_there}
 use Rattle.ephemeron_table.proofs.DeletedEntries.{length-without_entry, without_none}
 use Rattle.mutator.specs.Capacities.{KeepsStores}
-use Rattle.mutator.proofs.WeakMeanings.{IsKnownWeak}
+use Rattle.mutator.proofs.KnownObjects.{IsKnown, known_is}
 use Rattle.mutator.proofs.KeptStores.{IsAfter, keeps_others, with_room-same, with_room-other}
-use Rattle.mutator.proofs.CommandNeeds.{weak_is}
 
 module _ {old new : Mutator} {graph after : Graph} {rooms : ℕ → Room} (one : IsAfter old new graph after rooms)
     (fewer : ReachesNoMore graph after) where
@@ -56,7 +55,7 @@ module _ {old new : Mutator} {graph after : Graph} {rooms : ℕ → Room} (one :
 
   -- `wput`
   pub keeps_wput : {m at number : ℕ} {weak : WeakObject} (k v : Operand) (value : Value)
-      → IsKnownWeak graph m (Ref weak.number) weak → value_of graph k ≡ Some (Ref number) → IsWeakAt old graph at weak
+      → IsKnown as_weak graph m (Ref weak.number) weak → value_of graph k ≡ Some (Ref number) → IsWeakAt old graph at weak
       → after.objects ≡ slice_set graph.objects weak.number (Weak (with_entry weak.entries number value))
       → ChangesObject (heap_of old) (heap_of new) at
       (room_put (map_room old at weak) (entry_value weak.entries number)).capacity
@@ -65,7 +64,7 @@ module _ {old new : Mutator} {graph after : Graph} {rooms : ℕ → Room} (one :
       let room : Room = room_put (map_room old at weak) (entry_value weak.entries number) in
       let gives : rooms_after graph rooms (command.WPut m k v) ≡ with_room rooms weak.number room =
       ap (λ found. changed rooms found (λ (one : WeakObject). changed rooms (key_of graph k) (λ key.
-      with_room rooms one.number (room_put (rooms one.number) (entry_value one.entries key))))) (weak_is known)
+      with_room rooms one.number (room_put (rooms one.number) (entry_value one.entries key))))) (known_is known)
       ∙ ap (λ found. changed rooms (option_and_then object_in found) (λ key.
       with_room rooms weak.number (room_put (rooms weak.number) (entry_value weak.entries key)))) key
       ∙ ap (λ was. with_room rooms weak.number (room_put was (entry_value weak.entries number)))
@@ -92,7 +91,7 @@ module _ {old new : Mutator} {graph after : Graph} {rooms : ℕ → Room} (one :
 
   -- `wdel`
   pub keeps_wdel : {m at number : ℕ} {weak : WeakObject} (k : Operand)
-      → IsKnownWeak graph m (Ref weak.number) weak → value_of graph k ≡ Some (Ref number) → IsWeakAt old graph at weak
+      → IsKnown as_weak graph m (Ref weak.number) weak → value_of graph k ≡ Some (Ref number) → IsWeakAt old graph at weak
       → after.objects ≡ slice_set graph.objects weak.number (Weak (without_entry weak.entries number))
       → ChangesObject (heap_of old) (heap_of new) at (capacity_at (heap_of old) at)
       → KeepsStores (heap_of old) (heap_of new) graph after (command.WDel m k) rooms
@@ -101,7 +100,7 @@ module _ {old new : Mutator} {graph after : Graph} {rooms : ℕ → Room} (one :
       let room : Room = room_without (map_room old at weak) found in
       let gives : rooms_after graph rooms (command.WDel m k) ≡ with_room rooms weak.number room =
       ap (λ found. changed rooms found (λ (one : WeakObject). changed rooms (key_of graph k) (λ key.
-      with_room rooms one.number (room_without (rooms one.number) (entry_value one.entries key))))) (weak_is known)
+      with_room rooms one.number (room_without (rooms one.number) (entry_value one.entries key))))) (known_is known)
       ∙ ap (λ found. changed rooms (option_and_then object_in found) (λ key.
       with_room rooms weak.number (room_without (rooms weak.number) (entry_value weak.entries key)))) key
       ∙ ap (λ was. with_room rooms weak.number (room_without was found))
