@@ -24,7 +24,7 @@ use Rattle.weak_pairs.specs.Tables.{number_at, numbers, key_number, pairs_of}
 use Rattle.weak_pairs.specs.declared.table.Table.{Table}
 use Rattle.weak_pairs.proofs.CountedPairs.{count_filled, count_put}
 use Rattle.ephemeron_table.proofs.GrowingTables.{boxed_pairs, grown_pairs_stay}
-use Rattle.ephemeron_table.proofs.GrownWords.{GrowsTable, pair, made_table, capacity, need, run, keys_boxed, fits_boxed}
+use Rattle.ephemeron_table.proofs.GrownWords.{GrowsTable, pair, made_table, need, run, keys_boxed, fits_boxed}
 use Rattle.ephemeron_table.proofs.GrownWords.{begun_stays, boxed_stays, run_word, fits_new, inserted_as_long}
 use Rattle.ephemeron_table.proofs.KeysFound.{key_filled}
 use Rattle.ephemeron_table.proofs.KnownTables.{pairs_long}
@@ -84,9 +84,7 @@ module _ {old new : Mutator} {map key count earlier : ℕ} {table : Table} {valu
 
   boxed_same : pairs_of (heap_words grows.puts.boxed.seat) (made_table grows) ≡ far
   boxed_same =
-      boxed_pairs grows.can grows.known.whole.sized.words (next_at old) (capacity grows)
-      (content_need (store_content value))
-      grows.puts.room refl refl refl grows.puts.begins (store_content value) grows.puts.moves grows.puts.boxes
+      boxed_pairs grows.can grows.known.whole.sized.words (content_need (store_content value)) grows.puts.room (λ some. refl) refl refl grows.puts.begins (store_content value) grows.puts.moves grows.puts.boxes
 
   inserted_are : pairs_of (heap_words grows.puts.inserted.seat) (made_table grows) ≡ slice_set far place one
   inserted_are =
@@ -114,8 +112,7 @@ module _ {old new : Mutator} {map key count earlier : ℕ} {table : Table} {valu
   pub moved : AreRehashed before far table.capacity
   moved =
       subst (λ all. AreRehashed all far table.capacity)
-      (grown_pairs_stay grows.can grows.known.whole.sized.words (next_at old) (capacity grows)
-      (content_need (store_content value)) grows.puts.room refl refl refl grows.puts.begins) grows.puts.moves.moved
+      (grown_pairs_stay grows.can grows.known.whole.sized.words (content_need (store_content value)) grows.puts.room (λ some. refl) refl refl grows.puts.begins) grows.puts.moves.moved
 
   -- what is filled is the new pair, or was moved
   pub data NowFilled (at : ℕ) (found : Pair) : Type 0 where

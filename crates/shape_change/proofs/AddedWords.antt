@@ -12,8 +12,6 @@ use Rattle.object_graph.proofs.Lists.{slice_get-set_same, slice_get-set_other}
 use Rattle.page_space.specs.Extents.{Space, eden_start, layouts_start, marks_start}
 use Rattle.page_space.proofs.Starts.{roots_start_is, layouts_start_is, marks_start_is}
 use Rattle.nursery.specs.Young.{Young, HasRoom}
-use Rattle.shape_tree.specs.Shapes.{AreShapes}
-use Rattle.shape_tree.specs.ShapeLayouts.{layout_word}
 use Rattle.cell_layout.specs.Cells.{IsRow}
 use Rattle.heap_table.specs.Seats.{heap_words, RestStays}
 use Rattle.heap_table.specs.Staying.{rest_stays_again}
@@ -24,6 +22,7 @@ use Rattle.shape_change.specs.Additions.{AddsPath, with_shape}
 use Rattle.object_cells.specs.Made.{PutsWords}
 use Rattle.object_cells.proofs.OneWord.{WritesOne}
 use Rattle.object_cells.proofs.UnusedWords.{next_before_segments}
+use Rattle.object_cells.proofs.WordsPut.{sizes_stay}
 
 -- A path was added once so many words were reserved, and then words were put: the header of the cell at an address, one
 -- other word, and else words that are newly used.
@@ -41,85 +40,65 @@ pub record PutsOver (old mid new : Mutator) (path : Path) (cell : Cell) (shape a
   pub cell_below : cell.at < layouts_start old.seat.space
   pub at_below : at < layouts_start old.seat.space
 
--- a word from the layout words on stays
-layouts_stay : {old mid new : Mutator} {path : Path} {cell : Cell} {shape at word need : ℕ} {words : List ℕ} (a : ℕ)
-    → PutsOver old mid new path cell shape at word need words → layouts_start old.seat.space ≤ a
-    → slice_get words a ≡ slice_get (heap_words mid.seat) a
-layouts_stay {old} {need = need} a over behind =
-    over.stay a (λ same. omega (arith, same, over.cell_below)) (λ same. omega (arith, same, over.at_below))
-    (λ from below. omega (
-      arith,
-      below,
-      behind,
-      next_before_segments old need over.tied over.room,
-      roots_start_is old.seat.space,
-      layouts_start_is old.seat.space,
-    ))
+module _ {old mid new : Mutator} {path : Path} {cell : Cell} {shape at word need : ℕ} {words : List ℕ}
+    (over : PutsOver old mid new path cell shape at word need words) where
+  -- the sizes are there
+  pub over_sized : HasSizes (heap_of new)
+  over_sized =
+      let space = ap (λ (s : Space). layouts_start s) over.adds.beside.space in
+      sizes_stay mid new over.adds.sized over.puts.beside over.puts.paths (ap length over.puts.heap ∙ over.long)
+      (λ a behind. ap (λ all. slice_get all a) over.puts.heap
+      ∙ over.stay a (λ same. omega (arith, same, behind, space, over.cell_below))
+      (λ same. omega (arith, same, behind, space, over.at_below))
+      (λ from below. omega (
+        arith,
+        below,
+        behind,
+        space,
+        next_before_segments old need over.tied over.room,
+        roots_start_is old.seat.space,
+        layouts_start_is old.seat.space,
+      )))
 
--- so the sizes are there
-pub over_sized : {old mid new : Mutator} {path : Path} {cell : Cell} {shape at word need : ℕ} {words : List ℕ}
-    → PutsOver old mid new path cell shape at word need words → HasSizes (heap_of new)
-over_sized {old} {mid} {new} over =
-    let sized = over.adds.sized in
-    let puts = over.puts in
-    record {
-      words = ap length puts.heap ∙ over.long ∙ sized.words ∙ ap marks_start (sym puts.beside.space);
-      shapes = subst AreShapes (sym puts.paths) sized.shapes;
-      layouts = λ shape below.
-          let at : ℕ = layouts_start mid.seat.space + shape in
-          let behind : layouts_start old.seat.space ≤ at =
-          omega (arith, ap (λ (s : Space). layouts_start s) over.adds.beside.space) in
-          ap (λ (s : Space). slice_get (heap_words new.seat) (layouts_start s + shape)) puts.beside.space
-          ∙ ap (λ all. slice_get all at) puts.heap ∙ layouts_stay at over behind ∙ sized.layouts shape below
-          ∙ ap (λ paths. Some (layout_word paths shape)) (sym puts.paths);
-    }
+  -- how many words of eden are used afterwards
+  pub over_young : new.young ≡ record old.young { used = old.young.used + need }
+  over_young = over.puts.young ∙ over.adds.young
 
--- how many words of eden are used afterwards
-pub over_young : {old mid new : Mutator} {path : Path} {cell : Cell} {shape at word need : ℕ} {words : List ℕ}
-    → PutsOver old mid new path cell shape at word need words
-    → new.young ≡ record old.young { used = old.young.used + need }
-over_young over = over.puts.young ∙ over.adds.young
+  -- all words from the marks on stay
+  pub over_beside : RestStays old.seat new.seat
+  over_beside = rest_stays_again old.seat mid.seat new.seat over.adds.beside over.puts.beside
 
--- all words from the marks on stay
-pub over_beside : {old mid new : Mutator} {path : Path} {cell : Cell} {shape at word need : ℕ} {words : List ℕ}
-    → PutsOver old mid new path cell shape at word need words → RestStays old.seat new.seat
-over_beside {old} {mid} {new} over =
-    rest_stays_again old.seat mid.seat new.seat over.adds.beside over.puts.beside
+  -- the regions are those from before
+  pub over_space : new.seat.space ≡ old.seat.space
+  over_space = over_beside.space
 
--- the regions are those from before
-pub over_space : {old mid new : Mutator} {path : Path} {cell : Cell} {shape at word need : ℕ} {words : List ℕ}
-    → PutsOver old mid new path cell shape at word need words → new.seat.space ≡ old.seat.space
-over_space over = (over_beside over).space
-
--- so one word was put
-pub over_writes_one : {old mid new : Mutator} {path : Path} {cell : Cell} {shape at word need : ℕ} {words : List ℕ}
-    (made : List Cell) → PutsOver old mid new path cell shape at word need words
-    → IsRow new.seat.space (heap_words new.seat) (next_at old) (next_at old + need) made
-    → WritesOne (heap_of old) (heap_of new) cell shape at word made
-over_writes_one {old} {mid} {new} {path} {cell} {shape} {at} {word} {need} made over row =
-    let young = over_young over in
-    let used : new.young.used ≡ old.young.used + need = ap (λ (y : Young). y.used) young in
-    let survivors : new.young.survivors ≡ old.young.survivors = ap (λ (y : Young). y.survivors) young in
-    let space : new.seat.space.sizes.young ≡ old.young.space.sizes.young =
-    ap (λ (s : Space). s.sizes.young) (over_space over ∙ sym over.tied) in
-    let ends : next_at old + need ≡ eden_start old.seat.space + new.young.used = omega (arith, used) in
-    record {
-      same_space = over_space over;
-      same_survivors = survivors;
-      grown = omega (arith, used);
-      room = omega (arith, over.room, used, survivors, space);
-      more = missing old.paths path;
-      paths = over.puts.paths ∙ sym (with_path-is (Some paths_most) old.paths mid.paths path over.adds.leads.added);
-      sized = over_sized over;
-      header = ap (λ all. slice_get all cell.at) over.puts.heap ∙ over.header;
-      put = ap (λ all. slice_get all at) over.puts.heap ∙ over.put;
-      made_stand = subst (λ end. IsRow new.seat.space (heap_words new.seat) (next_at old) end made) ends row;
-      stay = λ a below not_cell not_at not_new.
-          ap (λ all. slice_get all a) over.puts.heap
-          ∙ over.stay a not_cell not_at
-          (λ from before. not_new (record { from = from; below = omega (arith, before, used) }))
-          ∙ over.adds.stay a below;
-    }
+  -- so one word was put
+  pub over_writes_one : (made : List Cell)
+      → IsRow new.seat.space (heap_words new.seat) (next_at old) (next_at old + need) made
+      → WritesOne (heap_of old) (heap_of new) cell shape at word made
+  over_writes_one made row =
+        let used : new.young.used ≡ old.young.used + need = ap (λ (y : Young). y.used) over_young in
+      let survivors : new.young.survivors ≡ old.young.survivors = ap (λ (y : Young). y.survivors) over_young in
+      let space : new.seat.space.sizes.young ≡ old.young.space.sizes.young =
+      ap (λ (s : Space). s.sizes.young) (over_space ∙ sym over.tied) in
+      let ends : next_at old + need ≡ eden_start old.seat.space + new.young.used = omega (arith, used) in
+      record {
+        same_space = over_space;
+        same_survivors = survivors;
+        grown = omega (arith, used);
+        room = omega (arith, over.room, used, survivors, space);
+        more = missing old.paths path;
+        paths = over.puts.paths ∙ sym (with_path-is (Some paths_most) old.paths mid.paths path over.adds.leads.added);
+        sized = over_sized;
+        header = ap (λ all. slice_get all cell.at) over.puts.heap ∙ over.header;
+        put = ap (λ all. slice_get all at) over.puts.heap ∙ over.put;
+        made_stand = subst (λ end. IsRow new.seat.space (heap_words new.seat) (next_at old) end made) ends row;
+        stay = λ a below not_cell not_at not_new.
+            ap (λ all. slice_get all a) over.puts.heap
+            ∙ over.stay a not_cell not_at
+            (λ from before. not_new (record { from = from; below = omega (arith, before, used) }))
+            ∙ over.adds.stay a below;
+      }
 
 -- nothing is reserved where no word is
 pub reserved_none : (main : Mutator) → reserved main 0 ≡ main
