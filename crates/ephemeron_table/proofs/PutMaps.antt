@@ -223,13 +223,15 @@ module _ {old new : Mutator} {map place key count number : ℕ} {table : Table} 
 
   after_filled : (at : ℕ) (one : Pair) → IsFilledAt (slice_set (before comes) place (put comes)) at one
       → IsFilledAt (after comes) at one
-  after_filled at one is = subst (λ pairs. IsFilledAt pairs at one) (sym (pairs_are_now comes.known comes.below comes.puts)) is
+  after_filled at one is =
+      subst (λ pairs. IsFilledAt pairs at one) (sym (pairs_are_now comes.known comes.below comes.puts)) is
 
   -- the pair stands at the place
   pair_stands : IsFilledAt (after comes) place (put comes)
   pair_stands =
       after_filled place (put comes) (record {
-        stands = slice_get-set_same (before comes) place (put comes) (omega (arith, comes.below, pairs_long comes.known));
+        stands = slice_get-set_same (before comes) place (put comes)
+            (omega (arith, comes.below, pairs_long comes.known));
         filled = key_filled (put comes) key refl;
       })
 

@@ -38,11 +38,13 @@ use Rattle.object_cells.proofs.OwnerWrites.{list_owns}
 use Rattle.object_cells.proofs.TakenValues as taken
 use Rattle.object_cells.proofs.TakenValues.{TakesValue}
 use Rattle.object_cells.proofs.OwnPlaces.{has_own_words}
-use Rattle.object_cells.proofs.StoresPut.{PutsInStore, store_apart, of_store, of_store_stays, store_takes, store_slot_now}
+use Rattle.object_cells.proofs.StoresPut.{PutsInStore, store_apart, of_store, of_store_stays, store_takes}
+use Rattle.object_cells.proofs.StoresPut.{store_slot_now}
 use Rattle.object_cells.proofs.StoresPut.{store_slot_stays}
 use Rattle.std.specs.Prelude.{slice_set}
 use Rattle.list_store.specs.Pushes.{WritesSlot}
-use Rattle.object_cells.proofs.ListChanging.{Changing, Elements, changing_store, store_is_no_box, slot_stands, slot_few, list_word}
+use Rattle.object_cells.proofs.ListChanging.{Changing, Elements, changing_store, store_is_no_box, slot_stands, slot_few}
+use Rattle.object_cells.proofs.ListChanging.{list_word}
 use Rattle.object_cells.proofs.RestOfWords.{keeps_regions}
 
 module _ {old new : Mutator} {graph : Graph} {at slot count : ℕ} {list : ListObject} {value : Held} {what : Value}
@@ -226,7 +228,8 @@ module _ {old new : Mutator} {graph : Graph} {at slot count : ℕ} {list : ListO
       written_elements_show old new graph list cell (other ∷ []) made becomes.after known.shows
       known.is.object known.shown.carries known.shown.shows
       becomes.are_new
-      (keeps_regions pushes.words.beside pushes.words.young) pushes.words.paths takes.writes (element_refills puts_element)
+      (keeps_regions pushes.words.beside pushes.words.young) pushes.words.paths takes.writes
+      (element_refills puts_element)
 
   -- each store has as many slots as before
   pub slot_keeps : ChangesObject (heap_of old) (heap_of new) cell.at (capacity_at (heap_of old) cell.at)

@@ -108,7 +108,8 @@ pub box_put : {owner : Kind} {old new : Mutator} {cell : Cell} {others : List Ce
     (before : List ℕ) (holds : SlotContent) (box : ℕ) → PutsOwn owner old new cell others need words
     → length before ≡ length (heap_words old.seat) → next_at old ≤ box → box + content_need holds ≤ next_at old + need
     → ((b : ℕ) → box ≤ b → b < box + content_need holds
-    → slice_get (heap_words new.seat) b ≡ slice_get (with_content before holds box) b) → BoxStands (heap_of new) holds box
+    → slice_get (heap_words new.seat) b ≡ slice_get (with_content before holds box) b) → BoxStands (heap_of new) holds
+    box
 box_put {old = old} {new} {need = need} before holds box puts long from below stands =
     let space = puts.puts.beside.space in
     let ends = next_before_segments old need puts.tied puts.room in

@@ -1,5 +1,5 @@
--- Words of the store or table that an object has were put for a value, and a box made for it: the cells stand again, and
--- the object takes the value.
+-- Words of the store or table that an object has were put for a value, and a box made for it: the cells stand again,
+-- and the object takes the value.
 use Rattle.std.proofs.Common.{◌≡◌, ◌≢◌, ℕ, ◌+◌, ◌≤◌, ◌<◌, ◌⊎◌, inl, inr, [], ◌∷◌, length, slice_get, refl, sym, ◌∙◌}
 use Rattle.std.proofs.Common.{ap, subst, arith, false}
 use Rattle.std.proofs.lemmas.Bool.{false≢true}

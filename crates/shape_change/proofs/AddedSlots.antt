@@ -62,120 +62,112 @@ pub record AddsSlot (old new : Heap) (cell : Cell) (next : ℕ) (others made : L
   pub boxes : (other : Cell) → Contains (others ++ made) other → other.layout.kind ≡ kind.Boxed
       → IsBoxCell other (words_of_cell new other)
 
--- the path had as many fields
-pub as_many : {old new : Heap} {cell : Cell} {next : ℕ} {others made : List Cell} {fields : List Field} {field : Field}
-    → AddsSlot old new cell next others made fields field
-    → length (shape_path old.paths cell.header.shape).fields ≡ length fields
-as_many {fields = fields} adds =
-    ap (λ (p : Path). length p.fields) adds.was
-    ∙ length-map fields (λ (f : Field). record { name = f.name; rep = f.rep })
-
--- the layout after is that of the path with a step
-laid_after : {old new : Heap} {cell : Cell} {next : ℕ} {others made : List Cell} {fields : List Field} {field : Field}
-    → AddsSlot old new cell next others made fields field
-    → (reshaped new.paths cell next).layout
-    ≡ layout_of (stepped (shape_path old.paths cell.header.shape) field.name field.rep)
-laid_after {cell = cell} {fields = fields} {field} adds =
-    ap layout_of (adds.path ∙ path_of-push cell.layout.cap fields field
-    ∙ ap (λ p. stepped p field.name field.rep) (sym adds.was))
-
--- where the word of a tagged slot comes from
-slot_comes : {old new : Heap} {cell : Cell} {next : ℕ} {others made : List Cell} {fields : List Field} {field : Field}
-    (k x : ℕ) (adds : AddsSlot old new cell next others made fields field)
-    → SlotIs adds.sound.slots (length fields) adds.word k x → IsTaggedSlot (reshaped new.paths cell next) k
-    → ComesFrom new (HasTagged cell adds.sound.slots) made k (length fields) k x
-slot_comes {new = new} {cell} {next} {made = made} {fields} k x adds (SlotIs.put at is) tagged =
-    let tagged_at : IsTaggedSlot (reshaped new.paths cell next) (length fields) =
-    subst (IsTaggedSlot (reshaped new.paths cell next)) at tagged in
-    let was : ℕ → ℕ → Type 0 = HasTagged cell adds.sound.slots in
-    subst (λ n. ComesFrom new was made n (length fields) n x) (sym at)
-    (subst (ComesFrom new was made (length fields) (length fields) (length fields)) (sym is) (adds.comes tagged_at))
-slot_comes {new = new} {cell} {next} {field = field} k x adds (SlotIs.kept apart there) tagged =
-    let one : Cell = reshaped new.paths cell next in
-    ComesFrom.moved (
-      there,
-      tagged_before one field.name field.rep k adds.whole.sized adds.has
-          adds.plain adds.sound.shape
-          (cap_is adds.whole.sized adds.has adds.sound.shape) (laid_after adds) (λ same. apart (same ∙ as_many adds)) tagged,
-    )
-slot_comes {new = new} k x adds (SlotIs.more apart behind is) tagged =
-    ComesFrom.none (subst (NamesNone new) (sym is) hole_names_none)
-
--- what a slot shows that holds what it held
-kept_shows : {old new : Heap} {cell : Cell} {next : ℕ} {others made : List Cell} {fields : List Field} {field : Field}
-    (k x : ℕ) (one : Field) (adds : AddsSlot old new cell next others made fields field) → slice_get fields k ≡ Some one
-    → HasWord adds.sound.slots k x → ShowsSlot new cell adds.sound.slots others fields k k x one
-kept_shows k x one adds was there =
-    ShowsSlot.kept one was refl refl there refl (λ tagged other among boxed.
-    let apart : kind.Store ≡ kind.Boxed = sym (adds.stores_only other among) ∙ boxed in
-    cc)
-
--- a slot below that of the field holds what it held
-old_slot : {old new : Heap} {cell : Cell} {next : ℕ} {others made : List Cell} {fields : List Field} {field : Field}
-    (k x : ℕ) (adds : AddsSlot old new cell next others made fields field) → k < length fields
-    → SlotIs adds.sound.slots (length fields) adds.word k x → HasWord adds.sound.slots k x
-old_slot k x adds below (SlotIs.put at is) = absurd (omega arith)
-old_slot k x adds below (SlotIs.kept apart there) = there
-old_slot k x adds below (SlotIs.more apart behind is) = absurd (omega (arith, adds.sound.hold.room, as_many adds))
-
 -- that of the field holds the word
 last_slot : {slots : List ℕ} {slot word : ℕ} (k x : ℕ) → k ≡ slot → SlotIs slots slot word k x → x ≡ word
 last_slot k x same (SlotIs.put at is) = is
 last_slot k x same (SlotIs.kept apart there) = absurd (apart same)
 last_slot k x same (SlotIs.more apart behind is) = absurd (apart same)
 
--- what each slot of a field shows
-slot_shows : {old new : Heap} {cell : Cell} {next : ℕ} {others made : List Cell} {fields : List Field} {field : Field}
-    (k x : ℕ) (one : Field) (adds : AddsSlot old new cell next others made fields field)
-    → SlotIs adds.sound.slots (length fields) adds.word k x → slice_get (fields ++ field ∷ []) k ≡ Some one
-    → ShowsSlot new cell adds.sound.slots others fields k k x one
-slot_shows {new = new} {cell} {fields = fields} {field} k x one adds is there =
-    elim (push_cases fields field k one there) [
-      | inl old ↦ kept_shows k x one adds old.1 (old_slot k x adds old.0 is)
-      | inr last ↦
-          let word : x ≡ adds.word = last_slot k x last.0 is in
-          let shows = subst (λ n. ShowsField new (nat_lt n cell.layout.cap) adds.word field.rep field.value)
-          (sym last.0)
-          adds.shows in
-          let of_one = subst (λ (f : Field). ShowsField new (nat_lt k cell.layout.cap) adds.word f.rep f.value) last.1
-          shows in
-          ShowsSlot.fresh (subst (λ n. ShowsField new (nat_lt k cell.layout.cap) n one.rep one.value) (sym word) of_one)
-    ]
+module _ {old new : Heap} {cell : Cell} {next : ℕ} {others made : List Cell} {fields : List Field} {field : Field}
+    (adds : AddsSlot old new cell next others made fields field) where
+  -- the path had as many fields
+  as_many : length (shape_path old.paths cell.header.shape).fields ≡ length fields
+  as_many =
+      ap (λ (p : Path). length p.fields) adds.was
+      ∙ length-map fields (λ (f : Field). record { name = f.name; rep = f.rep })
 
--- the slots behind the fields are holes
-slot_rest : {old new : Heap} {cell : Cell} {next : ℕ} {others made : List Cell} {fields : List Field} {field : Field}
-    (k x : ℕ) (adds : AddsSlot old new cell next others made fields field) → length (fields ++ field ∷ []) ≤ k
-    → SlotIs adds.sound.slots (length fields) adds.word k x → x ≡ hole_word
-slot_rest {fields = fields} {field} k x adds behind (SlotIs.put at is) =
-    absurd (omega (arith, behind, at, length-append fields (field ∷ [])))
-slot_rest {fields = fields} {field} k x adds behind (SlotIs.kept apart there) =
-    adds.sound.hold.rest k x (omega (arith, behind, length-append fields (field ∷ []), as_many adds)) there
-slot_rest k x adds behind (SlotIs.more apart past is) = is
+  -- the layout after is that of the path with a step
+  laid_after : (reshaped new.paths cell next).layout
+      ≡ layout_of (stepped (shape_path old.paths cell.header.shape) field.name field.rep)
+  laid_after =
+      ap layout_of (adds.path ∙ path_of-push cell.layout.cap fields field
+      ∙ ap (λ p. stepped p field.name field.rep) (sym adds.was))
 
--- so its slots refill the object
-pub added_refills : {old new : Heap} {cell : Cell} {next : ℕ} {others made : List Cell} {fields : List Field}
-    {field : Field} → AddsSlot old new cell next others made fields field
-    → RefillsSlots old new cell next others made fields (fields ++ field ∷ [])
-added_refills {fields = fields} {field} adds = record {
-  slots = adds.sound.slots;
-  were = adds.sound.has;
-  now = adds.now;
-  are = adds.are;
-  path = adds.path;
-  enough = omega (arith, adds.room, length-append fields (field ∷ []));
-  refills = record {
-    origin = λ k. k;
-    apart = λ k other word another there there_too same. same;
-    one = length fields;
-    each_slot = λ k x there. slot_comes k x adds (adds.puts k x there.0) there.1;
-    store = adds.are.store;
-    has_store = adds.are.slot;
-    store_comes = adds.store_comes;
-    belong = adds.belong;
-    kinds = adds.kinds;
-    stores = adds.stores;
-    boxes = adds.boxes;
-  };
-  each_field = λ k x one is there. slot_shows k x one adds (adds.puts k x there) is;
-  rest = λ k x behind there. slot_rest k x adds behind (adds.puts k x there);
-}
+  -- where the word of a tagged slot comes from
+  slot_comes : (k x : ℕ) → SlotIs adds.sound.slots (length fields) adds.word k x
+      → IsTaggedSlot (reshaped new.paths cell next) k
+      → ComesFrom new (HasTagged cell adds.sound.slots) made k (length fields) k x
+  slot_comes k x (SlotIs.put at is) tagged =
+      let tagged_at : IsTaggedSlot (reshaped new.paths cell next) (length fields) =
+      subst (IsTaggedSlot (reshaped new.paths cell next)) at tagged in
+      let was : ℕ → ℕ → Type 0 = HasTagged cell adds.sound.slots in
+      subst (λ n. ComesFrom new was made n (length fields) n x) (sym at)
+      (subst (ComesFrom new was made (length fields) (length fields) (length fields)) (sym is) (adds.comes tagged_at))
+  slot_comes k x (SlotIs.kept apart there) tagged =
+      let one : Cell = reshaped new.paths cell next in
+      ComesFrom.moved (
+        there,
+        tagged_before one field.name field.rep k adds.whole.sized adds.has
+            adds.plain adds.sound.shape
+            (cap_is adds.whole.sized adds.has adds.sound.shape) laid_after (λ same. apart (same ∙ as_many)) tagged,
+      )
+  slot_comes k x (SlotIs.more apart behind is) tagged =
+      ComesFrom.none (subst (NamesNone new) (sym is) hole_names_none)
+
+  -- what a slot shows that holds what it held
+  kept_shows : (k x : ℕ) (one : Field) → slice_get fields k ≡ Some one
+      → HasWord adds.sound.slots k x → ShowsSlot new cell adds.sound.slots others fields k k x one
+  kept_shows k x one was there =
+      ShowsSlot.kept one was refl refl there refl (λ tagged other among boxed.
+      let apart : kind.Store ≡ kind.Boxed = sym (adds.stores_only other among) ∙ boxed in
+      cc)
+
+  -- a slot below that of the field holds what it held
+  old_slot : (k x : ℕ) → k < length fields
+      → SlotIs adds.sound.slots (length fields) adds.word k x → HasWord adds.sound.slots k x
+  old_slot k x below (SlotIs.put at is) = absurd (omega arith)
+  old_slot k x below (SlotIs.kept apart there) = there
+  old_slot k x below (SlotIs.more apart behind is) = absurd (omega (arith, adds.sound.hold.room, as_many))
+
+  -- what each slot of a field shows
+  slot_shows : (k x : ℕ) (one : Field) → SlotIs adds.sound.slots (length fields) adds.word k x
+      → slice_get (fields ++ field ∷ []) k ≡ Some one
+      → ShowsSlot new cell adds.sound.slots others fields k k x one
+  slot_shows k x one is there =
+      elim (push_cases fields field k one there) [
+        | inl old ↦ kept_shows k x one old.1 (old_slot k x old.0 is)
+        | inr last ↦
+            let word : x ≡ adds.word = last_slot k x last.0 is in
+            let shows = subst (λ n. ShowsField new (nat_lt n cell.layout.cap) adds.word field.rep field.value)
+            (sym last.0)
+            adds.shows in
+            let of_one = subst (λ (f : Field). ShowsField new (nat_lt k cell.layout.cap) adds.word f.rep f.value) last.1
+            shows in
+            ShowsSlot.fresh (subst (λ n. ShowsField new (nat_lt k cell.layout.cap) n one.rep one.value) (sym word)
+            of_one)
+      ]
+
+  -- the slots behind the fields are holes
+  slot_rest : (k x : ℕ) → length (fields ++ field ∷ []) ≤ k
+      → SlotIs adds.sound.slots (length fields) adds.word k x → x ≡ hole_word
+  slot_rest k x behind (SlotIs.put at is) =
+      absurd (omega (arith, behind, at, length-append fields (field ∷ [])))
+  slot_rest k x behind (SlotIs.kept apart there) =
+      adds.sound.hold.rest k x (omega (arith, behind, length-append fields (field ∷ []), as_many)) there
+  slot_rest k x behind (SlotIs.more apart past is) = is
+
+  -- so its slots refill the object
+  pub added_refills : RefillsSlots old new cell next others made fields (fields ++ field ∷ [])
+  added_refills = record {
+    slots = adds.sound.slots;
+    were = adds.sound.has;
+    now = adds.now;
+    are = adds.are;
+    path = adds.path;
+    enough = omega (arith, adds.room, length-append fields (field ∷ []));
+    refills = record {
+      origin = λ k. k;
+      apart = λ k other word another there there_too same. same;
+      one = length fields;
+      each_slot = λ k x there. slot_comes k x (adds.puts k x there.0) there.1;
+      store = adds.are.store;
+      has_store = adds.are.slot;
+      store_comes = adds.store_comes;
+      belong = adds.belong;
+      kinds = adds.kinds;
+      stores = adds.stores;
+      boxes = adds.boxes;
+    };
+    each_field = λ k x one is there. slot_shows k x one (adds.puts k x there) is;
+    rest = λ k x behind there. slot_rest k x behind (adds.puts k x there);
+  }

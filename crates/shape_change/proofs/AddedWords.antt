@@ -77,7 +77,7 @@ module _ {old mid new : Mutator} {path : Path} {cell : Cell} {shape at word need
       → IsRow new.seat.space (heap_words new.seat) (next_at old) (next_at old + need) made
       → WritesOne (heap_of old) (heap_of new) cell shape at word made
   over_writes_one made row =
-        let used : new.young.used ≡ old.young.used + need = ap (λ (y : Young). y.used) over_young in
+      let used : new.young.used ≡ old.young.used + need = ap (λ (y : Young). y.used) over_young in
       let survivors : new.young.survivors ≡ old.young.survivors = ap (λ (y : Young). y.survivors) over_young in
       let space : new.seat.space.sizes.young ≡ old.young.space.sizes.young =
       ap (λ (s : Space). s.sizes.young) (over_space ∙ sym over.tied) in

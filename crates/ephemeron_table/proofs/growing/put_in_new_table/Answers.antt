@@ -21,7 +21,8 @@ slot_before map marks within = omega arith
 pub begin_table-requires-clause-within : goal.begin_table-requires-clause-within
 begin_table-requires-clause-within c =
     let space = ap (λ (main : Mutator). marks_start main.seat.space) c.in_ok-at.ensures.reserved in
-    let before = grown_before_marks c.requires.can c.addresses_fit.ensures.heap_counted c.need_of.result c.in_ok-at.ensures.room
+    let before = grown_before_marks c.requires.can c.addresses_fit.ensures.heap_counted c.need_of.result
+    c.in_ok-at.ensures.room
     c.in_ok-at.ensures.at c.grown-capacity.ensures in
     omega (arith, before, space)
 
@@ -74,7 +75,8 @@ boxed_word-word-requires-clause-within c v boxed =
     let two : c.need_of.result ≡ 2 = c.need_of.ensures ∙ ap content_need boxed in
     let space = c.rehash.ensures.changes.rest.space ∙ c.begin_table.ensures.beside.space
     ∙ ap (λ (main : Mutator). main.seat.space) c.in_ok-at.ensures.reserved in
-    let before = grown_before_marks c.requires.can c.addresses_fit.ensures.heap_counted c.need_of.result c.in_ok-at.ensures.room
+    let before = grown_before_marks c.requires.can c.addresses_fit.ensures.heap_counted c.need_of.result
+    c.in_ok-at.ensures.room
     c.in_ok-at.ensures.at c.grown-capacity.ensures in
     omega (arith, before, two, ap (λ (s : Space). marks_start s) space)
 
@@ -91,7 +93,8 @@ insert_rehashed-requires-clause-quiet c =
 
 pub insert_rehashed-requires-clause-within : goal.insert_rehashed-requires-clause-within
 insert_rehashed-requires-clause-within c =
-    let within = begun_within c.requires.can c.addresses_fit.ensures.heap_counted c.need_of.result c.in_ok-at.ensures.room
+    let within = begun_within c.requires.can c.addresses_fit.ensures.heap_counted c.need_of.result
+    c.in_ok-at.ensures.room
     c.in_ok-at.ensures.at c.grown-capacity.ensures c.in_ok-at.ensures.reserved
     c.begin_table.ensures in
     subst (λ (s : Space). c.in_ok-at.at + (store_head + 2 * c.grown-capacity.result) ≤ marks_start s)
@@ -111,7 +114,8 @@ made-requires-clause-quiet c =
 
 pub made-requires-clause-within : goal.made-requires-clause-within
 made-requires-clause-within c =
-    let within = begun_within c.requires.can c.addresses_fit.ensures.heap_counted c.need_of.result c.in_ok-at.ensures.room
+    let within = begun_within c.requires.can c.addresses_fit.ensures.heap_counted c.need_of.result
+    c.in_ok-at.ensures.room
     c.in_ok-at.ensures.at c.grown-capacity.ensures c.in_ok-at.ensures.reserved
     c.begin_table.ensures in
     let space = c.insert_rehashed.ensures.words.beside.space ∙ c.boxed_word-word.ensures.made.beside.space
