@@ -5,4 +5,5 @@ mod CellRegions
 mod RowWalks
 mod FilledWords
 pub mod ImageStores
+pub mod ImagesTight
 pub mod Keeping

@@ -4,6 +4,7 @@ use Rattle.object_graph.specs.Graphs.{Graph}
 use Rattle.heap_model.specs.Heaps.{Heap}
 use Rattle.heap_model.specs.Wholeness.{Whole, Blank}
 use Rattle.heap_model.specs.Showing.{Shows}
+use Rattle.heap_model.specs.Reaching.{IsTight}
 use Rattle.heap_model.specs.Slots.{IsPlace}
 use Rattle.heap_model.specs.Needs.{capacity_at}
 use Rattle.heap_model.specs.Rooms.{Room, HasRooms}
@@ -29,3 +30,7 @@ abbrev pub ImagesHaveRooms : Type 0
 ImagesHaveRooms =
     (heap image : Heap) (graph : Graph) (rooms : ℕ → Room) → Shows heap graph → IsImageOf heap image
     → HasRooms heap graph rooms ↔ HasRooms image graph rooms
+
+-- An image of a whole heap in which only what is reached is kept is such a heap too.
+abbrev pub ImagesAreTight : Type 0
+ImagesAreTight = (heap image : Heap) → Whole heap → IsTight heap → IsImageOf heap image → IsTight image

@@ -1,10 +1,9 @@
 -- What is known of a weak map and its table before words of them change.
+use Rattle.std.specs.Prelude.{option_map}
 use Rattle.std.proofs.Common.{◌≡◌, ◌≢◌, ℕ, ◌+◌, ◌*◌, ◌≤◌, ◌<◌, inl, inr, List, length, drop, Some, None, slice_get}
 use Rattle.std.proofs.Common.{unwrap_or, sym, ◌∙◌, ap, subst, arith, length-drop}
-use Rattle.std.specs.Prelude.{option_map}
-use Rattle.std.proofs.lemmas.Bool.{false≢true}
+use Rattle.std.proofs.lemmas.Bool.{false≢true, cases_lt}
 use Rattle.std.proofs.lemmas.Option.{same_Some, none-some, slice_get-map}
-use Rattle.heap_model.specs.Types.{Kind, Cell}
 use Rattle.tagged_word.specs.declared.layout.Kind.TheVariants as kind
 use Rattle.tagged_word.specs.Cells.{store_head, store_slot}
 use Rattle.tagged_word.proofs.Readings.{reference_to, reference_from}
@@ -12,34 +11,41 @@ use Rattle.page_space.specs.Sizes.{AreWithin}
 use Rattle.linear_probing.specs.Tables.{FindsAll}
 use Rattle.linear_probing.specs.Tables as probing
 use Rattle.linear_probing.proofs.Findings.{still_probed}
+use Rattle.nursery.specs.Young.{HasRoom}
 use Rattle.object_graph.specs.Graphs.{Graph, WeakObject}
 use Rattle.heap_table.specs.Seats.{heap_words}
+use Rattle.heap_model.specs.Types.{Kind, Cell}
 use Rattle.heap_model.specs.Heaps.{HasCell, words_of_cell}
 use Rattle.heap_model.specs.Slots.{is_object_kind, RefersToPlace}
 use Rattle.heap_model.specs.Kinds.{HasWord, Pair, free_pair, HasTable, IsWeakCell, IsFoundPair, IsProbed, HasNoNumber}
 use Rattle.heap_model.specs.Kinds.{IsSoundOf, count_offset}
-use Rattle.heap_model.specs.Wholeness.{Whole, NamesFrom}
+use Rattle.heap_model.specs.Wholeness.{Whole}
 use Rattle.heap_model.specs.Needs.{count_at}
 use Rattle.heap_model.proofs.CellsApart.{IsOfCell, first_of_cell, cells_apart}
 use Rattle.heap_model.proofs.CellWords.{words_by_kind, words_are_size}
-use Rattle.heap_model.proofs.OneOwner.{names_store}
 use Rattle.heap_model.proofs.WordClasses.{same_reference}
-use Rattle.write_barrier.specs.MutatorState.{Mutator, heap_of, IsTied, MainShows}
+use Rattle.write_barrier.specs.MutatorState.{Mutator, heap_of, IsTied, MainShows, reserved}
 use Rattle.object_cells.specs.CellWrites.{IsInCell}
+use Rattle.object_cells.specs.Contents.{next_at}
+use Rattle.object_cells.specs.Made.{PutsWords, content_need, with_content}
+use Rattle.object_cells.specs.declared.content.SlotContent.{SlotContent}
 use Rattle.object_cells.proofs.CellsRead.{word_stands, cell_at_before_marks}
 use Rattle.object_cells.proofs.OwnPlaces.{has_own_words}
+use Rattle.object_cells.proofs.TakenValues.{IsItsStore}
+use Rattle.object_cells.proofs.OwnContents.{PutsBeside}
+use Rattle.object_cells.proofs.OwnerWrites.{weak_owns}
 use Rattle.object_cells.proofs.WordsTold.{cell_fits}
-use Rattle.ephemeron_table.specs.WeakObjects.{IsWeakAt}
 use Rattle.weak_pairs.specs.Pairs.{HasPairs}
-use Rattle.ephemeron_table.specs.Probes.{IsWeakCellAt, IsTableAt}
 use Rattle.weak_pairs.specs.Tables.{number_at, KeysOutsidePairs, IsKeyOutside, IsOutsidePairs, numbers, key_number}
 use Rattle.weak_pairs.specs.Tables.{pairs_of}
 use Rattle.weak_pairs.specs.declared.table.Table.{Table}
 use Rattle.weak_pairs.proofs.KeyedPairs.{free_or_filled}
 use Rattle.weak_pairs.proofs.PairNumbers.{keyed_filled, length-numbers, number_place}
 use Rattle.weak_pairs.proofs.CountedPairs.{count_filled}
+use Rattle.weak_pairs.proofs.PairLists.{pairs_are, length-pairs_in}
+use Rattle.ephemeron_table.specs.WeakObjects.{IsWeakAt}
+use Rattle.ephemeron_table.specs.Probes.{IsWeakCellAt, IsTableAt}
 use Rattle.ephemeron_table.proofs.KeysFound.{number_is, weak_shown, shown_there}
-use Rattle.weak_pairs.proofs.PairLists.{pairs_are, beside_run, length-pairs_in}
 use Rattle.ephemeron_table.proofs.TablesRead.{IsFoundTable, found_table, weak_sound, weak_pairs}
 
 -- The table that was read is that of the weak map at the address.
@@ -119,17 +125,15 @@ module _ {old : Mutator} {map : ℕ} {table : Table} (known : KnownMap old map t
       (word_stands count_offset (count_filled sound.pairs) known.there.has sound.counted)
       ∙ ap count_filled (sym pairs_same)
 
-  -- the words of the map's cell
+  -- it has three words
+  pub map_size : cell.size ≡ 3
+  map_size = sym (words_are_size known.there.has) ∙ words_by_kind kind.Weak known.there.has known.there.of_kind
+
+  -- which are these
   pub of_map : (k : ℕ) → k < 3 → IsOfCell cell (map + k)
   of_map k below = record {
     from = omega (arith, known.there.stands);
-    below = omega (
-      arith,
-      known.there.stands,
-      below,
-      words_by_kind kind.Weak known.there.has known.there.of_kind,
-      words_are_size known.there.has,
-    );
+    below = omega (arith, known.there.stands, below, map_size);
   }
 
   -- the number of a pair that holds something
@@ -203,13 +207,21 @@ module _ {old : Mutator} {map : ℕ} {table : Table} (known : KnownMap old map t
           found.long,
         )
 
-    -- what is not in the table is beside its pairs
+    -- what is not behind its head is beside its pairs
+    pub beside_slots : (a : ℕ) → (other.at + store_head ≤ a → a < other.at + other.size → ⊥) → IsOutsidePairs table a
+    beside_slots a not_in = elim (cases_lt a (table.at + store_head)) [
+      | inl low ↦ inl low
+      | inr from ↦ elim (cases_lt a (table.at + (store_head + 2 * table.capacity))) [
+        | inl below ↦ absurd (not_in (omega (arith, from, found.stands))
+            (omega (arith, below, found.stands, found.size, other_long)))
+        | inr high ↦ inr high
+      ]
+    ]
+
+    -- so is what is not in it
     pub beside_table : (a : ℕ) → (IsInCell a other → ⊥) → IsOutsidePairs table a
     beside_table a not_in =
-        beside_run table a (λ from below. not_in (record {
-          from = omega (arith, from, found.stands);
-          below = omega (arith, below, found.stands, found.size, other_long);
-        }))
+        beside_slots a (λ from below. not_in (record { from = omega (arith, from); below = below }))
 
     -- and so is what is in no table
     pub cell_beside : {one : Cell} {words : List ℕ} (a : ℕ) → HasCell (heap_of old) one words
@@ -235,11 +247,6 @@ module _ {old : Mutator} {map : ℕ} {table : Table} (known : KnownMap old map t
     pub of_head : (k : ℕ) → k < 2 → IsOfCell other (other.at + k)
     of_head k below = record { from = omega arith; below = omega (arith, below, found.size) }
 
-    -- so none of them is a word of the map's cell
-    pub head_apart : (j k : ℕ) → j < 3 → k < 2 → other.at + k ≢ map + j
-    head_apart j k within below same =
-        map_apart (other.at + k) (subst (IsOfCell cell) (sym same) (of_map j within)) (of_head k below)
-
     -- so the words of the map's cell are beside the pairs
     pub map_beside : (k : ℕ) → k < 3 → IsOutsidePairs table (map + k)
     map_beside k below = cell_beside (map + k) cell_has map_no_table (of_map k below)
@@ -257,14 +264,36 @@ module _ {old : Mutator} {map : ℕ} {table : Table} (known : KnownMap old map t
               (λ is. false≢true (sym (ap is_object_kind is) ∙ key.place.object)) (first_of_cell key.place.has);
         })
 
-    -- the table belongs to the map
-    pub other_belongs : NamesFrom (heap_of old) cell (cell.at + store_slot) other.at
-    other_belongs =
-        names_store sound.store cell_has (ap is_object_kind known.there.of_kind) slot_there
-        (record { refers = found.refers.refers; has = other_has }) (inr found.of_kind)
-
-    -- and has no number
+    -- the table has no number
     pub other_number : HasNoNumber other
     other_number =
         (subst (λ k. IsSoundOf k (heap_of old) other found.words) found.of_kind
         (known.whole.sound other found.words found.refers.has)).no_number
+
+    -- so it is the map's
+    pub known_store : IsItsStore kind.Table sound.store other
+    known_store = record { of_kind = found.of_kind; no_number = other_number; refers = found.refers.refers }
+
+    -- Words of the map's cell and of its table were put.
+    pub puts_beside : {new : Mutator} {holds : SlotContent} {words : List ℕ} → HasRoom old.young (content_need holds)
+        → PutsWords (reserved old (content_need holds)) new words → length words ≡ length (heap_words old.seat)
+        → ((a : ℕ) → IsOutsidePairs table a → a ≢ map + count_offset
+        → slice_get words a ≡ slice_get (with_content (heap_words old.seat) holds (next_at old)) a)
+        → PutsBeside kind.Weak kind.Table old new cell other sound.store holds words
+    puts_beside room puts long beside = record {
+      owns = weak_owns;
+      tied = known.tied;
+      whole = known.whole;
+      has = cell_has;
+      of_kind = known.there.of_kind;
+      counts = map_size;
+      other_has = other_has;
+      other_long = omega (arith, found.size);
+      is = known_store;
+      slot = slot_there;
+      room = room;
+      puts = puts;
+      long = long;
+      beside = λ a not_count not_slot. beside a (beside_slots a not_slot)
+          (λ same. not_count (omega (arith, same, known.there.stands)));
+    }

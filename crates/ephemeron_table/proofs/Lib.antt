@@ -31,7 +31,6 @@ pub mod GrownWords
 pub mod GrownPairs
 pub mod GrownMaps
 pub mod SlotValues
-pub mod BoxedValues
 pub mod BoxedMaps
 pub mod PutKeys
 pub mod NoPair

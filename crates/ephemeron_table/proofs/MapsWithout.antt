@@ -1,34 +1,33 @@
 -- A pair that was removed from a weak map's table refills the map.
-use Rattle.std.proofs.Common.{◌≡◌, ℕ, ◌+◌, ◌-◌, ◌<◌, inl, List, [], ◌∷◌, Contains, Some, slice_get, refl, sym, ◌∙◌}
-use Rattle.std.proofs.Common.{ap, subst, arith, add-zero}
+use Rattle.std.proofs.Common.{◌≡◌, ℕ, ◌+◌, ◌-◌, ◌<◌, inl, List, [], ◌∷◌, Some, slice_get, refl, ◌∙◌, ap, arith}
+use Rattle.std.proofs.Common.{Contains}
 use Rattle.tagged_word.specs.declared.layout.Kind.TheVariants as kind
 use Rattle.tagged_word.specs.Cells.{store_slot}
-use Rattle.tagged_word.proofs.Members.{first_in, one_in}
-use Rattle.heap_model.specs.Types.{Cell}
+use Rattle.tagged_word.proofs.Members.{first_in}
 use Rattle.heap_table.specs.Seats.{heap_words}
+use Rattle.heap_model.specs.Types.{Cell}
 use Rattle.heap_model.specs.Heaps.{HasCell, words_of_cell}
-use Rattle.heap_model.specs.Slots.{reference_word, RefersToPlace}
-use Rattle.heap_model.specs.Kinds.{HasWord, Pair, count_offset, HasNoNumber}
-use Rattle.heap_model.specs.Wholeness.{NamesFrom}
+use Rattle.heap_model.specs.Slots.{RefersToPlace, hole_word}
+use Rattle.heap_model.specs.Kinds.{HasWord, Pair, count_offset}
 use Rattle.heap_model.specs.Needs.{count_at}
 use Rattle.heap_model.proofs.BoundHeaps.{none_in}
 use Rattle.write_barrier.specs.MutatorState.{Mutator, heap_of}
-use Rattle.object_cells.specs.Contents.{next_at}
+use Rattle.object_cells.specs.OwnSlots.{ComesFrom}
+use Rattle.object_cells.specs.declared.content.SlotContent.TheVariants as content
 use Rattle.object_cells.proofs.SlotsNow.{word_at_offset}
 use Rattle.object_cells.proofs.NothingUsed.{room_for_none, used_and_none}
-use Rattle.object_cells.proofs.OwnPuts.{PutsOwn, own_writes, one_owned}
-use Rattle.object_cells.proofs.MadeBoxes.{row_of_none}
+use Rattle.object_cells.proofs.TakenValues.{IsItsStore, only_store}
+use Rattle.object_cells.proofs.OwnContents as own
+use Rattle.object_cells.proofs.OwnContents.{PutsBeside}
 use Rattle.weak_pairs.specs.Pairs.{HasPairs, IsFilledAt}
-use Rattle.object_cells.specs.OwnSlots.{ComesFrom}
-use Rattle.ephemeron_table.specs.PairWrites.{WritesWeak, RefillsPairs, ShowsPair}
-use Rattle.ephemeron_table.specs.PairLaws.{RefillsWeak}
-use Rattle.ephemeron_table.specs.Removals.{RemovesAt}
 use Rattle.weak_pairs.specs.Tables.{pairs_of}
 use Rattle.weak_pairs.specs.declared.table.Table.{Table}
 use Rattle.weak_pairs.proofs.CountedPairs.{count_filled}
-use Rattle.ephemeron_table.proofs.KnownTables.{KnownMap, cell, cell_has, sound, slot_there, count_is, of_map}
-use Rattle.ephemeron_table.proofs.KnownTables.{finds_all, found, other, other_has, map_beside, other_belongs}
-use Rattle.ephemeron_table.proofs.KnownTables.{other_number, are_before, head_apart, beside_table, table_is_no_box}
+use Rattle.ephemeron_table.specs.PairWrites.{RefillsPairs, ShowsPair}
+use Rattle.ephemeron_table.specs.PairLaws.{RefillsWeak}
+use Rattle.ephemeron_table.specs.Removals.{RemovesAt}
+use Rattle.ephemeron_table.proofs.KnownTables.{KnownMap, cell, sound, slot_there, count_is, of_map, finds_all, other}
+use Rattle.ephemeron_table.proofs.KnownTables.{are_before, known_store, table_is_no_box, puts_beside}
 use Rattle.ephemeron_table.proofs.StayingTables as staying
 use Rattle.ephemeron_table.proofs.StayingTables.{WritesMap, StaysTable}
 
@@ -50,74 +49,38 @@ module _ {old new : Mutator} {map place : ℕ} {table : Table} (known : KnownMap
   abbrev table_cell : Cell
   table_cell = other known some
 
-  -- so words of the map's own cells were put
-  puts : PutsOwn kind.Weak old new map_cell (table_cell ∷ []) 0 (heap_words new.seat)
-  puts = record {
-    tied = known.tied;
-    whole = known.whole;
-    has = cell_has known;
-    of_kind = known.there.of_kind;
-    stood = λ one among. subst (λ (c : Cell). HasCell (heap_of old) c (words_of_cell (heap_of old) c))
-        (one_in table_cell one among) (other_has known some);
-    room = room_for_none old known.tied known.whole;
-    puts = record {
-      beside = removes.rest;
-      paths = removes.paths;
-      young = removes.young ∙ used_and_none old.young;
-      heap = refl;
-    };
-    long = removes.long;
-    stay = λ a not_cell not_others not_new. removes.beside a
-        (beside_table known some a (not_others table_cell (first_in table_cell [])))
-        (λ same. let of_cell = of_map known 2 (omega arith) in
-        not_cell (record { from = omega (arith, same, of_cell.from); below = omega (arith, same, of_cell.below) }));
-  }
-
-  -- a word of the table's head stays
-  head_stays : (k : ℕ) → k < 2 → slice_get (heap_words new.seat) (table_cell.at + k)
-      ≡ slice_get (heap_words old.seat) (table_cell.at + k)
-  head_stays k below =
-      removes.beside (table_cell.at + k) (inl (omega (arith, below, (found known some).stands)))
-      (head_apart known some 2 k (omega arith) below)
-
-  -- a word of the map's cell but its count stays
-  map_stays : (k : ℕ) → k < 2 → slice_get (heap_words new.seat) (map_cell.at + k)
-      ≡ slice_get (heap_words old.seat) (map_cell.at + k)
-  map_stays k below =
-      subst (λ n. slice_get (heap_words new.seat) (n + k) ≡ slice_get (heap_words old.seat) (n + k))
-      (sym known.there.stands)
-      (removes.beside (map + k) (map_beside known some k (omega (arith, below))) (λ same. omega (arith, same, below)))
-
-  -- cells were written so
-  pub writes : WritesWeak (heap_of old) (heap_of new) map_cell (table_cell ∷ []) []
-  writes =
-      let first : map_cell.at + 0 ≡ map_cell.at = add-zero map_cell.at in
-      own_writes [] puts
-      (subst (λ n. slice_get (heap_words new.seat) n ≡ slice_get (heap_words old.seat) n) first
-      (map_stays 0 (omega arith)))
-      (one_owned (other_has known some) (found known some).of_kind head_stays)
-      (row_of_none (heap_of new) (next_at old))
-
-  -- the table belongs to the map
-  pub belong : (one : Cell) → Contains (table_cell ∷ []) one → (slot : ℕ) × NamesFrom (heap_of old) map_cell slot one.at
-  belong one among = (
-    map_cell.at + store_slot,
-    subst (λ (c : Cell). NamesFrom (heap_of old) map_cell (map_cell.at + store_slot) c.at) (one_in table_cell one among)
-        (other_belongs known some),
-  )
+  -- so words of both cells were put, and the place came to hold nothing
+  pub putting : PutsBeside kind.Weak kind.Table old new map_cell table_cell (sound known).store
+      (content.Tagged (record { 0 = hole_word })) (heap_words new.seat)
+  putting =
+      puts_beside known some (room_for_none old known.tied known.whole)
+      (record {
+        beside = removes.rest;
+        paths = removes.paths;
+        young = removes.young ∙ used_and_none old.young;
+        heap = refl;
+      })
+      removes.long removes.beside
 
   -- the word of the map for its table stays
   pub slot_stays : slice_get (heap_words new.seat) (map_cell.at + store_slot)
       ≡ slice_get (heap_words old.seat) (map_cell.at + store_slot)
-  slot_stays = map_stays 1 (omega arith)
+  slot_stays = own.slot_stays putting
 
   -- so words of the map's own cells were written
   abbrev written : WritesMap old new map table known (table_cell ∷ []) []
   written = record {
-    writes = writes;
-    belong = belong;
+    writes = own.writes putting;
+    belong = own.belong putting;
     kinds = λ one among. absurd (none_in one among);
   }
+
+  -- only the table is among them, and it is no box
+  pub its_table : (one : Cell) → Contains (table_cell ∷ []) one → IsItsStore kind.Table (sound known).store one
+  its_table = only_store (known_store known some)
+
+  pub no_box : (one : Cell) → Contains (table_cell ∷ []) one → one.layout.kind ≡ kind.Boxed → ⊥
+  no_box one among box = table_is_no_box (its_table one among).of_kind box
 
   -- and the table stays where it is
   abbrev stays : StaysTable old new map table known some (table_cell ∷ []) []
@@ -146,11 +109,6 @@ module _ {old new : Mutator} {map place : ℕ} {table : Table} (known : KnownMap
       ∙ ap (λ n. slice_get (heap_words new.seat) (n + count_offset)) known.there.stands ∙ removes.counted
       ∙ ap (λ n. Some n) less
 
-  -- the table alone was written
-  pub is_table : (one : Cell) → Contains (table_cell ∷ []) one → one.layout.kind ≡ kind.Table
-  is_table one among =
-      ap (λ (c : Cell). c.layout.kind) (sym (one_in table_cell one among)) ∙ (found known some).of_kind
-
   -- so the map is refilled
   abbrev pub refills : RefillsPairs (heap_of old) (heap_of new) map_cell (table_cell ∷ []) []
   refills = record {
@@ -167,17 +125,15 @@ module _ {old new : Mutator} {map place : ℕ} {table : Table} (known : KnownMap
       store = (sound known).store;
       has_store = are_after.slot;
       store_comes = inl (slot_there known);
-      belong = belong;
-      kinds = λ one among. absurd (none_in one among);
-      stores = λ one among is.
-          subst (λ (c : Cell). HasNoNumber c × ((sound known).store ≡ reference_word c.at))
-          (one_in table_cell one among) (other_number known some, (found known some).refers.refers);
-      boxes = λ one among box. absurd (table_is_no_box (is_table one among) box);
+      belong = written.belong;
+      kinds = written.kinds;
+      stores = λ one among is. ((its_table one among).no_number, (its_table one among).refers);
+      boxes = λ one among box. absurd (no_box one among box);
     };
     each_pair = λ at pair is. ShowsPair.kept (removes.removed.from at pair is).0
-        (λ one among box same. table_is_no_box (is_table one among) box);
+        (λ one among box same. no_box one among box);
     probed = staying.probed known written after (removes.found (finds_all known));
   }
 
   abbrev pub refills_weak : RefillsWeak (heap_of old) (heap_of new) map_cell (table_cell ∷ []) []
-  refills_weak = record { whole = known.whole; writes = writes; paths = removes.paths; pairs = refills }
+  refills_weak = record { whole = known.whole; writes = written.writes; paths = removes.paths; pairs = refills }

@@ -1,25 +1,28 @@
 -- A weak map to whose table a pair came is refilled.
-use Rattle.std.proofs.Common.{◌≡◌, ℕ, ◌+◌, ◌<◌, inl, inr, List, [], ◌∷◌, length, Some, false}
-use Rattle.std.proofs.Common.{slice_get, refl, sym, ◌∙◌, ap, subst, arith}
 use Rattle.std.specs.Prelude.{slice_set}
+use Rattle.std.proofs.Common.{◌≡◌, ◌≢◌, ℕ, ◌+◌, ◌<◌, inl, inr, List, [], ◌∷◌, length, Some, false, slice_get, refl, sym}
+use Rattle.std.proofs.Common.{◌∙◌, ap, subst, arith}
 use Rattle.std.proofs.lemmas.Bool.{cases_eq}
+use Rattle.std.proofs.lemmas.Option.{same_Some, none-some}
 use Rattle.tagged_word.specs.declared.layout.Kind.TheVariants as kind
 use Rattle.tagged_word.specs.Cells.{store_slot}
 use Rattle.tagged_word.proofs.Members.{first_in}
 use Rattle.page_space.proofs.Starts.{marks_start_is}
-use Rattle.heap_model.specs.Types.{Value, Cell, Held}
+use Rattle.linear_probing.specs.Tables.{FindsAll}
 use Rattle.object_graph.specs.declared.value.Rep.TheVariants as rep
 use Rattle.object_graph.specs.Values.{rep_of}
 use Rattle.object_graph.specs.Invariants.{IsValue}
 use Rattle.object_graph.proofs.Lists.{slice_get-set_same}
-use Rattle.linear_probing.specs.Tables.{FindsAll}
 use Rattle.heap_table.specs.Seats.{heap_words}
+use Rattle.heap_model.specs.Types.{Value, Cell, Held}
 use Rattle.heap_model.specs.Heaps.{words_of_cell}
 use Rattle.heap_model.specs.Slots.{RefersToPlace, IsPlace}
 use Rattle.heap_model.specs.Kinds.{HasWord, Pair, IsFilledPair, count_offset}
+use Rattle.heap_model.specs.Showing.{ShowsEntry}
 use Rattle.write_barrier.specs.MutatorState.{Mutator, heap_of}
 use Rattle.object_cells.specs.Contents.{next_at}
 use Rattle.object_cells.specs.Made.{store_content, with_content, content_word}
+use Rattle.object_cells.specs.OwnSlots.{ComesFrom}
 use Rattle.object_cells.proofs.HeldContents.{HoldsValue}
 use Rattle.object_cells.proofs.MadeBoxes.{made_boxes, length-with_content}
 use Rattle.object_cells.proofs.TakenValues as taken
@@ -27,34 +30,23 @@ use Rattle.object_cells.proofs.TakenValues.{TakesValue}
 use Rattle.object_cells.proofs.OwnCells.{cell_below_layouts}
 use Rattle.object_cells.proofs.SlotsNow.{word_at_offset}
 use Rattle.object_cells.proofs.FieldWords.{value_word}
+use Rattle.object_cells.proofs.OwnContents as own
 use Rattle.weak_pairs.specs.Pairs.{IsFilledAt}
-use Rattle.ephemeron_table.proofs.PairComes.{PairComes, value_comes, pair_shows}
-use Rattle.ephemeron_table.specs.PairWrites.{RefillsPairs, HasValue}
-use Rattle.ephemeron_table.specs.PairLaws.{RefillsWeak}
-use Rattle.ephemeron_table.specs.Puttings.{PutsInTable}
 use Rattle.weak_pairs.specs.Tables.{numbers, pairs_of, with_pair}
 use Rattle.weak_pairs.specs.declared.table.Table.{Table}
 use Rattle.weak_pairs.proofs.CountedPairs.{count_filled}
-use Rattle.ephemeron_table.proofs.KnownTables.{table_is_no_box, are_before, KnownMap, cell, cell_has, sound}
-use Rattle.ephemeron_table.proofs.KnownTables.{slot_there, of_map, other}
 use Rattle.weak_pairs.proofs.PairsPut.{at_place, length-with_pair}
-use Rattle.ephemeron_table.proofs.PutPairs.{pair, pairs_are_now, some, put_there}
-use Rattle.object_cells.proofs.StoresPut.{store_takes, store_slot_stays}
-use Rattle.object_cells.specs.OwnSlots.{ComesFrom}
-use Rattle.weak_pairs.proofs.FilledPairs.{filled_elsewhere}
+use Rattle.weak_pairs.proofs.FilledPairs.{filled_elsewhere, still_filled}
+use Rattle.ephemeron_table.specs.PairWrites.{RefillsPairs, HasValue}
+use Rattle.ephemeron_table.specs.PairLaws.{RefillsWeak, PutsOne}
+use Rattle.ephemeron_table.specs.Puttings.{PutsInTable}
+use Rattle.ephemeron_table.proofs.PairComes.{PairComes, value_comes, pair_shows}
+use Rattle.ephemeron_table.proofs.KnownTables.{table_is_no_box, are_before, KnownMap, cell, cell_has, sound, slot_there}
+use Rattle.ephemeron_table.proofs.KnownTables.{of_map, other, pairs_long}
+use Rattle.ephemeron_table.proofs.PutPairs.{pair, pairs_are_now, some, putting}
 use Rattle.ephemeron_table.proofs.StayingTables as staying
 use Rattle.ephemeron_table.proofs.StayingTables.{WritesMap, StaysTable}
-use Rattle.std.proofs.Common.{◌≡◌, ◌≢◌, ℕ, inl, inr, Some, refl, sym, subst, arith}
-use Rattle.std.proofs.lemmas.Option.{same_Some, none-some}
-use Rattle.heap_model.specs.Types.{Value, Held}
-use Rattle.heap_model.specs.Slots.{RefersToPlace}
-use Rattle.heap_model.specs.Kinds.{Pair}
-use Rattle.heap_model.specs.Showing.{ShowsEntry}
-use Rattle.ephemeron_table.specs.PairLaws.{PutsOne}
 use Rattle.ephemeron_table.proofs.KeysFound.{key_filled}
-use Rattle.ephemeron_table.proofs.KnownTables.{pairs_long}
-use Rattle.ephemeron_table.proofs.PutPairs.{pairs_are_now}
-use Rattle.weak_pairs.proofs.FilledPairs.{filled_elsewhere, still_filled}
 
 -- A pair came to a place of a map's table: the key's object, and the value.
 pub record ComesToPlace (old new : Mutator) (map place key count number : ℕ) (table : Table) (value : Held)
@@ -103,12 +95,12 @@ module _ {old new : Mutator} {map place key count number : ℕ} {table : Table} 
   -- the word of the map for its table stays
   pub slot_stays : slice_get (heap_words new.seat) (map_cell.at + store_slot)
       ≡ slice_get (heap_words old.seat) (map_cell.at + store_slot)
-  slot_stays = store_slot_stays (put_there known below puts)
+  slot_stays = own.slot_stays (putting known below puts)
 
   -- so the map takes the value, where the table is the one that it had
   pub takes : TakesValue kind.Weak kind.Table (heap_of old) (heap_of new) map_cell map_cell (table_cell ∷ []) []
       (store_content value) (next_at old) what (sound known).store
-  takes = store_takes (put_there known below puts) comes.objects comes.fits comes.holds
+  takes = own.takes (putting known below puts) comes.objects comes.fits comes.holds
 
   -- and the table stays where it is
   abbrev stays : StaysTable old new map table known (some known below puts) (table_cell ∷ []) boxes_made

@@ -8,6 +8,7 @@ pub mod Showing
 pub mod Changes
 pub mod Laws
 pub mod Collectable
+pub mod Reaching
 pub mod Needs
 pub mod Counting
 pub mod Rooms

@@ -9,9 +9,10 @@ use Rattle.object_graph.specs.Graphs.{Graph}
 use Rattle.object_graph.specs.Run.{Told}
 use Rattle.script_text.specs.Scripts.{ScriptText}
 use Rattle.heap_model.specs.Heaps.{Heap}
+use Rattle.heap_model.specs.Wholeness.{Whole}
 use Rattle.heap_model.specs.Showing.{Shows}
 use Rattle.collector.specs.Images.{IsImageOf}
-use Rattle.collector.specs.ImageLaws.{ImagesShow, ImagesKeepStores, ImagesHaveRooms}
+use Rattle.collector.specs.ImageLaws.{ImagesShow, ImagesKeepStores, ImagesHaveRooms, ImagesAreTight}
 use Rattle.heap_script.specs.declared.finished.How.{How}
 use Rattle.heap_script.specs.declared.finished.How.TheVariants as how
 use Rattle.heap_script.specs.declared.finished.Finished.{Finished}
@@ -23,6 +24,7 @@ pub record Laws : Type 0 where
   pub show : ImagesShow
   pub stores : ImagesKeepStores
   pub rooms : ImagesHaveRooms
+  pub tight : ImagesAreTight
 
 -- the run has come so far on the image too
 abbrev pub reached_imaged : {script : ScriptText} {heap image : Heap} {n : ℕ} → Laws → IsImageOf heap image
@@ -64,17 +66,19 @@ spent_imaged {heap = heap} {image = image} laws r is spent = record {
 }
 
 -- an image is as full as the heap
-as_full : {heap image : Heap} (graph : Graph) (need : ℕ) → IsImageOf heap image → IsFull heap graph need
-    → IsFull image graph need
-as_full {heap = heap} {image = image} graph need is (empty, full) =
+as_full : {heap image : Heap} (need : ℕ) → Laws → Whole heap → IsImageOf heap image → IsFull heap need
+    → IsFull image need
+as_full {heap} {image} need laws whole is full =
     let space : heap.space ≡ image.space = sym is.space in
     let survivors : heap.survivors ≡ image.survivors = sym is.survivors in
-    let used : heap.used ≡ image.used = sym is.used in (
-      is.used ∙ empty,
-      subst (λ (s : Space). IsTrue (nat_lt s.sizes.young (image.survivors + image.used + need))) space
+    let used : heap.used ≡ image.used = sym is.used in
+    record {
+      empty = is.used ∙ full.empty;
+      tight = laws.tight heap image whole full.tight is;
+      lacks = subst (λ (s : Space). IsTrue (nat_lt s.sizes.young (image.survivors + image.used + need))) space
           (subst (λ (n : ℕ). IsTrue (nat_lt heap.space.sizes.young (n + image.used + need))) survivors
-          (subst (λ (n : ℕ). IsTrue (nat_lt heap.space.sizes.young (heap.survivors + n + need))) used full)),
-    )
+          (subst (λ (n : ℕ). IsTrue (nat_lt heap.space.sizes.young (heap.survivors + n + need))) used full.lacks));
+    }
 
 -- it is full for the command of a line, if the heap is
 full_for : {heap image : Heap} (graph : Graph) (need : ℕ) (command : Option Command) → Laws → Shows heap graph
@@ -82,7 +86,7 @@ full_for : {heap image : Heap} (graph : Graph) (need : ℕ) (command : Option Co
 full_for graph need None laws shows is full = full
 full_for {heap = heap} {image = image} graph need (Some command) laws shows is (needs, full) = (
   λ rooms has. needs rooms ((laws.rooms heap image graph rooms shows is).1 has),
-  as_full {heap = heap} {image = image} graph need is full,
+  as_full need laws shows.whole is full,
 )
 
 -- so at the first of the lines that are left

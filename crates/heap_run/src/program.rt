@@ -112,7 +112,7 @@ fn run_source<K: Sink, G: Gate, R: Threads + Sync>(
     sink: &mut K,
     gate: &G,
 ) -> Ended
-    requires within { AreWithin sizes 0 }
+    requires { AreWithin sizes 0 }
     ensures { Runs sizes source.now (K.HasTaken sink.old) (K.HasTaken sink.new)
         (K.faults sink.old) (K.faults sink.new) result }
 {

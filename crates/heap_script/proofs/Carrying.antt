@@ -68,12 +68,12 @@ pub refused : (names : List (List ℕ)) {old new : Mutator} {graph : Graph} (var
 refused names {old} {new} {graph} variables fields {command} {text} {need} shows within tries =
     elim tries.finds [
       | Finds.scavenged is scavenges ↦
-        let there = refused_there names tries.mid new graph variables fields command text need
-        (tries.keeps.shows graph shows) within tries.carries in
-        absurd (there.apart is)
+          let there = refused_there names tries.mid new graph variables fields command text need
+          (tries.keeps.shows graph shows) within tries.carries in
+          absurd (there.apart is)
       | Finds.unchanged apart same ↦
-        refused_there names old new graph variables fields command text need shows within
-        (subst (λ (main : Mutator). Carries names main new graph command text (Err (NoRoom need))) same tries.carries)
+          refused_there names old new graph variables fields command text need shows within
+          (subst (λ (main : Mutator). Carries names main new graph command text (Err (NoRoom need))) same tries.carries)
     ]
 
 -- an answer that hands this stop on is this stop

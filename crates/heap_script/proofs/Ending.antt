@@ -15,13 +15,16 @@ use Rattle.mutator.specs.declared.stop.Stop.{Stop}
 use Rattle.mutator.specs.declared.stop.Stop.TheVariants.{Fault, NoRoom, NoClear}
 use Rattle.object_graph.specs.Limits.{ideal_limits}
 use Rattle.heap_model.specs.Heaps.{Heap}
+use Rattle.heap_model.specs.Reaching.{IsTight}
 use Rattle.nursery.specs.Young.{Young}
 use Rattle.write_barrier.specs.MutatorState.{Mutator, heap_of, IsTied, MainShows}
+use Rattle.scavenger.specs.Scavenged.{Scavenges}
+use Rattle.scavenger.proofs.Tight.{scavenges_are_tight}
 use Rattle.collector.specs.States.{HeapState, HeapShows}
 use Rattle.collector.proofs.Keeping.{still_shows}
 use Rattle.mutator.specs.CarriesOut.{Carries}
 use Rattle.heap_script.specs.declared.finished.How.TheVariants as how
-use Rattle.heap_script.specs.Runs.{left_after, RanTo, Spends, EndsAs, EndsRun, IsFullAt}
+use Rattle.heap_script.specs.Runs.{left_after, RanTo, Spends, EndsAs, EndsRun, IsFull, IsFullAt}
 use Rattle.heap_script.specs.Progress.{how_of, CarriesLine, Handed, Pauses}
 use Rattle.heap_script.proofs.Lacking.{full_for}
 use Rattle.heap_script.proofs.Running.{Running}
@@ -76,32 +79,47 @@ EndsRun-limit script heap at' n number ts' command r goes most =
     ∙ ending-limit script.fields r.so_far.graph (executed number command) goes.rest in
     EndsAs-reached script heap n (limit_at number) r ends
 
+-- eden is empty, and only what is reached is kept
+record IsLeftBare (main : Mutator) : Type 0 where
+  empty : main.young.used ≡ 0
+  tight : IsTight (heap_of main)
+
+-- so a scavenge leaves a heap that showed a graph
+left_bare : {old new : Mutator} {graph : Graph} → MainShows old graph → Scavenges old new → IsLeftBare new
+left_bare {old} {new} {graph} shows scavenges = record {
+  empty = ap (λ (young : Young). young.used) scavenges.young;
+  tight = scavenges_are_tight old new graph shows scavenges;
+}
+
 -- a command was not carried out
 EndsRun-stopped : (script : ScriptText) (main after : Mutator) (at' n number : ℕ) (ts' : List ℕ) (command : Command)
     (text : List ℕ) (stop : Stop)
-    → IsTied main → ((need : ℕ) → stop ≡ NoRoom need → main.young.used ≡ 0) → (r : RanTo script (heap_of main) n)
+    → IsTied main → ((need : ℕ) → stop ≡ NoRoom need → IsLeftBare main) → (r : RanTo script (heap_of main) n)
     → n < lines_most → Goes script.lines at' ts' (left_after script n) (executed number (Some command))
     → Carries script.fields main after r.so_far.graph command text (Err stop)
     → EndsRun script (heap_of main) n r.so_far (how_of stop) number
-EndsRun-stopped script main after at' n number ts' command text (Fault word) tied empty r below goes (does-is, same) =
+EndsRun-stopped script main after at' n number ts' command text (Fault word) tied bare r below goes (does-is, same) =
     let graph = r.so_far.graph in
     let ends : ending ideal_limits script.fields graph n (left_after script n) ≡ Some (fault_at number word) =
     ap (ending ideal_limits script.fields graph n) goes.is
     ∙ ending-below script.fields graph n (executed number (Some command)) goes.rest below
     ∙ ap (fault_in number) does-is in
     EndsAs-reached script (heap_of main) n (fault_at number word) r ends
-EndsRun-stopped script main after at' n number ts' command text (NoRoom need) tied empty r below goes
+EndsRun-stopped script main after at' n number ts' command text (NoRoom need) tied bare r below goes
     (next, written, does-is, need-is, full, same) =
     let graph = r.so_far.graph in
     let first = executed number (Some command) in
+    let left = bare need refl in
+    let filled : IsFull (heap_of main) need =
+    record { empty = left.empty; tight = left.tight; lacks = full_for main need tied full } in
     record {
       goes_on = ap (ending ideal_limits script.fields graph n) goes.is
           ∙ ending-below script.fields graph n first goes.rest below
           ∙ ap (fault_in number) does-is;
       full = subst (IsFullAt (heap_of main) graph number need) (sym goes.is)
-          (refl, (need-is, (empty need refl, full_for main need tied full)));
+          (refl, (need-is, filled));
     }
-EndsRun-stopped script main after at' n number ts' command text (NoClear entries) tied empty r below goes carries =
+EndsRun-stopped script main after at' n number ts' command text (NoClear entries) tied bare r below goes carries =
     absurd carries
 
 -- a command that is not carried out leaves the heap as it was
@@ -156,10 +174,9 @@ Pauses-line script heap after objects waiting old new at at' ts ts' n number (So
     let mid = carries.mid in
     let found = Running-found r carries.collects carries.keeps in
     let same = same-stopped script.fields mid after.main r.reached.so_far.graph command text stop carries.carries in
-    let empty : (need : ℕ) → stop ≡ NoRoom need → mid.young.used ≡ 0 = λ need is.
-    ap (λ (main : Mutator). main.young.used) (sym same)
-    ∙ ap (λ (young : Young). young.used) (carries.gave_up need (ap (λ (e : Stop). Err e) is)).young in
-    let comes = EndsRun-stopped script mid after.main at' n number ts' command text stop found.shown.main.tied empty
+    let bare : (need : ℕ) → stop ≡ NoRoom need → IsLeftBare mid = λ need is.
+    subst IsLeftBare same (left_bare r.shown.main (carries.gave_up need (ap (λ (e : Stop). Err e) is))) in
+    let comes = EndsRun-stopped script mid after.main at' n number ts' command text stop found.shown.main.tied bare
     found.reached below goes carries.carries in
     rw same
     (Pauses-stopped script (heap_of mid) waiting n number stop old new faults_old faults_new found.reached found.spends

@@ -1,5 +1,5 @@
 -- A run behind a line that was executed, whose command may have found the heap scavenged.
-use Rattle.std.proofs.Common.{◌≡◌, ℕ, ◌+◌, ◌<◌, ◌≤◌, List, [], ◌++◌, Option, Some, None, Ok, Err, ◌↔◌}
+use Rattle.std.proofs.Common.{◌≡◌, ℕ, ◌+◌, ◌<◌, List, ◌++◌, Option, Some, None, Ok}
 use Rattle.std.proofs.Common.{refl, sym, ap, subst, ◌∙◌, add-zero, append-nil, arith}
 use Rattle.heap_model.specs.Types.{Command}
 use Rattle.object_graph.specs.Graphs.{Graph}
@@ -14,6 +14,7 @@ use Rattle.nursery.specs.Young.{Young}
 use Rattle.write_barrier.specs.MutatorState.{Mutator, heap_of, MainShows}
 use Rattle.scavenger.specs.Scavenged.{Scavenges}
 use Rattle.scavenger.specs.Laws.{KeepsGraphs}
+use Rattle.scavenger.proofs.Tight.{scavenges_are_tight}
 use Rattle.collector.specs.States.{HeapState}
 use Rattle.collector.proofs.Keeping.{same_heap, still_shows}
 use Rattle.heap_script.specs.Collecting.{Collects}
@@ -31,13 +32,14 @@ found_space (Collects.for_room apart lacks scavenges) = scavenges.seat.space
 -- what a scavenge leaves of a heap that shows a graph
 collected_by : {old new : Mutator} {graph : Graph} → Scavenges old new → KeepsGraphs old new → MainShows old graph
     → IsCollected (heap_of old) (heap_of new) graph
-collected_by {graph = graph} scavenges keeps shows =
+collected_by {old} {new} {graph} scavenges keeps shows =
     let survivors = ap (λ (young : Young). young.survivors) scavenges.young in
     record {
       space = scavenges.seat.space;
       rooms = λ rooms. keeps.rooms graph rooms shows;
       emptied = ap (λ (young : Young). young.used) scavenges.young;
       few = omega (arith, survivors, scavenges.few);
+      tight = scavenges_are_tight old new graph shows scavenges;
     }
 
 -- the run has come as far on another heap with these regions, which shows the graph

@@ -1,5 +1,5 @@
 -- A heap on which a command is tried: it is as it was, or a scavenge made room for the command.
-use Rattle.std.proofs.Common.{◌≡◌, ◌≢◌, ◌∙◌, ℕ, ◌-◌, ◌<◌, List, Bool, true, false, length, Result, Ok, Err, if◌then◌else◌}
+use Rattle.std.proofs.Common.{◌≡◌, ◌≢◌, ◌∙◌, ℕ, ◌<◌, List, Bool, true, false, length, Result, Err, if◌then◌else◌}
 use Rattle.std.proofs.Common.{ap, arith, sym, subst, refl}
 use Rattle.std.specs.Prelude.{◌==◌}
 use Rattle.std.proofs.lemmas.Bool.Decides.{nat_tests}
@@ -7,14 +7,13 @@ use Rattle.heap_model.specs.Types.{Command}
 use Rattle.heap_command.specs.declared.command.Command.TheVariants.{Scavenge}
 use Rattle.heap_command.specs.Commands.{IsWithin}
 use Rattle.object_graph.specs.Graphs.{Graph}
-use Rattle.page_space.specs.Extents.{Space}
 use Rattle.heap_model.specs.Rooms.{Room, HasRooms, need_of}
 use Rattle.heap_model.proofs.ShownRooms.{shown_objects_have_rooms}
 use Rattle.nursery.specs.Young.{Young, HasRoom, other_half}
-use Rattle.write_barrier.specs.MutatorState.{Mutator, heap_of, MainShows}
+use Rattle.write_barrier.specs.MutatorState.{Mutator, heap_of}
 use Rattle.scavenger.specs.Scavenged.{Scavenges}
 use Rattle.scavenger.specs.Laws.{KeepsGraphs}
-use Rattle.collector.specs.States.{HeapState, HeapShows, Spare}
+use Rattle.collector.specs.States.{HeapState, HeapShows}
 use Rattle.collector.proofs.Keeping.{same_heap}
 use Rattle.mutator.specs.declared.stop.Stop.{Stop}
 use Rattle.mutator.specs.declared.stop.Stop.TheVariants.{NoRoom}
@@ -224,10 +223,10 @@ carried_at {names} {old} {now} {new} {objects} {command} {graph} {text} {result}
     elim tries.finds [
       | Finds.scavenged is scavenges ↦ absurd (made.apart is)
       | Finds.unchanged apart same ↦ record {
-          mid = now.main;
-          collects = Collects.for_room apart (made.lacks graph shown counted) made.scavenged.scavenges;
-          keeps = made.scavenged.keeps;
-          carries = subst (λ (main : Mutator). Carries names main new graph command text result) same tries.carries;
-          gave_up = λ need is. absurd (other need is);
-        }
+        mid = now.main;
+        collects = Collects.for_room apart (made.lacks graph shown counted) made.scavenged.scavenges;
+        keeps = made.scavenged.keeps;
+        carries = subst (λ (main : Mutator). Carries names main new graph command text result) same tries.carries;
+        gave_up = λ need is. absurd (other need is);
+      }
     ]

@@ -1,7 +1,7 @@
 -- What holds of a run between two of its lines, and how a line carries it on.
 use Rattle.std.proofs.Common.{◌≡◌, ℕ, suc, zero, ◌+◌, ◌<◌, List, [], ◌∷◌, ◌++◌, length, take, drop}
-use Rattle.std.proofs.Common.{Option, Some, ◌≤◌}
-use Rattle.std.proofs.Common.{None, Ok, refl, sym, ap, subst, ◌∙◌, add-one, add-zero, append-nil, arith}
+use Rattle.std.proofs.Common.{Some, ◌≤◌}
+use Rattle.std.proofs.Common.{None, Ok, refl, sym, ap, subst, ◌∙◌, add-one, arith}
 use Rattle.std.specs.Prelude.{option_and_then, slice_get}
 use Rattle.heap_model.specs.Types.{Command}
 use Rattle.heap_command.specs.Executed.{Executed}
@@ -15,7 +15,6 @@ use Rattle.script_text.specs.Left.{IsLeft, Goes}
 use Rattle.script_text.proofs.Left.{begins}
 use Rattle.object_graph.specs.Limits.{ideal_limits}
 use Rattle.page_space.specs.Extents.{Space}
-use Rattle.heap_model.specs.Heaps.{Heap}
 use Rattle.heap_model.specs.Rooms.{Room, HasRooms, need_of}
 use Rattle.heap_model.proofs.ShownRooms.{shown_objects_have_rooms}
 use Rattle.nursery.specs.Young.{Young}

@@ -1,5 +1,5 @@
 -- A command that is tried once on a heap, of which it is lent the mutator's side.
-use Rattle.std.proofs.Common.{◌≡◌, ◌≢◌, ℕ, List, [], length, Result, Ok, Err, refl, sym, subst}
+use Rattle.std.proofs.Common.{◌≡◌, ◌≢◌, ℕ, List, [], length, Result, Ok, refl, sym, subst}
 use Rattle.heap_model.specs.Types.{Command}
 use Rattle.heap_command.specs.declared.command.Command.TheVariants.{Scavenge}
 use Rattle.object_graph.specs.Graphs.{Graph}

@@ -15,6 +15,7 @@ use Rattle.script_text.specs.Unrolled.{executed_lines}
 use Rattle.heap_model.specs.Heaps.{Heap}
 use Rattle.heap_model.specs.Slots.{IsPlace}
 use Rattle.heap_model.specs.Needs.{capacity_at, lacks_room}
+use Rattle.heap_model.specs.Reaching.{IsTight}
 use Rattle.heap_model.specs.Rooms.{Room, HasRooms, need_of}
 use Rattle.heap_model.specs.Showing.{Shows}
 use Rattle.mutator.specs.Capacities.{KeepsStores}
@@ -33,10 +34,12 @@ AreBuilt lines = All (λ line. IsBuilt unbuilt_keywords line.what) lines
 abbrev pub left_after : ScriptText → ℕ → List Executed
 left_after script executed = drop executed (executed_lines script.lines)
 
--- The heap, which shows this graph, is full for so many words, though it was scavenged for them: eden is empty, and the
--- survivors and these are more than the words of the young generation.
-abbrev pub IsFull : Heap → Graph → ℕ → Type 0
-IsFull heap graph need = (heap.used ≡ 0) × IsTrue (lacks_room heap need)
+-- The heap is full for so many words, though it was scavenged for them: eden is empty, only what is reached is kept,
+-- and the survivors and these words are more than the words of the young generation.
+pub record IsFull (heap : Heap) (need : ℕ) : Type 0 where
+  pub empty : heap.used ≡ 0
+  pub tight : IsTight heap
+  pub lacks : IsTrue (lacks_room heap need)
 
 -- The script was run for so many lines, of which none faulted, and the heap, which has a root for each variable of the
 -- script, shows the graph after them.
@@ -68,12 +71,14 @@ LineAllocates old new graph after None = new ≡ old
 LineAllocates old new graph after (Some command) = Allocates old new graph after command
 
 -- A scavenge leads from one heap to another, which show the same graph. The regions stay, and objects have the rooms
--- that they had. Eden is empty, and the survivors are at most the survivors and the used words of before.
+-- that they had. Eden is empty, the survivors are at most the survivors and the used words of before, and only what is
+-- reached is kept.
 pub record IsCollected (old new : Heap) (graph : Graph) : Type 0 where
   pub space : new.space ≡ old.space
   pub rooms : (rooms : ℕ → Room) → HasRooms old graph rooms ↔ HasRooms new graph rooms
   pub emptied : new.used ≡ 0
   pub few : new.survivors ≤ old.survivors + old.used
+  pub tight : IsTight new
 
 -- The words that the executed lines of a script spend, one line after another, up to this heap. No word is used before
 -- the first line, and each line uses what its command needs, by the graph and the rooms that the lines before it led
@@ -111,7 +116,7 @@ EndsAs script executed so_far ended =
 abbrev pub LacksRoomFor : Heap → Graph → ℕ → Option Command → Type 0
 LacksRoomFor heap graph need None = ⊥
 LacksRoomFor heap graph need (Some command) =
-    ((rooms : ℕ → Room) → HasRooms heap graph rooms → need ≡ need_of graph rooms command) × IsFull heap graph need
+    ((rooms : ℕ → Room) → HasRooms heap graph rooms → need ≡ need_of graph rooms command) × IsFull heap need
 
 -- of these lines the next one has this number, and the heap is full for its command
 abbrev pub IsFullAt : Heap → Graph → ℕ → ℕ → List Executed → Type 0

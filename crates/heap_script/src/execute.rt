@@ -158,7 +158,10 @@ fn execute(
     ensures uncounted { is_ok result ≡ false → objects.new ≡ objects.old }
 {
     match command {
-        Command::New { x, cap } => counted(mutator::new_plain(heap.main_mut(), *x, *objects, *cap), objects),
+        Command::New { x, cap } => counted(
+            mutator::new_plain(heap.main_mut(), *x, *objects, *cap),
+            objects,
+        ),
         Command::List { x } => counted(mutator::new_list(heap.main_mut(), *x, *objects), objects),
         Command::Weak { x } => counted(mutator::new_weak(heap.main_mut(), *x, *objects), objects),
         Command::LetValue { x, v } => mutator::let_value(heap.main_mut(), *x, *v),

@@ -1,3 +1,4 @@
 mod MarksStart
 pub mod HeapWords
+mod HeapStretches
 mod SeatKeeps

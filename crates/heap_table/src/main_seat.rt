@@ -1,6 +1,8 @@
 //! The seat of the thread that runs commands.
-ghost use Rattle.std.specs.Prelude.{◌≡◌, ◌≢◌, ◌<◌, length, slice_get, slice_set, IfOk, Some};
+ghost use Rattle.std.specs.Prelude.{◌≡◌, ◌≢◌, ◌+◌, ◌<◌, ◌≤◌, ◌++◌, length, take, drop, replicate};
+ghost use Rattle.std.specs.Prelude.{slice_get, slice_set, IfOk, Some};
 ghost use Rattle.page_space.specs.Extents.{words_count, marks_start};
+ghost use Rattle.word_store.specs.Copies.{copied};
 ghost use Rattle.heap_table.specs.declared.phase.Phase.TheVariants.{Quiet, Scavenge};
 ghost use Rattle.heap_table.specs.Seats.{fresh, heap_words, RestStays};
 ghost use Rattle.heap_table.specs.Staying.{rest_stays_itself, rest_stays_again};
@@ -99,6 +101,37 @@ impl MainSeat {
         self.put_any(a, word);
     }
 
+    /// Copies so many words to another address, all before the marks. No other word changes.
+    #[inline]
+    pub fn copy(&mut self, from: u32, to: u32, count: u32)
+        requires quiet { self.old.phase ≡ Quiet }
+        requires within { from + count ≤ marks_start self.old.space }
+        requires room { to + count ≤ marks_start self.old.space }
+        ensures copied { let table = copied self.old.table from to count in
+            self.new ≡ record self.old { table = table } }
+        ensures heap { heap_words self.new ≡ copied (heap_words self.old) from to count }
+        ensures rest { RestStays self.old self.new }
+    {
+        let _table_count = self.table_count();
+        self.copy_any(from, to, count);
+    }
+
+    /// Puts one word at so many addresses from one on, before the marks. No other word changes.
+    #[inline]
+    pub fn fill(&mut self, at: u32, count: u32, word: u64)
+        requires quiet { self.old.phase ≡ Quiet }
+        requires within { at + count ≤ marks_start self.old.space }
+        ensures filled { let words = self.old.table in
+            let table = take at words ++ replicate count word ++ drop (at + count) words in
+            self.new ≡ record self.old { table = table } }
+        ensures heap { let words = heap_words self.old in
+            heap_words self.new ≡ take at words ++ replicate count word ++ drop (at + count) words }
+        ensures rest { RestStays self.old self.new }
+    {
+        let _table_count = self.table_count();
+        self.fill_any(at, count, word);
+    }
+
     /// All words of the table, to read and write while no other thread runs.
     #[inline(always)]
     pub fn paused(&mut self) -> Paused<'_>
@@ -134,6 +167,30 @@ impl MainSeat {
         ensures { self.new ≡ record self.old { table = slice_set self.old.table a word } }
     {
         self.table[a as usize] = word;
+    }
+
+    /// Copies so many words of the table to another address.
+    #[inline]
+    fn copy_any(&mut self, from: u32, to: u32, count: u32)
+        requires within { from + count ≤ length self.old.table }
+        requires room { to + count ≤ length self.old.table }
+        ensures { let table = copied self.old.table from to count in
+            self.new ≡ record self.old { table = table } }
+    {
+        let start = from as usize;
+        self.table.copy_within(start..start + count as usize, to as usize);
+    }
+
+    /// Puts one word at so many addresses of the table.
+    #[inline]
+    fn fill_any(&mut self, at: u32, count: u32, word: u64)
+        requires { at + count ≤ length self.old.table }
+        ensures { let words = self.old.table in
+            let table = take at words ++ replicate count word ++ drop (at + count) words in
+            self.new ≡ record self.old { table = table } }
+    {
+        let start = at as usize;
+        self.table[start..start + count as usize].fill(word);
     }
 }
 

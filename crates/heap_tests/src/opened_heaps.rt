@@ -163,14 +163,25 @@ fn reserves(rt: &impl Abort, heap: &mut Heap, need: u32, at: Option<u32>) {
     assert_eq!(rt; heap.main().can_reserve(need), at.is_some());
     match at {
         Some(at) => {
-            assert_eq!(rt; heap.ensure(need), Ok(()));
             assert!(rt; heap.main_mut().reserve(need) == Ok(Run { at, words: need }));
         }
         None => {
-            assert_eq!(rt; heap.ensure(need), Err(Full { need }));
             assert!(rt; heap.main_mut().reserve(need) == Err(NoRoom { need }));
         }
     }
+}
+
+#[test]
+fn an_opened_heap_has_room_for_the_words_of_the_young_generation(
+    rt: HostRuntime,
+) -> Result<(), Fail> {
+    let mut heap = opened(&rt, rt.alloc(), SMALL)?;
+    assert_eq!(rt; heap.ensure(64), Ok(()));
+    assert_eq!(rt; heap.ensure(65), Err(Full { need: 65 }));
+    assert_eq!(rt; heap.ensure(64), Ok(()));
+    heap.scavenge();
+    assert_eq!(rt; heap.main().used(), 0);
+    Ok(())
 }
 
 #[test]

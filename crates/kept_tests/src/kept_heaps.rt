@@ -9,7 +9,7 @@ use std::alloc::Global;
 use std::test::Fail;
 use std::thread::Threads;
 
-const SCRIPTS: [&[u8]; 13] = [
+const SCRIPTS: [&[u8]; 17] = [
     b"let x 1",
     b"new x 2\nset x a 1\nset x b 5000000000\nset x c x\ndel x b\nset x c 5000000000",
     b"new x 0\nset x a 5000000000\nset x b 5000000000\nset x a x\ndel x a\ndel x b",
@@ -28,6 +28,14 @@ const SCRIPTS: [&[u8]; 13] = [
       wdel m k\nwput m k 7\nwput m l 6000000000",
     b"weak m\nnew k 0\nwput m k 1\nnew k 0\nwput m k m\nwget y m k\nnew k 0\n\
       wput m k 5000000000\ndrop k\nweak n\nwput n m n\nwdel n m\nwdel n n",
+    b"new x 1\nset x a x\nset x b 5000000000\nnew y 0\nscavenge\nset y c x\nset y d 6000000000\ndel x a\n\
+      scavenge\nset x e y\ndrop y\nscavenge",
+    b"list l\npush l 1\npush l 5000000000\npush l l\nnew x 2\npush l x\ndrop x\nshift l 1\nscavenge\n\
+      push l 7\nput l 0 1\ntrunc l 3\nscavenge\npush l 5000000000",
+    b"weak m\nnew k 1\nwput m k 5000000000\nset k f k\nlist l\npush l k\ndrop k\nscavenge\nat j l 0\n\
+      wput m j m\nnew k 0\nwput m k 1\nwput m l 2\nwdel m k\nscavenge\ndrop l",
+    b"let w 5000000000\nnew a 1\nnew b 1\nset a n b\nset b n a\ndrop b\nscavenge\nnew c 8\nscavenge\nnew d 8\n\
+      new e 8\nnew f 8\nnew g 8\nnew h 8\nnew i 8\nnew j 8\nnew k 8\nnew c 8\nnew d 8\nnew e 8\nnew f 8",
 ];
 
 /// The graph of a script without `repeat` up to its end or its first fault.

@@ -38,7 +38,8 @@ use Rattle.object_cells.proofs.FilledSlots.{FilledBy, held_put, set_there}
 use Rattle.object_cells.proofs.NothingUsed.{room_for_none}
 use Rattle.list_store.specs.ListChanges.{HasPut}
 use Rattle.list_store.specs.Pushes.{WritesSlot}
-use Rattle.list_store.proofs.BoxedElements.{box_shown, box_keeps, same_young}
+use Rattle.list_store.proofs.BoxedElements.{box_shown, box_keeps, put_it}
+use Rattle.object_cells.proofs.OwnIntegers.{same_young}
 use Rattle.object_cells.proofs.ElementsRead.{SlotRead, slot_read}
 use Rattle.object_cells.proofs.ListChanging.{Changing, Elements, list_is_no_store}
 use Rattle.list_store.proofs.WrittenSlots.{slot_shown, slot_keeps}
@@ -179,11 +180,11 @@ has_put {old} {new} {at = at} {list} {value} {what} store place known is_store b
       room = subst (HasRoom old.young) need (room_for_none old known.shows.tied known.shows.shows.whole);
       uses = subst (UsesMore old new) need (record {
         beside = fills.beside;
-        young = same_young w known becomes is_store below enough refl read.holds box_of boxed same;
+        young = same_young (put_it w known becomes is_store enough refl read.holds box_of boxed same);
       });
       changes = subst (λ a. ChangesObject heap (heap_of new) a (capacity_at heap a)) known.shown.stands
-          (box_keeps w known becomes is_store below enough refl read.holds box_of boxed same);
-      shows = box_shown w known becomes is_store below enough refl read.holds box_of boxed same;
+          (box_keeps w known becomes is_store enough refl read.holds box_of boxed same);
+      shows = box_shown w known becomes is_store enough refl read.holds box_of boxed same;
       store = store;
       is_store = is_store;
       held = value;

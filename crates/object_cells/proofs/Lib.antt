@@ -25,6 +25,7 @@ pub mod OwnerWrites
 pub mod NothingUsed
 pub mod OwnPuts
 pub mod OwnIntegers
+pub mod OwnContents
 pub mod ContentValues
 pub mod KeptCapacities
 pub mod OwnCapacities
@@ -50,7 +51,6 @@ pub mod StoreWords
 pub mod StoreRuns
 pub mod FilledRuns
 pub mod TakenValues
-pub mod StoresPut
 pub mod CopiedSlots
 pub mod StoresRead
 pub mod HeldNeeds

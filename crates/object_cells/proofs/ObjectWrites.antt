@@ -112,15 +112,6 @@ owned_of_kind {other = other} beside own = record {
   ];
 }
 
--- what belongs to the object and was written is read as before
-beside_alike : {old new : Heap} {cell came other : Cell} {others made : List Cell} → Whole old
-    → WritesObject old new cell came others made → Contains others other
-    → ReadsAlike old.space old.words new.words other
-beside_alike {other = other} whole writes there =
-    let beside = writes.beside other there in
-    layout_alike writes.more whole.sized writes.sized writes.same_space writes.paths beside.stood beside.header
-    beside.length
-
 -- the cell is rewritten by itself
 abbrev by_itself : Cell → Rewrite
 by_itself cell = record { cell = cell; into = cell ∷ [] }
@@ -133,35 +124,12 @@ by_other cell came = record { cell = cell; into = came ∷ [] }
 abbrev rewrites_of : Cell → Cell → List Cell → List Rewrite
 rewrites_of cell came others = by_other cell came ∷ map by_itself others
 
--- these are rewrites
-are_rewrites : {old new : Heap} {cell came : Cell} {others made : List Cell} → Whole old
-    → WritesObject old new cell came others made → All (IsRewrite old new) (rewrites_of cell came others)
-are_rewrites {old} {new} {cell} {came} {others} whole writes =
-    let Q : Cell → Type 0 = λ other. IsRewrite old new (by_itself other) in
-    let each : (other : Cell) → Contains others other → Q other = λ other there.
-    rewrite_slots (writes.beside other there).stood writes.same_space
-    (same_count whole.sized writes.sized writes.same_space) (beside_alike whole writes there) in
-    All-cons (IsRewrite old new) (by_other cell came) (map by_itself others)
-    (rewrite_by_one writes.stood writes.is_cell writes.place writes.size)
-    (All-map (IsRewrite old new) by_itself others
-    (All-weaker (Contains others) Q each others (All-contains_itself others)))
-
 -- newly used words are before the roots
 new_below_roots : {old new : Heap} {cell came : Cell} {others made : List Cell} (at : ℕ)
     → WritesObject old new cell came others made → IsNewlyUsed old new at → at < roots_start old.space
 new_below_roots {old} at writes is_new =
     let young = ap (λ (space : Space). space.sizes.young) writes.same_space in
     omega (arith, is_new.below, writes.room, young, roots_start_is old.space)
-
--- a word of the roots stays
-root_stays : {old new : Heap} {cell came : Cell} {others made : List Cell} (at : ℕ) → Whole old
-    → WritesObject old new cell came others made → roots_start old.space ≤ at → at < layouts_start old.space
-    → slice_get new.words at ≡ slice_get old.words at
-root_stays at whole writes behind below =
-    let few = used_few whole.rows in
-    writes.stay at below (λ of_cell. omega (arith, of_cell.below, cell_below_roots few writes.stood))
-    (λ other there of_other. omega (arith, of_other.below, cell_below_roots few (writes.beside other there).stood))
-    (λ is_new. omega (arith, new_below_roots at writes is_new))
 
 -- a word of cells that no patch has stays, unless it is newly used
 free_stays : {old new : Heap} {cell came : Cell} {others made : List Cell} (at : ℕ)
@@ -182,27 +150,6 @@ free_stays {old} {cell = cell} {came} {others} at writes below free not_new =
     (record { from = of_other.from; below = of_other.below }))
     not_new
 
--- nothing else changes
-is_change : {old new : Heap} {cell came : Cell} {others made : List Cell} → Whole old
-    → WritesObject old new cell came others made
-    → IsChange old new (map patch_of (rewrites_of cell came others)) made
-is_change {old} {new} {cell} {came} {others} whole writes =
-    let are = rewrites_are_patches old new (rewrites_of cell came others) whole.rows (are_rewrites whole writes) in
-    record {
-      same_space = writes.same_space;
-      same_survivors = writes.same_survivors;
-      grown = writes.grown;
-      room = writes.room;
-      more = writes.more;
-      paths = writes.paths;
-      sized = writes.sized;
-      each = are.0;
-      apart = are.1;
-      made_stand = writes.made_stand;
-      cells_stay = λ at below free not_new. free_stays at writes below free not_new;
-      roots_stay = λ at behind below. root_stays at whole writes behind below;
-    }
-
 -- what went are the cell and the others
 cells_went : (cell came : Cell) (others : List Cell)
     → map (λ (rewrite : Rewrite). rewrite.cell) (rewrites_of cell came others) ≡ cell ∷ others
@@ -217,13 +164,61 @@ cells_came cell came others =
     (flat_map-map (λ (rewrite : Rewrite). rewrite.into) by_itself others ∙ flat_map_single (λ one. one) others
     ∙ map-id others)
 
--- cells stand in rows again: what the object's became, the others as they were, and those that were made
-pub object_keeps_cells : {old new : Heap} {cell came : Cell} {others made : List Cell} → Whole old
-    → WritesObject old new cell came others made
-    → HasRows new × CellsChange old new (cell ∷ others) (came ∷ others) made
-object_keeps_cells {old} {new} {cell} {came} {others} {made} whole writes =
-    let rewrites : List Rewrite = rewrites_of cell came others in
-    let kept = rewrites_keep_cells old new rewrites made whole (is_change whole writes) in
-    let P : List Cell → Type 0 = λ gone. CellsChange old new gone (flat_map (λ rewrite. rewrite.into) rewrites) made in
-    let Q : List Cell → Type 0 = λ all. CellsChange old new (cell ∷ others) all made in
-    (kept.0, subst Q (cells_came cell came others) (subst P (cells_went cell came others) kept.1))
+module _ {old new : Heap} {cell came : Cell} {others made : List Cell} (whole : Whole old)
+    (writes : WritesObject old new cell came others made) where
+  -- what belongs to the object and was written is read as before
+  beside_alike : {other : Cell} → Contains others other → ReadsAlike old.space old.words new.words other
+  beside_alike {other = other} there =
+      let beside = writes.beside other there in
+      layout_alike writes.more whole.sized writes.sized writes.same_space writes.paths beside.stood beside.header
+      beside.length
+
+  -- these are rewrites
+  are_rewrites : All (IsRewrite old new) (rewrites_of cell came others)
+  are_rewrites =
+      let Q : Cell → Type 0 = λ other. IsRewrite old new (by_itself other) in
+      let each : (other : Cell) → Contains others other → Q other = λ other there.
+      rewrite_slots (writes.beside other there).stood writes.same_space
+      (same_count whole.sized writes.sized writes.same_space) (beside_alike there) in
+      All-cons (IsRewrite old new) (by_other cell came) (map by_itself others)
+      (rewrite_by_one writes.stood writes.is_cell writes.place writes.size)
+      (All-map (IsRewrite old new) by_itself others
+      (All-weaker (Contains others) Q each others (All-contains_itself others)))
+
+  -- a word of the roots stays
+  root_stays : (at : ℕ) → roots_start old.space ≤ at → at < layouts_start old.space
+      → slice_get new.words at ≡ slice_get old.words at
+  root_stays at behind below =
+      let few = used_few whole.rows in
+      writes.stay at below (λ of_cell. omega (arith, of_cell.below, cell_below_roots few writes.stood))
+      (λ other there of_other. omega (arith, of_other.below, cell_below_roots few (writes.beside other there).stood))
+      (λ is_new. omega (arith, new_below_roots at writes is_new))
+
+  -- nothing else changes
+  is_change : IsChange old new (map patch_of (rewrites_of cell came others)) made
+  is_change =
+      let are = rewrites_are_patches old new (rewrites_of cell came others) whole.rows are_rewrites in
+      record {
+        same_space = writes.same_space;
+        same_survivors = writes.same_survivors;
+        grown = writes.grown;
+        room = writes.room;
+        more = writes.more;
+        paths = writes.paths;
+        sized = writes.sized;
+        each = are.0;
+        apart = are.1;
+        made_stand = writes.made_stand;
+        cells_stay = λ at below free not_new. free_stays at writes below free not_new;
+        roots_stay = λ at behind below. root_stays at behind below;
+      }
+
+  -- cells stand in rows again: what the object's became, the others as they were, and those that were made
+  pub object_keeps_cells : HasRows new × CellsChange old new (cell ∷ others) (came ∷ others) made
+  object_keeps_cells =
+      let rewrites : List Rewrite = rewrites_of cell came others in
+      let kept = rewrites_keep_cells old new rewrites made whole is_change in
+      let P : List Cell → Type 0 = λ gone. CellsChange old new gone (flat_map (λ rewrite. rewrite.into) rewrites) made
+      in
+      let Q : List Cell → Type 0 = λ all. CellsChange old new (cell ∷ others) all made in
+      (kept.0, subst Q (cells_came cell came others) (subst P (cells_went cell came others) kept.1))

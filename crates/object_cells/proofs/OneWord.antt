@@ -44,21 +44,10 @@ pub record WritesTwo (old new : Heap) (first head at word : ℕ) (made : List Ce
   pub stay : (a : ℕ) → a < layouts_start old.space → a ≢ first → a ≢ at → (IsNewlyUsed old new a → ⊥)
       → slice_get new.words a ≡ slice_get old.words a
 
--- The cell at an address has the header of this shape, and one word is another. Otherwise only words that are newly
--- used, in which cells were made, and layout words have changed, and paths were added.
-pub record WritesOne (old new : Heap) (cell : Cell) (shape at word : ℕ) (made : List Cell) : Type 0 where
-  pub same_space : new.space ≡ old.space
-  pub same_survivors : new.survivors ≡ old.survivors
-  pub grown : old.used ≤ new.used
-  pub room : new.survivors + new.used ≤ new.space.sizes.young
-  pub more : List Path
-  pub paths : new.paths ≡ old.paths ++ more
-  pub sized : HasSizes new
-  pub header : slice_get new.words cell.at ≡ Some (header_bits (record cell.header { shape = shape }))
-  pub put : slice_get new.words at ≡ Some word
-  pub made_stand : IsRow new.space new.words (eden_start old.space + old.used) (eden_start old.space + new.used) made
-  pub stay : (a : ℕ) → a < layouts_start old.space → a ≢ cell.at → a ≢ at → (IsNewlyUsed old new a → ⊥)
-      → slice_get new.words a ≡ slice_get old.words a
+-- one of them is the header of a cell with this shape
+abbrev pub WritesOne : Heap → Heap → Cell → ℕ → ℕ → ℕ → List Cell → Type 0
+WritesOne old new cell shape at word made =
+    WritesTwo old new cell.at (header_bits (record cell.header { shape = shape })) at word made
 
 -- so many words more are used after two words were put as well
 used_more : {old mid new : Mutator} {object head at word need : ℕ} → IsReady old mid need
@@ -111,44 +100,3 @@ writes_two {old} {mid} {new} first head at word need made tied ready first_below
       stay = λ a is not_first not_at not_new. puts.stay a not_first not_at
           ∙ ready.stay a is (λ is_new. not_new (still_new a ready puts is_new));
     }
-
--- one is, where the other is the header of a cell
-pub writes_one : {old mid new : Mutator} (cell : Cell) (shape at word need : ℕ) (made : List Cell) → IsTied old
-    → IsReady old mid need → cell.at < layouts_start old.seat.space → at < layouts_start old.seat.space
-    → PutsTwo mid new cell.at (header_bits (record cell.header { shape = shape })) at word
-    → IsRow new.seat.space (heap_words new.seat) (next_at old) (next_at old + need) made
-    → WritesOne (heap_of old) (heap_of new) cell shape at word made
-writes_one cell shape at word need made tied ready cell_below at_below puts row =
-    let two = writes_two cell.at (header_bits (record cell.header { shape = shape })) at word need made tied ready
-    cell_below at_below puts row in
-    record {
-      same_space = two.same_space;
-      same_survivors = two.same_survivors;
-      grown = two.grown;
-      room = two.room;
-      more = two.more;
-      paths = two.paths;
-      sized = two.sized;
-      header = two.header;
-      put = two.put;
-      made_stand = two.made_stand;
-      stay = two.stay;
-    }
-
--- where a word and a header are put, two words are
-pub two_of_one : {old new : Heap} {cell : Cell} {shape at word : ℕ} {made : List Cell}
-    → WritesOne old new cell shape at word made
-    → WritesTwo old new cell.at (header_bits (record cell.header { shape = shape })) at word made
-two_of_one one = record {
-  same_space = one.same_space;
-  same_survivors = one.same_survivors;
-  grown = one.grown;
-  room = one.room;
-  more = one.more;
-  paths = one.paths;
-  sized = one.sized;
-  header = one.header;
-  put = one.put;
-  made_stand = one.made_stand;
-  stay = one.stay;
-}

@@ -29,7 +29,7 @@ use Rattle.object_cells.proofs.WrittenPlaces.{IsStoreOrBox}
 use Rattle.object_cells.proofs.SlotsNow.{PutsOwn, store_is_no_object, beside_stands, plain_cell_size}
 
 -- a cell that is owned and has a length is a store or a table
-owned_is_store : (k : Kind) → IsOwnedKind k → IsTrue (has_length k) → IsStoreKind k
+pub owned_is_store : (k : Kind) → IsOwnedKind k → IsTrue (has_length k) → IsStoreKind k
 owned_is_store kind.Store owned long = inl refl
 owned_is_store kind.Table owned long = inr refl
 owned_is_store kind.Boxed owned long = absurd (false≢true long)

@@ -19,7 +19,7 @@ use Rattle.object_cells.specs.CellWrites.{IsInCell, IsWrittenOfKind, Becomes}
 use Rattle.object_cells.specs.SlotChanges.{WritesFields}
 use Rattle.object_cells.proofs.WrittenPlaces.{IsStoreOrBox, beside_is_no_object}
 use Rattle.object_cells.proofs.UnusedWords.{cell_is_used}
-use Rattle.object_cells.proofs.OneWord.{WritesOne, WritesTwo, two_of_one}
+use Rattle.object_cells.proofs.OneWord.{WritesOne, WritesTwo}
 
 -- the words of a list
 pub list_size : {heap : Heap} {cell : Cell} {words : List ℕ} → HasCell heap cell words → cell.layout.kind ≡ kind.List
@@ -54,20 +54,12 @@ cell_below_layouts {heap} whole has of_cell =
     omega (arith, of_cell.below, cell_below_roots (used_few whole.rows) has, layouts_start_is heap.space)
 
 -- so a word of a cell stays, unless it is one of the two
-pub own_word_stays : {old new : Heap} {one : Cell} {words : List ℕ} {first head at word : ℕ} {made : List Cell} (a : ℕ)
+pub word_stays : {old new : Heap} {one : Cell} {words : List ℕ} {first head at word : ℕ} {made : List Cell} (a : ℕ)
     → Whole old → WritesTwo old new first head at word made → HasCell old one words → IsOfCell one a → a ≢ first
     → a ≢ at
     → slice_get new.words a ≡ slice_get old.words a
-own_word_stays a whole writes has of_cell not_first not_at =
+word_stays a whole writes has of_cell not_first not_at =
     writes.stay a (cell_below_layouts whole has of_cell) not_first not_at (cell_not_new a whole writes has of_cell)
-
--- and where one is the header of the object
-pub word_stays : {old new : Heap} {cell one : Cell} {words : List ℕ} {shape at word : ℕ} {made : List Cell} (a : ℕ)
-    → Whole old → WritesOne old new cell shape at word made → HasCell old one words → IsOfCell one a → a ≢ cell.at
-    → a ≢ at
-    → slice_get new.words a ≡ slice_get old.words a
-word_stays a whole writes has of_cell not_cell not_at =
-    own_word_stays a whole (two_of_one writes) has of_cell not_cell not_at
 
 -- no address of a store or box is one of an object's cell
 pub beside_not_own : {heap : Heap} {cell other : Cell} {words others : List ℕ} (a first : ℕ) → Whole heap
@@ -103,11 +95,11 @@ written_beside {other = other} {first = first} whole has object of_own writes pu
     record {
       stood = put.stood;
       of_kind = put.of_kind;
-      header = own_word_stays other.at whole writes put.stood start
+      header = word_stays other.at whole writes put.stood start
           (beside_not_own other.at first whole has object of_own put.stood put.of_kind start) put.header;
       length = λ store.
           let second = store_second put.stood store in
-          own_word_stays (other.at + length_offset) whole writes put.stood second
+          word_stays (other.at + length_offset) whole writes put.stood second
           (beside_not_own (other.at + length_offset) first whole has object of_own put.stood put.of_kind second)
           (put.length store);
     }
@@ -133,7 +125,6 @@ pub writes_cells : {old new : Heap} (cell : Cell) (shape at word : ℕ) (others 
     → (shape_path new.paths shape).cap ≡ cell.layout.cap → IsOwnWord old cell others at
     → WritesOne old new cell shape at word made → WritesFields old new cell shape others made
 writes_cells cell shape at word others made whole has plain is_shape cap own writes =
-    let two = two_of_one writes in
     record {
       same_space = writes.same_space;
       same_survivors = writes.same_survivors;
@@ -152,8 +143,8 @@ writes_cells cell shape at word others made whole has plain is_shape cap own wri
         header = writes.header;
       });
       beside = λ other there.
-          written_beside whole has (ap is_object_kind plain) (first_of_cell has) two (own.each other there);
+          written_beside whole has (ap is_object_kind plain) (first_of_cell has) writes (own.each other there);
       made_stand = writes.made_stand;
       stay = λ a below not_cell not_others not_new.
-          others_stay (first_of_cell has) two own a below not_cell not_others not_new;
+          others_stay (first_of_cell has) writes own a below not_cell not_others not_new;
     }

@@ -12,7 +12,6 @@ use Rattle.cell_layout.specs.Cells.{IsRow}
 use Rattle.heap_table.specs.Seats.{heap_words}
 use Rattle.heap_model.specs.Heaps.{Heap, HasCell, words_of_cell}
 use Rattle.heap_model.specs.Wholeness.{Whole, HasSizes}
-use Rattle.heap_model.proofs.CellsApart.{IsOfCell}
 use Rattle.write_barrier.specs.MutatorState.{Mutator, heap_of, IsTied, reserved}
 use Rattle.object_cells.specs.CellWrites.{IsInCell, IsWrittenOfKind, Becomes, WritesOwnCells}
 use Rattle.object_cells.specs.declared.content.SlotContent.{SlotContent}
@@ -21,7 +20,7 @@ use Rattle.object_cells.specs.Made.{PutsWords, content_need, with_content}
 use Rattle.object_cells.proofs.MadeBoxes.{BoxStands, put_box}
 use Rattle.object_cells.proofs.OwnCells.{cell_below_layouts}
 use Rattle.object_cells.proofs.WordsPut.{sizes_stay}
-use Rattle.object_cells.proofs.UnusedWords.{next_before_segments, cell_is_used}
+use Rattle.object_cells.proofs.UnusedWords.{next_before_segments}
 
 -- So many words were reserved, and then words were put: those of the cell of an object of this
 -- kind, of these others, and newly used ones.
@@ -44,14 +43,6 @@ in_cell_below : {owner : Kind} {old new : Mutator} {cell one : Cell} {others : L
     → IsInCell a one → a < layouts_start old.seat.space
 in_cell_below a puts has inside = cell_below_layouts puts.whole has
     (record { from = inside.from; below = inside.below })
-
--- no word of a cell is one that was reserved
-pub not_reserved : {owner : Kind} {old new : Mutator} {cell one : Cell} {others : List Cell} {need : ℕ}
-    {words more : List ℕ} (a : ℕ) → PutsOwn owner old new cell others need words → HasCell (heap_of old) one more
-    → IsOfCell one a → next_at old ≤ a → a < next_at old + need → ⊥
-not_reserved {old = old} {need = need} a puts has of_cell from below =
-    cell_is_used puts.whole.rows has of_cell from
-    (omega (arith, below, next_before_segments old need puts.tied puts.room))
 
 -- so the sizes are there
 pub own_sized : {owner : Kind} {old new : Mutator} {cell : Cell} {others : List Cell} {need : ℕ} {words : List ℕ}

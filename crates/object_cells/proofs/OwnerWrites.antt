@@ -46,6 +46,10 @@ list_owns = record { object = refl; short = refl; belongs = tt; long = refl }
 pub weak_owns : Owns kind.Weak kind.Table
 weak_owns = record { object = refl; short = refl; belongs = tt; long = refl }
 
+-- what an object owns is no box
+pub owned_is_no_box : {owner owned k : Kind} → Owns owner owned → k ≡ owned → k ≡ kind.Boxed → ⊥
+owned_is_no_box owns is box = false≢true (sym (ap has_length box) ∙ ap has_length is ∙ owns.long)
+
 -- what an object's cell becomes has as many in-object slots
 pub becomes_cap : {old new : Heap} {cell came : Cell} → Becomes old new cell came → came.layout.cap ≡ cell.layout.cap
 becomes_cap (Becomes.itself same header) = ap (λ (c : Cell). c.layout.cap) same

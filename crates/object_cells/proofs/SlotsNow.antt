@@ -24,6 +24,7 @@ use Rattle.object_cells.specs.SlotChanges.{WritesFields}
 use Rattle.object_cells.proofs.OwnerWrites.{becomes_cap}
 use Rattle.object_cells.proofs.CellsRead.{word_stands}
 use Rattle.object_cells.proofs.SlotPlaces.{own_slot, behind_cap}
+use Rattle.object_cells.proofs.StoreCells.{store_at}
 use Rattle.object_cells.proofs.NumberedSlots.{IsNumbered, slot_of_number, is_store_of}
 use Rattle.object_cells.proofs.OneWord.{WritesOne}
 use Rattle.object_cells.proofs.OwnCells.{word_stays, beside_not_header}
@@ -103,29 +104,26 @@ store_now {cell = cell} {store = store} puts slot =
     puts.not_store
     ∙ word_stands store_slot store puts.has slot
 
--- the slots that stand beside the object in the new heap
-pub record BesideNow (new : Heap) (store : ℕ) (before : List ℕ) : Type 0 where
+-- The slots that stand beside the object in the new heap: as many, at the same address.
+pub record BesideNow (new : Heap) (store place many : ℕ) : Type 0 where
   pub slots : List ℕ
   pub stands : HoldsStore new kind.Store store slots
-  pub long : length slots ≡ length before
+  pub at : store_at stands ≡ place
+  pub long : length slots ≡ many
 
--- there are as many as before
-pub beside_now : {old new : Heap} (store : ℕ) (before : List ℕ) → StoresStand old new
-    → HoldsStore old kind.Store store before → BesideNow new store before
-beside_now store before stand HoldsStore.none = record { slots = []; stands = HoldsStore.none; long = refl }
-beside_now {new = new} store before stand (HoldsStore.store to other words refers of_kind) =
+-- so they stand where the stores do
+pub beside_now : {old new : Heap} {store : ℕ} {before : List ℕ} → StoresStand old new
+    → (stands : HoldsStore old kind.Store store before) → BesideNow new store (store_at stands) (length before)
+beside_now stand HoldsStore.none = record { slots = []; stands = HoldsStore.none; at = refl; long = refl }
+beside_now {new = new} stand (HoldsStore.store to other words refers of_kind) =
     let now = stand other words refers.has (inl of_kind) in
     let all : List ℕ = words_of_cell new other in
+    let long = length-drop store_head all in
     record {
       slots = drop store_head all;
-      stands = HoldsStore.store store other all (record { refers = refers.refers; has = now }) of_kind;
-      long = omega (
-        arith,
-        length-drop store_head all,
-        length-drop store_head words,
-        words_are_size now,
-        words_are_size refers.has,
-      );
+      stands = HoldsStore.store to other all (record { refers = refers.refers; has = now }) of_kind;
+      at = refl;
+      long = omega (arith, long, length-drop store_head words, words_are_size now, words_are_size refers.has);
     }
 
 -- the store to which a word refers was there

@@ -49,6 +49,62 @@ fn each_cell_has_the_words_of_its_description(rt: HostRuntime) -> Result<(), Fai
     Ok(())
 }
 
+/// On a heap of 2,048 page words, 64 young words and no helper: a script, the first root word of its first
+/// variable, and the words from 2,112 on, where the halves begin, up to the one behind the copies. Half 1
+/// begins at 2,176, and the roots at 2,240. Copies stand in the order in which they were reached: the
+/// objects of variables, and then, copy by copy, what the slots refer to. A raw integer stays, though it
+/// has the bits of the reference to the place where its object stood.
+const SCAVENGED: &str = "\
+new x 0; scavenge | 8705 | 64 34 3 0
+new x 0; scavenge; scavenge | 8449 | 0 34 3 0
+new x 1; set x a 5000000000; set x a 8193; scavenge | 8705 | 64 70 3 8193 0
+new x 0; drop x; new y 0; let x y; scavenge | 8705 | 64 4294967330 3 0
+list l; push l 5000000000; push l l; scavenge | 8705 | 64 6 8717 2 14 4 8741 8705 7 7 22 5000000000 0
+weak m; wput m m 5; scavenge | 8705 | 64 10 8717 1 18 4 8705 10 7 7 7 7 7 7 0";
+
+#[test]
+fn a_scavenge_leaves_the_words_of_what_lives(rt: HostRuntime) -> Result<(), Fail> {
+    for row in SCAVENGED.lines() {
+        let mut fields = row.split(" | ");
+        let given = "run --pages 1 --young 64 --helpers 0";
+        let seen = came(&rt, given, fields.next().unwrap_or(""), SURE)?;
+        let root = text_of(rt.alloc(), seen.words.get(2_240..2_241).unwrap_or(&[]))?;
+        assert_eq!(rt; root.as_str().trim_start(), fields.next().unwrap_or(""), "{row}");
+        let half = fields.next().unwrap_or("");
+        let (from, wanted) = match half.strip_prefix("64 ") {
+            Some(wanted) => (2_176, wanted),
+            None => (2_112, half.strip_prefix("0 ").unwrap_or("")),
+        };
+        let end = from + wanted.split(' ').count();
+        let words = text_of(rt.alloc(), seen.words.get(from..end).unwrap_or(&[]))?;
+        assert_eq!(rt; words.as_str().trim_start(), wanted, "{row}");
+    }
+    Ok(())
+}
+
+/// With one helper each half has two segments of 64 words: half 1 begins at 2,240, the main side's segment of
+/// it at 2,304, and the roots at 2,368. The object that is dead is not copied.
+#[test]
+fn copies_go_to_the_segment_of_the_main_side(rt: HostRuntime) -> Result<(), Fail> {
+    let given = "run --pages 1 --young 64 --helpers 1";
+    let seen = came(&rt, given, "new x 0; drop x; new x 0; scavenge", SURE)?;
+    let places = [
+        (2_048usize, 0u64),
+        (2_112, 0),
+        (2_176, 0),
+        (2_240, 0),
+        (2_304, 4_294_967_330),
+        (2_305, 3),
+        (2_306, 0),
+        (2_368, 9_217),
+    ];
+    for (at, word) in places {
+        assert_eq!(rt; seen.words.get(at).copied(), Some(word), "at {at}");
+    }
+    assert_eq!(rt; (seen.used, seen.survivors), (0, 2));
+    Ok(())
+}
+
 /// Free pages are gaps. With 8,192 young words and two helpers there are 6 segments, and behind them the
 /// roots begin at 188,416. A variable has two root words, and a path its layout word.
 #[test]

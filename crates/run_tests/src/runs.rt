@@ -24,7 +24,7 @@ pub(crate) const SURE: Pace = Pace {
 
 /// What a run came to, as plain data: its status, what its sink took, and of the heap that it kept, if it
 /// did, the executed lines with the line that stopped it and the words that this line needed, the pages,
-/// young words, helpers and variables, the used words of eden, and the words.
+/// young words, helpers and variables, the used words of eden, those of the survivors, and all words.
 #[derive(Drop)]
 pub(crate) struct RunSeen {
     pub(crate) status: u8,
@@ -32,6 +32,7 @@ pub(crate) struct RunSeen {
     pub(crate) counts: String,
     pub(crate) sizes: String,
     pub(crate) used: usize,
+    pub(crate) survivors: usize,
     pub(crate) words: Vec<u64>,
 }
 
@@ -65,6 +66,7 @@ fn seen_of(alloc: Global, ended: &Ended, written: &[u8]) -> Result<RunSeen, Fail
         counts: String::new(alloc),
         sizes: String::new(alloc),
         used: 0,
+        survivors: 0,
         words: Vec::new(alloc),
     };
     if let Some(kept) = &ended.kept {
@@ -76,6 +78,7 @@ fn seen_of(alloc: Global, ended: &Ended, written: &[u8]) -> Result<RunSeen, Fail
             sizes.pages, sizes.young, sizes.helpers
         )?;
         seen.used = image.used as usize;
+        seen.survivors = image.survivors as usize;
         seen.words = image.words.as_slice().to_vec(alloc)?;
     }
     Ok(seen)

@@ -27,10 +27,6 @@ changes_again {first} {old} {new} before then = record {
   count = then.count ∙ before.count;
 }
 
--- where the mutator is the same, nothing has changed
-pub changes_same : {old new : Mutator} → new ≡ old → ChangesWords old new
-changes_same {old} same = subst (λ (main : Mutator). ChangesWords old main) (sym same) (changes_nothing old)
-
 -- one word that is put before the marks is a change of heap words
 pub put_changes : {old new : Mutator} (a word : ℕ) → new ≡ with_word old a word
     → heap_words new.seat ≡ slice_set (heap_words old.seat) a word → a < marks_start old.seat.space

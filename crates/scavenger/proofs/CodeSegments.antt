@@ -19,7 +19,8 @@ use Rattle.scavenger.proofs.LoopFollows.{room_before_marks}
 -- a region begins at one address
 pub one_start : (space : Space) (region : Region) (one other : ℕ) → StartsAt space region one
     → StartsAt space region other → one ≡ other
-one_start space region one other is is_too = sym (start_of_is space region one is) ∙ start_of_is space region other is_too
+one_start space region one other is is_too =
+    sym (start_of_is space region one is) ∙ start_of_is space region other is_too
 
 -- what begins somewhere is a region of the heap
 pub begins_region : (space : Space) (region : Region) (at : ℕ) → StartsAt space region at → IsRegion space region
@@ -63,14 +64,14 @@ half_before_marks space half two =
 spaces_by : (space : Space) (half eden left room : ℕ) → half ≤ 1 → StartsAt space Eden eden
     → StartsAt space (Segment half 0) left → StartsAt space (Segment (1 - half) space.sizes.helpers) room
     → AreSpaces space half (record {
-  eden = eden;
-  eden_end = eden + space.sizes.young;
-  half = half;
-  left = left;
-  left_end = left + space.sizes.young * (space.sizes.helpers + 1);
-  room = room;
-  room_end = room + space.sizes.young;
-})
+      eden = eden;
+      eden_end = eden + space.sizes.young;
+      half = half;
+      left = left;
+      left_end = left + space.sizes.young * (space.sizes.helpers + 1);
+      room = room;
+      room_end = room + space.sizes.young;
+    })
 spaces_by space half eden left room two of_eden of_left of_room =
     let by_number = stand_by_number space in
     let eden_is : eden ≡ eden_start space = one_start space Eden eden (eden_start space) of_eden by_number.eden in
@@ -97,17 +98,17 @@ pub spaces_are : (space : Space) (sizes : Sizes) (half eden left room : ℕ) →
     → StartsAt space Eden eden → StartsAt space (Segment half 0) left
     → StartsAt space (Segment (1 - half) sizes.helpers) room
     → AreSpaces space half (record {
-  eden = eden;
-  eden_end = eden + sizes.young;
-  half = half;
-  left = left;
-  left_end = left + sizes.young * (sizes.helpers + 1);
-  room = room;
-  room_end = room + sizes.young;
-})
+      eden = eden;
+      eden_end = eden + sizes.young;
+      half = half;
+      left = left;
+      left_end = left + sizes.young * (sizes.helpers + 1);
+      room = room;
+      room_end = room + sizes.young;
+    })
 spaces_are space sizes half eden left room same two of_eden of_left =
     let Are : Sizes → Type 0 = λ (all : Sizes). StartsAt space (Segment (1 - half) all.helpers) room
-        → AreSpaces space half (record {
+    → AreSpaces space half (record {
       eden = eden;
       eden_end = eden + all.young;
       half = half;

@@ -31,7 +31,12 @@ still_zero words put at within zero = elim (equal_or_not at put) [
 -- none is emptied
 pub empties_none : (space : Space) (half : ℕ) (words : List ℕ) → EmptiesBelow space half 0 words words
 empties_none space half words =
-    record { length_same = refl; zeros = λ at zero. zero; starts = λ worker below. absurd (omega arith); others = λ at none. refl }
+    record {
+      length_same = refl;
+      zeros = λ at zero. zero;
+      starts = λ worker below. absurd (omega arith);
+      others = λ at none. refl;
+    }
 
 -- one more is emptied
 pub empties_more : (space : Space) (half worker put : ℕ) (old mid new : List ℕ)

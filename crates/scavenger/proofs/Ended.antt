@@ -1,9 +1,11 @@
 -- A scavenge that has come to its end is one, and the heap that is left shows the graph.
-use Rattle.std.proofs.Common.{◌≡◌, ℕ, List, Option, inr, sym, ◌∙◌, ap, subst, arith}
+use Rattle.std.proofs.Common.{◌≡◌, ℕ, ◌≤◌, List, Contains, Option, inr, sym, ◌∙◌, ap, subst, arith}
 use Rattle.object_graph.specs.Graphs.{Graph}
 use Rattle.nursery.specs.Young.{Young, IsYoung, other_half}
 use Rattle.heap_table.specs.Seats.{heap_words}
-use Rattle.heap_model.specs.Heaps.{Heap}
+use Rattle.page_space.specs.Extents.{eden_start}
+use Rattle.heap_model.specs.Types.{Cell}
+use Rattle.heap_model.specs.Heaps.{Heap, HasCell}
 use Rattle.object_graph.specs.declared.object.Object.TheVariants.{Weak}
 use Rattle.heap_model.specs.Showing.{Shows}
 use Rattle.heap_model.specs.Counting.{CountsEntries}
@@ -22,7 +24,8 @@ use Rattle.scavenger.specs.Laws.{IsEnded, EndsAreScavenges}
 use Rattle.scavenger.specs.Scavenged.{Scavenges, place_after}
 use Rattle.scavenger.proofs.EndWords.{Ending, few, outside_same}
 use Rattle.scavenger.proofs.EndCopies.{renaming}
-use Rattle.scavenger.proofs.EndRows.{ended_heap}
+use Rattle.scavenger.proofs.EndRows.{CameFrom, ended_heap}
+use Rattle.scavenger.proofs.EndHeap.{came_from}
 use Rattle.scavenger.proofs.EndMoved.{is_moved, is_collectable}
 
 -- the heap that is left is the one at the end
@@ -70,7 +73,13 @@ left_is_moved old new fixed homes words fill young is =
     subst (λ heap. IsMoved (heap_of old) heap (place_after (heap_of old) homes))
     (sym (new_is old new fixed homes words fill is)) (is_moved (ending_is old new fixed homes words fill young is))
 
--- and may be collected
+-- its young cells are home copies
+young_came : {heap : Heap} {homes : List Home} {cell : Cell} → CameFrom heap homes cell
+    → eden_start heap.space ≤ cell.at → (home : Home) × Contains homes home × (home.to ≡ cell.at)
+young_came (CameFrom.of_page had below) young = absurd (omega (arith, below, young))
+young_came (CameFrom.of_copy home there same) young = (home, there, same)
+
+-- and it may be collected
 left_is_collectable : (old new : Mutator) (fixed : Fixed) (homes : List Home) (words : List ℕ) (fill : ℕ)
     → IsYoung old.young → IsEnded old new fixed homes words fill
     → IsCollectable (heap_of new) (other_half new.young.half)
@@ -97,6 +106,9 @@ scavenged old new fixed homes words fill young is =
       young = is.young;
       few = omega (arith, few ending, is.filled.long);
       moved = left_is_moved old new fixed homes words fill young is;
+      alone = λ cell body has.
+          young_came (came_from ending
+          (subst (λ heap. HasCell heap cell body) (new_is old new fixed homes words fill is) has));
     }
 
 -- the heap that is left shows the graph

@@ -16,6 +16,7 @@ pub mod StartTargets
 pub mod StartLaid
 pub mod Started
 pub mod CodeChanges
+pub mod CodeReadings
 pub mod LoopTargets
 pub mod LoopFollows
 pub mod CodeSegments
@@ -37,3 +38,4 @@ pub mod EndStands
 pub mod EndMoved
 pub mod Ended
 pub mod LoopEnds
+pub mod Tight

@@ -87,7 +87,11 @@ room_ends space half at two from below =
     let starts = start_of_is space (Segment half helpers) (room_start space half)
     ((stand_by_number space).segments half helpers less (omega arith)) in
     cells_end space (Segment half helpers) at (room_end space half) refl
-    (record { is_region = (less, omega arith); from = omega (arith, starts, from); below = omega (arith, starts, below) })
+    (record {
+      is_region = (less, omega arith);
+      from = omega (arith, starts, from);
+      below = omega (arith, starts, below);
+    })
     (omega (arith, starts))
 
 -- what stood before is some cell
@@ -163,9 +167,10 @@ pub next_is_cell : {start now : Mutator} {scan reached root fill : ℕ}
 next_is_cell {start} {now} {scan} {reached} {root} {fill} before less =
     let next = next_home before.filled less in
     let Has : ℕ → Type 0 = λ (at : ℕ). (one : Scavenging start now at reached root fill) → Contains one.homes next.home
-        → (cell : Cell) × (cell.at ≡ at) × IsCell start.seat.space (heap_words now.seat) cell in
+    → (cell : Cell) × (cell.at ≡ at) × IsCell start.seat.space (heap_words now.seat) cell in
     subst Has next.stands (λ one among.
-    (cell_of next.home.to (read_before next.home one among).0, refl, copy_is_cell next.home one among)) before next.among
+    (cell_of next.home.to (read_before next.home one among).0, refl, copy_is_cell next.home one among)) before
+    next.among
 
 -- a cell that is read there is scanned
 pub next_is_scanned : {start now : Mutator} {scan reached root fill : ℕ}
@@ -175,6 +180,6 @@ pub next_is_scanned : {start now : Mutator} {scan reached root fill : ℕ}
 next_is_scanned {start} {now} {scan} {reached} {root} {fill} before less found is_cell at =
     let next = next_home before.filled less in
     let Has : ℕ → Type 0 = λ (one : ℕ). (state : Scavenging start now one reached root fill)
-        → Contains state.homes next.home → one < fill → found.at ≡ one → IsScanned start now found reached root fill in
+    → Contains state.homes next.home → one < fill → found.at ≡ one → IsScanned start now found reached root fill in
     subst Has next.stands (λ state among below stands. home_is_scanned next.home state among below found is_cell stands)
     before next.among less at

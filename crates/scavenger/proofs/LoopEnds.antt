@@ -61,8 +61,8 @@ pub ends_scavenging : {start now emptied new : Mutator} {fill : ℕ} → IsSpace
     (heap_words now.seat) (heap_words emptied.seat)
     → ChangesWords now emptied
     → new ≡ record emptied {
-  young = turned emptied.young (fill - room_start start.seat.space (other_half start.young.half));
-}
+      young = turned emptied.young (fill - room_start start.seat.space (other_half start.young.half));
+    }
     → IsEnded start new state.fixed state.homes (heap_words now.seat) fill
 ends_scavenging {start} {now} {emptied} {new} {fill} limits state is_emptied changes is =
     let all = changes_again state.changes changes in

@@ -32,8 +32,8 @@ same_room_end {old} {new} changes =
     ∙ ap (λ (space : Space). room_end space (other_half old.young.half)) changes.seat.space
 
 -- A scavenge has gone on from one state: copies have been added, and what is to do begins elsewhere.
-pub record GoesOn {start now : Mutator} {scan reached root fill : ℕ} (before : Scavenging start now scan reached root fill)
-    (new : Mutator) (next next_root behind : ℕ) : Type 0 where
+pub record GoesOn {start now : Mutator} {scan reached root fill : ℕ}
+    (before : Scavenging start now scan reached root fill) (new : Mutator) (next next_root behind : ℕ) : Type 0 where
   pub after : Scavenging start new scan next next_root behind
   pub fixed : after.fixed ≡ before.fixed
   pub kept : (home : Home) → Contains before.homes home → Contains after.homes home

@@ -179,8 +179,7 @@ module _ {start now : Mutator} {cell : Cell} {reached root fill : ℕ} (from : �
   pub copy_has_words : (1 ≤ cell.size) × (cell.at < room_end start.seat.space (other_half start.young.half))
   copy_has_words =
       let state = scanned.scavenging in
-      let itself = home_itself scanned.home state.begun.laid state.filled.copying scanned.among in
-      (
+      let itself = home_itself scanned.home state.begun.laid state.filled.copying scanned.among in (
         omega (arith, itself.below, scanned.size),
         omega (arith, scanned.before, fill_in_room state),
       )
@@ -201,18 +200,17 @@ module _ {start now : Mutator} {cell : Cell} {reached root fill : ℕ} (from : �
             (copy_passes scanned.home state.begun.laid state.filled scanned.before scanned.among scanned.stands);
         others = λ other origin target stood refers is.
             reaches cell.size other origin (omega arith) (λ one among above at.
-            let less : one < from = All-contains (λ offset. offset < from) (scavenge_offsets cell.layout cell.length) one all
-            among in
+            let less : one < from =
+            All-contains (λ offset. offset < from) (scavenge_offsets cell.layout cell.length) one all among in
             absurd (omega (arith, less, above))) stood (state.others other origin target stood refers is);
         changes = state.changes;
       }
 
 -- a copy that was read is scanned from its first slot on
-pub at_copy : {start now new : Mutator} {cell : Cell} {scan root fill : ℕ} → new ≡ now → cell.at ≡ scan
-    → IsScanned start now cell scan root fill → IsScanned start new cell cell.at root fill
-at_copy {start} {now} {new} {cell} {scan} {root} {fill} same at scanned =
-    subst (λ (main : Mutator). IsScanned start main cell cell.at root fill) (sym same)
-    (subst (λ (reached : ℕ). IsScanned start now cell reached root fill) (sym at) scanned)
+pub at_copy : {start now : Mutator} {cell : Cell} {scan root fill : ℕ} → cell.at ≡ scan
+    → IsScanned start now cell scan root fill → IsScanned start now cell cell.at root fill
+at_copy {start} {now} {cell} {scan} {root} {fill} at scanned =
+    subst (λ (reached : ℕ). IsScanned start now cell reached root fill) (sym at) scanned
 
 -- copies are scanned up to where they end, or before
 pub scan_within : {fixed : Fixed} {words : List ℕ} {homes : List Home} {start scan fill : ℕ}

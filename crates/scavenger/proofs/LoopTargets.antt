@@ -1,5 +1,5 @@
 -- What may be read and copied where a live slot is followed.
-use Rattle.std.proofs.Common.{◌≡◌, ℕ, ◌+◌, ◌<◌, ◌≤◌, inl, inr, List, [], length, slice_get, Some}
+use Rattle.std.proofs.Common.{◌≡◌, ℕ, ◌+◌, ◌<◌, ◌≤◌, inl, inr, List, [], length, get_or, slice_get, Some, None}
 use Rattle.std.proofs.Common.{sym, ◌∙◌, ap, subst, arith}
 use Rattle.std.specs.List.{Contains}
 use Rattle.std.proofs.lemmas.Bool.{cases_lt}
@@ -27,6 +27,11 @@ use Rattle.scavenger.proofs.Targets.{slots_have_targets}
 pub refers_by : (words : List ℕ) (slot word at : ℕ) → slice_get words slot ≡ Some word → Some at ≡ reference_in word
     → RefersToAddress words slot at
 refers_by words slot word at read is = ap reference_in (get_or_from_slice_get words slot word 0 read) ∙ sym is
+
+-- and a word that is read and is no reference refers nowhere
+pub refers_nowhere : (words : List ℕ) (slot word : ℕ) → slice_get words slot ≡ Some word → None ≡ reference_in word
+    → reference_in (get_or words slot 0) ≡ None
+refers_nowhere words slot word read is = ap reference_in (get_or_from_slice_get words slot word 0 read) ∙ sym is
 
 -- two stretches with no common address are disjoint
 pub disjoint_by : (from to count : ℕ)
@@ -83,7 +88,7 @@ module _ {now : Mutator} {slot fill : ℕ} (may : MayFollow now slot fill) where
   has_target at refers left =
       let fixed : Fixed = may.scavenging.fixed in
       let Has : Space → ℕ → Type 0 = λ space half. IsLeft space half at → Contains fixed.cells at
-          × IsTarget space fixed (heap_words now.seat) (room_end space (other_half half)) fill at in
+      × IsTarget space fixed (heap_words now.seat) (room_end space (other_half half)) fill at in
       let start = may.start in
       let has : Has start.seat.space start.young.half =
       slots_have_targets (heap_of start) (other_half start.young.half) start.young.half fixed (heap_words now.seat)

@@ -4,6 +4,7 @@ use Rattle.object_graph.specs.Graphs.{Graph}
 use Rattle.page_space.specs.RegionLaws.{IsSpace}
 use Rattle.nursery.specs.Young.{IsYoung, turned, other_half}
 use Rattle.heap_table.specs.Seats.{RestStays, heap_words}
+use Rattle.heap_model.specs.Reaching.{IsTight}
 use Rattle.heap_model.specs.Rooms.{Room, HasRooms}
 use Rattle.write_barrier.specs.MutatorState.{Mutator, heap_of, MainShows}
 use Rattle.scav_copy.specs.declared.places.Home.{Home}
@@ -44,3 +45,8 @@ EndsAreScavenges =
     → MainShows old graph → IsYoung old.young → IsEnded old new fixed homes words fill
     → Scavenges old new × MainShows new graph
     × ((rooms : ℕ → Room) → HasRooms (heap_of old) graph rooms ↔ HasRooms (heap_of new) graph rooms)
+
+-- A scavenge of a heap that shows a graph leaves a tight heap.
+abbrev pub ScavengesAreTight : Type 0
+ScavengesAreTight =
+    (old new : Mutator) (graph : Graph) → MainShows old graph → Scavenges old new → IsTight (heap_of new)

@@ -1,10 +1,11 @@
 -- What a scavenge comes to.
-use Rattle.std.specs.Prelude.{◌≡◌, ℕ, ◌+◌, ◌<◌, ◌≤◌, ◌⊎◌, List, [], ◌∷◌, Option, Some, None, sum_by, slice_get}
-use Rattle.std.specs.Prelude.{nat_lt, ◌==◌, if◌then◌else◌}
+use Rattle.std.specs.Prelude.{◌≡◌, ℕ, ◌+◌, ◌<◌, ◌≤◌, ◌⊎◌, List, [], ◌∷◌, Option, Some, None, Contains, sum_by}
+use Rattle.std.specs.Prelude.{slice_get, nat_lt, ◌==◌, if◌then◌else◌}
 use Rattle.page_space.specs.Extents.{eden_start, roots_start}
 use Rattle.nursery.specs.Young.{turned, other_half}
 use Rattle.heap_table.specs.Seats.{RestStays, heap_words}
-use Rattle.heap_model.specs.Heaps.{Heap}
+use Rattle.heap_model.specs.Types.{Cell}
+use Rattle.heap_model.specs.Heaps.{Heap, HasCell}
 use Rattle.heap_moves.specs.Moved.{IsMoved}
 use Rattle.write_barrier.specs.MutatorState.{Mutator, heap_of}
 use Rattle.scav_copy.specs.declared.places.Home.{Home}
@@ -27,7 +28,7 @@ words_of_homes fixed homes = sum_by (λ home. size_of fixed home.from) homes
 
 -- A scavenge. Exactly the young cells that were reached, from variables through slots of such cells, have homes: they
 -- stand there, in the half that was empty, and all that referred to them refers to that. Eden is empty then, and the
--- survivors have as many words as the home copies. In pages, in second root words and in layout words nothing changed.
+-- survivors are the home copies alone. In pages, in second root words and in layout words nothing changed.
 pub record Scavenges (old new : Mutator) : Type 0 where
   pub fixed : Fixed
   pub homes : List Home
@@ -40,3 +41,5 @@ pub record Scavenges (old new : Mutator) : Type 0 where
   pub young : new.young ≡ turned old.young (words_of_homes fixed homes)
   pub few : words_of_homes fixed homes ≤ old.young.survivors + old.young.used
   pub moved : IsMoved (heap_of old) (heap_of new) (place_after (heap_of old) homes)
+  pub alone : (cell : Cell) (words : List ℕ) → HasCell (heap_of new) cell words
+      → eden_start old.seat.space ≤ cell.at → (home : Home) × Contains homes home × (home.to ≡ cell.at)

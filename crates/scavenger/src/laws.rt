@@ -1,11 +1,12 @@
 //! What a scavenge begins with, what slots refer to throughout, and what becomes of the words where one
 //! is followed.
 ghost use Rattle.scavenger.specs.Following.{SlotsHaveTargets, FollowingGoesOn};
-ghost use Rattle.scavenger.specs.Laws.{ShownHeapsMayBegin, EndsAreScavenges};
+ghost use Rattle.scavenger.specs.Laws.{ShownHeapsMayBegin, EndsAreScavenges, ScavengesAreTight};
 
-/// A heap that shows a graph may be scavenged.
+/// A heap that shows a graph may be scavenged. What a scavenge keeps of it is reached from variables.
 pub fn laws_of_scavenges()
     ensures begin { ShownHeapsMayBegin }
+    ensures tight { ScavengesAreTight }
 {}
 
 /// Each live slot that refers to words that are left refers to one of the cells there: to a header

@@ -7,6 +7,7 @@
 #![tactic(auto)]
 
 mod emptying;
+mod known_cells;
 mod laws;
 mod scanning;
 mod scavenging;

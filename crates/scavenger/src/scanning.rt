@@ -1,18 +1,18 @@
 //! The slots that a scavenge follows, in order: those of the variables, and then those of the copies.
 //!
-//! It is Cheney's way of 1970, in breadth: the room is the list of what is to do, since copies are
-//! looked at in the order in which they were made.
+//! The room is the list of what is to do, since copies are looked at in the order in which they were
+//! made.
 ghost use Rattle.std.specs.Prelude.{◌≡◌, ℕ, ◌+◌, ◌<◌};
 ghost use Rattle.page_space.specs.Extents.{layouts_start};
-ghost use Rattle.cell_layout.specs.Cells.{IsSized};
 ghost use Rattle.heap_table.specs.declared.phase.Phase.TheVariants.{Quiet};
 ghost use Rattle.write_barrier.specs.MutatorState.{Mutator};
 ghost use Rattle.scavenger.specs.Filling.{ChangesWords};
 ghost use Rattle.scavenger.specs.Walking.{AreSpaces, MayBegin, Scavenging, IsScanned};
 
+use crate::known_cells::known_cell;
 use crate::slots::follow;
 use crate::spaces::Spaces;
-use cell_layout::{Cell, cell_at, next_scavenge_slot};
+use cell_layout::{Cell, next_scavenge_slot};
 use write_barrier::Main;
 
 /// Follows the first root word of each variable, and answers where the copies end.
@@ -32,24 +32,24 @@ pub(crate) fn scavenge_roots(main: &mut Main, spaces: &Spaces) -> u32
 }
 
 /// The cell that the copy at an address is.
-fn copy_at(main: &mut Main, at: u32) -> Cell
-    requires { (start : Mutator) × (root : ℕ) × (fill : ℕ) × Scavenging start main.old at at root fill × (at < fill) }
+fn copy_at(main: &Main, at: u32) -> Cell
+    requires { (start : Mutator) × (root : ℕ) × (fill : ℕ) ×
+        Scavenging start main.now at at root fill × (at < fill) }
     ensures at { result.at ≡ at }
-    ensures scanned { (start : Mutator) (root fill : ℕ) → Scavenging start main.old at at root fill → at < fill
-        → IsScanned start main.old result at root fill }
-    ensures same { main.new ≡ main.old }
+    ensures scanned { (start : Mutator) (root fill : ℕ) →
+        Scavenging start main.now at at root fill → at < fill →
+        IsScanned start main.now result at root fill }
 {
-    let regions = main.regions();
-    match cell_at(main, &regions, at) {
-        Ok(cell) => cell,
-        Err(_) => unreachable!(),
-    }
+    // There is a word for each address before the marks.
+    main.addresses_fit();
+    known_cell(main, at, main.word(at))
 }
 
 /// Follows each slot of a copy, and answers where the copies end.
 fn follow_slots(main: &mut Main, spaces: &Spaces, cell: &Cell, filled: u32) -> u32
     requires spaces { AreSpaces main.old.seat.space main.old.young.half spaces.now }
-    requires scanned { (start : Mutator) × (root : ℕ) × IsScanned start main.old cell.now cell.now.at root filled }
+    requires scanned { (start : Mutator) × (root : ℕ) ×
+        IsScanned start main.old cell.now cell.now.at root filled }
     ensures scavenging { (start : Mutator) (root : ℕ) →
         IsScanned start main.old cell.now cell.now.at root filled →
         let end = cell.now.at + cell.now.size in Scavenging start main.new end end root result }

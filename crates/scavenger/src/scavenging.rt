@@ -9,8 +9,9 @@ use crate::scanning::{scavenge_copies, scavenge_roots};
 use crate::spaces::Spaces;
 use write_barrier::Main;
 
-/// Copies what lives of eden and of the half that the survivors are in to the other half, where all
-/// of it survives: a survivor stays in the young generation, as in V8's scavenger one does at first.
+/// Copies what lives of eden and of the half that the survivors are in to the other half. It is
+/// Cheney's copying of 1970, in breadth: the room that copies fill is the list of what is to do. All
+/// that lives stays in the young generation, as a first survivor does in V8's scavenger.
 pub fn scavenge(main: &mut Main)
     requires shown { (graph : Graph) × MainShows main.old graph }
     ensures scavenged { Scavenges main.old main.new }

@@ -1,9 +1,5 @@
 //! Following one slot: the step of a scavenge.
-ghost use Rattle.std.specs.Prelude.{◌≡◌, ◌+◌, ◌≤◌, slice_set};
-ghost use Rattle.tagged_word.specs.declared.word.Class.TheVariants.{Ref};
-ghost use Rattle.tagged_word.specs.Words.{bits_of};
-ghost use Rattle.page_space.specs.Extents.{marks_start};
-ghost use Rattle.word_store.specs.Copies.{AreDisjoint, copied};
+ghost use Rattle.std.specs.Prelude.{◌≡◌, slice_get};
 ghost use Rattle.cell_layout.specs.Cells.{IsCell};
 ghost use Rattle.heap_model.specs.Types.{Cell};
 ghost use Rattle.heap_table.specs.declared.phase.Phase.TheVariants.{Quiet};
@@ -12,24 +8,24 @@ ghost use Rattle.scavenger.specs.Filling.{ChangesWords};
 ghost use Rattle.scavenger.specs.Following.{Follows};
 ghost use Rattle.scavenger.specs.Walking.{AreSpaces, MayFollow, MayMove, Moves};
 
+use crate::known_cells::known_cell;
 use crate::spaces::Spaces;
-use cell_layout::cell_at;
 use tagged_word::Word;
 use write_barrier::Main;
 
-/// Copies the words of the cell at an address to another, and makes its header the reference to the
-/// copy. It answers how many words the cell has.
-fn move_cell(main: &mut Main, at: u32, to: u32) -> u32
+/// Copies the words of the cell at an address, whose word has been read, to another, and makes its
+/// header the reference to the copy. It answers how many words the cell has.
+fn move_cell(main: &mut Main, at: u32, word: u64, to: u32) -> u32
     requires quiet { main.old.seat.phase ≡ Quiet }
     requires may { MayMove main.old at to }
+    requires read { slice_get (heap_words main.old.seat) at ≡ Some word }
     ensures moves { (cell : Cell) → IsCell main.old.seat.space (heap_words main.old.seat) cell →
         cell.at ≡ at → Moves main.old main.new cell to result }
     ensures changes { ChangesWords main.old main.new }
 {
-    let regions = main.regions();
-    let Ok(cell) = cell_at(main, &regions, at) else {
-        unreachable!()
-    };
+    // There is a word for each address before the marks.
+    main.addresses_fit();
+    let cell = known_cell(main, at, word);
     main.copy_slots(at, to, cell.size);
     main.write(at, Word::reference(to).0);
     cell.size
@@ -54,11 +50,12 @@ pub(crate) fn follow(main: &mut Main, spaces: &Spaces, slot: u32, fill: u32) -> 
     if !spaces.are_left(at) {
         return fill;
     }
-    if let Some(home) = Word(main.word(at)).address() {
+    let word = main.word(at);
+    if let Some(home) = Word(word).address() {
         main.write(slot, Word::reference(home).0);
         return fill;
     }
-    let size = move_cell(main, at, fill);
+    let size = move_cell(main, at, word, fill);
     main.write(slot, Word::reference(fill).0);
     fill + size
 }

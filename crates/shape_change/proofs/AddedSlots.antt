@@ -2,9 +2,8 @@
 use Rattle.std.proofs.Common.{◌≡◌, ◌≢◌, ℕ, ◌≤◌, ◌<◌, ◌⊎◌, inl, inr, List, [], ◌∷◌, ◌++◌}
 use Rattle.std.proofs.Common.{length, Some, Contains, nat_lt, slice_get, refl, sym, ◌∙◌, ap, subst, arith}
 use Rattle.std.proofs.Common.{length-append}
-use Rattle.std.proofs.lemmas.List.{length-map}
 use Rattle.tagged_word.specs.declared.layout.Kind.TheVariants as kind
-use Rattle.heap_model.specs.Types.{Field, Path, Cell}
+use Rattle.heap_model.specs.Types.{Field, Cell}
 use Rattle.object_graph.specs.Paths.{path_of}
 use Rattle.shape_tree.specs.Shapes.{shape_path, stepped}
 use Rattle.shape_tree.specs.ShapeLayouts.{layout_of}
@@ -19,6 +18,7 @@ use Rattle.object_cells.specs.SlotChanges.{IsTaggedSlot, HasTagged, ShowsSlot, R
 use Rattle.shape_change.proofs.AddedFields.{path_of-push, push_cases}
 use Rattle.shape_change.proofs.FullStores.{cap_is}
 use Rattle.shape_change.proofs.TaggedBefore.{tagged_before}
+use Rattle.object_cells.proofs.FieldsFound.{path_long}
 use Rattle.object_cells.proofs.WrittenPlaces.{hole_names_none}
 
 -- What a slot holds after a word was put in one of number `slot`: that word, what it held before, or, behind the
@@ -71,10 +71,8 @@ last_slot k x same (SlotIs.more apart behind is) = absurd (apart same)
 module _ {old new : Heap} {cell : Cell} {next : ℕ} {others made : List Cell} {fields : List Field} {field : Field}
     (adds : AddsSlot old new cell next others made fields field) where
   -- the path had as many fields
-  as_many : length (shape_path old.paths cell.header.shape).fields ≡ length fields
-  as_many =
-      ap (λ (p : Path). length p.fields) adds.was
-      ∙ length-map fields (λ (f : Field). record { name = f.name; rep = f.rep })
+  pub as_many : length (shape_path old.paths cell.header.shape).fields ≡ length fields
+  as_many = path_long fields adds.was
 
   -- the layout after is that of the path with a step
   laid_after : (reshaped new.paths cell next).layout
@@ -97,40 +95,36 @@ module _ {old new : Heap} {cell : Cell} {next : ℕ} {others made : List Cell} {
       let one : Cell = reshaped new.paths cell next in
       ComesFrom.moved (
         there,
-        tagged_before one field.name field.rep k adds.whole.sized adds.has
-            adds.plain adds.sound.shape
+        tagged_before one field.name field.rep k adds.whole.sized adds.has adds.plain adds.sound.shape
             (cap_is adds.whole.sized adds.has adds.sound.shape) laid_after (λ same. apart (same ∙ as_many)) tagged,
       )
-  slot_comes k x (SlotIs.more apart behind is) tagged =
-      ComesFrom.none (subst (NamesNone new) (sym is) hole_names_none)
+  slot_comes k x (SlotIs.more apart behind is) tagged = ComesFrom.none (subst (NamesNone new) (sym is) hole_names_none)
 
   -- what a slot shows that holds what it held
-  kept_shows : (k x : ℕ) (one : Field) → slice_get fields k ≡ Some one
-      → HasWord adds.sound.slots k x → ShowsSlot new cell adds.sound.slots others fields k k x one
+  kept_shows : (k x : ℕ) (one : Field) → slice_get fields k ≡ Some one → HasWord adds.sound.slots k x
+      → ShowsSlot new cell adds.sound.slots others fields k k x one
   kept_shows k x one was there =
       ShowsSlot.kept one was refl refl there refl (λ tagged other among boxed.
       let apart : kind.Store ≡ kind.Boxed = sym (adds.stores_only other among) ∙ boxed in
       cc)
 
   -- a slot below that of the field holds what it held
-  old_slot : (k x : ℕ) → k < length fields
-      → SlotIs adds.sound.slots (length fields) adds.word k x → HasWord adds.sound.slots k x
+  old_slot : (k x : ℕ) → k < length fields → SlotIs adds.sound.slots (length fields) adds.word k x
+      → HasWord adds.sound.slots k x
   old_slot k x below (SlotIs.put at is) = absurd (omega arith)
   old_slot k x below (SlotIs.kept apart there) = there
   old_slot k x below (SlotIs.more apart behind is) = absurd (omega (arith, adds.sound.hold.room, as_many))
 
   -- what each slot of a field shows
   slot_shows : (k x : ℕ) (one : Field) → SlotIs adds.sound.slots (length fields) adds.word k x
-      → slice_get (fields ++ field ∷ []) k ≡ Some one
-      → ShowsSlot new cell adds.sound.slots others fields k k x one
+      → slice_get (fields ++ field ∷ []) k ≡ Some one → ShowsSlot new cell adds.sound.slots others fields k k x one
   slot_shows k x one is there =
       elim (push_cases fields field k one there) [
         | inl old ↦ kept_shows k x one old.1 (old_slot k x old.0 is)
         | inr last ↦
             let word : x ≡ adds.word = last_slot k x last.0 is in
             let shows = subst (λ n. ShowsField new (nat_lt n cell.layout.cap) adds.word field.rep field.value)
-            (sym last.0)
-            adds.shows in
+            (sym last.0) adds.shows in
             let of_one = subst (λ (f : Field). ShowsField new (nat_lt k cell.layout.cap) adds.word f.rep f.value) last.1
             shows in
             ShowsSlot.fresh (subst (λ n. ShowsField new (nat_lt k cell.layout.cap) n one.rep one.value) (sym word)
@@ -138,10 +132,9 @@ module _ {old new : Heap} {cell : Cell} {next : ℕ} {others made : List Cell} {
       ]
 
   -- the slots behind the fields are holes
-  slot_rest : (k x : ℕ) → length (fields ++ field ∷ []) ≤ k
-      → SlotIs adds.sound.slots (length fields) adds.word k x → x ≡ hole_word
-  slot_rest k x behind (SlotIs.put at is) =
-      absurd (omega (arith, behind, at, length-append fields (field ∷ [])))
+  slot_rest : (k x : ℕ) → length (fields ++ field ∷ []) ≤ k → SlotIs adds.sound.slots (length fields) adds.word k x
+      → x ≡ hole_word
+  slot_rest k x behind (SlotIs.put at is) = absurd (omega (arith, behind, at, length-append fields (field ∷ [])))
   slot_rest k x behind (SlotIs.kept apart there) =
       adds.sound.hold.rest k x (omega (arith, behind, length-append fields (field ∷ []), as_many)) there
   slot_rest k x behind (SlotIs.more apart past is) = is

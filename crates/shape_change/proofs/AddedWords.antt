@@ -40,73 +40,14 @@ pub record PutsOver (old mid new : Mutator) (path : Path) (cell : Cell) (shape a
   pub cell_below : cell.at < layouts_start old.seat.space
   pub at_below : at < layouts_start old.seat.space
 
-module _ {old mid new : Mutator} {path : Path} {cell : Cell} {shape at word need : ℕ} {words : List ℕ}
-    (over : PutsOver old mid new path cell shape at word need words) where
-  -- the sizes are there
-  pub over_sized : HasSizes (heap_of new)
-  over_sized =
-      let space = ap (λ (s : Space). layouts_start s) over.adds.beside.space in
-      sizes_stay mid new over.adds.sized over.puts.beside over.puts.paths (ap length over.puts.heap ∙ over.long)
-      (λ a behind. ap (λ all. slice_get all a) over.puts.heap
-      ∙ over.stay a (λ same. omega (arith, same, behind, space, over.cell_below))
-      (λ same. omega (arith, same, behind, space, over.at_below))
-      (λ from below. omega (
-        arith,
-        below,
-        behind,
-        space,
-        next_before_segments old need over.tied over.room,
-        roots_start_is old.seat.space,
-        layouts_start_is old.seat.space,
-      )))
-
-  -- how many words of eden are used afterwards
-  pub over_young : new.young ≡ record old.young { used = old.young.used + need }
-  over_young = over.puts.young ∙ over.adds.young
-
-  -- all words from the marks on stay
-  pub over_beside : RestStays old.seat new.seat
-  over_beside = rest_stays_again old.seat mid.seat new.seat over.adds.beside over.puts.beside
-
-  -- the regions are those from before
-  pub over_space : new.seat.space ≡ old.seat.space
-  over_space = over_beside.space
-
-  -- so one word was put
-  pub over_writes_one : (made : List Cell)
-      → IsRow new.seat.space (heap_words new.seat) (next_at old) (next_at old + need) made
-      → WritesOne (heap_of old) (heap_of new) cell shape at word made
-  over_writes_one made row =
-      let used : new.young.used ≡ old.young.used + need = ap (λ (y : Young). y.used) over_young in
-      let survivors : new.young.survivors ≡ old.young.survivors = ap (λ (y : Young). y.survivors) over_young in
-      let space : new.seat.space.sizes.young ≡ old.young.space.sizes.young =
-      ap (λ (s : Space). s.sizes.young) (over_space ∙ sym over.tied) in
-      let ends : next_at old + need ≡ eden_start old.seat.space + new.young.used = omega (arith, used) in
-      record {
-        same_space = over_space;
-        same_survivors = survivors;
-        grown = omega (arith, used);
-        room = omega (arith, over.room, used, survivors, space);
-        more = missing old.paths path;
-        paths = over.puts.paths ∙ sym (with_path-is (Some paths_most) old.paths mid.paths path over.adds.leads.added);
-        sized = over_sized;
-        header = ap (λ all. slice_get all cell.at) over.puts.heap ∙ over.header;
-        put = ap (λ all. slice_get all at) over.puts.heap ∙ over.put;
-        made_stand = subst (λ end. IsRow new.seat.space (heap_words new.seat) (next_at old) end made) ends row;
-        stay = λ a below not_cell not_at not_new.
-            ap (λ all. slice_get all a) over.puts.heap
-            ∙ over.stay a not_cell not_at
-            (λ from before. not_new (record { from = from; below = omega (arith, before, used) }))
-            ∙ over.adds.stay a below;
-      }
-
 -- nothing is reserved where no word is
 pub reserved_none : (main : Mutator) → reserved main 0 ≡ main
 reserved_none main =
     let none : main.young.used + 0 ≡ main.young.used = omega arith in
     ap (λ (n : ℕ). record main { young = record main.young { used = n } }) none
 
--- so it is where the words are those from before, but for newly used ones, with one word put and then the header
+-- words were put over others where they are those from before, but for newly used ones, with one word put and then
+-- the header
 pub over_last : {old mid new : Mutator} {path : Path} {cell : Cell} {header : Header} (shape place word need object : ℕ)
     (words : List ℕ) → IsTied old → HasRoom old.young need → AddsPath (reserved old need) mid path shape
     → PutsWords mid new (with_shape (slice_set words place word) object header shape)
@@ -148,3 +89,66 @@ pub last_stays : (words : List ℕ) (place word object : ℕ) (header : Header) 
 last_stays words place word object header shape a not_object not_place =
     slice_get-set_other (slice_set words place word) object a (header_bits (record header { shape = shape })) not_object
     ∙ slice_get-set_other words place a word not_place
+
+module _ {old mid new : Mutator} {path : Path} {cell : Cell} {shape at word need : ℕ} {words : List ℕ} where
+  -- a word from the layout words on stays
+  layouts_stay : (a : ℕ) → PutsOver old mid new path cell shape at word need words → layouts_start old.seat.space ≤ a
+      → slice_get words a ≡ slice_get (heap_words mid.seat) a
+  layouts_stay a over behind =
+      over.stay a (λ same. omega (arith, same, over.cell_below)) (λ same. omega (arith, same, over.at_below))
+      (λ from below. omega (
+        arith,
+        below,
+        behind,
+        next_before_segments old need over.tied over.room,
+        roots_start_is old.seat.space,
+        layouts_start_is old.seat.space,
+      ))
+
+  -- the sizes are there
+  pub over_sized : PutsOver old mid new path cell shape at word need words → HasSizes (heap_of new)
+  over_sized over =
+      let space = ap (λ (s : Space). layouts_start s) over.adds.beside.space in
+      sizes_stay mid new over.adds.sized over.puts.beside over.puts.paths (ap length over.puts.heap ∙ over.long)
+      (λ a behind. ap (λ all. slice_get all a) over.puts.heap ∙ layouts_stay a over (omega (arith, behind, space)))
+
+  -- how many words of eden are used afterwards
+  pub over_young : PutsOver old mid new path cell shape at word need words
+      → new.young ≡ record old.young { used = old.young.used + need }
+  over_young over = over.puts.young ∙ over.adds.young
+
+  -- all words from the marks on stay
+  pub over_beside : PutsOver old mid new path cell shape at word need words → RestStays old.seat new.seat
+  over_beside over = rest_stays_again old.seat mid.seat new.seat over.adds.beside over.puts.beside
+
+  -- the regions are those from before
+  pub over_space : PutsOver old mid new path cell shape at word need words → new.seat.space ≡ old.seat.space
+  over_space over = (over_beside over).space
+
+  -- one word of the cells was put
+  pub over_writes_one : (made : List Cell) → PutsOver old mid new path cell shape at word need words
+      → IsRow new.seat.space (heap_words new.seat) (next_at old) (next_at old + need) made
+      → WritesOne (heap_of old) (heap_of new) cell shape at word made
+  over_writes_one made over row =
+      let young = over_young over in
+      let used : new.young.used ≡ old.young.used + need = ap (λ (y : Young). y.used) young in
+      let survivors : new.young.survivors ≡ old.young.survivors = ap (λ (y : Young). y.survivors) young in
+      let space : new.seat.space.sizes.young ≡ old.young.space.sizes.young =
+      ap (λ (s : Space). s.sizes.young) (over_space over ∙ sym over.tied) in
+      let ends : next_at old + need ≡ eden_start old.seat.space + new.young.used = omega (arith, used) in
+      record {
+        same_space = over_space over;
+        same_survivors = survivors;
+        grown = omega (arith, used);
+        room = omega (arith, over.room, used, survivors, space);
+        more = missing old.paths path;
+        paths = over.puts.paths ∙ sym (with_path-is (Some paths_most) old.paths mid.paths path over.adds.leads.added);
+        sized = over_sized over;
+        header = ap (λ all. slice_get all cell.at) over.puts.heap ∙ over.header;
+        put = ap (λ all. slice_get all at) over.puts.heap ∙ over.put;
+        made_stand = subst (λ end. IsRow new.seat.space (heap_words new.seat) (next_at old) end made) ends row;
+        stay = λ a below not_cell not_at not_new. ap (λ all. slice_get all a) over.puts.heap
+            ∙ over.stay a not_cell not_at
+            (λ from before. not_new (record { from = from; below = omega (arith, before, used) }))
+            ∙ over.adds.stay a below;
+      }

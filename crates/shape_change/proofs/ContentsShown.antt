@@ -58,7 +58,6 @@ wide_box_shows false word v beside box = ShowsField.wide v box
 pub record ShowsByBox (heap : Heap) (own : Bool) (was one : Rep) (what : Value) (v : ℤ) : Type 0 where
   pub shows : (word : ℕ) → RefersToBox heap word v → ShowsField heap own word one what
   pub was_not_raw : own ≡ true → was ≡ rep.Wide → ⊥
-  pub fits : (count : ℕ) → IsValue count what → FitsSigned w64 v
 
 -- no field is both
 tagged_is_not_wide : rep.Tagged ≡ rep.Wide → ⊥
@@ -70,10 +69,8 @@ pub box_shows : {old new : Heap} {own : Bool} {was one : Rep} {what : Value} (v 
 box_shows {own = own} v (HoldsValue.wide_box of beside apart small_stays) = record {
   shows = λ word box. wide_box_shows own word v beside box;
   was_not_raw = λ is wide. false≢true (sym beside ∙ is);
-  fits = λ count is. is;
 }
 box_shows v (HoldsValue.tagged_box of wide tagged) = record {
   shows = λ word box. ShowsField.tagged (value.Int v) (ShowsValue.boxed v wide box);
   was_not_raw = λ is was_wide. tagged_is_not_wide (sym tagged ∙ was_wide);
-  fits = λ count is. is;
 }

@@ -1,10 +1,10 @@
 -- A heap from which a field was taken out shows the graph in which its object lacks the field.
 use Rattle.std.proofs.Common.{◌≡◌, ℕ, false, List, [], ◌++◌, length, Some, slice_get}
-use Rattle.std.proofs.Common.{slice_set, refl, sym, ◌∙◌, ap, subst, arith, add-zero}
+use Rattle.std.proofs.Common.{slice_set, refl, sym, ◌∙◌, ap, subst, arith}
 use Rattle.std.specs.Prelude.{Result, Ok, Err}
 use Rattle.std.proofs.lemmas.List.{append-nil, set-get_or}
 use Rattle.std.proofs.lemmas.Option.{none-some, get_or_from_slice_get, slice_get_within}
-use Rattle.heap_model.specs.Types.{Header, Object, Path, ShapesFull, Cell}
+use Rattle.heap_model.specs.Types.{Header, Object, Path, ShapesFull}
 use Rattle.object_graph.specs.declared.object.Object.TheVariants.{Plain}
 use Rattle.object_graph.specs.Objects.{without_field}
 use Rattle.object_graph.specs.Paths.{path_of, with_path, missing}
@@ -14,8 +14,6 @@ use Rattle.object_graph.specs.Limits.{paths_most}
 use Rattle.shape_tree.specs.Shapes.{shape_path, has_name, without}
 use Rattle.shape_tree.proofs.GrownPaths.{missing-there}
 use Rattle.shape_tree.proofs.LedPaths.{with_path-added}
-use Rattle.nursery.specs.Young.{Young}
-use Rattle.heap_table.specs.Seats.{RestStays}
 use Rattle.heap_table.specs.Staying.{rest_stays_itself}
 use Rattle.heap_model.specs.Heaps.{words_of_cell}
 use Rattle.heap_model.specs.Needs.{capacity_at}
@@ -25,12 +23,12 @@ use Rattle.heap_model.proofs.SlotWords.{All-slice_get}
 use Rattle.write_barrier.specs.MutatorState.{Mutator, heap_of, MainShows}
 use Rattle.object_cells.specs.CellsAt.{IsHeaderAt}
 use Rattle.object_cells.specs.PlainObjects.{IsPlainAt, ShowsRefilled}
-use Rattle.object_cells.specs.Uses.{UsesMore}
 use Rattle.object_cells.specs.Capacities.{ChangesObject}
 use Rattle.shape_change.specs.FieldChanges.{HasDeletedField, DeletesField}
 use Rattle.shape_change.specs.Deletions.{TakesFieldOut, TakingOut}
-use Rattle.object_cells.proofs.FieldsFound.{no_value, value_found}
-use Rattle.shape_change.proofs.FieldsLess.{are_less, none_less}
+use Rattle.object_cells.proofs.FieldsFound.{value_found}
+use Rattle.shape_change.proofs.FieldsLess.{AreLess, are_less, none_less}
+use Rattle.object_cells.proofs.NothingUsed.{uses_none}
 use Rattle.object_cells.proofs.PlainFields.{names_distinct}
 use Rattle.object_cells.proofs.NewFields.{rest_of_fields_are_new}
 use Rattle.object_cells.proofs.RefilledHeaps.{written_fields_show}
@@ -39,105 +37,80 @@ use Rattle.object_cells.proofs.OwnerWrites.{plain_owns}
 use Rattle.object_cells.proofs.RestOfWords.{keeps_regions}
 use Rattle.shape_change.proofs.FullPaths.{full_of_paths}
 use Rattle.shape_change.proofs.DeletedSlots.{Deleting}
-use Rattle.shape_change.proofs.DeletedCame.{slot_stays}
-use Rattle.shape_change.proofs.DeletedCells.{others_of, deleted_writes}
-use Rattle.shape_change.proofs.DeletedHeaps.{deleted_refills, store_belongs}
-use Rattle.shape_change.proofs.ShownFields.{shown_cell, FieldFound}
+use Rattle.shape_change.proofs.DeletedCells.{slot_stays, others_of, deleted_writes}
+use Rattle.shape_change.proofs.DeletedFields.{deleted_refills, store_belongs}
+use Rattle.shape_change.proofs.ShownFields.{ShownCell, FieldFound, shown_cell, shown_path, name_is_new}
 
--- no word more is used
-uses_none : (old new : Mutator) → RestStays old.seat new.seat → new.young ≡ old.young → UsesMore old new 0
-uses_none old new beside young =
-    let used : Young → ℕ → Young = λ one n. record one { used = n } in
-    record { beside = beside; young = young ∙ ap (used old.young) (sym (add-zero old.young.used)) }
-
--- the path of the object without the field is the one that was looked for
-path_less : (main : Mutator) (graph : Graph) (object : ℕ) (plain : PlainObject) (header : Header) (slot name : ℕ)
-    → MainShows main graph → IsPlainAt main graph object plain → IsHeaderAt (heap_of main) object header
-    → FieldFound main object plain header slot name
-    → without (shape_path main.paths header.shape) slot ≡ path_of plain.cap (without_field plain.fields name)
-path_less main graph object plain header slot name shows is header_at found =
-    let shown = shown_cell main graph object plain header shows is header_at in
-    let distinct = names_distinct shows is in
-    let less = are_less plain.cap plain.fields slot found.field name distinct found.there found.named in
-    ap (λ s. without (shape_path main.paths s) slot) (sym (ap (λ (h : Header). h.shape) shown.header_is))
-    ∙ ap (λ (p : Path). without p slot) shown.shows.path ∙ less.path
-
--- what is known of the object's cell where the field was taken out
-deleting_of : (old new : Mutator) (graph : Graph) (object : ℕ) (plain : PlainObject) (header : Header) (slot name : ℕ)
+module _ {old : Mutator} {graph : Graph} {object : ℕ} {plain : PlainObject} {header : Header} {slot name : ℕ}
     (shows : MainShows old graph) (is : IsPlainAt old graph object plain)
-    (header_at : IsHeaderAt (heap_of old) object header)
-    → FieldFound old object plain header slot name → TakesFieldOut old new object header slot
-    → Deleting old new (shown_cell old graph object plain header shows is header_at).cell slot plain.fields
-deleting_of old new graph object plain header slot name shows is header_at found taken =
-    let shown = shown_cell old graph object plain header shows is header_at in
-    let cell : Cell = shown.cell in
-    let words : List ℕ = words_of_cell (heap_of old) cell in
-    record {
+    (header_at : IsHeaderAt (heap_of old) object header) (found : FieldFound old object plain header slot name) where
+  -- the fields without the one
+  fields_less : AreLess plain.cap plain.fields slot name
+  fields_less =
+      are_less plain.cap plain.fields slot found.field name (names_distinct shows is) found.there found.named
+
+  -- the path of the object without the field is the one that was looked for
+  path_less : without (shape_path old.paths header.shape) slot ≡ path_of plain.cap (without_field plain.fields name)
+  path_less = ap (λ (p : Path). without p slot) (shown_path shows is header_at) ∙ fields_less.path
+
+  module _ {new : Mutator} (taken : TakesFieldOut old new object header slot) where
+    -- the object's cell
+    abbrev shown : ShownCell old object plain header
+    shown = shown_cell shows is header_at
+
+    -- what is known of it
+    deleting_of : Deleting old new shown.cell slot plain.fields
+    deleting_of = record {
       whole = shows.shows.whole;
       has = shown.has;
-      shows = subst (λ n. ShowsPlain (heap_of old) cell words n plain.fields) (sym shown.cap) shown.shows;
-      taken = subst (λ n. TakesFieldOut old new n cell.header slot) (sym shown.at)
+      shows = subst (λ n. ShowsPlain (heap_of old) shown.cell (words_of_cell (heap_of old) shown.cell) n plain.fields)
+          (sym shown.cap) shown.shows;
+      taken = subst (λ n. TakesFieldOut old new n shown.cell.header slot) (sym shown.at)
           (subst (λ (h : Header). TakesFieldOut old new object h slot) (sym shown.header_is) taken);
       there = slice_get_within plain.fields slot found.field found.there;
     }
 
--- each property store has as many slots as before
-stores_stay : (old new : Mutator) (graph : Graph) (object : ℕ) (plain : PlainObject) (header : Header) (slot name : ℕ)
-    → MainShows old graph → IsPlainAt old graph object plain → IsHeaderAt (heap_of old) object header
-    → FieldFound old object plain header slot name → TakesFieldOut old new object header slot
-    → ChangesObject (heap_of old) (heap_of new) object (capacity_at (heap_of old) object)
-stores_stay old new graph object plain header slot name shows is header_at found taken =
-    let shown = shown_cell old graph object plain header shows is header_at in
-    let deleting = deleting_of old new graph object plain header slot name shows is header_at found taken in
-    subst (λ n. ChangesObject (heap_of old) (heap_of new) n (capacity_at (heap_of old) n)) shown.at
-    (object_keeps (record {
-      owns = plain_owns;
-      whole = deleting.whole;
-      writes = deleted_writes deleting;
-      belong = λ other there. store_belongs deleting other there;
-      kinds = λ other there. absurd (none_in other there);
-    }) (slot_stays deleting))
+    -- each property store has as many slots as before
+    stores_stay : ChangesObject (heap_of old) (heap_of new) object (capacity_at (heap_of old) object)
+    stores_stay =
+        subst (λ n. ChangesObject (heap_of old) (heap_of new) n (capacity_at (heap_of old) n)) shown.at
+        (object_keeps (record {
+          owns = plain_owns;
+          whole = shows.shows.whole;
+          writes = deleted_writes deleting_of;
+          belong = store_belongs deleting_of;
+          kinds = λ other there. absurd (none_in other there);
+        }) (slot_stays deleting_of))
 
--- the heap shows the graph in which the object lacks the field
-field_less : (old new : Mutator) (graph : Graph) (object : ℕ) (plain : PlainObject) (header : Header) (slot name : ℕ)
-    → MainShows old graph → IsPlainAt old graph object plain → IsHeaderAt (heap_of old) object header
-    → FieldFound old object plain header slot name → TakesFieldOut old new object header slot
-    → ShowsRefilled new graph plain (without_field plain.fields name)
-field_less old new graph object plain header slot name shows is header_at found taken =
-    let shown = shown_cell old graph object plain header shows is header_at in
-    let cell : Cell = shown.cell in
-    let deleting = deleting_of old new graph object plain header slot name shows is header_at found taken in
-    let distinct = names_distinct shows is in
-    let less = are_less cell.layout.cap plain.fields slot found.field name distinct found.there found.named in
-    let added = ap (λ (paths : List Path). with_path (Some paths_most) paths
-    (path_of plain.cap (without_field plain.fields name))) (sym shows.shows.paths)
-    ∙ ap (with_path (Some paths_most) old.paths)
-    (sym (path_less old graph object plain header slot name shows is header_at found)) ∙ taken.leads.added in
-    written_fields_show old new graph plain cell deleting.taken.next (others_of deleting) []
-    (without_field plain.fields name)
-    shows is.object shown.carries shown.cap shown.shows
-    (rest_of_fields_are_new graph plain name shows.is_graph is.object is.reached) added
-    (keeps_regions taken.beside taken.young)
-    (deleted_writes deleting) (deleted_refills name deleting less)
+    -- the heap shows the graph in which the object lacks the field
+    field_less : ShowsRefilled new graph plain (without_field plain.fields name)
+    field_less =
+        let less = subst (λ n. AreLess n plain.fields slot name) (sym shown.cap) fields_less in
+        let added = ap (λ (paths : List Path). with_path (Some paths_most) paths
+        (path_of plain.cap (without_field plain.fields name))) (sym shows.shows.paths)
+        ∙ ap (with_path (Some paths_most) old.paths) (sym path_less) ∙ taken.leads.added in
+        written_fields_show old new graph plain shown.cell deleting_of.taken.next (others_of deleting_of) []
+        (without_field plain.fields name) shows is.object shown.carries shown.cap shown.shows
+        (rest_of_fields_are_new graph plain name shows.is_graph is.object is.reached) added
+        (keeps_regions taken.beside taken.young)
+        (deleted_writes deleting_of) (deleted_refills deleting_of name less)
 
--- a field that was found is taken out, or there are too many paths
-pub field_deleted : (old new : Mutator) (graph : Graph) (object : ℕ) (plain : PlainObject) (header : Header)
-    (slot name : ℕ) (result : Result Unit ShapesFull) → MainShows old graph → IsPlainAt old graph object plain
-    → IsHeaderAt (heap_of old) object header → FieldFound old object plain header slot name
-    → TakingOut old new object header slot result → DeletesField old new graph object plain name result
-field_deleted old new graph object plain header slot name (Ok done) shows is header_at found taken =
-    let value = value_found plain.fields slot found.field name (names_distinct shows is) found.there found.named in
-    record {
-      none = λ none. absurd (none-some found.field.value (sym none ∙ value));
-      uses = uses_none old new taken.beside taken.young;
-      changes = stores_stay old new graph object plain header slot name shows is header_at found taken;
-      shows = field_less old new graph object plain header slot name shows is header_at found taken;
-    }
-field_deleted old new graph object plain header slot name (Err full) shows is header_at found refused = (
-  full_of_paths plain (without_field plain.fields name) (without (shape_path old.paths header.shape) slot)
-      new.paths shows (path_less old graph object plain header slot name shows is header_at found) refused.0,
-  refused.1,
-)
+  -- a field that was found is taken out, or there are too many paths
+  pub field_deleted : (new : Mutator) (result : Result Unit ShapesFull) → TakingOut old new object header slot result
+      → DeletesField old new graph object plain name result
+  field_deleted new (Ok done) taken =
+      let value = value_found plain.fields slot found.field name (names_distinct shows is) found.there found.named in
+      record {
+        none = λ none. absurd (none-some found.field.value (sym none ∙ value));
+        uses = uses_none taken.beside taken.young;
+        changes = stores_stay taken;
+        shows = field_less taken;
+      }
+  field_deleted new (Err full) refused = (
+    full_of_paths plain (without_field plain.fields name) (without (shape_path old.paths header.shape) slot) new.paths
+        shows path_less refused.0,
+    refused.1,
+  )
 
 -- an object that gets its own fields, whose path is there, is as it was
 refilled_alike : (main : Mutator) (graph : Graph) (plain : PlainObject) → MainShows main graph
@@ -162,17 +135,13 @@ refilled_alike main graph plain shows there =
     }
 
 -- where no field has the name, nothing happens
-pub none_deleted : (main : Mutator) (graph : Graph) (object : ℕ) (plain : PlainObject) (header : Header) (name : ℕ)
+pub none_deleted : {main : Mutator} {graph : Graph} {object : ℕ} {plain : PlainObject} {header : Header} (name : ℕ)
     → MainShows main graph → IsPlainAt main graph object plain → IsHeaderAt (heap_of main) object header
-    → has_name (shape_path main.paths header.shape) name ≡ false
-    → HasDeletedField main main graph object plain name
-none_deleted main graph object plain header name shows is header_at none =
-    let shown = shown_cell main graph object plain header shows is header_at in
-    let path = ap (shape_path main.paths) (sym (ap (λ (h : Header). h.shape) shown.header_is)) ∙ shown.shows.path in
-    let value = no_value plain.cap plain.fields name (ap (λ (p : Path). has_name p name) (sym path) ∙ none) in
+    → has_name (shape_path main.paths header.shape) name ≡ false → HasDeletedField main main graph object plain name
+none_deleted {main} {graph} {plain = plain} name shows is header_at none =
     record {
       none = λ _. refl;
-      uses = uses_none main main (rest_stays_itself main.seat) refl;
+      uses = uses_none (rest_stays_itself main.seat) refl;
       changes = record {
         words = λ word below not_own not_new. refl;
         own = refl;
@@ -180,6 +149,7 @@ none_deleted main graph object plain header name shows is header_at none =
         stays = λ number other place. place;
         none_made = λ number other place. place;
       };
-      shows = subst (ShowsRefilled main graph plain) (sym (none_less plain.fields name value))
+      shows = subst (ShowsRefilled main graph plain)
+          (sym (none_less plain.fields name (name_is_new shows is header_at name none)))
           (refilled_alike main graph plain shows is.object);
     }

@@ -3,9 +3,8 @@ use Rattle.std.proofs.Common.{◌≡◌, ◌≢◌, ℕ, suc, ◌<◌, ◌≤◌
 use Rattle.std.proofs.Common.{Some, slice_get, nat_lt, refl, sym, ◌∙◌, ap, arith}
 use Rattle.std.proofs.lemmas.Bool.{cases_lt, cases_eq}
 use Rattle.std.proofs.lemmas.Bool.Decides.{nat_tests}
-use Rattle.std.proofs.lemmas.List.{length-map}
 use Rattle.std.proofs.lemmas.Option.{same_Some}
-use Rattle.heap_model.specs.Types.{Field, Path, PathField, Cell}
+use Rattle.heap_model.specs.Types.{Field, Path, Cell}
 use Rattle.heap_table.specs.Seats.{heap_words}
 use Rattle.heap_model.specs.Heaps.{HasCell, words_of_cell}
 use Rattle.heap_model.specs.Slots.{hole_word}
@@ -16,11 +15,10 @@ use Rattle.write_barrier.specs.MutatorState.{Mutator, heap_of}
 use Rattle.shape_change.specs.Shifts.{slot_at}
 use Rattle.shape_change.specs.Deletions.{TakesFieldOut}
 use Rattle.shape_change.proofs.FieldsLess.{origin_of, origin_of-before, origin_of-behind}
-use Rattle.object_cells.proofs.PlainFields.{plain_sound}
-use Rattle.object_cells.proofs.SlotPlaces.{one_slots}
+use Rattle.object_cells.proofs.PlainFields.{slots_held}
+use Rattle.object_cells.proofs.FieldsFound.{path_long}
 use Rattle.object_cells.proofs.StoreCells.{store_at, slots_counted}
-use Rattle.shape_change.proofs.SlotAddresses.{slot_at-own, SlotsStand, slots_stand}
-use Rattle.shape_change.proofs.SlotAddresses.{slots_are_apart, slot_read}
+use Rattle.shape_change.proofs.SlotAddresses.{slot_at-own, SlotsStand, slots_stand, slots_are_apart, slot_read}
 use Rattle.shape_change.proofs.StoresFound.{store_is_there}
 use Rattle.shape_change.proofs.TakenOut.{slot_stands}
 
@@ -32,91 +30,6 @@ pub record Deleting (old new : Mutator) (cell : Cell) (slot : ℕ) (fields : Lis
   pub taken : TakesFieldOut old new cell.at cell.header slot
   pub there : slot < length fields
 
--- the cap is that of the cell
-pub cap_is : {old new : Mutator} {cell : Cell} {slot : ℕ} {fields : List Field}
-    (deleting : Deleting old new cell slot fields) → deleting.taken.cap ≡ cell.layout.cap
-cap_is deleting = sym deleting.taken.caps ∙ ap (λ (p : Path). p.cap) deleting.shows.path
-
--- the last field is the last
-pub count_is : {old new : Mutator} {cell : Cell} {slot : ℕ} {fields : List Field}
-    (deleting : Deleting old new cell slot fields) → length fields ≡ suc deleting.taken.last
-count_is {fields = fields} deleting =
-    let part : Field → PathField = λ f. record { name = f.name; rep = f.rep } in
-    sym (length-map fields part) ∙ sym (ap (λ (p : Path). length p.fields) deleting.shows.path) ∙ deleting.taken.counted
-
--- what the slots of an object hold behind its fields, for which there are slots
-record SlotsHeld (old new : Mutator) (cell : Cell) (slot : ℕ) (fields : List Field) (slots : List ℕ) : Type 0 where
-  pub room : length fields ≤ length slots
-  pub rest : (at word : ℕ) → length fields ≤ at → HasWord slots at word → word ≡ hole_word
-
--- so they do
-slots_held : {old new : Mutator} {cell : Cell} {slot : ℕ} {fields : List Field}
-    (deleting : Deleting old new cell slot fields) → SlotsHeld old new cell slot fields deleting.shows.slots
-slots_held {fields = fields} deleting =
-    let sound = plain_sound deleting.whole deleting.has deleting.shows.of_kind in
-    let same = one_slots sound.has deleting.shows.has in
-    let part : Field → PathField = λ f. record { name = f.name; rep = f.rep } in
-    let long = ap (λ (p : Path). length p.fields) deleting.shows.path ∙ length-map fields part in
-    record {
-      room = omega (arith, sound.hold.room, long, ap length same);
-      rest = λ at word from stands.
-          sound.hold.rest at word (omega (arith, from, long)) (ap (λ all. slice_get all at) same ∙ stands);
-    }
-
--- where the slot of a number stands
-abbrev pub address : {old new : Mutator} {cell : Cell} {slot : ℕ} {fields : List Field}
-    → Deleting old new cell slot fields → ℕ → ℕ
-address {cell = cell} deleting one = slot_at cell.at cell.layout.cap (store_at deleting.shows.has.stands) one
-
--- there are slots for all fields
-pub room_is : {old new : Mutator} {cell : Cell} {slot : ℕ} {fields : List Field}
-    (deleting : Deleting old new cell slot fields) → suc deleting.taken.last ≤ length deleting.shows.slots
-room_is deleting = omega (arith, count_is deleting, (slots_held deleting).room)
-
--- where all slots stand
-pub all_stand : {old new : Mutator} {cell : Cell} {slot : ℕ} {fields : List Field}
-    (deleting : Deleting old new cell slot fields)
-    → SlotsStand (heap_of old) cell.at cell.layout.cap (store_at deleting.shows.has.stands)
-    (length deleting.shows.slots)
-all_stand deleting = slots_stand deleting.whole deleting.has deleting.shows.of_kind deleting.shows.has
-
--- the slots of the fields that moved stand there
-pub address_is : {old new : Mutator} {cell : Cell} {slot : ℕ} {fields : List Field} (one : ℕ)
-    (deleting : Deleting old new cell slot fields) → one ≤ deleting.taken.last
-    → slot_at cell.at deleting.taken.cap deleting.taken.store one ≡ address deleting one
-address_is {cell = cell} one deleting few =
-    let taken = deleting.taken in
-    let cap : ℕ = cell.layout.cap in
-    let are = deleting.shows.has in
-    let caps = cap_is deleting in
-    ap (λ n. slot_at cell.at n taken.store one) caps ∙ elim (cases_lt one cap) [
-      | inl own ↦
-          slot_at-own cell.at cap taken.store one own ∙ sym (slot_at-own cell.at cap (store_at are.stands) one own)
-      | inr from ↦
-          let counted = slots_counted deleting.has deleting.shows.of_kind are in
-          let same : store_at are.stands ≡ taken.store =
-          store_is_there (taken.has_beside (omega (arith, caps, few, from))).at deleting.has refl are
-          (omega (arith, counted, room_is deleting, few, from)) in
-          ap (λ n. slot_at cell.at cap n one) (sym same)
-    ]
-
--- a slot that did not move holds what it held
-pub stays : {old new : Mutator} {cell : Cell} {slot : ℕ} {fields : List Field} (one : ℕ)
-    (deleting : Deleting old new cell slot fields) → one < length deleting.shows.slots
-    → (one < slot) ⊎ (deleting.taken.last < one)
-    → slice_get (heap_words new.seat) (address deleting one) ≡ slice_get (heap_words old.seat) (address deleting one)
-stays {old} {cell = cell} {slot} one deleting below out =
-    let taken = deleting.taken in
-    let cap : ℕ = cell.layout.cap in
-    let store : ℕ = store_at deleting.shows.has.stands in
-    let count : ℕ = length deleting.shows.slots in
-    let stand = all_stand deleting in
-    let one_stands = slot_stands old cell.at cap store count one stand below in
-    taken.stay (address deleting one) one_stands.below one_stands.behind (λ k low high same.
-    let number : k ≡ one = slots_are_apart (heap_of old) cell.at cap store count k one stand
-    (omega (arith, room_is deleting, high)) below (sym (address_is k deleting high) ∙ same) in
-    elim out [ inl before ↦ omega (arith, number, before, low) | inr behind ↦ omega (arith, number, behind, high) ])
-
 -- What a slot holds now: what the slot held from which it comes, where both stand in the object or both in the store;
 -- or what was drawn in, where it is the last in the object; or nothing.
 pub data NowHolds {old new : Mutator} {cell : Cell} {slot : ℕ} {fields : List Field}
@@ -127,65 +40,118 @@ pub data NowHolds {old new : Mutator} {cell : Cell} {slot : ℕ} {fields : List 
       → NowHolds deleting one word
   hole : deleting.taken.last ≤ one → word ≡ hole_word → NowHolds deleting one word
 
--- what a slot holds that did not move
-now_stays : {old new : Mutator} {cell : Cell} {slot : ℕ} {fields : List Field} (one word : ℕ)
-    (deleting : Deleting old new cell slot fields) → one < length deleting.shows.slots
-    → slice_get (heap_words new.seat) (address deleting one) ≡ Some word → (one < slot) ⊎ (deleting.taken.last < one)
-    → HasWord deleting.shows.slots one word
-now_stays one word deleting below stands out =
-    sym (slot_read one deleting.has deleting.shows.of_kind deleting.shows.has below)
-    ∙ sym (stays one deleting below out) ∙ stands
+module _ {old new : Mutator} {cell : Cell} {slot : ℕ} {fields : List Field}
+    (deleting : Deleting old new cell slot fields) where
+  -- the cap is that of the cell
+  pub cap_is : deleting.taken.cap ≡ cell.layout.cap
+  cap_is = sym deleting.taken.caps ∙ ap (λ (p : Path). p.cap) deleting.shows.path
 
--- what a slot holds that holds the next
-now_moved : {old new : Mutator} {cell : Cell} {slot : ℕ} {fields : List Field} (one word : ℕ)
-    (deleting : Deleting old new cell slot fields) → slice_get (heap_words new.seat) (address deleting one) ≡ Some word
-    → slot ≤ one → one < deleting.taken.last → suc one ≢ cell.layout.cap → NowHolds deleting one word
-now_moved {old} {new} {cell} {slot} one word deleting stands from below apart =
-    let taken = deleting.taken in
-    let caps = cap_is deleting in
-    let behind = origin_of-behind slot one from in
-    let read = slot_read (suc one) deleting.has deleting.shows.of_kind deleting.shows.has
-    (omega (arith, room_is deleting, below)) in
-    let moved : HasWord deleting.shows.slots (suc one) word =
-    sym read ∙ ap (slice_get (heap_words old.seat)) (sym (address_is (suc one) deleting (omega (arith, below))))
-    ∙ sym (taken.moved one from below (λ same. apart (same ∙ caps)))
-    ∙ ap (slice_get (heap_words new.seat)) (address_is one deleting (omega (arith, below))) ∙ stands in
-    let alike : nat_lt one cell.layout.cap ≡ nat_lt (suc one) cell.layout.cap = grind (arith, nat_tests) in
-    NowHolds.moved below (ap (slice_get deleting.shows.slots) behind ∙ moved)
-    (alike ∙ ap (λ n. nat_lt n cell.layout.cap) (sym behind))
+  -- the last field is the last
+  pub count_is : length fields ≡ suc deleting.taken.last
+  count_is = sym (path_long fields deleting.shows.path) ∙ deleting.taken.counted
 
--- what each slot holds
-pub now_holds : {old new : Mutator} {cell : Cell} {slot : ℕ} {fields : List Field} (one word : ℕ)
-    (deleting : Deleting old new cell slot fields) → one < length deleting.shows.slots
-    → slice_get (heap_words new.seat) (address deleting one) ≡ Some word → NowHolds deleting one word
-now_holds {new = new} {cell} {slot} {fields} one word deleting below stands =
-    let taken = deleting.taken in
-    let there = deleting.there in
-    let count = count_is deleting in
-    elim (cases_lt one slot) [
-      | inl before ↦
-          let same = origin_of-before slot one before in
-          NowHolds.moved (omega (arith, before, there, count))
-          (ap (slice_get deleting.shows.slots) same ∙ now_stays one word deleting below stands (inl before))
-          (ap (λ n. nat_lt n cell.layout.cap) (sym same))
-      | inr from ↦ elim (cases_lt one taken.last) [
-        | inl moves ↦ elim (cases_eq (suc one) cell.layout.cap) [
-          | inl same ↦
-              NowHolds.drawn_in from moves same
-              (same_Some word taken.first
-              (sym stands ∙ ap (slice_get (heap_words new.seat)) (sym (address_is one deleting (omega (arith, moves))))
-              ∙ taken.drawn_in one from moves (same ∙ sym (cap_is deleting))))
-          | inr apart ↦ now_moved one word deleting stands from moves apart
-        ]
-        | inr rest ↦ elim (cases_eq taken.last one) [
-          | inl same ↦
-              NowHolds.hole rest (same_Some word hole_word
-              (sym stands ∙ ap (λ n. slice_get (heap_words new.seat) (address deleting n)) (sym same)
-              ∙ ap (slice_get (heap_words new.seat)) (sym (address_is taken.last deleting (omega arith))) ∙ taken.hole))
-          | inr apart ↦
-              let behind : taken.last < one = omega (arith, rest, apart) in
-              NowHolds.hole rest ((slots_held deleting).rest one word (omega (arith, count, behind))
-              (now_stays one word deleting below stands (inr behind)))
+  -- where the slot of a number stands
+  abbrev pub address : ℕ → ℕ
+  address one = slot_at cell.at cell.layout.cap (store_at deleting.shows.has.stands) one
+
+  -- there are slots for all fields
+  pub room_is : suc deleting.taken.last ≤ length deleting.shows.slots
+  room_is = omega (arith, count_is, (slots_held deleting.whole deleting.has deleting.shows).room)
+
+  -- where all slots stand
+  pub all_stand : SlotsStand (heap_of old) cell.at cell.layout.cap (store_at deleting.shows.has.stands)
+      (length deleting.shows.slots)
+  all_stand = slots_stand deleting.whole deleting.has deleting.shows.of_kind deleting.shows.has
+
+  -- the slots of the fields that moved stand there
+  pub address_is : (one : ℕ) → one ≤ deleting.taken.last
+      → slot_at cell.at deleting.taken.cap deleting.taken.store one ≡ address one
+  address_is one few =
+      let taken = deleting.taken in
+      let cap : ℕ = cell.layout.cap in
+      let are = deleting.shows.has in
+      let caps = cap_is in
+      ap (λ n. slot_at cell.at n taken.store one) caps ∙ elim (cases_lt one cap) [
+        | inl own ↦
+            slot_at-own cell.at cap taken.store one own ∙ sym (slot_at-own cell.at cap (store_at are.stands) one own)
+        | inr from ↦
+            let counted = slots_counted deleting.has deleting.shows.of_kind are in
+            let same : store_at are.stands ≡ taken.store =
+            store_is_there (taken.has_beside (omega (arith, caps, few, from))).at deleting.has refl are
+            (omega (arith, counted, room_is, few, from)) in
+            ap (λ n. slot_at cell.at cap n one) (sym same)
+      ]
+
+  -- a slot that did not move holds what it held
+  pub stays : (one : ℕ) → one < length deleting.shows.slots → (one < slot) ⊎ (deleting.taken.last < one)
+      → slice_get (heap_words new.seat) (address one) ≡ slice_get (heap_words old.seat) (address one)
+  stays one below out =
+      let taken = deleting.taken in
+      let cap : ℕ = cell.layout.cap in
+      let store : ℕ = store_at deleting.shows.has.stands in
+      let count : ℕ = length deleting.shows.slots in
+      let stand = all_stand in
+      let one_stands = slot_stands old cell.at cap store count one stand below in
+      taken.stay (address one) one_stands.below one_stands.behind (λ k low high same.
+      let number : k ≡ one = slots_are_apart (heap_of old) cell.at cap store count k one stand
+      (omega (arith, room_is, high)) below (sym (address_is k high) ∙ same) in
+      elim out [ inl before ↦ omega (arith, number, before, low) | inr behind ↦ omega (arith, number, behind, high) ])
+
+  -- what a slot holds that did not move
+  now_stays : (one word : ℕ) → one < length deleting.shows.slots
+      → slice_get (heap_words new.seat) (address one) ≡ Some word → (one < slot) ⊎ (deleting.taken.last < one)
+      → HasWord deleting.shows.slots one word
+  now_stays one word below stands out =
+      sym (slot_read one deleting.has deleting.shows.of_kind deleting.shows.has below)
+      ∙ sym (stays one below out) ∙ stands
+
+  -- what a slot holds that holds the next
+  now_moved : (one word : ℕ) → slice_get (heap_words new.seat) (address one) ≡ Some word → slot ≤ one
+      → one < deleting.taken.last → suc one ≢ cell.layout.cap → NowHolds deleting one word
+  now_moved one word stands from below apart =
+      let taken = deleting.taken in
+      let caps = cap_is in
+      let behind = origin_of-behind slot one from in
+      let read = slot_read (suc one) deleting.has deleting.shows.of_kind deleting.shows.has
+      (omega (arith, room_is, below)) in
+      let moved : HasWord deleting.shows.slots (suc one) word =
+      sym read ∙ ap (slice_get (heap_words old.seat)) (sym (address_is (suc one) (omega (arith, below))))
+      ∙ sym (taken.moved one from below (λ same. apart (same ∙ caps)))
+      ∙ ap (slice_get (heap_words new.seat)) (address_is one (omega (arith, below))) ∙ stands in
+      let alike : nat_lt one cell.layout.cap ≡ nat_lt (suc one) cell.layout.cap = grind (arith, nat_tests) in
+      NowHolds.moved below (ap (slice_get deleting.shows.slots) behind ∙ moved)
+      (alike ∙ ap (λ n. nat_lt n cell.layout.cap) (sym behind))
+
+  -- what each slot holds
+  pub now_holds : (one word : ℕ) → one < length deleting.shows.slots
+      → slice_get (heap_words new.seat) (address one) ≡ Some word → NowHolds deleting one word
+  now_holds one word below stands =
+      let taken = deleting.taken in
+      let there = deleting.there in
+      let count = count_is in
+      elim (cases_lt one slot) [
+        | inl before ↦
+            let same = origin_of-before slot one before in
+            NowHolds.moved (omega (arith, before, there, count))
+            (ap (slice_get deleting.shows.slots) same ∙ now_stays one word below stands (inl before))
+            (ap (λ n. nat_lt n cell.layout.cap) (sym same))
+        | inr from ↦ elim (cases_lt one taken.last) [
+          | inl moves ↦ elim (cases_eq (suc one) cell.layout.cap) [
+            | inl same ↦
+                NowHolds.drawn_in from moves same (same_Some word taken.first
+                (sym stands ∙ ap (slice_get (heap_words new.seat)) (sym (address_is one (omega (arith, moves))))
+                ∙ taken.drawn_in one from moves (same ∙ sym cap_is)))
+            | inr apart ↦ now_moved one word stands from moves apart
+          ]
+          | inr rest ↦ elim (cases_eq taken.last one) [
+            | inl same ↦
+                NowHolds.hole rest (same_Some word hole_word
+                (sym stands ∙ ap (λ n. slice_get (heap_words new.seat) (address n)) (sym same)
+                ∙ ap (slice_get (heap_words new.seat)) (sym (address_is taken.last (omega arith))) ∙ taken.hole))
+            | inr apart ↦
+                let behind : taken.last < one = omega (arith, rest, apart) in
+                NowHolds.hole rest ((slots_held deleting.whole deleting.has deleting.shows).rest one word (omega (arith, count, behind))
+                (now_stays one word below stands (inr behind)))
+          ]
         ]
       ]
-    ]

@@ -21,37 +21,19 @@ origin_of gone place = if nat_lt place gone then place else suc place
 
 -- those before it stay
 pub origin_of-before : (gone place : ℕ) → place < gone → origin_of gone place ≡ place
-origin_of-before gone place before =
-    let test : nat_lt place gone ≡ true = grind (arith, nat_tests) in
-    ap (λ t. cond t place (suc place)) test
+origin_of-before gone place before = grind (arith, nat_tests)
 
 -- and the others come from one place further
 pub origin_of-behind : (gone place : ℕ) → gone ≤ place → origin_of gone place ≡ suc place
-origin_of-behind gone place behind =
-    let test : nat_lt place gone ≡ false = grind (arith, nat_tests) in
-    ap (λ t. cond t place (suc place)) test
+origin_of-behind gone place behind = grind (arith, nat_tests)
 
 -- none comes from more than one place further
 pub origins_few : (gone place : ℕ) → origin_of gone place ≤ suc place
-origins_few gone place = elim (cases_lt place gone) [
-  | inl before ↦ omega (arith, origin_of-before gone place before)
-  | inr behind ↦ omega (arith, origin_of-behind gone place behind)
-]
+origins_few gone place = grind (arith, nat_tests)
 
 -- no two come from one place
 pub origins_apart : (gone place other : ℕ) → origin_of gone place ≡ origin_of gone other → place ≡ other
-origins_apart gone place other same = elim (cases_lt place gone) [
-  | inl before ↦ elim (cases_lt other gone) [
-    | inl before_too ↦ omega (arith, same, origin_of-before gone place before, origin_of-before gone other before_too)
-    | inr behind ↦
-        absurd (omega (arith, same, origin_of-before gone place before, origin_of-behind gone other behind, before))
-  ]
-  | inr behind ↦ elim (cases_lt other gone) [
-    | inl before ↦
-        absurd (omega (arith, same, origin_of-behind gone place behind, origin_of-before gone other before, before))
-    | inr behind_too ↦ omega (arith, same, origin_of-behind gone place behind, origin_of-behind gone other behind_too)
-  ]
-]
+origins_apart gone place other same = grind (arith, nat_tests)
 
 -- an element before the one that is taken out
 less_before : {A : Type 0} (xs : List A) (gone place : ℕ) → place < gone

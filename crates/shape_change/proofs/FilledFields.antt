@@ -1,20 +1,20 @@
 -- The ways to fill the slot of a field that is set: with a tagged word, a raw one, or a box that is made.
-use Rattle.std.proofs.Common.{◌≡◌, ◌≢◌, ℕ, ◌+◌, ◌<◌, List, [], length, Some, slice_get, set, nat_lt, true}
-use Rattle.std.proofs.Common.{refl, sym, ◌∙◌, ap, subst, arith, add-zero}
+use Rattle.std.proofs.Common.{◌≡◌, ◌≢◌, ℕ, ◌+◌, ◌<◌, List, [], length, Some, slice_get, set, nat_lt, true, refl, sym}
+use Rattle.std.proofs.Common.{◌∙◌, ap, subst, arith}
 use Rattle.std.proofs.lemmas.Bool.Decides.{nat_tests}
 use Rattle.std.proofs.lemmas.Option.{same_Some}
-use Rattle.heap_model.specs.Types.{Word, Value, Field, Path, PathField, Cell}
 use Rattle.tagged_word.specs.Headers.{header_bits}
 use Rattle.tagged_word.specs.Cells.{store_slot}
+use Rattle.page_space.specs.Extents.{Space, layouts_start, marks_start}
+use Rattle.page_space.proofs.Starts.{marks_start_is}
+use Rattle.cell_layout.specs.Cells.{IsRow}
+use Rattle.shape_tree.specs.Shapes.{shape_path}
 use Rattle.object_graph.specs.declared.value.Rep.TheVariants as rep
 use Rattle.object_graph.specs.Objects.{revalued}
 use Rattle.object_graph.specs.Graphs.{Graph, PlainObject}
 use Rattle.object_graph.proofs.Lists.{slice_get-set_same}
-use Rattle.page_space.specs.Extents.{Space, layouts_start, marks_start}
-use Rattle.page_space.proofs.Starts.{marks_start_is}
-use Rattle.shape_tree.specs.Shapes.{shape_path}
-use Rattle.cell_layout.specs.Cells.{IsRow}
 use Rattle.heap_table.specs.Seats.{heap_words}
+use Rattle.heap_model.specs.Types.{Word, Value, Field, Path, PathField, Cell}
 use Rattle.heap_model.specs.Heaps.{Heap, words_of_cell}
 use Rattle.heap_model.specs.Showing.{ShowsField}
 use Rattle.heap_model.proofs.BoundHeaps.{none_in}
@@ -25,50 +25,22 @@ use Rattle.object_cells.specs.Contents.{next_at}
 use Rattle.object_cells.specs.CellWrites.{reshaped}
 use Rattle.object_cells.specs.OwnSlots.{ComesFrom}
 use Rattle.object_cells.specs.SlotChanges.{IsTaggedSlot, HasTagged}
-use Rattle.shape_change.proofs.ContentsShown.{word_shows, raw_shows}
 use Rattle.object_cells.proofs.FieldWords.{path_field, tagged_is_field}
-use Rattle.shape_change.proofs.FilledSlots.{AreBoxes, fills_slot}
 use Rattle.object_cells.proofs.HeldContents.{HoldsValue}
 use Rattle.object_cells.proofs.NumberedSlots.{IsNumbered, number_is_not_store}
 use Rattle.object_cells.proofs.OneWord.{IsReady}
 use Rattle.object_cells.proofs.OneField.{SetsOne}
 use Rattle.object_cells.proofs.OwnPlaces.{IsSlotPlace, plain_is_object, slot_place}
 use Rattle.object_cells.proofs.OwnCells.{cell_below_layouts}
-use Rattle.shape_change.proofs.Settings.{Setting}
-use Rattle.shape_change.proofs.SetFields.{IsNextShape, ShowsSet, sets_one, field_shown}
-use Rattle.object_cells.proofs.SlotsNow.{numbered_address}
+use Rattle.object_cells.proofs.MadeBoxes.{row_of_none}
+use Rattle.object_cells.proofs.SlotsNow.{IsSlotAddress, numbered_address}
 use Rattle.object_cells.proofs.WordsPut.{PutsTwo, HasHead, puts_two}
 use Rattle.object_cells.proofs.OwnSteps.{written_places_stay}
 use Rattle.object_cells.proofs.OwnerWrites.{plain_owns, becomes_cap}
-
--- the header of the object of another shape
-abbrev pub next_head : {old : Mutator} {graph : Graph} {object slot : ℕ} {plain : PlainObject} {what : Value} {name : ℕ}
-    → Setting old graph object slot plain what name → ℕ → ℕ
-next_head s next = header_bits (record s.cell.header { shape = next })
-
--- Where the slot of the field stands, and the object's header: before the layout words, and apart.
-pub record SlotApart {old : Mutator} {graph : Graph} {object slot : ℕ} {plain : PlainObject} {what : Value} {name : ℕ}
-    (s : Setting old graph object slot plain what name) (at : ℕ) : Type 0 where
-  pub below : at < layouts_start old.seat.space
-  pub head_below : s.cell.at < layouts_start old.seat.space
-  pub not_head : s.cell.at ≢ at
-  pub not_store : s.cell.at + store_slot ≢ at
-
--- so it stands
-pub slot_apart : {old : Mutator} {graph : Graph} {object slot : ℕ} {plain : PlainObject} {what : Value} {name : ℕ}
-    (at : ℕ)
-    (s : Setting old graph object slot plain what name)
-    → IsNumbered (heap_of old) s.cell (words_of_cell (heap_of old) s.cell) slot at → SlotApart s at
-slot_apart {slot = slot} at s numbered =
-    let whole = s.shows.shows.whole in
-    let address = numbered_address slot at whole s.has s.shown.of_kind numbered in
-    record {
-      below = cell_below_layouts whole address.has address.of_cell;
-      head_below = cell_below_layouts whole s.has (first_of_cell s.has);
-      not_head = λ same. address.not_header (sym same);
-      not_store = λ same. number_is_not_store slot at whole.rows s.has (plain_is_object s.shown.of_kind) numbered
-          (sym same);
-    }
+use Rattle.shape_change.proofs.ContentsShown.{word_shows, raw_shows}
+use Rattle.shape_change.proofs.FilledSlots.{AreBoxes, fills_slot}
+use Rattle.shape_change.proofs.Settings.{Setting}
+use Rattle.shape_change.proofs.SetFields.{IsNextShape, ShowsSet, sets_one, field_shown}
 
 -- an address before the layout words is before the marks
 pub before_marks : {old mid : Mutator} {need : ℕ} (a : ℕ) → IsReady old mid need → a < layouts_start old.seat.space
@@ -76,16 +48,6 @@ pub before_marks : {old mid : Mutator} {need : ℕ} (a : ℕ) → IsReady old mi
 before_marks {old} a ready below =
     subst (λ (space : Space). a < marks_start space) (sym ready.space)
     (omega (arith, below, marks_start_is old.seat.space))
-
--- a word was put in the slot, and the header is there
-pub slot_puts : {old mid new : Mutator} {graph : Graph} {object slot : ℕ} {plain : PlainObject} {what : Value}
-    {name : ℕ}
-    (at word need next : ℕ) (s : Setting old graph object slot plain what name) → SlotApart s at → IsReady old mid need
-    → HasHead mid (with_word mid at word) new s.cell.at (next_head s next)
-    → PutsTwo mid new s.cell.at (next_head s next) at word
-slot_puts {mid = mid} {new} at word need next s apart ready head =
-    puts_two mid new s.cell.at (next_head s next) at word (before_marks at ready apart.below)
-    (before_marks s.cell.at ready apart.head_below) ready.sized.words apart.not_head head
 
 -- What is owed of the word that was put: the cells that were made are boxes, where the word comes from, and that it
 -- shows the field.
@@ -96,54 +58,6 @@ pub record ShowsPut {old new : Heap} {cell : Cell} {shape at word slot : ℕ} {o
   pub comes : IsTaggedSlot (reshaped new.paths cell shape) slot
       → ComesFrom new (HasTagged cell sets.shown.slots) made slot slot slot word
   pub shows : ShowsField new (nat_lt slot cell.layout.cap) word field.rep field.value
-
--- where a word was put in the slot, the heap shows the graph with the field
-pub slot_shown : {old mid new : Mutator} {graph : Graph} {object slot : ℕ} {plain : PlainObject} {what : Value}
-    {name : ℕ}
-    (at word need next : ℕ) (made : List Cell) (s : Setting old graph object slot plain what name)
-    → IsNumbered (heap_of old) s.cell (words_of_cell (heap_of old) s.cell) slot at → IsReady old mid need
-    → IsNextShape old new s next → HasHead mid (with_word mid at word) new s.cell.at (next_head s next)
-    → IsRow new.seat.space (heap_words new.seat) (next_at old) (next_at old + need) made
-    → ((others : List Cell)
-    (sets : SetsOne (heap_of old) (heap_of new) s.cell next at word slot others made plain.fields
-    (revalued s.field what))
-    → ShowsPut sets)
-    → ShowsSet s new
-slot_shown {old} {mid} {new} {slot = slot} at word need next made s numbered ready shape head row owed =
-    let whole = s.shows.shows.whole in
-    let apart = slot_apart at s numbered in
-    let puts = slot_puts at word need next s apart ready head in
-    let place = slot_place slot at whole s.has s.shown.of_kind s.shown.has numbered in
-    let sets = sets_one next at word need place.0 made s shape place.1.own apart.not_store apart.below ready puts row in
-    let shows = owed place.0 sets in
-    let store : s.shown.has.store ≡ sets.shown.has.store = same_Some _ _ (sym s.shown.has.slot ∙ sets.shown.has.slot) in
-    let stands = subst (λ n. IsSlotPlace (heap_of old) s.cell n at place.0) store place.1 in
-    field_shown s shape ready puts sets (fills_slot sets numbered stands shows.boxes shows.comes shows.shows)
-
--- the row of no cell
-pub no_row : (old new : Mutator) → IsRow new.seat.space (heap_words new.seat) (next_at old) (next_at old + 0) []
-no_row old new =
-    subst (λ end. IsRow new.seat.space (heap_words new.seat) (next_at old) end []) (sym (add-zero (next_at old)))
-    (IsRow.none (next_at old))
-
--- a tagged word is put
-pub tagged_shown : {old mid new : Mutator} {graph : Graph} {object slot : ℕ} {plain : PlainObject} {what : Value}
-    {name : ℕ}
-    (at next : ℕ) (word : Word) (s : Setting old graph object slot plain what name)
-    → IsNumbered (heap_of old) s.cell (words_of_cell (heap_of old) s.cell) slot at → IsReady old mid 0
-    → IsNextShape old new s next → HasHead mid (with_word mid at word.0) new s.cell.at (next_head s next)
-    → HoldsValue (heap_of old) (nat_lt slot s.cell.layout.cap) s.field.rep (revalued s.field what).rep what
-    (content.Tagged word)
-    → ShowsSet s new
-tagged_shown {old} {new = new} at next word s numbered ready shape head holds =
-    slot_shown at word.0 0 next [] s numbered ready shape head (no_row old new) (λ others sets.
-    let shown = word_shows word (written_places_stay plain_owns sets.puts.whole sets.puts.writes) holds in
-    record {
-      boxes = λ other there. absurd (none_in other there);
-      comes = λ tagged. ComesFrom.none shown.1;
-      shows =
-          shown.0;
-    })
 
 -- no wide field that stands in the object is in a tagged slot
 raw_not_tagged : {old new : Heap} {cell : Cell} {shape at word slot : ℕ} {others made : List Cell} {before : List Field}
@@ -159,20 +73,76 @@ raw_not_tagged {new = new} {cell} {shape} {slot = slot} {before = before} {field
     ∙ path_field cell.layout.cap (set before slot field) slot field (slice_get-set_same before slot field sets.there) in
     of_path.apart (ap (λ (f : PathField). f.rep) (same_Some of_path.field _ (sym of_path.there ∙ there)) ∙ wide)
 
--- a raw word is put
-pub raw_shown : {old mid new : Mutator} {graph : Graph} {object slot : ℕ} {plain : PlainObject} {what : Value}
-    {name : ℕ}
-    (at next word : ℕ) (s : Setting old graph object slot plain what name)
-    → IsNumbered (heap_of old) s.cell (words_of_cell (heap_of old) s.cell) slot at → IsReady old mid 0
-    → IsNextShape old new s next → HasHead mid (with_word mid at word) new s.cell.at (next_head s next)
-    → HoldsValue (heap_of old) (nat_lt slot s.cell.layout.cap) s.field.rep (revalued s.field what).rep what
-    (content.Raw word)
-    → ShowsSet s new
-raw_shown {old} {new = new} {graph} at next word s numbered ready shape head holds =
-    slot_shown at word 0 next [] s numbered ready shape head (no_row old new) (λ others sets.
-    let shown = raw_shows word (length graph.objects) s.value holds in
-    record {
-      boxes = λ other there. absurd (none_in other there);
-      comes = λ tagged. absurd (raw_not_tagged sets shown.1.0 shown.1.1 tagged);
-      shows = shown.0;
-    })
+module _ {old : Mutator} {graph : Graph} {object slot : ℕ} {plain : PlainObject} {what : Value} {name : ℕ}
+    (s : Setting old graph object slot plain what name) where
+  -- the header of the object of another shape
+  abbrev pub next_head : ℕ → ℕ
+  next_head next = header_bits (record s.cell.header { shape = next })
+
+  -- it stands before the layout words
+  pub head_below : s.cell.at < layouts_start old.seat.space
+  head_below = cell_below_layouts s.shows.shows.whole s.has (first_of_cell s.has)
+
+  module _ (at : ℕ) (numbered : IsNumbered (heap_of old) s.cell (words_of_cell (heap_of old) s.cell) slot at) where
+    -- so does the slot of the field, and apart from it
+    pub address : IsSlotAddress (heap_of old) s.cell at
+    address = numbered_address slot at s.shows.shows.whole s.has s.shown.of_kind numbered
+
+    pub slot_below : at < layouts_start old.seat.space
+    slot_below = cell_below_layouts s.shows.shows.whole address.has address.of_cell
+
+    -- a word was put in the slot, and the header is there
+    pub slot_puts : {mid new : Mutator} {need : ℕ} (word next : ℕ) → IsReady old mid need
+        → HasHead mid (with_word mid at word) new s.cell.at (next_head next)
+        → PutsTwo mid new s.cell.at (next_head next) at word
+    slot_puts {mid} {new} word next ready head =
+        puts_two mid new s.cell.at (next_head next) at word (before_marks at ready slot_below)
+        (before_marks s.cell.at ready head_below) ready.sized.words (λ same. address.not_header (sym same)) head
+
+    module _ {mid new : Mutator} {next : ℕ} (shape : IsNextShape s new next) where
+      -- where a word was put in the slot, the heap shows the graph with the field
+      pub slot_shown : {need : ℕ} (word : ℕ) (made : List Cell) → IsReady old mid need
+          → HasHead mid (with_word mid at word) new s.cell.at (next_head next)
+          → IsRow new.seat.space (heap_words new.seat) (next_at old) (next_at old + need) made
+          → ((others : List Cell) (sets : SetsOne (heap_of old) (heap_of new) s.cell next at word slot others made
+          plain.fields (revalued s.field what)) → ShowsPut sets) → ShowsSet s new
+      slot_shown {need} word made ready head row owed =
+          let whole = s.shows.shows.whole in
+          let puts = slot_puts word next ready head in
+          let place = slot_place slot at whole s.has s.shown.of_kind s.shown.has numbered in
+          let not_store : s.cell.at + store_slot ≢ at =
+          λ same. number_is_not_store slot at whole.rows s.has (plain_is_object s.shown.of_kind) numbered (sym same) in
+          let sets = sets_one s shape ready place.0 made place.1.own not_store slot_below puts row in
+          let shows = owed place.0 sets in
+          let store : s.shown.has.store ≡ sets.shown.has.store =
+          same_Some _ _ (sym s.shown.has.slot ∙ sets.shown.has.slot) in
+          let stands = subst (λ n. IsSlotPlace (heap_of old) s.cell n at place.0) store place.1 in
+          field_shown s shape ready puts sets (fills_slot sets numbered stands shows.boxes shows.comes shows.shows)
+
+      -- so it does where it is tagged
+      pub tagged_shown : (word : Word) → IsReady old mid 0
+          → HasHead mid (with_word mid at word.0) new s.cell.at (next_head next)
+          → HoldsValue (heap_of old) (nat_lt slot s.cell.layout.cap) s.field.rep (revalued s.field what).rep what
+          (content.Tagged word) → ShowsSet s new
+      tagged_shown word ready head holds =
+          slot_shown word.0 [] ready head (row_of_none (heap_of new) (next_at old)) (λ others sets.
+          let shown = word_shows word (written_places_stay plain_owns sets.puts.whole sets.puts.writes) holds in
+          record {
+            boxes = λ other there. absurd (none_in other there);
+            comes = λ tagged. ComesFrom.none shown.1;
+            shows = shown.0;
+          })
+
+      -- and where it is raw
+      pub raw_shown : (word : ℕ) → IsReady old mid 0
+          → HasHead mid (with_word mid at word) new s.cell.at (next_head next)
+          → HoldsValue (heap_of old) (nat_lt slot s.cell.layout.cap) s.field.rep (revalued s.field what).rep what
+          (content.Raw word) → ShowsSet s new
+      raw_shown word ready head holds =
+          slot_shown word [] ready head (row_of_none (heap_of new) (next_at old)) (λ others sets.
+          let shown = raw_shows word (length graph.objects) s.value holds in
+          record {
+            boxes = λ other there. absurd (none_in other there);
+            comes = λ tagged. absurd (raw_not_tagged sets shown.1.0 shown.1.1 tagged);
+            shows = shown.0;
+          })

@@ -80,7 +80,7 @@ module _ {old new : Mutator} {graph : Graph} {plain : PlainObject} {object : ℕ
   -- one word of the object's own cell was put, and its header
   one : WritesOne (heap_of old) (heap_of new) growing.known.cell growing.adds.next (object + store_slot)
       (reference_word (next_at old)) made
-  one = over_writes_one (over growing) made (grows.filled growing).row
+  one = over_writes_one made (over growing) (grows.filled growing).row
 
   writes : WritesFields (heap_of old) (heap_of new) growing.known.cell growing.adds.next [] made
   writes =

@@ -73,7 +73,7 @@ drawn_field {old} {cell = cell} {fields = fields} field deleting some there =
     let at : slot_at cell.at taken.cap taken.store cap ≡ taken.store + store_head =
     slot_at-beside cell.at taken.cap taken.store cap (omega (arith, caps)) ∙ omega (arith, caps) in
     let read : slice_get (heap_words old.seat) (taken.store + store_head) ≡ Some word =
-    ap (slice_get (heap_words old.seat)) (sym at ∙ address_is cap deleting some)
+    ap (slice_get (heap_words old.seat)) (sym at ∙ address_is deleting cap some)
     ∙ slot_read cap deleting.has shows.of_kind shows.has below ∙ stands in
     let of_path : slice_get (shape_path old.paths cell.header.shape).fields (shape_path old.paths cell.header.shape).cap
     ≡ Some (record { name = field.name; rep = field.rep }) =

@@ -1,22 +1,21 @@
 -- A heap in which a slot of a plain object was filled shows the graph in which the field of this slot has the value.
-use Rattle.std.proofs.Common.{◌≡◌, ◌≢◌, ℕ, ◌+◌, ◌<◌, List, Some, set}
-use Rattle.std.proofs.Common.{sym, ◌∙◌, ap, subst}
+use Rattle.std.proofs.Common.{◌≡◌, ◌≢◌, ℕ, ◌+◌, ◌<◌, List, Some, set, sym, ◌∙◌, ap, subst}
 use Rattle.tagged_word.specs.Headers.{header_bits}
 use Rattle.tagged_word.specs.Cells.{store_slot}
-use Rattle.heap_model.specs.Types.{Value, Field, Path, Cell}
+use Rattle.page_space.specs.Extents.{layouts_start}
+use Rattle.nursery.specs.Young.{Young}
+use Rattle.cell_layout.specs.Cells.{IsRow}
+use Rattle.shape_tree.specs.Shapes.{IsShapeOf}
 use Rattle.object_graph.specs.Paths.{path_of, with_path}
 use Rattle.object_graph.specs.Objects.{with_field, revalued}
 use Rattle.object_graph.specs.Graphs.{Graph, PlainObject}
 use Rattle.object_graph.specs.Limits.{paths_most}
-use Rattle.page_space.specs.Extents.{layouts_start}
-use Rattle.shape_tree.specs.Shapes.{IsShapeOf}
-use Rattle.cell_layout.specs.Cells.{IsRow}
 use Rattle.heap_table.specs.Seats.{heap_words}
+use Rattle.heap_model.specs.Types.{Value, Field, Path, Cell}
 use Rattle.heap_model.specs.Heaps.{words_of_cell}
 use Rattle.heap_model.specs.Needs.{capacity_at}
 use Rattle.heap_model.specs.Showing.{ShowsPlain}
 use Rattle.heap_model.proofs.CellsApart.{first_of_cell}
-use Rattle.nursery.specs.Young.{Young}
 use Rattle.write_barrier.specs.MutatorState.{Mutator, heap_of}
 use Rattle.object_cells.specs.PlainObjects.{ShowsRefilled}
 use Rattle.object_cells.specs.Refills.{AreNewFields}
@@ -27,88 +26,82 @@ use Rattle.object_cells.proofs.OwnerWrites.{plain_owns, written_own_keeps_cells}
 use Rattle.object_cells.proofs.OwnCapacities.{one_keeps}
 use Rattle.object_cells.proofs.RefilledHeaps.{written_fields_show}
 use Rattle.object_cells.proofs.WordsPut.{PutsTwo}
-use Rattle.object_cells.proofs.OneWord.{IsReady, writes_one}
+use Rattle.object_cells.proofs.OneWord.{IsReady, writes_two}
 use Rattle.object_cells.proofs.OwnCells.{IsOwnWord, writes_cells, cell_below_layouts}
 use Rattle.object_cells.proofs.SlotsNow.{PutsOwn}
 use Rattle.object_cells.proofs.OneField.{SetsOne, FillsOne, slots_after, refills_slots}
 use Rattle.shape_change.proofs.Settings.{Setting, fields_are, fields_are_new, slot_is_field}
 
--- The object has this shape, which is that of its fields with the one set, and their path was added.
-pub record IsNextShape (old new : Mutator) {graph : Graph} {object slot : ℕ} {plain : PlainObject} {what : Value}
-    {name : ℕ}
-    (s : Setting old graph object slot plain what name) (next : ℕ) : Type 0 where
-  pub is_shape : IsShapeOf new.paths (path_of plain.cap (set plain.fields slot (revalued s.field what))) next
-  pub added : with_path (Some paths_most) old.paths (path_of plain.cap (set plain.fields slot (revalued s.field what)))
-      ≡ Some new.paths
+module _ {old : Mutator} {graph : Graph} {object slot : ℕ} {plain : PlainObject} {what : Value} {name : ℕ}
+    (s : Setting old graph object slot plain what name) where
+  -- the fields with the one set, and their path
+  abbrev fields : List Field
+  fields = set plain.fields slot (revalued s.field what)
 
--- a word of the object's own cells was put, and its header, and cells were made
-pub sets_one : {old mid new : Mutator} {graph : Graph} {object slot : ℕ} {plain : PlainObject} {what : Value} {name : ℕ}
-    (next at word need : ℕ) (others made : List Cell) (s : Setting old graph object slot plain what name)
-    → IsNextShape old new s next → IsOwnWord (heap_of old) s.cell others at → s.cell.at + store_slot ≢ at
-    → at < layouts_start old.seat.space → IsReady old mid need
-    → PutsTwo mid new s.cell.at (header_bits (record s.cell.header { shape = next })) at word
-    → IsRow new.seat.space (heap_words new.seat) (next_at old) (next_at old + need) made
-    → SetsOne (heap_of old) (heap_of new) s.cell next at word slot others made plain.fields (revalued s.field what)
-sets_one {old} {mid} {new} {slot = slot} {plain} {what} next at word need others made s shape own not_store below ready
-    puts row =
-    let whole = s.shows.shows.whole in
-    let path : Path = path_of plain.cap (set plain.fields slot (revalued s.field what)) in
-    let cap = ap (λ (p : Path). p.cap) shape.is_shape.of_path ∙ sym s.cap in
-    let one = writes_one s.cell next at word need made s.shows.tied ready
-    (cell_below_layouts whole s.has (first_of_cell s.has)) below puts row in
-    let writes = writes_cells s.cell next at word others made whole s.has s.shown.of_kind shape.is_shape.is_shape cap
-    own one in
-    let law = written_own_keeps_cells plain_owns whole writes in
-    let puts_own : PutsOwn (heap_of old) (heap_of new) s.cell next at word others made = record {
-      whole = whole;
-      has = s.has;
-      plain = s.shown.of_kind;
-      one = one;
-      writes = writes;
-      cells = law.1;
-      not_store = not_store;
-    } in
-    record {
-      puts = puts_own;
-      shown = s.shown;
-      after = slots_after puts_own s.shown.has;
-      path = shape.is_shape.of_path
-          ∙ ap (λ n. path_of n (set plain.fields slot (revalued s.field what))) (sym s.cap);
-      there = slot_is_field s;
-    }
+  -- The object has this shape, which is that of its fields with the one set, and their path was added.
+  pub record IsNextShape (new : Mutator) (next : ℕ) : Type 0 where
+    pub is_shape : IsShapeOf new.paths (path_of plain.cap fields) next
+    pub added : with_path (Some paths_most) old.paths (path_of plain.cap fields) ≡ Some new.paths
 
--- The heap shows the graph with the field, and each property store has as many slots as before.
-pub record ShowsSet {old : Mutator} {graph : Graph} {object slot : ℕ} {plain : PlainObject} {what : Value} {name : ℕ}
-    (s : Setting old graph object slot plain what name) (new : Mutator) : Type 0 where
-  pub shows : ShowsRefilled new graph plain (with_field plain.fields name what)
-  pub changes : ChangesObject (heap_of old) (heap_of new) s.cell.at (capacity_at (heap_of old) s.cell.at)
+  -- The heap shows the graph with the field, and each property store has as many slots as before.
+  pub record ShowsSet (new : Mutator) : Type 0 where
+    pub shows : ShowsRefilled new graph plain (with_field plain.fields name what)
+    pub changes : ChangesObject (heap_of old) (heap_of new) s.cell.at (capacity_at (heap_of old) s.cell.at)
 
--- so it is
-pub field_shown : {old mid new : Mutator} {graph : Graph} {object slot next at word need : ℕ} {plain : PlainObject}
-    {what : Value}
-    {name : ℕ} {others made : List Cell} {head : ℕ} (s : Setting old graph object slot plain what name)
-    → IsNextShape old new s next → IsReady old mid need → PutsTwo mid new s.cell.at head at word
-    → (sets : SetsOne (heap_of old) (heap_of new) s.cell next at word slot others made plain.fields
-    (revalued s.field what))
-    → FillsOne sets → ShowsSet s new
-field_shown {old} {new = new} {graph} {slot = slot} {next} {plain = plain} {what} {name} {others} {made} s shape
-    ready puts sets fills =
-    let heap = heap_of old in
-    let fields : List Field = set plain.fields slot (revalued s.field what) in
-    let same : with_field plain.fields name what ≡ fields = fields_are s in
-    let new_fields = subst (AreNewFields graph) same (fields_are_new s) in
-    let shown = subst (λ n. ShowsPlain heap s.cell (words_of_cell heap s.cell) n plain.fields) s.cap s.shown in
-    let added = ap (λ paths. with_path (Some paths_most) paths (path_of plain.cap fields)) (sym s.shows.shows.paths)
-    ∙ shape.added in
-    let regions : KeepsRegions old new = record {
-      space = puts.beside.space ∙ ready.space;
-      phase = puts.beside.phase ∙ ready.phase;
-      of_young = ap (λ (y : Young). y.space) (puts.young ∙ ready.young);
-      half = ap (λ (y : Young). y.half) (puts.young ∙ ready.young);
-    } in
-    record {
-      shows = subst (ShowsRefilled new graph plain) (sym same)
-          (written_fields_show old new graph plain s.cell next others made fields s.shows s.is.object s.carries s.cap
-          shown new_fields added regions sets.puts.writes (refills_slots sets fills));
-      changes = one_keeps sets.puts fills.belong fills.kinds;
-    }
+  module _ {mid new : Mutator} {next need at word : ℕ} (shape : IsNextShape new next) (ready : IsReady old mid need)
+    where
+      -- a word of the object's own cells was put, and its header, and cells were made
+      pub sets_one : (others made : List Cell) → IsOwnWord (heap_of old) s.cell others at
+          → s.cell.at + store_slot ≢ at → at < layouts_start old.seat.space
+          → PutsTwo mid new s.cell.at (header_bits (record s.cell.header { shape = next })) at word
+          → IsRow new.seat.space (heap_words new.seat) (next_at old) (next_at old + need) made
+          → SetsOne (heap_of old) (heap_of new) s.cell next at word slot others made plain.fields
+          (revalued s.field what)
+      sets_one others made own not_store below puts row =
+          let whole = s.shows.shows.whole in
+          let cap = ap (λ (p : Path). p.cap) shape.is_shape.of_path ∙ sym s.cap in
+          let one = writes_two s.cell.at (header_bits (record s.cell.header { shape = next })) at word need made
+          s.shows.tied ready (cell_below_layouts whole s.has (first_of_cell s.has)) below puts row in
+          let writes = writes_cells s.cell next at word others made whole s.has s.shown.of_kind shape.is_shape.is_shape
+          cap own one in
+          let puts_own : PutsOwn (heap_of old) (heap_of new) s.cell next at word others made = record {
+            whole = whole;
+            has = s.has;
+            plain = s.shown.of_kind;
+            one = one;
+            writes = writes;
+            cells = (written_own_keeps_cells plain_owns whole writes).1;
+            not_store = not_store;
+          } in
+          record {
+            puts = puts_own;
+            shown = s.shown;
+            after = slots_after puts_own s.shown.has;
+            path = shape.is_shape.of_path ∙ ap (λ n. path_of n fields) (sym s.cap);
+            there = slot_is_field s;
+          }
+
+      -- so the heap shows the graph with the field
+      pub field_shown : {others made : List Cell} {head : ℕ} → PutsTwo mid new s.cell.at head at word
+          → (sets : SetsOne (heap_of old) (heap_of new) s.cell next at word slot others made plain.fields
+          (revalued s.field what)) → FillsOne sets → ShowsSet new
+      field_shown {others} {made} puts sets fills =
+          let heap = heap_of old in
+          let same : with_field plain.fields name what ≡ fields = fields_are s in
+          let new_fields = subst (AreNewFields graph) same (fields_are_new s) in
+          let shown = subst (λ n. ShowsPlain heap s.cell (words_of_cell heap s.cell) n plain.fields) s.cap s.shown in
+          let added =
+          ap (λ paths. with_path (Some paths_most) paths (path_of plain.cap fields)) (sym s.shows.shows.paths)
+          ∙ shape.added in
+          let regions : KeepsRegions old new = record {
+            space = puts.beside.space ∙ ready.space;
+            phase = puts.beside.phase ∙ ready.phase;
+            of_young = ap (λ (y : Young). y.space) (puts.young ∙ ready.young);
+            half = ap (λ (y : Young). y.half) (puts.young ∙ ready.young);
+          } in
+          record {
+            shows = subst (ShowsRefilled new graph plain) (sym same)
+                (written_fields_show old new graph plain s.cell next others made fields s.shows s.is.object s.carries
+                s.cap shown new_fields added regions sets.puts.writes (refills_slots sets fills));
+            changes = one_keeps sets.puts fills.belong fills.kinds;
+          }

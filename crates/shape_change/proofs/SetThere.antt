@@ -3,7 +3,6 @@ use Rattle.std.proofs.Common.{◌≡◌, ℕ, ◌<◌, Bool, List, length, Some,
 use Rattle.std.proofs.Common.{refl, sym, ◌∙◌, ap, subst, arith}
 use Rattle.std.specs.Prelude.{option_map}
 use Rattle.std.proofs.lemmas.Option.{same_Some, slice_get-get_or}
-use Rattle.std.proofs.lemmas.List.{length-map}
 use Rattle.heap_model.specs.Types.{Value, Rep, Field, Path, PathField, Held}
 use Rattle.object_graph.specs.declared.value.Value.TheVariants.{Undefined}
 use Rattle.object_graph.specs.declared.value.Rep.TheVariants as rep
@@ -25,13 +24,13 @@ use Rattle.object_cells.specs.Contents.{held_rep, content_of, HoldsSlotWord}
 use Rattle.shape_change.specs.Fillings.{IsSlotSetting}
 use Rattle.shape_change.specs.Places.{place_at, IsPlaceOf}
 use Rattle.object_cells.proofs.FieldWords.{path_field}
+use Rattle.object_cells.proofs.FieldsFound.{path_long}
 use Rattle.shape_change.proofs.FieldsSet.{path_changed}
 use Rattle.shape_change.proofs.FoundPlaces.{place_numbered}
 use Rattle.object_cells.proofs.HeldContents.{HoldsValue, held_rep_is, value_held, held_slot_word}
-use Rattle.object_cells.proofs.PlainFields.{plain_sound, plain_shown, shape_there}
+use Rattle.object_cells.proofs.PlainFields.{slots_held, plain_shown, shape_there}
 use Rattle.shape_change.proofs.Settings.{Setting, mapped, setting, slot_is_field}
 use Rattle.shape_change.proofs.SetShown.{FillsAt, was_field_word}
-use Rattle.object_cells.proofs.SlotPlaces.{one_slots}
 use Rattle.object_cells.proofs.SlotsNow.{numbered_stands}
 
 -- The slot of the field is at the place, in the object itself or not; the field had this representation, and the
@@ -43,89 +42,6 @@ pub record IsReadOf {old : Mutator} {graph : Graph} {object slot : ℕ} {plain :
     pub in_object : own ≡ nat_lt slot s.cell.layout.cap
     pub known : was ≡ s.field.rep
     pub path : shape_path old.paths shape ≡ path_of plain.cap plain.fields
-
--- so it is read off the shapes
-pub is_read : {old : Mutator} {graph : Graph} {object slot : ℕ} {plain : PlainObject} {what : Value} {name : ℕ}
-    (tree : List Path) (shape cap : ℕ) (place : Place) (own : Bool) (known : PathField)
-    (s : Setting old graph object slot plain what name) → HasField (heap_of old) object shape slot → tree ≡ old.paths
-    → cap ≡ (shape_path tree shape).cap → IsPlaceOf (heap_of old) object cap slot place → own ≡ nat_lt slot cap
-    → slice_get (shape_path tree shape).fields slot ≡ Some known → IsReadOf s shape place own known.rep
-is_read {old} {object = object} {slot} {plain} tree shape cap place own known s there same caps is in_object field =
-    let of_shape = shape_there there s.has s.stands in
-    let path : shape_path old.paths shape ≡ path_of s.cell.layout.cap plain.fields =
-    ap (shape_path old.paths) (sym of_shape) ∙ s.shown.path in
-    let tree_path = ap (λ paths. shape_path paths shape) same ∙ path in
-    let same_cap : cap ≡ s.cell.layout.cap = caps ∙ ap (λ (p : Path). p.cap) tree_path in
-    let at_cell = subst (λ a. IsPlaceOf (heap_of old) a cap slot place) (sym s.stands) is in
-    let of_path : PathField = record { name = s.field.name; rep = s.field.rep } in
-    let one : known ≡ of_path =
-    same_Some known of_path (sym field ∙ ap (λ (p : Path). slice_get p.fields slot) tree_path
-    ∙ path_field s.cell.layout.cap plain.fields slot s.field s.there) in
-    record {
-      at_place = subst (λ n. IsPlaceOf (heap_of old) s.cell.at n slot place) same_cap at_cell;
-      in_object = in_object ∙ ap (nat_lt slot) same_cap;
-      known = ap (λ (f : PathField). f.rep) one;
-      path = path ∙ ap (λ n. path_of n plain.fields) s.cap;
-    }
-
--- there is a slot for the field
-slot_is_there : {old : Mutator} {graph : Graph} {object slot : ℕ} {plain : PlainObject} {what : Value} {name : ℕ}
-    (s : Setting old graph object slot plain what name) → slot < length s.shown.slots
-slot_is_there {old} {plain = plain} s =
-    let sound = plain_sound s.shows.shows.whole s.has s.shown.of_kind in
-    let same = ap (λ (all : List ℕ). length all) (one_slots sound.has s.shown.has) in
-    let part : Field → PathField = λ f. record { name = f.name; rep = f.rep } in
-    let few = ap (λ (p : Path). length p.fields) s.shown.path ∙ length-map plain.fields part in
-    omega (arith, sound.hold.room, same, few, slot_is_field s)
-
--- what the slot comes to hold for the value that is held, and what it held
-pub fills_at : {old : Mutator} {graph : Graph} {object slot : ℕ} {plain : PlainObject} {what : Value} {name : ℕ}
-    {shape : ℕ}
-    (place : Place) (own : Bool) (was one : Rep) (held : Held) (content : SlotContent)
-    (s : Setting old graph object slot plain what name) → IsReadOf s shape place own was
-    → ShowsHeld (heap_of old) held (Some what) → one ≡ join was (held_rep held) → content ≡ content_of own one held
-    → FillsAt s (place_at s.cell.at place) (get_or s.shown.slots slot 0) content
-fills_at {old} {slot = slot} {what = what} place own was one held content s read shows joins is =
-    let heap = heap_of old in
-    let below = slot_is_there s in
-    let there = slice_get-get_or s.shown.slots slot 0 below in
-    let numbered = place_numbered slot place s.has s.shown.of_kind s.shown.has below read.at_place in
-    let joined : join s.field.rep (rep_of what) ≡ one =
-    ap (λ r. join r (rep_of what)) (sym read.known) ∙ ap (join was) (sym (held_rep_is held what shows)) ∙ sym joins in
-    let holds : HoldsValue heap own s.field.rep one what (content_of own one held) =
-    value_held own s.field.rep one held what shows joined in
-    let holds_it = subst (HoldsValue heap own s.field.rep one what) (sym is) holds in
-    let own_holds = subst (λ o. HoldsValue heap o s.field.rep one what content) read.in_object holds_it in
-    record {
-      numbered = numbered;
-      holds = there;
-      reads = ap (λ found. unwrap_or found 0)
-          (numbered_stands slot (place_at s.cell.at place) s.has s.shown.of_kind s.shown.has numbered ∙ there);
-      comes = subst (λ r. HoldsValue heap (nat_lt slot s.cell.layout.cap) s.field.rep r what content) (sym joined)
-          own_holds;
-    }
-
--- where it comes to refer to a box it held a slot word
-pub held_there : {old : Mutator} {graph : Graph} {object slot : ℕ} {plain : PlainObject} {what : Value} {name word : ℕ}
-    {content : SlotContent} (place : Place) (s : Setting old graph object slot plain what name)
-    → FillsAt s (place_at s.cell.at place) word content
-    → HoldsSlotWord (heap_of old) (word_at (heap_of old) (place_at object place)) content
-held_there {old} {word = word} {content} place s fills =
-    let slot_word = held_slot_word word fills.comes (was_field_word s fills) in
-    subst (λ a. HoldsSlotWord (heap_of old) (word_at (heap_of old) (place_at a place)) content) s.stands
-    (subst (λ w. HoldsSlotWord (heap_of old) w content) (sym fills.reads) slot_word)
-
--- the path with the wider representation is that of the fields with the one set
-pub wider_path : {old : Mutator} {graph : Graph} {object slot : ℕ} {plain : PlainObject} {what : Value} {name : ℕ}
-    {shape : ℕ} {place : Place} {own : Bool} (was one : Rep) (held : Held)
-    (s : Setting old graph object slot plain what name)
-    → IsReadOf s shape place own was → ShowsHeld (heap_of old) held (Some what) → one ≡ join was (held_rep held)
-    → path_of plain.cap (set plain.fields slot (revalued s.field what)) ≡ changed (shape_path old.paths shape) slot one
-wider_path {slot = slot} {plain} {what} was one held s read shows joins =
-    let joined : join s.field.rep (rep_of what) ≡ one =
-    ap (λ r. join r (rep_of what)) (sym read.known) ∙ ap (join was) (sym (held_rep_is held what shows)) ∙ sym joins in
-    path_changed plain.cap plain.fields slot s.field (revalued s.field what) s.there refl
-    ∙ ap (changed (path_of plain.cap plain.fields) slot) joined ∙ ap (λ p. changed p slot one) (sym read.path)
 
 -- a field for want of another
 abbrev no_field : Field
@@ -142,33 +58,102 @@ pub shown_setting : {old : Mutator} {object shape slot : ℕ} {held : Held} (sho
 shown_setting {old} {slot = slot} shown there fits =
     let plain = shown.plain in
     let known = plain_shown shown.shows shown.is in
-    let part : Field → PathField = λ f. record { name = f.name; rep = f.rep } in
     let path = ap (shape_path old.paths) (sym (shape_there there known.has known.stands)) ∙ known.shows.path in
-    let few = ap (λ (p : Path). length p.fields) path ∙ length-map plain.fields part in
+    let few = path_long plain.fields path in
     let below : slot < length plain.fields = omega (arith, there.below, few) in
     setting shown.shows shown.is shown.is_held fits
     (ap (option_map (λ (field : Field). field.name)) (slice_get-get_or plain.fields slot no_field below))
 
--- the slot's setting reads so
-pub setting_read : {old : Mutator} {graph : Graph} {object slot : ℕ} {plain : PlainObject} {what : Value}
-    {name shape : ℕ}
-    {held : Held} {sets : SlotSetting} (s : Setting old graph object slot plain what name)
-    → HasField (heap_of old) object shape slot → IsSlotSetting (heap_of old) object shape slot held sets
-    → IsReadOf s shape sets.place (nat_lt slot (shape_path old.paths shape).cap) sets.was
-setting_read {old} {slot = slot} {shape = shape} {sets = sets} s there is =
-    let path : Path = shape_path old.paths shape in
-    let known = mapped (λ (field : PathField). field.rep) (slice_get path.fields slot) sets.was is.was in
-    subst (IsReadOf s shape sets.place (nat_lt slot path.cap)) known.is
-    (is_read old.paths shape path.cap sets.place (nat_lt slot path.cap) known.x s there refl refl is.place refl
-    known.there)
+module _ {old : Mutator} {graph : Graph} {object slot : ℕ} {plain : PlainObject} {what : Value} {name : ℕ}
+    (s : Setting old graph object slot plain what name) where
+  -- this is read off the shapes
+  pub is_read : (tree : List Path) (shape cap : ℕ) (place : Place) (own : Bool) (known : PathField)
+      → HasField (heap_of old) object shape slot → tree ≡ old.paths → cap ≡ (shape_path tree shape).cap
+      → IsPlaceOf (heap_of old) object cap slot place → own ≡ nat_lt slot cap
+      → slice_get (shape_path tree shape).fields slot ≡ Some known → IsReadOf s shape place own known.rep
+  is_read tree shape cap place own known there same caps is in_object field =
+      let of_shape = shape_there there s.has s.stands in
+      let path : shape_path old.paths shape ≡ path_of s.cell.layout.cap plain.fields =
+      ap (shape_path old.paths) (sym of_shape) ∙ s.shown.path in
+      let tree_path = ap (λ paths. shape_path paths shape) same ∙ path in
+      let same_cap : cap ≡ s.cell.layout.cap = caps ∙ ap (λ (p : Path). p.cap) tree_path in
+      let at_cell = subst (λ a. IsPlaceOf (heap_of old) a cap slot place) (sym s.stands) is in
+      let of_path : PathField = record { name = s.field.name; rep = s.field.rep } in
+      let one : known ≡ of_path =
+      same_Some known of_path (sym field ∙ ap (λ (p : Path). slice_get p.fields slot) tree_path
+      ∙ path_field s.cell.layout.cap plain.fields slot s.field s.there) in
+      record {
+        at_place = subst (λ n. IsPlaceOf (heap_of old) s.cell.at n slot place) same_cap at_cell;
+        in_object = in_object ∙ ap (nat_lt slot) same_cap;
+        known = ap (λ (f : PathField). f.rep) one;
+        path = path ∙ ap (λ n. path_of n plain.fields) s.cap;
+      }
 
--- and so the slot comes to hold the value
-pub setting_fills : {old : Mutator} {graph : Graph} {object slot : ℕ} {plain : PlainObject} {what : Value}
-    {name shape : ℕ}
-    {held : Held} {sets : SlotSetting} (s : Setting old graph object slot plain what name)
-    → HasField (heap_of old) object shape slot → IsSlotSetting (heap_of old) object shape slot held sets
-    → ShowsHeld (heap_of old) held (Some what)
-    → FillsAt s (place_at s.cell.at sets.place) (get_or s.shown.slots slot 0) sets.content
-setting_fills {old} {slot = slot} {shape = shape} {held} {sets} s there is shows =
-    fills_at sets.place (nat_lt slot (shape_path old.paths shape).cap) sets.was sets.rep held sets.content s
-    (setting_read s there is) shows is.joins is.content
+  -- there is a slot for the field
+  slot_is_there : slot < length s.shown.slots
+  slot_is_there =
+      let held = slots_held s.shows.shows.whole s.has s.shown in
+      omega (arith, held.room, slot_is_field s)
+
+  -- what the slot comes to hold for the value that is held, and what it held
+  pub fills_at : {shape : ℕ} (place : Place) (own : Bool) (was one : Rep) (held : Held) (content : SlotContent)
+      → IsReadOf s shape place own was → ShowsHeld (heap_of old) held (Some what) → one ≡ join was (held_rep held)
+      → content ≡ content_of own one held → FillsAt s (place_at s.cell.at place) (get_or s.shown.slots slot 0) content
+  fills_at place own was one held content read shows joins is =
+      let heap = heap_of old in
+      let below = slot_is_there in
+      let there = slice_get-get_or s.shown.slots slot 0 below in
+      let numbered = place_numbered slot place s.has s.shown.of_kind s.shown.has below read.at_place in
+      let joined : join s.field.rep (rep_of what) ≡ one =
+      ap (λ r. join r (rep_of what)) (sym read.known) ∙ ap (join was) (sym (held_rep_is held what shows)) ∙ sym joins in
+      let holds : HoldsValue heap own s.field.rep one what (content_of own one held) =
+      value_held own s.field.rep one held what shows joined in
+      let holds_it = subst (HoldsValue heap own s.field.rep one what) (sym is) holds in
+      let own_holds = subst (λ o. HoldsValue heap o s.field.rep one what content) read.in_object holds_it in
+      record {
+        numbered = numbered;
+        holds = there;
+        reads = ap (λ found. unwrap_or found 0)
+            (numbered_stands slot (place_at s.cell.at place) s.has s.shown.of_kind s.shown.has numbered ∙ there);
+        comes = subst (λ r. HoldsValue heap (nat_lt slot s.cell.layout.cap) s.field.rep r what content) (sym joined)
+            own_holds;
+      }
+
+  -- where it comes to refer to a box it held a slot word
+  pub held_there : {word : ℕ} {content : SlotContent} (place : Place)
+      → FillsAt s (place_at s.cell.at place) word content
+      → HoldsSlotWord (heap_of old) (word_at (heap_of old) (place_at object place)) content
+  held_there {word = word} {content} place fills =
+      let slot_word = held_slot_word word fills.comes (was_field_word s fills) in
+      subst (λ a. HoldsSlotWord (heap_of old) (word_at (heap_of old) (place_at a place)) content) s.stands
+      (subst (λ w. HoldsSlotWord (heap_of old) w content) (sym fills.reads) slot_word)
+
+  -- the path with the wider representation is that of the fields with the one set
+  pub wider_path : {shape : ℕ} {place : Place} {own : Bool} (was one : Rep) (held : Held)
+      → IsReadOf s shape place own was → ShowsHeld (heap_of old) held (Some what) → one ≡ join was (held_rep held)
+      → path_of plain.cap (set plain.fields slot (revalued s.field what))
+      ≡ changed (shape_path old.paths shape) slot one
+  wider_path was one held read shows joins =
+      let joined : join s.field.rep (rep_of what) ≡ one =
+      ap (λ r. join r (rep_of what)) (sym read.known) ∙ ap (join was) (sym (held_rep_is held what shows)) ∙ sym joins in
+      path_changed plain.cap plain.fields slot s.field (revalued s.field what) s.there refl
+      ∙ ap (changed (path_of plain.cap plain.fields) slot) joined ∙ ap (λ p. changed p slot one) (sym read.path)
+
+  -- the slot's setting reads so
+  pub setting_read : {shape : ℕ} {held : Held} {sets : SlotSetting} → HasField (heap_of old) object shape slot
+      → IsSlotSetting (heap_of old) object shape slot held sets
+      → IsReadOf s shape sets.place (nat_lt slot (shape_path old.paths shape).cap) sets.was
+  setting_read {shape = shape} {sets = sets} there is =
+      let path : Path = shape_path old.paths shape in
+      let known = mapped (λ (field : PathField). field.rep) (slice_get path.fields slot) sets.was is.was in
+      subst (IsReadOf s shape sets.place (nat_lt slot path.cap)) known.is
+      (is_read old.paths shape path.cap sets.place (nat_lt slot path.cap) known.x there refl refl is.place refl
+      known.there)
+
+  -- and so the slot comes to hold the value
+  pub setting_fills : {shape : ℕ} {held : Held} {sets : SlotSetting} → HasField (heap_of old) object shape slot
+      → IsSlotSetting (heap_of old) object shape slot held sets → ShowsHeld (heap_of old) held (Some what)
+      → FillsAt s (place_at s.cell.at sets.place) (get_or s.shown.slots slot 0) sets.content
+  setting_fills {shape = shape} {held} {sets} there is shows =
+      fills_at sets.place (nat_lt slot (shape_path old.paths shape).cap) sets.was sets.rep held sets.content
+      (setting_read there is) shows is.joins is.content

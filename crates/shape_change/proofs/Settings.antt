@@ -96,45 +96,38 @@ setting {old} {graph} {object} {slot} {plain} {known} {what} {name} shows is hol
       named = found.is;
     }
 
--- the name is there, so there are not too many fields
-pub name_is_there : {old : Mutator} {graph : Graph} {object slot : ℕ} {plain : PlainObject} {what : Value} {name : ℕ}
-    → Setting old graph object slot plain what name → LacksFields plain name → ⊥
-name_is_there {slot = slot} {plain} {name = name} s lacks =
-    let value : field_value plain.fields name ≡ Some s.field.value =
-    value_found plain.fields slot s.field name (names_distinct s.shows s.is) s.there s.named in
-    none-some s.field.value (sym lacks.fresh ∙ value)
+module _ {old : Mutator} {graph : Graph} {object slot : ℕ} {plain : PlainObject} {what : Value} {name : ℕ}
+    (s : Setting old graph object slot plain what name) where
+  -- the name is there, so there are not too many fields
+  pub name_is_there : LacksFields plain name → ⊥
+  name_is_there lacks =
+      let value : field_value plain.fields name ≡ Some s.field.value =
+      value_found plain.fields slot s.field name (names_distinct s.shows s.is) s.there s.named in
+      none-some s.field.value (sym lacks.fresh ∙ value)
 
--- the fields are those with the one in its place
-pub fields_are : {old : Mutator} {graph : Graph} {object slot : ℕ} {plain : PlainObject} {what : Value} {name : ℕ}
-    (s : Setting old graph object slot plain what name)
-    → with_field plain.fields name what ≡ set plain.fields slot (revalued s.field what)
-fields_are {slot = slot} {plain} {what} {name} s =
-    with_field_found plain.fields slot s.field name what (names_distinct s.shows s.is) s.there s.named
+  -- the fields are those with the one in its place
+  pub fields_are : with_field plain.fields name what ≡ set plain.fields slot (revalued s.field what)
+  fields_are = with_field_found plain.fields slot s.field name what (names_distinct s.shows s.is) s.there s.named
 
--- they are fields that the object may have
-pub fields_are_new : {old : Mutator} {graph : Graph} {object slot : ℕ} {plain : PlainObject} {what : Value} {name : ℕ}
-    → Setting old graph object slot plain what name → AreNewFields graph (with_field plain.fields name what)
-fields_are_new {graph = graph} {plain = plain} {what} {name} s =
-    written_fields_are_new graph plain name what s.shows.is_graph s.is.object s.is.reached
-    (λ lacks. name_is_there s lacks)
-    s.value s.value_reached
+  -- they are fields that the object may have
+  pub fields_are_new : AreNewFields graph (with_field plain.fields name what)
+  fields_are_new =
+      written_fields_are_new graph plain name what s.shows.is_graph s.is.object s.is.reached name_is_there s.value
+      s.value_reached
 
--- there are as many fields as slots, and more
-pub slot_is_field : {old : Mutator} {graph : Graph} {object slot : ℕ} {plain : PlainObject} {what : Value} {name : ℕ}
-    → Setting old graph object slot plain what name → slot < length plain.fields
-slot_is_field {slot = slot} {plain} s = slice_get_within plain.fields slot s.field s.there
+  -- there are as many fields as slots, and more
+  pub slot_is_field : slot < length plain.fields
+  slot_is_field = slice_get_within plain.fields slot s.field s.there
 
--- the path of the object was there, so nothing is added for it
-pub path_is_there : {old : Mutator} {graph : Graph} {object slot : ℕ} {plain : PlainObject} {what : Value} {name : ℕ}
-    → Setting old graph object slot plain what name
-    → with_path (Some paths_most) old.paths (path_of plain.cap plain.fields) ≡ Some old.paths
-path_is_there {old} {graph} {plain = plain} s =
-    let path : Path = path_of plain.cap plain.fields in
-    let same : old.paths ≡ graph.paths = s.shows.shows.paths in
-    let its = All-slice_get (HasItsPath graph.paths) graph.objects plain.number (Plain plain.cap plain.fields)
-    s.shows.is_graph.shaped s.is.object in
-    let shapes = s.shows.shows.whole.sized.shapes in
-    let none = missing-there old.paths path shapes.are (subst (λ paths. Contains paths path) (sym same) its) in
-    let few = shapes.few in
-    with_path-added old.paths old.paths path (sym (append-nil old.paths) ∙ ap (λ more. old.paths ++ more) (sym none))
-    (omega (arith, few, ap (λ (more : List Path). length more) none))
+  -- the path of the object was there, so nothing is added for it
+  pub path_is_there : with_path (Some paths_most) old.paths (path_of plain.cap plain.fields) ≡ Some old.paths
+  path_is_there =
+      let path : Path = path_of plain.cap plain.fields in
+      let same : old.paths ≡ graph.paths = s.shows.shows.paths in
+      let its = All-slice_get (HasItsPath graph.paths) graph.objects plain.number (Plain plain.cap plain.fields)
+      s.shows.is_graph.shaped s.is.object in
+      let shapes = s.shows.shows.whole.sized.shapes in
+      let none = missing-there old.paths path shapes.are (subst (λ paths. Contains paths path) (sym same) its) in
+      let few = shapes.few in
+      with_path-added old.paths old.paths path (sym (append-nil old.paths) ∙ ap (λ more. old.paths ++ more) (sym none))
+      (omega (arith, few, ap (λ (more : List Path). length more) none))

@@ -1,6 +1,6 @@
 -- The addresses at which the slots of a plain object stand: those in the object, and those in its store.
-use Rattle.std.proofs.Common.{◌≡◌, ◌≢◌, ℕ, ◌+◌, ◌-◌, ◌<◌, ◌≤◌, ◌⊎◌, inl, inr, true, false}
-use Rattle.std.proofs.Common.{List, length, drop, Contains, slice_get, get_or, nat_lt, cond, refl, sym, ◌∙◌, ap, arith}
+use Rattle.std.proofs.Common.{◌≡◌, ◌≢◌, ℕ, ◌+◌, ◌-◌, ◌<◌, ◌≤◌, ◌⊎◌, inl, inr}
+use Rattle.std.proofs.Common.{List, length, drop, Contains, slice_get, get_or, refl, sym, ◌∙◌, ap, arith}
 use Rattle.std.proofs.lemmas.Bool.{cases_lt}
 use Rattle.std.proofs.lemmas.Bool.Decides.{nat_tests}
 use Rattle.std.proofs.lemmas.Option.{slice_get-get_or}
@@ -25,16 +25,12 @@ use Rattle.object_cells.proofs.StoreCells.{cells_beside, store_is_other, slots_c
 -- a slot below the cap stands in the object
 pub slot_at-own : (object cap store slot : ℕ) → slot < cap
     → slot_at object cap store slot ≡ object + (plain_head + slot)
-slot_at-own object cap store slot below =
-    let test : nat_lt slot cap ≡ true = grind (arith, nat_tests) in
-    ap (λ t. cond t (object + (plain_head + slot)) (store + (store_head + (slot - cap)))) test
+slot_at-own object cap store slot below = grind (arith, nat_tests)
 
 -- and one from the cap on in the store
 pub slot_at-beside : (object cap store slot : ℕ) → cap ≤ slot
     → slot_at object cap store slot ≡ store + (store_head + (slot - cap))
-slot_at-beside object cap store slot behind =
-    let test : nat_lt slot cap ≡ false = grind (arith, nat_tests) in
-    ap (λ t. cond t (object + (plain_head + slot)) (store + (store_head + (slot - cap)))) test
+slot_at-beside object cap store slot behind = grind (arith, nat_tests)
 
 -- where so many slots stand: before the roots, those in the object and those in its store apart
 pub record SlotsStand (heap : Heap) (object cap store count : ℕ) : Type 0 where
@@ -68,31 +64,7 @@ slots_stand whole has plain are =
 pub slots_are_apart : (heap : Heap) (object cap store count one other : ℕ) → SlotsStand heap object cap store count
     → one < count → other < count → slot_at object cap store one ≡ slot_at object cap store other → one ≡ other
 slots_are_apart heap object cap store count one other stand below below_too same =
-    elim (cases_lt one cap) [
-      | inl own ↦ elim (cases_lt other cap) [
-        | inl own_too ↦
-            omega (arith, slot_at-own object cap store one own, slot_at-own object cap store other own_too, same)
-        | inr beside ↦
-            let at = slot_at-own object cap store one own in
-            let at_too = slot_at-beside object cap store other beside in
-            elim (stand.apart (omega arith)) [
-              | inl before ↦ absurd (omega (arith, at, at_too, same, before))
-              | inr behind ↦ absurd (omega (arith, at, at_too, same, behind))
-            ]
-      ]
-      | inr beside ↦ elim (cases_lt other cap) [
-        | inl own_too ↦
-            let at = slot_at-beside object cap store one beside in
-            let at_too = slot_at-own object cap store other own_too in
-            elim (stand.apart (omega arith)) [
-              | inl before ↦ absurd (omega (arith, at, at_too, same, before))
-              | inr behind ↦ absurd (omega (arith, at, at_too, same, behind))
-            ]
-        | inr beside_too ↦
-            let at_too = slot_at-beside object cap store other beside_too in
-            omega (arith, slot_at-beside object cap store one beside, at_too, same)
-      ]
-    ]
+    grind (arith, nat_tests, stand.apart)
 
 -- the words before the slots of the store are none of the object's cell, and none of its slots
 pub record IsApart (heap : Heap) (cell : Cell) (store count at : ℕ) : Type 0 where
@@ -114,19 +86,8 @@ head_is_apart {heap} {cell} {other} {words} {slots} k whole has plain are is hea
     let room = is.size in
     let between = cells_beside whole.rows has is.refers.has (store_is_other is plain) in
     record {
-      object = λ same. elim between [
-        | inl before ↦ omega (arith, before, long, size, same)
-        | inr behind ↦ omega (arith, behind, room, head, same)
-      ];
-      slots = λ one below same. elim (cases_lt one cap) [
-        | inl in_object ↦
-            let stands = slot_at-own cell.at cap store one in_object in
-            elim between [
-              | inl before ↦ omega (arith, before, long, size, same, stands, in_object)
-              | inr behind ↦ omega (arith, behind, room, head, same, stands, in_object)
-            ]
-        | inr from ↦ omega (arith, slot_at-beside cell.at cap store one from, same, at, head)
-      ];
+      object = λ same. grind (arith, between, long, size, room);
+      slots = λ one below same. grind (arith, nat_tests, between, long, size, room, at);
       below = omega (arith, cell_below_roots (used_few whole.rows) is.refers.has, room, head);
     }
 

@@ -1,7 +1,6 @@
 -- Slots of a plain object that moved down by one, in the object and in its store.
-use Rattle.std.proofs.Common.{◌≡◌, ◌≢◌, ℕ, suc, ◌+◌, ◌-◌}
-use Rattle.std.proofs.Common.{◌<◌, ◌≤◌, ◌⊎◌, inl, inr, slice_get}
-use Rattle.std.proofs.Common.{Some, length, sym, ◌∙◌, ap, arith, length-set}
+use Rattle.std.proofs.Common.{◌≡◌, ◌≢◌, ℕ, suc, ◌+◌, ◌-◌, ◌<◌, ◌≤◌, ◌⊎◌, inl, inr, slice_get, Some, length, sym, ◌∙◌}
+use Rattle.std.proofs.Common.{ap, subst, arith, length-set}
 use Rattle.std.specs.Prelude.{slice_set}
 use Rattle.std.proofs.lemmas.Bool.{cases_lt}
 use Rattle.tagged_word.specs.Cells.{plain_head, store_head}
@@ -12,7 +11,7 @@ use Rattle.heap_table.specs.Staying.{rest_stays_itself, rest_stays_again}
 use Rattle.heap_model.specs.Slots.{hole_word}
 use Rattle.write_barrier.specs.MutatorState.{Mutator, with_word}
 use Rattle.object_cells.proofs.RestOfWords.{put_rest}
-use Rattle.shape_change.specs.Shifts.{KeepsRest, MovesDown, ClosesGap, ClosesSlots, slot_at}
+use Rattle.shape_change.specs.Shifts.{KeepsRest, KeepsBeside, MovesDown, ClosesGap, ClosesSlots, slot_at}
 use Rattle.shape_change.proofs.SlotAddresses.{slot_at-own, slot_at-beside}
 
 -- one word was put
@@ -34,49 +33,55 @@ rest_then old mid new before then = record {
   count = then.count ∙ before.count;
 }
 
--- one more slot has moved once the word of the next is put in it
-pub moved_more : {old mid new : Mutator} (from to word : ℕ) → from ≤ to → MovesDown old mid from to
-    → new ≡ with_word mid to word → heap_words new.seat ≡ slice_set (heap_words mid.seat) to word
-    → slice_get (heap_words mid.seat) (to + 1) ≡ Some word → to < marks_start mid.seat.space
-    → to < length (heap_words mid.seat) → MovesDown old new from (to + 1)
-moved_more {old} {mid} {new} from to word ordered moves is heap read below within =
-    let words = heap_words mid.seat in
-    let other : (a : ℕ) → a ≢ to → slice_get (heap_words new.seat) a ≡ slice_get words a = λ a apart.
-    ap (λ all. slice_get all a) heap ∙ slice_get-set_other words to a word apart in
-    record {
-      rest = rest_then old mid new moves.rest (rest_put mid new to word is heap below);
-      moved = λ a low high. elim (cases_lt a to) [
-        | inl before ↦ other a (λ same. omega (arith, same, before)) ∙ moves.moved a low before
-        | inr from_it ↦
-            let same : a ≡ to = omega (arith, high, from_it) in
-            ap (slice_get (heap_words new.seat)) same
-            ∙ ap (λ all. slice_get all to) heap ∙ slice_get-set_same words to word within ∙ sym read
-            ∙ moves.beside (to + 1) (inr (omega arith))
-            ∙ ap (λ n. slice_get (heap_words old.seat) (n + 1)) (sym same)
-      ];
-      beside = λ a out. elim out [
-        | inl before ↦ other a (λ same. omega (arith, same, before, ordered)) ∙ moves.beside a (inl before)
-        | inr behind ↦ other a (λ same. omega (arith, same, behind)) ∙ moves.beside a (inr (omega (arith, behind)))
-      ];
-    }
+module _ {old mid new : Mutator} {from to : ℕ} (word : ℕ) (moves : MovesDown old mid from to)
+    (is : new ≡ with_word mid to word) (heap : heap_words new.seat ≡ slice_set (heap_words mid.seat) to word)
+    (ordered : from ≤ to) (below : to < marks_start old.seat.space) (within : to < length (heap_words old.seat)) where
+  -- only words have changed
+  rest_there : KeepsRest old new
+  rest_there =
+      rest_then old mid new moves.rest
+      (rest_put mid new to word is heap (omega (arith, below, ap marks_start moves.rest.beside.space)))
 
--- the gap is closed once a word is put in the last slot
-pub gap_closed : {old mid new : Mutator} (from last word : ℕ) → from ≤ last → MovesDown old mid from last
-    → new ≡ with_word mid last word → heap_words new.seat ≡ slice_set (heap_words mid.seat) last word
-    → last < marks_start mid.seat.space → last < length (heap_words mid.seat) → ClosesGap old new from last word
-gap_closed {old} {mid} {new} from last word ordered moves is heap below within =
-    let words = heap_words mid.seat in
-    let other : (a : ℕ) → a ≢ last → slice_get (heap_words new.seat) a ≡ slice_get words a = λ a apart.
-    ap (λ all. slice_get all a) heap ∙ slice_get-set_other words last a word apart in
-    record {
-      rest = rest_then old mid new moves.rest (rest_put mid new last word is heap below);
-      moved = λ a low high. other a (λ same. omega (arith, same, high)) ∙ moves.moved a low high;
-      filled = ap (λ all. slice_get all last) heap ∙ slice_get-set_same words last word within;
-      beside = λ a out. elim out [
-        | inl before ↦ other a (λ same. omega (arith, same, before, ordered)) ∙ moves.beside a (inl before)
-        | inr behind ↦ other a (λ same. omega (arith, same, behind)) ∙ moves.beside a (inr (omega (arith, behind)))
-      ];
-    }
+  -- each other word stays
+  other : (a : ℕ) → a ≢ to → slice_get (heap_words new.seat) a ≡ slice_get (heap_words mid.seat) a
+  other a apart = ap (λ all. slice_get all a) heap ∙ slice_get-set_other (heap_words mid.seat) to a word apart
+
+  -- and this one stands there
+  put_there : slice_get (heap_words new.seat) to ≡ Some word
+  put_there =
+      ap (λ all. slice_get all to) heap
+      ∙ slice_get-set_same (heap_words mid.seat) to word (omega (arith, within, moves.rest.count))
+
+  -- so the words beside are as they were
+  beside_stay : KeepsBeside old new from (to + 1)
+  beside_stay a out = elim out [
+    | inl before ↦ other a (λ same. omega (arith, same, before, ordered)) ∙ moves.beside a (inl before)
+    | inr behind ↦ other a (λ same. omega (arith, same, behind)) ∙ moves.beside a (inr (omega (arith, behind)))
+  ]
+
+  -- the gap is closed
+  pub gap_closed : ClosesGap old new from to word
+  gap_closed = record {
+    rest = rest_there;
+    moved = λ a low high. other a (λ same. omega (arith, same, high)) ∙ moves.moved a low high;
+    filled = put_there;
+    beside = beside_stay;
+  }
+
+  -- and one word more has moved, where it is the next
+  pub moved_more : {next : ℕ} → slice_get (heap_words mid.seat) next ≡ Some word → next ≡ to + 1
+      → MovesDown old new from next
+  moved_more {next} read behind = subst (MovesDown old new from) (sym behind) (record {
+    rest = rest_there;
+    moved = λ a low high. elim (cases_lt a to) [
+      | inl before ↦ gap_closed.moved a low before
+      | inr from_it ↦
+          let same : a ≡ to = omega (arith, high, from_it) in
+          ap (slice_get (heap_words new.seat)) same ∙ put_there ∙ sym read ∙ moves.beside next (inr (omega arith))
+          ∙ ap (slice_get (heap_words old.seat)) (behind ∙ ap (λ n. n + 1) (sym same))
+    ];
+    beside = beside_stay;
+  })
 
 -- what is none of so many addresses is before or behind them
 outside : (at base first last : ℕ) → ((k : ℕ) → first ≤ k → k ≤ last → base + k ≢ at)
@@ -152,16 +157,14 @@ RangesDisjoint object cap store last =
 own_is_not_beside : (object cap store last one : ℕ) → RangesDisjoint object cap store last → one < cap
     → (object + (plain_head + one) < store + (store_head + 0))
     ⊎ (store + (store_head + (last - cap)) + 1 ≤ object + (plain_head + one))
-own_is_not_beside object cap store last one (inl before) own = inl (omega arith)
-own_is_not_beside object cap store last one (inr behind) own = inr (omega arith)
+own_is_not_beside object cap store last one apart own = grind (arith, apart)
 
 -- and a slot of the store none of the object
 beside_is_not_own : (object cap store last slot one : ℕ) → RangesDisjoint object cap store last → 0 < cap
     → one ≤ last - cap
     → (store + (store_head + one) < object + (plain_head + slot))
     ⊎ (object + (plain_head + (cap - 1)) + 1 ≤ store + (store_head + one))
-beside_is_not_own object cap store last slot one (inl before) some few = inr (omega arith)
-beside_is_not_own object cap store last slot one (inr behind) some few = inl (omega arith)
+beside_is_not_own object cap store last slot one apart some few = grind (arith, apart)
 
 -- Where some stand in the object and some in the store, both gaps are closed, and the first of the store comes into the
 -- object as this word.

@@ -5,6 +5,5 @@ mod FirstHeaps
 mod Changes
 mod PutLayouts
 mod Starting
-mod Ranges
 mod ClassValues
 pub mod ShownHeld

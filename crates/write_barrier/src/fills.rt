@@ -22,12 +22,7 @@ impl Main {
         ensures heap { let words = heap_words self.old.seat in
             heap_words self.new.seat ≡ with_range words at (replicate count hole_word) }
     {
-        // The table has a word for each address.
-        self.addresses_fit();
-        let hole = Word::odd(odd::HOLE).0;
-        for i in 0..count {
-            self.write_slot(at, i, hole);
-        }
+        self.seat.fill(at, count, Word::odd(odd::HOLE).0);
     }
 
     /// Copies so many words to another address, as the slots of a store that goes to those of one
@@ -42,11 +37,6 @@ impl Main {
         ensures heap { let words = heap_words self.old.seat in
             heap_words self.new.seat ≡ copied words from to count }
     {
-        // The table has a word for each address.
-        self.addresses_fit();
-        for i in 0..count {
-            let word = self.slot(from, i);
-            self.write_slot(to, i, word);
-        }
+        self.seat.copy(from, to, count);
     }
 }

@@ -1,15 +1,30 @@
-use Rattle.std.proofs.Common.{sym, ◌∙◌}
-use Rattle.std.proofs.lemmas.Bool.{false≢true}
-use Rattle.tagged_word.specs.Cells.{tagged_offsets}
-use Rattle.cell_layout.proofs.NextSlots.{one_more_passed, none_of_cell}
+use Rattle.std.proofs.Common.{◌+◌, ◌-◌, sym, subst, arith}
+use Rattle.tagged_word.specs.Cells.{plain_head}
+use Rattle.cell_layout.proofs.PlainSlots.{IsRawRun, raw_run, none_are_raw}
+use Rattle.cell_layout.proofs.PlainSlots.{first_is_store, first_of_plain, none_of_plain}
 use Rattle.cell_layout.proofs.slots.next_of_plain.Goals as goal
 
-pub loop-offset-preserved : goal.loop-offset-preserved
-loop-offset-preserved c =
-    one_more_passed (tagged_offsets c.args.cell.now.layout c.args.cell.now.length) c.args.from c.loop-offset.offset
-    c.loop-offset.invariant (λ has. false≢true (sym c.if-is_tagged.false ∙ c.is_tagged.ensures.1 has))
+pub returns-then-from-le-STORE_SLOT : goal.returns-then-from-le-STORE_SLOT
+returns-then-from-le-STORE_SLOT c = first_is_store c.args.layout c.args.from c.if-from-le-STORE_SLOT.true
 
-pub returns : goal.returns
-returns c =
-    none_of_cell c.args.cell.now c.args.from c.loop-offset.offset c.requires.sized c.loop-offset-test.false
-    c.loop-offset.invariant
+pub returns-then-slot-layout : goal.returns-then-slot-layout
+returns-then-slot-layout c =
+    let slot = c.args.from - plain_head in
+    none_of_plain c.args.layout c.args.from slot (omega arith) (none_are_raw c.args.layout slot slot (omega arith))
+    c.if-slot-layout.true
+
+pub returns-then-next-layout : goal.returns-then-next-layout
+returns-then-next-layout c =
+    let slot = c.args.from - plain_head in
+    let many = c.trailing_ones.result in
+    let run : IsRawRun c.args.layout slot many =
+    subst (IsRawRun c.args.layout slot) (sym c.trailing_ones.ensures) (raw_run c.args.layout slot c.requires.has) in
+    first_of_plain c.args.layout c.args.from many (slot + many) (omega arith) run (omega arith) c.if-next-layout.true
+
+pub returns-else-next-layout : goal.returns-else-next-layout
+returns-else-next-layout c =
+    let slot = c.args.from - plain_head in
+    let many = c.trailing_ones.result in
+    let run : IsRawRun c.args.layout slot many =
+    subst (IsRawRun c.args.layout slot) (sym c.trailing_ones.ensures) (raw_run c.args.layout slot c.requires.has) in
+    none_of_plain c.args.layout c.args.from (slot + many) (omega arith) run.all c.if-next-layout.false

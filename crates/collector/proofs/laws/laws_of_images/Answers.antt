@@ -1,5 +1,6 @@
 use Rattle.collector.proofs.ImagesShow.{images_show, images_are_blank}
 use Rattle.collector.proofs.ImageStores.{images_keep_stores, images_have_rooms}
+use Rattle.collector.proofs.ImagesTight.{images_are_tight}
 use Rattle.collector.proofs.laws.laws_of_images.Goals as goal
 
 pub returns : goal.returns
@@ -8,4 +9,5 @@ returns c = record {
   blank = images_are_blank;
   stores = images_keep_stores;
   rooms = images_have_rooms;
+  tight = images_are_tight;
 }

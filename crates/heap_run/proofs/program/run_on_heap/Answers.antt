@@ -5,6 +5,7 @@ use Rattle.heap_model.specs.Images.{image_heap}
 use Rattle.write_barrier.specs.MutatorState.{heap_of}
 use Rattle.collector.proofs.ImagesShow.{images_show, images_are_blank}
 use Rattle.collector.proofs.ImageStores.{images_keep_stores, images_have_rooms}
+use Rattle.collector.proofs.ImagesTight.{images_are_tight}
 use Rattle.heap_run.proofs.Concluding.{IsKeepable, Runs-finished}
 use Rattle.heap_run.proofs.Imaged.{Laws, finishes_imaged}
 use Rattle.heap_run.proofs.program.run_on_heap.Goals as goal
@@ -19,7 +20,12 @@ returns g c = λ bytes is.
     let heap : Heap = heap_of c.run_script-finished.new.heap.main in
     let image = c.into_image.result in
     let imaged = c.into_image.ensures in
-    let laws : Laws = record { show = images_show; stores = images_keep_stores; rooms = images_have_rooms } in
+    let laws : Laws = record {
+      show = images_show;
+      stores = images_keep_stores;
+      rooms = images_have_rooms;
+      tight = images_are_tight;
+    } in
     let finishes = finishes_imaged finished _ _ _ _ laws imaged ran.finishes in
     let keepable : IsKeepable space.sizes script image = record {
       regions = imaged.space ∙ ran.space

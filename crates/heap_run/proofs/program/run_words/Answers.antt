@@ -5,8 +5,8 @@ use Rattle.heap_run.specs.Answers.{Comes, AsksToRun}
 use Rattle.heap_run.proofs.Answering.{Answers-unopened, Answers-runs, begins}
 use Rattle.heap_run.proofs.program.run_words.Goals as goal
 
-pub run_source-requires-clause-within : goal.run_source-requires-clause-within
-run_source-requires-clause-within g c κs within =
+pub run_source-requires-after_bounds : goal.run_source-requires-after_bounds
+run_source-requires-after_bounds g c κs within =
     let asks : AsksToRun (map string_bytes c.args.words.now) c.in-Ok-Run.sizes =
     c.in-Ok-Run.ensures.invocation ∙ ap Some c.in-Ok-Run.field-0-is in
     asked_sizes_are_within (map string_bytes c.args.words.now) c.in-Ok-Run.sizes 0 asks (omega arith)

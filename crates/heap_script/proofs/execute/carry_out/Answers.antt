@@ -86,8 +86,7 @@ returns-in_default-clause-carried c = λ graph shown made.
 pub returns-in_default-stop-clause-carried : goal.returns-in_default-stop-clause-carried
 returns-in_default-stop-clause-carried c = λ graph shown made.
     let now = c.tries.invariant in
-    let (text, tries, out-is) = c.in-Err.ensures.carried graph (ready_shows now.ready shown) (now.objects ∙ made) in
-    (
+    let (text, tries, out-is) = c.in-Err.ensures.carried graph (ready_shows now.ready shown) (now.objects ∙ made) in (
       text,
       carried_at now.ready shown made
           (λ need is. let same : c.in-Err.stop ≡ NoRoom need = cc in c.in_default-stop.not-NoRoom need same) tries,

@@ -12,10 +12,11 @@ use Rattle.scavenger.proofs.emptying.empty_segments.Goals as goal
 pub write-requires-clause-within : goal.write-requires-clause-within
 write-requires-clause-within c =
     let space = c.args.main.now.seat.space in
-    let Starts : Space → Type 0 = λ (one : Space). StartsAt one (Segment c.args.half c.loop-worker.worker) c.start.result in
+    let worker = c.loop-worker.worker in
+    let Starts : Space → Type 0 = λ (one : Space). StartsAt one (Segment c.args.half worker) c.start.result in
     let starts = subst Starts c.regions-regions.ensures.regions c.start.ensures.starts in
     subst (λ (one : Space). c.start.result < marks_start one) (sym c.loop-worker.invariant.changes.seat.space)
-    (segment_before_marks space c.args.half c.loop-worker.worker c.start.result c.regions-regions.ensures.within starts)
+    (segment_before_marks space c.args.half worker c.start.result c.regions-regions.ensures.within starts)
 
 pub loop-worker-preserved : goal.loop-worker-preserved
 loop-worker-preserved c =

@@ -46,7 +46,7 @@ slots-preserved c =
     let before = c.slots.invariant in
     let at : ℕ = c.args.cell.now.at in
     let next : (start : Mutator) (root : ℕ) → IsScanned start c.args.main.now c.args.cell.now at root c.args.filled
-        → IsScanned start c.follow-fill.new.main c.args.cell.now (at + (c.in-Some.offset + 1)) root c.follow-fill.result =
+    → IsScanned start c.follow-fill.new.main c.args.cell.now (at + (c.in-Some.offset + 1)) root c.follow-fill.result =
     λ start root scanned.
     slots_go_on c.slots.from (before.scanned start root scanned) refl c.follow-fill.new.main c.in-Some.offset
     (at + c.in-Some.offset) c.follow-fill.result c.in-Some.ensures refl c.follow-fill.ensures.follows

@@ -102,5 +102,6 @@ returns-clause-keeps c =
       shows = λ graph shown.
           (ends_are_scavenges c.args.main.now _ graph end.fixed end.homes end.words end.fill shown young end.ended).1;
       rooms = λ graph rooms shown.
-          (ends_are_scavenges c.args.main.now _ graph end.fixed end.homes end.words end.fill shown young end.ended).2 rooms;
+          (ends_are_scavenges c.args.main.now _ graph end.fixed end.homes end.words end.fill shown young end.ended).2
+          rooms;
     }

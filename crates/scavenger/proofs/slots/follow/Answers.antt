@@ -1,12 +1,10 @@
 -- A slot that is live in a scavenge is followed.
-use Rattle.std.proofs.Common.{◌≡◌, ◌<◌, ◌∙◌, sym, ap, subst, arith}
-use Rattle.std.proofs.lemmas.Option.{get_or_from_slice_get}
-use Rattle.tagged_word.specs.Readings.{reference_in}
+use Rattle.std.proofs.Common.{◌≡◌, ◌<◌, sym, subst, arith}
 use Rattle.page_space.specs.Extents.{Space, marks_start}
 use Rattle.heap_table.specs.Seats.{heap_words}
 use Rattle.scavenger.specs.Following.{IsLeft, Follows}
 use Rattle.scavenger.proofs.CodeChanges.{changes_again, put_changes}
-use Rattle.scavenger.proofs.LoopTargets.{refers_by, slot_before_marks, target_before_marks, has_target}
+use Rattle.scavenger.proofs.LoopTargets.{refers_by, refers_nowhere, slot_before_marks, target_before_marks, has_target}
 use Rattle.scavenger.proofs.LoopFollows.{passed, failed, may_move, follows_home, follows_copy, copy_before_marks}
 use Rattle.scavenger.proofs.slots.follow.Goals as goal
 
@@ -16,8 +14,7 @@ word-requires-clause-within c = slot_before_marks c.requires.may c.addresses_fit
 pub returns-in_default-clause-follows : goal.returns-in_default-clause-follows
 returns-in_default-clause-follows c =
     let words = heap_words c.args.main.now.seat in
-    let none = ap reference_in (get_or_from_slice_get words c.args.slot c.word.result 0 c.word.ensures.of_heap)
-    ∙ sym c.in_default.ensures in
+    let none = refers_nowhere words c.args.slot c.word.result c.word.ensures.of_heap c.in_default.ensures in
     Follows.stays (λ at refers left. cc)
 
 pub returns-then-not-are_left-clause-follows : goal.returns-then-not-are_left-clause-follows
@@ -32,8 +29,8 @@ returns-then-not-are_left-clause-follows c =
     let same : at ≡ c.in-Some.at = cc in
     not_left (subst (IsLeft main.seat.space main.young.half) same left))
 
-pub word-requires-2-clause-within : goal.word-requires-2-clause-within
-word-requires-2-clause-within c =
+pub word-word-requires-clause-within : goal.word-word-requires-clause-within
+word-word-requires-clause-within c =
     let main = c.args.main.now in
     let refers = refers_by (heap_words main.seat) c.args.slot c.word.result c.in-Some.at c.word.ensures.of_heap
     c.in-Some.ensures in
@@ -54,8 +51,8 @@ returns-in-Some-address-clause-follows c =
     let left : IsLeft main.seat.space main.young.half c.in-Some.at =
     passed c.are_left.result c.if-not-are_left.false
     (c.are_left.ensures main.seat.space main.young.half c.requires.spaces) in
-    let to = refers_by (heap_words main.seat) c.in-Some.at c.word-2.result c.in-Some-address.home
-    c.word-2.ensures.of_heap c.in-Some-address.ensures in
+    let to = refers_by (heap_words main.seat) c.in-Some.at c.word-word.result c.in-Some-address.home
+    c.word-word.ensures.of_heap c.in-Some-address.ensures in
     follows_home c.requires.may c.in-Some.at refers left c.in-Some-address.home c.reference.result.0
     (heap_words c.write.new.self.seat) to c.reference.ensures c.write.ensures.heap
 
@@ -72,8 +69,8 @@ move_cell-size-requires-clause-may c =
     let left : IsLeft main.seat.space main.young.half c.in-Some.at =
     passed c.are_left.result c.if-not-are_left.false
     (c.are_left.ensures main.seat.space main.young.half c.requires.spaces) in
-    let none = ap reference_in (get_or_from_slice_get words c.in-Some.at c.word-2.result 0 c.word-2.ensures.of_heap)
-    ∙ sym c.in_default-address.ensures in
+    let none = refers_nowhere words c.in-Some.at c.word-word.result c.word-word.ensures.of_heap
+    c.in_default-address.ensures in
     may_move c.requires.may c.in-Some.at refers left none
 
 pub write-requires-2-clause-within : goal.write-requires-2-clause-within
@@ -89,8 +86,8 @@ overflow_add-result c =
     let left : IsLeft main.seat.space main.young.half c.in-Some.at =
     passed c.are_left.result c.if-not-are_left.false
     (c.are_left.ensures main.seat.space main.young.half c.requires.spaces) in
-    let none = ap reference_in (get_or_from_slice_get words c.in-Some.at c.word-2.result 0 c.word-2.ensures.of_heap)
-    ∙ sym c.in_default-address.ensures in
+    let none = refers_nowhere words c.in-Some.at c.word-word.result c.word-word.ensures.of_heap
+    c.in_default-address.ensures in
     let ends = copy_before_marks c.requires.may c.in-Some.at refers left c.move_cell-size.new.main
     c.move_cell-size.result none c.move_cell-size.ensures.moves in
     omega (arith, ends, c.addresses_fit.ensures.fit)
@@ -103,8 +100,8 @@ returns-clause-follows c =
     let left : IsLeft main.seat.space main.young.half c.in-Some.at =
     passed c.are_left.result c.if-not-are_left.false
     (c.are_left.ensures main.seat.space main.young.half c.requires.spaces) in
-    let none = ap reference_in (get_or_from_slice_get words c.in-Some.at c.word-2.result 0 c.word-2.ensures.of_heap)
-    ∙ sym c.in_default-address.ensures in
+    let none = refers_nowhere words c.in-Some.at c.word-word.result c.word-word.ensures.of_heap
+    c.in_default-address.ensures in
     follows_copy c.requires.may c.in-Some.at refers left c.move_cell-size.new.main c.write-2.new.self
     c.move_cell-size.result c.reference-2.result.0 none c.move_cell-size.ensures.moves c.reference-2.ensures
     c.write-2.ensures.heap

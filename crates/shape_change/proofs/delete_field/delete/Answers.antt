@@ -16,26 +16,23 @@ header-header-requires-clause-there c =
 pub find-requires : goal.find-requires
 find-requires c =
     subst (λ (paths : List Path). IsPathShape paths c.header-header.result.shape) (sym c.shapes.ensures)
-    (shown_shape c.args.main.now c.requires.graph c.args.object c.requires.plain c.header-header.result
-    c.requires.shows c.requires.is c.header-header.ensures.of_cell)
+    (shown_shape c.requires.shows c.requires.is c.header-header.ensures.of_cell)
 
 pub take_out-requires-clause-there : goal.take_out-requires-clause-there
 take_out-requires-clause-there c =
-    let found = found_there _ _ _ _ _ c.shapes.ensures c.in-Some.ensures.found in
-    (field_found c.args.main.now c.requires.graph c.args.object c.requires.plain c.header-header.result
-    c.in-Some.slot c.args.name c.requires.shows c.requires.is c.header-header.ensures.of_cell found).has
+    (field_found c.requires.shows c.requires.is c.header-header.ensures.of_cell c.in-Some.slot c.args.name
+    (found_there _ _ _ _ _ c.shapes.ensures c.in-Some.ensures.found)).has
 
 pub returns-in-Some : goal.returns-in-Some
 returns-in-Some c graph plain shows is =
-    let found = field_found c.args.main.now graph c.args.object plain c.header-header.result c.in-Some.slot
-    c.args.name shows is c.header-header.ensures.of_cell
-    (found_there _ _ _ _ _ c.shapes.ensures c.in-Some.ensures.found) in
-    field_deleted c.args.main.now c.take_out.new.main graph c.args.object plain c.header-header.result c.in-Some.slot
-    c.args.name c.take_out.result shows is c.header-header.ensures.of_cell found c.take_out.ensures
+    let header_at = c.header-header.ensures.of_cell in
+    field_deleted shows is header_at
+    (field_found shows is header_at c.in-Some.slot c.args.name
+    (found_there _ _ _ _ _ c.shapes.ensures c.in-Some.ensures.found))
+    c.take_out.new.main c.take_out.result c.take_out.ensures
 
 pub returns-in-None : goal.returns-in-None
 returns-in-None c graph plain shows is =
-    none_deleted c.args.main.now graph c.args.object plain c.header-header.result c.args.name shows is
-    c.header-header.ensures.of_cell
+    none_deleted c.args.name shows is c.header-header.ensures.of_cell
     (ap (λ (paths : List Path). has_name (shape_path paths c.header-header.result.shape) c.args.name)
     (sym c.shapes.ensures) ∙ c.in-None.ensures.none.0 refl)

@@ -12,8 +12,8 @@ pub returns-then-ne : goal.returns-then-ne
 returns-then-ne c graph plain what name shows is holds there =
     let fits : FitsHeld c.args.value = search rules in
     let s = setting shows is holds fits there in
-    widening_sets c.set_wider.new.main c.set_wider.result s c.addresses_fit.ensures.within c.requires.there
-    c.setting_of-setting.ensures holds.shows c.set_wider.ensures
+    widening_sets s c.addresses_fit.ensures.within c.requires.there c.setting_of-setting.ensures holds.shows
+    c.set_wider.new.main c.set_wider.result c.set_wider.ensures
 
 pub returns : goal.returns
 returns c graph plain what name shows is holds there =
@@ -31,5 +31,5 @@ returns-in_err-set_as_is c graph plain what name shows is holds there =
     let no_room = c.in_err-set_as_is.field-0.0 in
     refused_with (SetsField c.args.main.now c.set_as_is.new.main graph c.args.object plain name what)
     c.from_residual.result (stop.Full no_room) c.from_residual.ensures.1
-    (as_it_is_refused no_room s c.addresses_fit.ensures.within c.requires.there c.setting_of-setting.ensures
-    holds.shows stays c.in_err-set_as_is.ensures.refused c.in_err-set_as_is.ensures.unchanged)
+    (as_it_is_refused s c.addresses_fit.ensures.within c.requires.there c.setting_of-setting.ensures holds.shows
+    no_room stays c.in_err-set_as_is.ensures.refused c.in_err-set_as_is.ensures.unchanged)

@@ -26,12 +26,11 @@ returns c =
     let place = c.slot_place-place.result in
     let fits : FitsHeld c.args.value = search rules in
     let s = shown_setting c.requires.shown c.requires.there fits in
-    let read = is_read c.shapes-shapes.result.now c.args.shape c.cap.result place c.is_own.result c.field-was.result s
+    let read = is_read s c.shapes-shapes.result.now c.args.shape c.cap.result place c.is_own.result c.field-was.result
     c.requires.there c.shapes-shapes.ensures c.cap.ensures.cap c.slot_place-place.ensures.place
     (c.is_own.ensures ∙ c.slot_place-place.ensures.own) c.field-was.ensures in
     let joins = c.join-rep.ensures ∙ ap (join c.field-was.result.rep) c.rep_of.ensures in
-    let fills = fills_at place c.is_own.result c.field-was.result.rep c.join-rep.result c.args.value c.content_of.result
-    s read c.requires.shown.is_held.shows joins c.content_of.ensures in
+    let fills = fills_at s place c.is_own.result c.field-was.result.rep c.join-rep.result c.args.value c.content_of.result read c.requires.shown.is_held.shows joins c.content_of.ensures in
     let cap : c.cap.result ≡ (shape_path old.paths c.args.shape).cap =
     c.cap.ensures.cap ∙ ap (λ (paths : List Path). (shape_path paths c.args.shape).cap) c.shapes-shapes.ensures in
     let own = c.is_own.ensures ∙ c.slot_place-place.ensures.own ∙ ap (nat_lt c.args.slot) cap in
@@ -44,5 +43,5 @@ returns c =
           ∙ c.field-was.ensures);
       joins = joins;
       content = c.content_of.ensures ∙ ap (λ o. content_of o c.join-rep.result c.args.value) own;
-      held = held_there {word = get_or s.shown.slots c.args.slot 0} place s fills;
+      held = held_there s {word = get_or s.shown.slots c.args.slot 0} place fills;
     }

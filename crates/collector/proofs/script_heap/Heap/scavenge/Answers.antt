@@ -2,8 +2,8 @@ use Rattle.std.proofs.Common.{refl}
 use Rattle.collector.proofs.Keeping.{still_shows}
 use Rattle.collector.proofs.script_heap.Heap.scavenge.Goals as goal
 
-pub scavenge-requires-clause-shown : goal.scavenge-requires-clause-shown
-scavenge-requires-clause-shown c = let (graph, shown) = c.requires.shown in (graph, rw (← c.self.view_is) at shown.main)
+pub scavenge-requires : goal.scavenge-requires
+scavenge-requires c = let (graph, shown) = c.requires.shown in record { shown = (graph, rw (← c.self.view_is) at shown.main) }
 
 pub returns : goal.returns
 returns c =

@@ -33,5 +33,11 @@ overflow_add-result-3 c =
     let are = spaces_are space c.sizes-sizes.result c.args.half c.start-eden.result c.start-left.result
     c.start-room.result c.sizes-sizes.ensures c.requires c.start-eden.ensures.starts c.start-left.ensures.starts
     c.start-room.ensures.starts in
-    omega (arith, words_count_most space c.count-words_count.ensures.within, are.left_end,
-    half_before_marks space c.args.half c.requires, kinds.board, kinds.count)
+    omega (
+      arith,
+      words_count_most space c.count-words_count.ensures.within,
+      are.left_end,
+      half_before_marks space c.args.half c.requires,
+      kinds.board,
+      kinds.count,
+    )
