@@ -40,14 +40,7 @@ pub record PutsOver (old mid new : Mutator) (path : Path) (cell : Cell) (shape a
   pub cell_below : cell.at < layouts_start old.seat.space
   pub at_below : at < layouts_start old.seat.space
 
--- nothing is reserved where no word is
-pub reserved_none : (main : Mutator) → reserved main 0 ≡ main
-reserved_none main =
-    let none : main.young.used + 0 ≡ main.young.used = omega arith in
-    ap (λ (n : ℕ). record main { young = record main.young { used = n } }) none
-
--- words were put over others where they are those from before, but for newly used ones, with one word put and then
--- the header
+-- words were put over others where these are as before, but for newly used ones, with one word put and then the header
 pub over_last : {old mid new : Mutator} {path : Path} {cell : Cell} {header : Header} (shape place word need object : ℕ)
     (words : List ℕ) → IsTied old → HasRoom old.young need → AddsPath (reserved old need) mid path shape
     → PutsWords mid new (with_shape (slice_set words place word) object header shape)
