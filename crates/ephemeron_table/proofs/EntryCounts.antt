@@ -1,5 +1,6 @@
 -- How many entries a weak map has where one was put.
-use Rattle.std.proofs.Common.{◌≡◌, ℕ, ◌+◌, Bool, true, false, cond, List, [], ◌∷◌, length, Some, None, refl, sym, arith, ◌==◌}
+use Rattle.std.proofs.Common.{◌≡◌, ℕ, ◌+◌, Bool, true, false, cond, List, [], ◌∷◌, length, Some, None, refl, sym, arith}
+use Rattle.std.proofs.Common.{◌==◌}
 use Rattle.std.proofs.lemmas.Option.{none-some}
 use Rattle.heap_model.specs.Types.{Value, Entry}
 use Rattle.object_graph.specs.Objects.{entry_value, with_entry}

@@ -221,4 +221,5 @@ module _ {old : Mutator} {graph : Graph} {map key : ℕ} {weak : WeakObject} {nu
     pub free_key_put : WrittenEntriesShow → HasPutEntry old new graph map key weak number what
     unfolding free_key_pair
     free_key_put entries_show =
-        entry_put free_key_pair entries_show free.is_value need_is capacity_is puts.room puts.words.beside puts.words.young
+        entry_put free_key_pair entries_show free.is_value need_is capacity_is puts.room puts.words.beside
+        puts.words.young

@@ -61,7 +61,8 @@ module _ {old : Mutator} {graph : Graph} {map key : ℕ} {weak : WeakObject} {nu
   -- so a table may be made
   pub growing_can : CanGrow old map table key (count_at (heap_of old) map)
   growing_can =
-      can_grow (known growing.lacks) key (count_at (heap_of old) map) growing.lacks.is_key.place growing.lacks.shows.quiet growing.few growing.over
+      can_grow (known growing.lacks) key (count_at (heap_of old) map) growing.lacks.is_key.place
+      growing.lacks.shows.quiet growing.few growing.over
 
   -- twice the new count is over the pairs
   pub over_test : nat_lt (capacity_at (heap_of old) map) (2 * suc (count_at (heap_of old) map)) ≡ true
