@@ -34,23 +34,22 @@ pub paths_there : (found : Option (List Path)) → (found ≡ None → ⊥) → 
 paths_there None lacks = absurd (lacks refl)
 paths_there (Some paths) lacks = (paths, refl)
 
--- there is room for a field where the name is there, or there are few fields
-room_by : (found : Option Value) (count : ℕ) → (found ≡ None → fields_most ≤ count → ⊥)
-    → (is_none found && nat_le fields_most count) ≡ false
-room_by (Some value) count lacks = refl
-room_by None count lacks = elim (cases_lt count fields_most) [
+-- there is room for one more where the name is there, or there are few
+pub room_by : (most : ℕ) (found : Option Value) (count : ℕ) → (found ≡ None → most ≤ count → ⊥)
+    → (is_none found && nat_le most count) ≡ false
+room_by most (Some value) count lacks = refl
+room_by most None count lacks = elim (cases_lt count most) [
   | inl below ↦ grind (arith, nat_tests)
   | inr full ↦ absurd (lacks refl full)
 ]
 
 -- there is none where the name is new and there are many
-no_room_by : (found : Option Value) (count : ℕ) → found ≡ None → fields_most ≤ count
-    → (is_none found && nat_le fields_most count) ≡ true
-no_room_by found count fresh full =
-    ap (λ one. is_none one && nat_le fields_most count) fresh ∙ full_test count full
+pub no_room_by : (most : ℕ) (found : Option Value) (count : ℕ) → found ≡ None → most ≤ count
+    → (is_none found && nat_le most count) ≡ true
+no_room_by most found count fresh full = ap (λ one. is_none one && nat_le most count) fresh ∙ full_test
   where
-    full_test : (count : ℕ) → fields_most ≤ count → nat_le fields_most count ≡ true
-    full_test count full = grind (arith, nat_tests)
+    full_test : nat_le most count ≡ true
+    full_test = grind (arith, nat_tests)
 
 module _ {graph : Graph} {x : ℕ} {target value : Value} {plain : PlainObject} (names : List (List ℕ)) (f : ℕ)
     (v : Operand) (known : IsKnown as_plain graph x target plain) (is : value_of graph v ≡ Some value) where
@@ -65,14 +64,14 @@ module _ {graph : Graph} {x : ℕ} {target value : Value} {plain : PlainObject} 
       → does ideal_limits names graph (Set x f v) ≡ reshape ideal_limits graph plain (with_field plain.fields f value)
   set_room few =
       set_known ∙ ap (λ test. unless FieldsFull test (reshape ideal_limits graph plain (with_field plain.fields f value)))
-      (room_by (field_value plain.fields f) (length plain.fields)
+      (room_by fields_most (field_value plain.fields f) (length plain.fields)
       (λ fresh full. few (record { fresh = fresh; full = full })))
 
   -- where there is none, that is the fault
   pub set_full : LacksFields plain f → does ideal_limits names graph (Set x f v) ≡ fault FieldsFull
   set_full lacks =
       set_known ∙ ap (λ test. unless FieldsFull test (reshape ideal_limits graph plain (with_field plain.fields f value)))
-      (no_room_by (field_value plain.fields f) (length plain.fields) lacks.fresh lacks.full)
+      (no_room_by fields_most (field_value plain.fields f) (length plain.fields) lacks.fresh lacks.full)
 
 -- a `del` whose variable and object are known
 pub del_known : {graph : Graph} {x : ℕ} {target : Value} {plain : PlainObject} (names : List (List ℕ)) (f : ℕ)

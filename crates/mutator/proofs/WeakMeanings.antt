@@ -1,9 +1,6 @@
 -- What `wput`, `wget` and `wdel` mean, where their variables, their weak map and their key are known.
-use Rattle.std.proofs.Common.{◌≡◌, ◌&&◌, ◌≤◌, ℕ, Bool, true, false, List, [], length, Option, Some}
-use Rattle.std.proofs.Common.{None, is_none, nat_le, inl, inr, refl, ◌∙◌, ap, arith}
+use Rattle.std.proofs.Common.{◌≡◌, ℕ, Bool, true, false, List, [], length, Some, ◌∙◌, ap}
 use Rattle.std.specs.Prelude.{unwrap_or}
-use Rattle.std.proofs.lemmas.Bool.{cases_lt}
-use Rattle.std.proofs.lemmas.Bool.Decides.{nat_tests}
 use Rattle.heap_model.specs.Types.{Operand, Value}
 use Rattle.heap_command.specs.declared.command.Command.TheVariants.{WPut, WGet, WDel}
 use Rattle.heap_command.specs.declared.command.FaultWord.TheVariants.{WeakFull}
@@ -16,34 +13,21 @@ use Rattle.object_graph.proofs.WeakMost.{no_entry_for-is}
 use Rattle.object_graph.specs.Limits.{ideal_limits}
 use Rattle.ephemeron_table.specs.EntryChanges.{IsMapFull}
 use Rattle.mutator.proofs.KnownObjects.{IsKnown}
+use Rattle.mutator.proofs.FieldMeanings.{room_by, no_room_by}
 
--- the test of a number of entries that the map may not pass
-full_test : (count : ℕ) → weak_most ≤ count → nat_le weak_most count ≡ true
-full_test count full = grind (arith, nat_tests)
-
--- so a map that is full for a key is one that takes no entry for it
+-- a map that is full for a key is one that takes no entry for it
 lacks_test : (marks : List Bool) (weak : WeakObject) (number : ℕ) → IsMapFull weak number
     → no_entry_for ideal_limits marks weak.entries number ≡ true
 lacks_test marks weak number lacks =
     no_entry_for-is marks weak.entries number
-    ∙ ap (λ (found : Option Value). is_none found && nat_le weak_most (length weak.entries)) lacks.fresh
-    ∙ full_test (length weak.entries) lacks.full
+    ∙ no_room_by weak_most (entry_value weak.entries number) (length weak.entries) lacks.fresh lacks.full
 
--- where a key has an entry or the map has room for one more, it is not
-has_room : (found : Option Value) (count : ℕ) → (found ≡ None → weak_most ≤ count → ⊥)
-    → (is_none found && nat_le weak_most count) ≡ false
-has_room (Some value) count apart = refl
-has_room None count apart = elim (cases_lt count weak_most) [
-  | inl few ↦ grind (arith, nat_tests)
-  | inr past ↦ absurd (apart refl past)
-]
-
--- so a map that is not full for a key takes an entry for it
+-- and one that is not full for a key takes an entry for it
 has_test : (marks : List Bool) (weak : WeakObject) (number : ℕ) → (IsMapFull weak number → ⊥)
     → no_entry_for ideal_limits marks weak.entries number ≡ false
 has_test marks weak number few =
     no_entry_for-is marks weak.entries number
-    ∙ has_room (entry_value weak.entries number) (length weak.entries)
+    ∙ room_by weak_most (entry_value weak.entries number) (length weak.entries)
     (λ fresh full. few (record { fresh = fresh; full = full }))
 
 module _ {graph : Graph} {m number : ℕ} {target : Value} {weak : WeakObject} (names : List (List ℕ)) (k : Operand)
