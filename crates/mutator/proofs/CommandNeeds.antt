@@ -5,34 +5,18 @@ use Rattle.heap_model.specs.Types.{Operand, Value}
 use Rattle.heap_command.specs.declared.command.Command.TheVariants as command
 use Rattle.object_graph.specs.declared.value.Value.TheVariants.{Ref}
 use Rattle.object_graph.specs.Graphs.{Graph, PlainObject, ListObject, WeakObject, value_of, integer_in, object_in}
-use Rattle.object_graph.specs.Graphs.{plain_at, list_at, weak_at}
+use Rattle.object_graph.specs.Graphs.{as_plain, as_list, as_weak}
 use Rattle.object_graph.specs.Meaning.{below}
 use Rattle.heap_model.specs.Needs.{capacity_at}
-use Rattle.heap_model.specs.Rooms.{Room, HasRooms, on_found, plain_of, list_of, weak_of, number_of, key_of}
+use Rattle.heap_model.specs.Rooms.{Room, HasRooms, on_found, number_of, key_of}
 use Rattle.heap_model.specs.Rooms.{set_need, push_need, put_need, wput_need, need_of}
 use Rattle.write_barrier.specs.MutatorState.{Mutator, heap_of}
 use Rattle.object_cells.specs.PlainObjects.{IsPlainAt}
 use Rattle.object_cells.specs.ListObjects.{IsListAt}
 use Rattle.ephemeron_table.specs.WeakObjects.{IsWeakAt}
 use Rattle.ephemeron_table.specs.EntryChanges.{map_room}
-use Rattle.mutator.proofs.FieldMeanings.{IsKnown}
-use Rattle.mutator.proofs.ListMeanings.{IsKnownList, IsIndex}
-use Rattle.mutator.proofs.WeakMeanings.{IsKnownWeak}
-
--- the plain object that a variable is bound to
-pub plain_is : {graph : Graph} {x : ℕ} {plain : PlainObject} → IsKnown graph x (Ref plain.number) plain
-    → plain_of graph x ≡ Some plain
-plain_is {graph} known = ap (option_and_then (plain_at graph.objects)) known.bound ∙ known.refers
-
--- the list
-pub list_is : {graph : Graph} {x : ℕ} {list : ListObject} → IsKnownList graph x (Ref list.number) list
-    → list_of graph x ≡ Some list
-list_is {graph} known = ap (option_and_then (list_at graph.objects)) known.bound ∙ known.refers
-
--- the weak map
-pub weak_is : {graph : Graph} {x : ℕ} {weak : WeakObject} → IsKnownWeak graph x (Ref weak.number) weak
-    → weak_of graph x ≡ Some weak
-weak_is {graph} known = ap (option_and_then (weak_at graph.objects)) known.bound ∙ known.refers
+use Rattle.mutator.proofs.KnownObjects.{IsKnown, known_is}
+use Rattle.mutator.proofs.ListMeanings.{IsIndex}
 
 -- the number that an operand stands for
 pub number_is : {graph : Graph} {i : Operand} {n : ℤ} {place : ℕ} (most : ℕ) → IsIndex graph i n
@@ -43,13 +27,13 @@ number_is most index is =
 
 -- what `put` needs
 pub put_need_is : {graph : Graph} {x : ℕ} {list : ListObject} {n : ℤ} {place : ℕ} (i v : Operand) (value : Value)
-    → IsKnownList graph x (Ref list.number) list → IsIndex graph i n → value_of graph v ≡ Some value
+    → IsKnown as_list graph x (Ref list.number) list → IsIndex graph i n → value_of graph v ≡ Some value
     → below (length list.elements) n ≡ Some place
     → (rooms : ℕ → Room) → put_need list value place ≡ need_of graph rooms (command.Put x i v)
 put_need_is {graph} {list = list} i v value known index is names rooms =
     sym (ap (λ found. on_found found (λ (one : ListObject).
     on_found (value_of graph v) (λ what. on_found (number_of graph (length one.elements) i) (put_need one what))))
-    (list_is known)
+    (known_is known)
     ∙ ap (λ found. on_found found (λ what. on_found (number_of graph (length list.elements) i) (put_need list what)))
     is
     ∙ ap (λ found. on_found found (put_need list value)) (number_is (length list.elements) index names))
@@ -57,35 +41,35 @@ put_need_is {graph} {list = list} i v value known index is names rooms =
 module _ {main : Mutator} {graph : Graph} {rooms : ℕ → Room} (has : HasRooms (heap_of main) graph rooms) where
   -- what `set` needs
   pub set_need_is : {x at : ℕ} {plain : PlainObject} (f : ℕ) (v : Operand) (value : Value)
-      → IsKnown graph x (Ref plain.number) plain → value_of graph v ≡ Some value → IsPlainAt main graph at plain
+      → IsKnown as_plain graph x (Ref plain.number) plain → value_of graph v ≡ Some value → IsPlainAt main graph at plain
       → set_need (capacity_at (heap_of main) at) plain f value ≡ need_of graph rooms (command.Set x f v)
   set_need_is {x} {at} {plain} f v value known is stands =
       sym (ap (λ found. on_found found (λ (one : PlainObject).
-      on_found (value_of graph v) (set_need (rooms one.number).capacity one f))) (plain_is known)
+      on_found (value_of graph v) (set_need (rooms one.number).capacity one f))) (known_is known)
       ∙ ap (λ found. on_found found (set_need (rooms plain.number).capacity plain f)) is
       ∙ ap (λ (room : Room). set_need room.capacity plain f value)
       (has plain.number at _ stands.object stands.reached stands.place))
 
   -- what `push` needs
   pub push_need_is : {x at : ℕ} {list : ListObject} (v : Operand) (value : Value)
-      → IsKnownList graph x (Ref list.number) list → value_of graph v ≡ Some value → IsListAt main graph at list
+      → IsKnown as_list graph x (Ref list.number) list → value_of graph v ≡ Some value → IsListAt main graph at list
       → push_need (capacity_at (heap_of main) at) list value ≡ need_of graph rooms (command.Push x v)
   push_need_is {x} {at} {list} v value known is stands =
       sym (ap (λ found. on_found found (λ (one : ListObject).
-      on_found (value_of graph v) (push_need (rooms one.number).capacity one))) (list_is known)
+      on_found (value_of graph v) (push_need (rooms one.number).capacity one))) (known_is known)
       ∙ ap (λ found. on_found found (push_need (rooms list.number).capacity list)) is
       ∙ ap (λ (room : Room). push_need room.capacity list value)
       (has list.number at _ stands.object stands.reached stands.place))
 
   -- what `wput` needs
   pub wput_need_is : {m at number : ℕ} {weak : WeakObject} (k v : Operand) (value : Value)
-      → IsKnownWeak graph m (Ref weak.number) weak → value_of graph k ≡ Some (Ref number)
+      → IsKnown as_weak graph m (Ref weak.number) weak → value_of graph k ≡ Some (Ref number)
       → value_of graph v ≡ Some value → IsWeakAt main graph at weak
       → wput_need (map_room main at weak) weak value number ≡ need_of graph rooms (command.WPut m k v)
   wput_need_is {m} {at} {number} {weak} k v value known key is stands =
       sym (ap (λ found. on_found found (λ (one : WeakObject).
       on_found (value_of graph v) (λ what. on_found (key_of graph k) (wput_need (rooms one.number) one what))))
-      (weak_is known)
+      (known_is known)
       ∙ ap (λ found. on_found found (λ what. on_found (key_of graph k) (wput_need (rooms weak.number) weak what))) is
       ∙ ap (λ found. on_found (option_and_then object_in found) (wput_need (rooms weak.number) weak value)) key
       ∙ ap (λ room. wput_need room weak value number)

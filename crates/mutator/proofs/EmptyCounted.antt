@@ -1,88 +1,53 @@
 -- The cell of a list without elements, or of a weak map without entries, that was just made: its words, and what it is.
-use Rattle.std.proofs.Common.{◌≡◌, ℕ, ◌+◌, ◌≤◌, ◌<◌, Bool, false, List, [], ◌∷◌, Some, refl, sym, ◌∙◌, ap, subst, arith}
+use Rattle.std.proofs.Common.{◌≡◌, ℕ, ◌<◌, Bool, false, List, [], ◌∷◌, Some, refl, arith}
 use Rattle.std.proofs.lemmas.Option.{none-some}
-use Rattle.heap_model.specs.Types.{Header, Kind, Cell}
+use Rattle.heap_model.specs.Types.{Header, Kind, Object, Path}
 use Rattle.tagged_word.specs.declared.layout.Kind.TheVariants as kind
 use Rattle.tagged_word.specs.Headers.{IsHeader}
 use Rattle.tagged_word.specs.Layouts.{IsLayout, layout_bits}
-use Rattle.tagged_word.specs.Shapes.{shapes_most}
+use Rattle.tagged_word.specs.Shapes.{shapes_most, list_shape, weak_shape}
 use Rattle.tagged_word.specs.Cells.{cell_size, has_length, scavenge_offsets, store_slot}
+use Rattle.object_graph.specs.declared.object.Object.TheVariants.{Weak, List as ListOf}
 use Rattle.shape_tree.specs.ShapeLayouts.{layout_word}
-use Rattle.heap_model.specs.Heaps.{Heap, words_of_cell}
+use Rattle.heap_model.specs.Heaps.{Heap}
 use Rattle.heap_model.specs.Slots.{undefined_word, HoldsStore}
-use Rattle.heap_model.specs.Kinds.{HasTable, IsListCell, IsWeakCell}
-use Rattle.heap_model.specs.Showing.{ShowsList, ShowsWeak}
-use Rattle.heap_model.specs.Wholeness.{HasSizes}
+use Rattle.heap_model.specs.Kinds.{HasTable, IsSoundOf}
+use Rattle.heap_model.specs.Showing.{ShowsObject}
+use Rattle.heap_model.proofs.CountsStay.{HasCountOf}
 use Rattle.object_cells.proofs.EdenCells.{bare_layout}
 use Rattle.mutator.specs.Making.{empty_counted}
 use Rattle.mutator.proofs.NewCells.{NewCell, cell_of, RefersNowhere}
-use Rattle.mutator.proofs.PutCells.{HasRoomFor}
 
 -- what such a cell is made of
 abbrev pub counted_cell : Kind → Header → NewCell
 counted_cell k header =
     record { header = header; layout = bare_layout k; size = 3; words = empty_counted header }
 
--- cells of the kind have three words, of which one may refer to a cell, and no length
-pub record IsCountedKind (k : Kind) : Type 0 where
+-- Cells of the kind and the shape have three words, of which one may refer to a cell, and no length; where no store or
+-- table is there, they are sound and show this object.
+pub record IsCountedKind (k : Kind) (shape : ℕ) (what : Object) : Type 0 where
   pub is_layout : IsLayout (bare_layout k)
   pub no_length : has_length k ≡ false
   pub sized : cell_size (bare_layout k) 0 ≡ Some 3
   pub offsets : scavenge_offsets (bare_layout k) 0 ≡ store_slot ∷ []
+  pub known : shape < shapes_most
+  pub laid : (paths : List Path) → layout_word paths shape ≡ layout_bits (bare_layout k)
+  pub sound : (heap : Heap) (at : ℕ) (header : Header)
+      → IsSoundOf k heap (cell_of at (counted_cell k header)) (empty_counted header)
+  pub shows : (heap : Heap) (marks : List Bool) (at : ℕ) (header : Header)
+      → ShowsObject heap marks (cell_of at (counted_cell k header)) (empty_counted header) what
+  pub counts : (header : Header) → HasCountOf (empty_counted header) what
 
--- so it is with lists
-pub list_is_counted : IsCountedKind kind.List
+-- so it is with lists without elements
+pub list_is_counted : IsCountedKind kind.List list_shape (ListOf [])
 list_is_counted = record {
   is_layout = record { cap = refl; used = refl; raw = refl };
   no_length = refl;
   sized = refl;
   offsets = refl;
-}
-
--- and with weak maps
-pub weak_is_counted : IsCountedKind kind.Weak
-weak_is_counted = record {
-  is_layout = record { cap = refl; used = refl; raw = refl };
-  no_length = refl;
-  sized = refl;
-  offsets = refl;
-}
-
--- then it is the cell of an object without a store or a table
-counted_fresh : {k : Kind} (header : Header) → IsCountedKind k → IsHeader header → RefersNowhere (counted_cell k header)
-counted_fresh header is is_header = record {
-  long = refl;
-  is_header = is_header;
-  first = refl;
-  is_layout = is.is_layout;
-  no_length = is.no_length;
-  sized = is.sized;
-  offsets = is.offsets;
-  slot = refl;
-}
-
--- and there is room for it
-pub counted_fits : {heap : Heap} {k : Kind} {header : Header} (shape : ℕ) → IsCountedKind k → HasSizes heap
-    → IsHeader header → header.shape ≡ shape → shape < shapes_most
-    → layout_word heap.paths shape ≡ layout_bits (bare_layout k)
-    → heap.survivors + heap.used + 3 ≤ heap.space.sizes.young → HasRoomFor heap (counted_cell k header)
-counted_fits {heap} {header = header} shape is sized is_header same known laid room = record {
-  sized = sized;
-  fresh = counted_fresh header is is_header;
-  known = subst (λ n. n < shapes_most) (sym same) known;
-  laid = ap (layout_word heap.paths) same ∙ laid;
-  room = room;
-}
-
--- the cell at an address that is made of this
-abbrev cell_at : ℕ → Kind → Header → Cell
-cell_at at k header = cell_of at (counted_cell k header)
-
-module _ {heap : Heap} (at : ℕ) (header : Header) where
-  -- the cell of a list that was just made is sound
-  pub list_is_sound : words_of_cell heap (cell_at at kind.List header) ≡ empty_counted header
-      → IsListCell heap (words_of_cell heap (cell_at at kind.List header))
-  list_is_sound are = subst (IsListCell heap) (sym are) (record {
+  known = omega arith;
+  laid = λ paths. refl;
+  sound = λ heap at header. record {
     store = undefined_word;
     slot = refl;
     beside = [];
@@ -95,12 +60,8 @@ module _ {heap : Heap} (at : ℕ) (header : Header) where
       each = λ place word below there. absurd (none-some word there);
       rest = λ place word from there. absurd (none-some word there);
     };
-  })
-
-  -- and shows a list without elements
-  pub list_shows : words_of_cell heap (cell_at at kind.List header) ≡ empty_counted header
-      → ShowsList heap (cell_at at kind.List header) (words_of_cell heap (cell_at at kind.List header)) []
-  list_shows are = subst (λ words. ShowsList heap (cell_at at kind.List header) words []) (sym are) (record {
+  };
+  shows = λ heap marks at header. record {
     of_kind = refl;
     counted = refl;
     store = undefined_word;
@@ -108,30 +69,49 @@ module _ {heap : Heap} (at : ℕ) (header : Header) where
     slots = [];
     has = HoldsStore.none;
     each = λ place value word there stands. absurd (none-some value there);
-  })
+  };
+  counts = λ header. tt;
+}
 
-  -- the cell of a weak map that was just made is sound
-  pub weak_is_sound : words_of_cell heap (cell_at at kind.Weak header) ≡ empty_counted header
-      → IsWeakCell heap (words_of_cell heap (cell_at at kind.Weak header))
-  weak_is_sound are = subst (IsWeakCell heap) (sym are) (record {
+-- and with weak maps without entries
+pub weak_is_counted : IsCountedKind kind.Weak weak_shape (Weak [])
+weak_is_counted = record {
+  is_layout = record { cap = refl; used = refl; raw = refl };
+  no_length = refl;
+  sized = refl;
+  offsets = refl;
+  known = omega arith;
+  laid = λ paths. refl;
+  sound = λ heap at header. record {
     store = undefined_word;
     slot = refl;
     pairs = [];
     table = HasTable.none;
     each = λ place pair there. absurd (none-some pair there);
     counted = refl;
-  })
+  };
+  shows = λ heap marks at header. record {
+    of_kind = refl;
+    store = undefined_word;
+    slot = refl;
+    pairs = [];
+    table = HasTable.none;
+    each = λ place entry there marked. absurd (none-some entry there);
+    others = λ place pair there filled. absurd (none-some pair there);
+  };
+  counts = λ header. refl;
+}
 
-  -- and shows a weak map without entries
-  pub weak_shows : (marks : List Bool) → words_of_cell heap (cell_at at kind.Weak header) ≡ empty_counted header
-      → ShowsWeak heap marks (cell_at at kind.Weak header) (words_of_cell heap (cell_at at kind.Weak header)) []
-  weak_shows marks are =
-      subst (λ words. ShowsWeak heap marks (cell_at at kind.Weak header) words []) (sym are) (record {
-        of_kind = refl;
-        store = undefined_word;
-        slot = refl;
-        pairs = [];
-        table = HasTable.none;
-        each = λ place entry there marked. absurd (none-some entry there);
-        others = λ place pair there filled. absurd (none-some pair there);
-      })
+-- then it is the cell of an object without a store or a table
+pub counted_fresh : {k : Kind} {shape : ℕ} {what : Object} (header : Header) → IsCountedKind k shape what
+    → IsHeader header → RefersNowhere (counted_cell k header)
+counted_fresh header is is_header = record {
+  long = refl;
+  is_header = is_header;
+  first = refl;
+  is_layout = is.is_layout;
+  no_length = is.no_length;
+  sized = is.sized;
+  offsets = is.offsets;
+  slot = refl;
+}

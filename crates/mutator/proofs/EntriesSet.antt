@@ -1,16 +1,13 @@
 -- `wput` and `wdel` are carried out as the calls on entries say.
-use Rattle.std.proofs.Common.{◌≡◌, ℕ, ◌<◌, List, [], Ok, Err, Some, refl, sym, ◌∙◌, ap, subst}
+use Rattle.std.proofs.Common.{◌≡◌, ℕ, List, [], Ok, Err, Some, refl, ◌∙◌, ap}
 use Rattle.std.specs.FinMap.{get}
 use Rattle.heap_model.specs.Types.{Operand, Value, Held}
 use Rattle.heap_command.specs.declared.command.Command.TheVariants.{WPut, WDel}
-use Rattle.heap_command.specs.Commands.{NamesBelow}
 use Rattle.object_graph.specs.declared.value.Value.TheVariants.{Ref}
-use Rattle.object_graph.specs.Objects.{with_entry, without_entry}
-use Rattle.object_graph.specs.Graphs.{Graph, WeakObject, value_of, weak_at}
+use Rattle.object_graph.specs.Objects.{with_entry}
+use Rattle.object_graph.specs.Graphs.{Graph, WeakObject, value_of, as_weak}
 use Rattle.object_graph.specs.Meaning.{reweave}
-use Rattle.nursery.specs.Young.{HasRoom}
 use Rattle.write_barrier.specs.MutatorState.{Mutator, MainShows}
-use Rattle.object_cells.specs.Uses.{UsesMore}
 use Rattle.ephemeron_table.specs.WeakObjects.{IsWeakAt, IsKeyAt, IsShownKey, IsShownPutting}
 use Rattle.ephemeron_table.specs.EntryChanges.{HasPutEntry, PutsEntry, DeletesEntry}
 use Rattle.ephemeron_table.specs.declared.stop.TableStop.{TableStop}
@@ -19,9 +16,10 @@ use Rattle.mutator.specs.Stops.{stop_of_table}
 use Rattle.mutator.specs.CarriesOut.{Carries}
 use Rattle.mutator.specs.Reading.{StandsFor, StandForBoth, IsFoundWeak, IsFoundKey}
 use Rattle.mutator.proofs.GivenValues.{IsGiven}
-use Rattle.mutator.proofs.Rebinding.{reaches_no_more, room_for_none}
+use Rattle.mutator.proofs.KnownObjects.{IsKnown, known_found, change_carried}
+use Rattle.mutator.proofs.Rebinding.{room_for_none}
 use Rattle.mutator.proofs.StillShown.{shows_still, stands_still}
-use Rattle.mutator.proofs.WeakMeanings.{IsKnownWeak, wput_done, wput_full, wdel_done}
+use Rattle.mutator.proofs.WeakMeanings.{wput_done, wput_full, wdel_done}
 use Rattle.mutator.proofs.CommandNeeds.{wput_need_is}
 use Rattle.mutator.proofs.EntryRooms.{keeps_wput, keeps_wdel}
 
@@ -30,20 +28,18 @@ pub record IsEntering (main : Mutator) (graph : Graph) (m : ℕ) (k : Operand) (
   pub weak : WeakObject
   pub number : ℕ
   pub shows : MainShows main graph
-  pub known : IsKnownWeak graph m (Ref weak.number) weak
+  pub known : IsKnown as_weak graph m (Ref weak.number) weak
   pub named : value_of graph k ≡ Some (Ref number)
   pub stands : IsWeakAt main graph at weak
   pub key_stands : IsKeyAt main graph key number
-  pub below : m < main.seat.space.variables
-  pub names : NamesBelow main.seat.space.variables k
 
 -- so it is once the operands were read, of a heap that is the same
 pub entering_read : {old now : Mutator} {graph : Graph} {pair : Held × Held} {at key : ℕ} (m : ℕ) (k : Operand)
     → now ≡ old → MainShows old graph → StandForBoth old graph (get graph.bindings m) (value_of graph k) pair
     → ((value : Value) → MainShows now graph → StandsFor now graph value pair.0 → IsFoundWeak now graph value at)
     → ((value : Value) → StandsFor now graph value pair.1 → IsFoundKey now graph value key)
-    → m < old.seat.space.variables → NamesBelow old.seat.space.variables k → IsEntering now graph m k at key
-entering_read {graph = graph} m k same shows both found which below names =
+    → IsEntering now graph m k at key
+entering_read m k same shows both found which =
     let shown = shows_still same shows in
     let named = found both.first shown (stands_still same both.stands_first) in
     let key = which both.second (stands_still same both.stands_second) in
@@ -51,15 +47,10 @@ entering_read {graph = graph} m k same shows both found which below names =
       weak = named.weak;
       number = key.number;
       shows = shown;
-      known = record {
-        bound = both.is_first ∙ ap (λ one. Some one) named.is;
-        refers = ap (weak_at graph.objects) (sym named.is) ∙ named.refers;
-      };
+      known = known_found both.is_first named.is named.refers;
       named = both.is_second ∙ ap (λ one. Some one) key.is;
       stands = named.stands;
       key_stands = key.stands;
-      below = subst (λ (main : Mutator). m < main.seat.space.variables) (sym same) below;
-      names = subst (λ (main : Mutator). NamesBelow main.seat.space.variables k) (sym same) names;
     }
 
 -- the call on the entry may be made
@@ -89,32 +80,17 @@ putting_entry_shown {graph = graph} entering given = record {
 }
 
 -- an entry that was put
-pub wput_carried : {main new : Mutator} {graph : Graph} {m at key : ℕ} {k v : Operand} {one : Held}
-    (names : List (List ℕ)) → (entering : IsEntering main graph m k at key) → (given : IsGiven main graph v one)
+pub wput_carried : {old main new : Mutator} {graph : Graph} {m at key : ℕ} {k v : Operand} {one : Held}
+    (names : List (List ℕ)) → main ≡ old → (entering : IsEntering main graph m k at key)
+    → (given : IsGiven main graph v one)
     → HasPutEntry main new graph at key entering.weak entering.number given.value
-    → Carries names main new graph (WPut m k v) [] (Ok tt)
-wput_carried {main} {new} {graph} {m} {at} {key} {k} {v} names entering given has_put =
-    let weak = entering.weak in
-    let after : Graph = reweave graph weak (with_entry weak.entries entering.number given.value) in
-    let means = wput_done names m k v (Ref weak.number) weak entering.number given.value entering.known entering.named
-    given.is has_put.few in (
-      after,
-      means,
-      has_put.shows,
-      λ rooms has.
-          let need = wput_need_is has k v given.value entering.known entering.named given.is entering.stands in
-          record {
-            room = subst (HasRoom main.young) need has_put.room;
-            uses = subst (UsesMore main new) need has_put.uses;
-            stores = keeps_wput (record {
-              shows = entering.shows;
-              shown = has_put.shows;
-              has = has;
-              stays = has_put.changes.stays;
-            }) (reaches_no_more names (WPut m k v) [] entering.shows means refl) k v given.value entering.known
-                entering.named entering.stands refl has_put.changes;
-          },
-    )
+    → Carries names old new graph (WPut m k v) [] (Ok tt)
+wput_carried {k = k} {v} names same entering given puts =
+    change_carried names same entering.shows puts.shows
+    (wput_done names k entering.known entering.named v given.is puts.few) refl puts.changes puts.room puts.uses
+    (λ rooms has. wput_need_is has k v given.value entering.known entering.named given.is entering.stands)
+    (λ rooms one fewer.
+    keeps_wput one fewer k v given.value entering.known entering.named entering.stands refl puts.changes)
 
 -- and one that was not
 pub wput_stopped : {main : Mutator} {graph : Graph} {m at key : ℕ} {k v : Operand} {one : Held} (new : Mutator)
@@ -122,45 +98,22 @@ pub wput_stopped : {main : Mutator} {graph : Graph} {m at key : ℕ} {k v : Oper
     → (given : IsGiven main graph v one)
     → PutsEntry main new graph at key entering.weak entering.number given.value (Err stop)
     → Carries names main new graph (WPut m k v) [] (Err (stop_of_table stop))
-wput_stopped {m = m} {k = k} {v} new names (table.TableFull entries) entering given puts = (
-  wput_full names m k v (Ref entering.weak.number) entering.weak entering.number given.value entering.known
-      entering.named given.is puts.0,
-  puts.2,
+wput_stopped {k = k} {v} new names (table.TableFull entries) entering given puts =
+    (wput_full names k entering.known entering.named v given.is puts.0, puts.2)
+wput_stopped {graph = graph} {k = k} {v} new names (table.Full room) entering given (few, need, lacks, same) = (
+  reweave graph entering.weak (with_entry entering.weak.entries entering.number given.value),
+  [],
+  wput_done names k entering.known entering.named v given.is few,
+  λ rooms has. need ∙ wput_need_is has k v given.value entering.known entering.named given.is entering.stands,
+  lacks,
+  same,
 )
-wput_stopped {graph = graph} {m} {k = k} {v} new names (table.Full room) entering given puts =
-    let weak = entering.weak in
-    let (few, need, lacks, same) = puts in (
-      reweave graph weak (with_entry weak.entries entering.number given.value),
-      [],
-      wput_done names m k v (Ref weak.number) weak entering.number given.value entering.known entering.named given.is
-          few,
-      λ rooms has.
-          need ∙ wput_need_is has k v given.value entering.known entering.named given.is entering.stands,
-      lacks,
-      same,
-    )
 
 -- an entry that was taken out, or of which there was none
-pub wdel_carried : {main new : Mutator} {graph : Graph} {m at key : ℕ} {k : Operand} (names : List (List ℕ))
-    → (entering : IsEntering main graph m k at key)
-    → DeletesEntry main new graph at entering.weak entering.number
-    → Carries names main new graph (WDel m k) [] (Ok tt)
-wdel_carried {main} {new} {graph} {m} {at} {k = k} names entering deletes =
-    let weak = entering.weak in
-    let after : Graph = reweave graph weak (without_entry weak.entries entering.number) in
-    let means = wdel_done names m k (Ref weak.number) weak entering.number entering.known entering.named in (
-      after,
-      means,
-      deletes.shows,
-      λ rooms has. record {
-        room = room_for_none entering.shows;
-        uses = deletes.uses;
-        stores = keeps_wdel (record {
-          shows = entering.shows;
-          shown = deletes.shows;
-          has = has;
-          stays = deletes.changes.stays;
-        }) (reaches_no_more names (WDel m k) [] entering.shows means refl) k entering.known entering.named
-            entering.stands refl deletes.changes;
-      },
-    )
+pub wdel_carried : {old main new : Mutator} {graph : Graph} {m at key : ℕ} {k : Operand} (names : List (List ℕ))
+    → main ≡ old → (entering : IsEntering main graph m k at key)
+    → DeletesEntry main new graph at entering.weak entering.number → Carries names old new graph (WDel m k) [] (Ok tt)
+wdel_carried {k = k} names same entering deletes =
+    change_carried names same entering.shows deletes.shows (wdel_done names k entering.known entering.named) refl
+    deletes.changes (room_for_none entering.shows) deletes.uses (λ rooms has. refl)
+    (λ rooms one fewer. keeps_wdel one fewer k entering.known entering.named entering.stands refl deletes.changes)

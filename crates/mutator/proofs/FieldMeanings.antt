@@ -1,9 +1,7 @@
 -- What `set` and `del` mean, where their variables and their object are known.
-use Rattle.std.proofs.Common.{◌≡◌, ℕ, ◌≤◌, true, false, ◌&&◌, List, [], length, Option, Some, None, refl}
-use Rattle.std.proofs.Common.{◌∙◌, ap}
+use Rattle.std.proofs.Common.{◌≡◌, ℕ, ◌≤◌, true, false, ◌&&◌, List, [], length, Option, Some, None, refl, ◌∙◌, ap}
 use Rattle.std.proofs.Common.{arith, inl, inr, nat_le}
 use Rattle.std.specs.Prelude.{is_none}
-use Rattle.std.specs.FinMap.{get}
 use Rattle.std.proofs.lemmas.Bool.{cases_lt}
 use Rattle.std.proofs.lemmas.Bool.Decides.{nat_tests}
 use Rattle.heap_model.specs.Types.{Operand, Value, Field, Path}
@@ -11,16 +9,12 @@ use Rattle.heap_command.specs.declared.command.Command.TheVariants.{Set, Del}
 use Rattle.heap_command.specs.declared.command.FaultWord.TheVariants.{FieldsFull, ShapesFull}
 use Rattle.object_graph.specs.Objects.{field_value, with_field, without_field}
 use Rattle.object_graph.specs.Paths.{path_of, with_path}
-use Rattle.object_graph.specs.Graphs.{Graph, PlainObject, value_of, plain_at}
+use Rattle.object_graph.specs.Graphs.{Graph, PlainObject, value_of, as_plain}
 use Rattle.object_graph.specs.Meaning.{done, fault, given, unless, no_room_for, refill, reshape, reshape_if, does}
 use Rattle.object_graph.specs.Invariants.{fields_most}
 use Rattle.object_graph.specs.Limits.{ideal_limits, paths_most}
 use Rattle.object_cells.specs.PlainObjects.{LacksFields, LacksPaths}
-
--- what the variables of a command on a field and its object are
-pub record IsKnown (graph : Graph) (x : ℕ) (target : Value) (plain : PlainObject) : Type 0 where
-  pub bound : get graph.bindings x ≡ Some target
-  pub refers : plain_at graph.objects target ≡ Some plain
+use Rattle.mutator.proofs.KnownObjects.{IsKnown}
 
 -- where there may be the paths of the fields, the object has them
 pub reshape_done : (graph : Graph) (plain : PlainObject) (fields : List Field) (paths : List Path)
@@ -40,56 +34,48 @@ pub paths_there : (found : Option (List Path)) → (found ≡ None → ⊥) → 
 paths_there None lacks = absurd (lacks refl)
 paths_there (Some paths) lacks = (paths, refl)
 
--- there is room for a field where the name is there, or there are few fields
-room_by : (found : Option Value) (count : ℕ) → (found ≡ None → fields_most ≤ count → ⊥)
-    → (is_none found && nat_le fields_most count) ≡ false
-room_by (Some value) count lacks = refl
-room_by None count lacks = elim (cases_lt count fields_most) [
+-- there is room for one more where the name is there, or there are few
+pub room_by : (most : ℕ) (found : Option Value) (count : ℕ) → (found ≡ None → most ≤ count → ⊥)
+    → (is_none found && nat_le most count) ≡ false
+room_by most (Some value) count lacks = refl
+room_by most None count lacks = elim (cases_lt count most) [
   | inl below ↦ grind (arith, nat_tests)
   | inr full ↦ absurd (lacks refl full)
 ]
 
 -- there is none where the name is new and there are many
-no_room_by : (found : Option Value) (count : ℕ) → found ≡ None → fields_most ≤ count
-    → (is_none found && nat_le fields_most count) ≡ true
-no_room_by found count fresh full =
-    ap (λ one. is_none one && nat_le fields_most count) fresh ∙ full_test count full
+pub no_room_by : (most : ℕ) (found : Option Value) (count : ℕ) → found ≡ None → most ≤ count
+    → (is_none found && nat_le most count) ≡ true
+no_room_by most found count fresh full = ap (λ one. is_none one && nat_le most count) fresh ∙ full_test
   where
-    full_test : (count : ℕ) → fields_most ≤ count → nat_le fields_most count ≡ true
-    full_test count full = grind (arith, nat_tests)
+    full_test : nat_le most count ≡ true
+    full_test = grind (arith, nat_tests)
 
--- a `set` whose variables and object are known
-set_known : (names : List (List ℕ)) (graph : Graph) (x f : ℕ) (v : Operand) (target value : Value) (plain : PlainObject)
-    → IsKnown graph x target plain → value_of graph v ≡ Some value
-    → does ideal_limits names graph (Set x f v)
-    ≡ unless FieldsFull (no_room_for ideal_limits plain f) (reshape ideal_limits graph plain
-    (with_field plain.fields f value))
-set_known names graph x f v target value plain known is = rw (known.bound, is, known.refers)
+module _ {graph : Graph} {x : ℕ} {target value : Value} {plain : PlainObject} (names : List (List ℕ)) (f : ℕ)
+    (v : Operand) (known : IsKnown as_plain graph x target plain) (is : value_of graph v ≡ Some value) where
+  -- a `set` whose variables and object are known
+  set_known : does ideal_limits names graph (Set x f v)
+      ≡ unless FieldsFull (no_room_for ideal_limits plain f) (reshape ideal_limits graph plain
+      (with_field plain.fields f value))
+  set_known = rw (known.bound, is, known.refers)
 
--- where there is room for the field, it is written
-pub set_room : (names : List (List ℕ)) (graph : Graph) (x f : ℕ) (v : Operand) (target value : Value)
-    (plain : PlainObject)
-    → IsKnown graph x target plain → value_of graph v ≡ Some value → (LacksFields plain f → ⊥)
-    → does ideal_limits names graph (Set x f v) ≡ reshape ideal_limits graph plain (with_field plain.fields f value)
-set_room names graph x f v target value plain known is few =
-    set_known names graph x f v target value plain known is
-    ∙ ap (λ test. unless FieldsFull test (reshape ideal_limits graph plain (with_field plain.fields f value)))
-    (room_by (field_value plain.fields f) (length plain.fields)
-    (λ fresh full. few (record { fresh = fresh; full = full })))
+  -- where there is room for the field, it is written
+  pub set_room : (LacksFields plain f → ⊥)
+      → does ideal_limits names graph (Set x f v) ≡ reshape ideal_limits graph plain (with_field plain.fields f value)
+  set_room few =
+      set_known ∙ ap (λ test. unless FieldsFull test (reshape ideal_limits graph plain (with_field plain.fields f value)))
+      (room_by fields_most (field_value plain.fields f) (length plain.fields)
+      (λ fresh full. few (record { fresh = fresh; full = full })))
 
--- where there is none, that is the fault
-pub set_full : (names : List (List ℕ)) (graph : Graph) (x f : ℕ) (v : Operand) (target value : Value)
-    (plain : PlainObject)
-    → IsKnown graph x target plain → value_of graph v ≡ Some value → LacksFields plain f
-    → does ideal_limits names graph (Set x f v) ≡ fault FieldsFull
-set_full names graph x f v target value plain known is lacks =
-    set_known names graph x f v target value plain known is
-    ∙ ap (λ test. unless FieldsFull test (reshape ideal_limits graph plain (with_field plain.fields f value)))
-    (no_room_by (field_value plain.fields f) (length plain.fields) lacks.fresh lacks.full)
+  -- where there is none, that is the fault
+  pub set_full : LacksFields plain f → does ideal_limits names graph (Set x f v) ≡ fault FieldsFull
+  set_full lacks =
+      set_known ∙ ap (λ test. unless FieldsFull test (reshape ideal_limits graph plain (with_field plain.fields f value)))
+      (no_room_by fields_most (field_value plain.fields f) (length plain.fields) lacks.fresh lacks.full)
 
 -- a `del` whose variable and object are known
-pub del_known : (names : List (List ℕ)) (graph : Graph) (x f : ℕ) (target : Value) (plain : PlainObject)
-    → IsKnown graph x target plain
+pub del_known : {graph : Graph} {x : ℕ} {target : Value} {plain : PlainObject} (names : List (List ℕ)) (f : ℕ)
+    → IsKnown as_plain graph x target plain
     → does ideal_limits names graph (Del x f)
     ≡ reshape_if ideal_limits graph plain (field_value plain.fields f) (without_field plain.fields f)
-del_known names graph x f target plain known = rw (known.bound, known.refers)
+del_known names f known = rw (known.bound, known.refers)

@@ -1,32 +1,28 @@
 -- `set` is carried out as the call on fields says.
-use Rattle.std.proofs.Common.{◌≡◌, refl, ℕ, ◌<◌, List, [], Ok, Err, Some, sym, ◌∙◌, ap, subst}
+use Rattle.std.proofs.Common.{◌≡◌, refl, ℕ, List, [], Ok, Err, Some, ◌∙◌}
 use Rattle.std.specs.FinMap.{get}
 use Rattle.heap_model.specs.Types.{Operand, Value, Held}
 use Rattle.heap_command.specs.declared.command.Command.TheVariants.{Set}
-use Rattle.heap_command.specs.Commands.{NamesBelow}
 use Rattle.object_graph.specs.declared.value.Value.TheVariants.{Ref}
 use Rattle.object_graph.specs.Objects.{with_field}
 use Rattle.object_graph.specs.Paths.{path_of, with_path}
-use Rattle.object_graph.specs.Graphs.{Graph, PlainObject, value_of, plain_at}
+use Rattle.object_graph.specs.Graphs.{Graph, PlainObject, value_of, as_plain}
 use Rattle.object_graph.specs.Meaning.{refill}
 use Rattle.object_graph.specs.Limits.{paths_most}
-use Rattle.nursery.specs.Young.{HasRoom}
 use Rattle.write_barrier.specs.MutatorState.{Mutator, MainShows}
 use Rattle.object_cells.specs.PlainObjects.{IsPlainAt}
 use Rattle.object_cells.specs.HeldValues.{IsValueHeld}
-use Rattle.object_cells.specs.Uses.{UsesMore}
-use Rattle.shape_change.specs.FieldChanges.{IsShownSetting, HasSetField}
-use Rattle.shape_change.specs.FieldChanges.{SetsField}
+use Rattle.shape_change.specs.FieldChanges.{IsShownSetting, HasSetField, SetsField}
 use Rattle.shape_change.specs.declared.stop.FieldStop.{FieldStop}
 use Rattle.shape_change.specs.declared.stop.FieldStop.TheVariants.{FieldsFull, ShapesFull, Full}
 use Rattle.mutator.specs.Stops.{stop_of}
 use Rattle.mutator.specs.declared.lookups.Found.{Found}
 use Rattle.mutator.specs.CarriesOut.{Carries}
 use Rattle.mutator.specs.Reading.{StandForBoth, IsFound}
-use Rattle.mutator.proofs.FieldMeanings.{IsKnown, reshape_done, reshape_full, paths_there, set_room, set_full}
+use Rattle.mutator.proofs.KnownObjects.{IsKnown, known_found, change_carried}
+use Rattle.mutator.proofs.FieldMeanings.{reshape_done, reshape_full, paths_there, set_room, set_full}
 use Rattle.mutator.proofs.CommandNeeds.{set_need_is}
 use Rattle.mutator.proofs.CommandRooms.{keeps_set}
-use Rattle.mutator.proofs.Rebinding.{reaches_no_more}
 use Rattle.mutator.proofs.StillShown.{shows_still, stands_still}
 
 -- what is known once the variables of a `set` and its object were found
@@ -34,32 +30,24 @@ pub record IsSetting (main : Mutator) (graph : Graph) (x : ℕ) (v : Operand) (a
   pub plain : PlainObject
   pub value : Value
   pub shows : MainShows main graph
-  pub known : IsKnown graph x (Ref plain.number) plain
+  pub known : IsKnown as_plain graph x (Ref plain.number) plain
   pub value_is : value_of graph v ≡ Some value
   pub stands : IsPlainAt main graph at plain
   pub held : IsValueHeld main graph one value
-  pub below : x < main.seat.space.variables
-  pub names : NamesBelow main.seat.space.variables v
 
 -- so it is once they were read
 pub setting_known : {old now : Mutator} {graph : Graph} {pair : Held × Held} {where_at : Found} (x : ℕ) (v : Operand)
     → now ≡ old → MainShows old graph
     → (both : StandForBoth old graph (get graph.bindings x) (value_of graph v) pair)
-    → IsFound now graph both.first where_at → x < old.seat.space.variables → NamesBelow old.seat.space.variables v
-    → IsSetting now graph x v where_at.at pair.1
-setting_known {graph = graph} x v same shows both found below names = record {
+    → IsFound now graph both.first where_at → IsSetting now graph x v where_at.at pair.1
+setting_known x v same shows both found = record {
   plain = found.plain;
   value = both.second;
   shows = shows_still same shows;
-  known = record {
-    bound = both.is_first ∙ ap (λ one. Some one) found.is;
-    refers = ap (plain_at graph.objects) (sym found.is) ∙ found.refers;
-  };
+  known = known_found both.is_first found.is found.refers;
   value_is = both.is_second;
   stands = found.stands;
   held = (stands_still same both.stands_second).is;
-  below = subst (λ (main : Mutator). x < main.seat.space.variables) (sym same) below;
-  names = subst (λ (main : Mutator). NamesBelow main.seat.space.variables v) (sym same) names;
 }
 
 -- the call on the field may be made
@@ -75,58 +63,38 @@ setting_shown {graph = graph} setting = record {
 }
 
 -- a field that was set
-pub set_carried : {main new : Mutator} {graph : Graph} {x at : ℕ} {v : Operand} {one : Held} (names : List (List ℕ))
-    (f : ℕ)
+pub set_carried : {old main new : Mutator} {graph : Graph} {x at : ℕ} {v : Operand} {one : Held}
+    (names : List (List ℕ)) (f : ℕ) → main ≡ old
     → (setting : IsSetting main graph x v at one) → HasSetField main new graph at setting.plain f setting.value
-    → Carries names main new graph (Set x f v) [] (Ok tt)
-set_carried {main} {new} {graph} {x} {at} {v} names f setting sets =
+    → Carries names old new graph (Set x f v) [] (Ok tt)
+set_carried {graph = graph} {v = v} names f same setting sets =
     let fields = with_field setting.plain.fields f setting.value in
-    let after : Graph = refill graph setting.plain fields sets.shows.paths in
-    let means = set_room names graph x f v (Ref setting.plain.number) setting.value setting.plain setting.known
-    setting.value_is sets.few ∙ reshape_done graph setting.plain fields sets.shows.paths sets.shows.added in (
-      after,
-      means,
-      sets.shows.shows,
-      λ rooms has.
-          let need = set_need_is has f v setting.value setting.known setting.value_is setting.stands in
-          record {
-            room = subst (HasRoom main.young) need sets.room;
-            uses = subst (UsesMore main new) need sets.uses;
-            stores = keeps_set (record {
-              shows = setting.shows;
-              shown = sets.shows.shows;
-              has = has;
-              stays = sets.changes.stays;
-            }) (reaches_no_more names (Set x f v) [] setting.shows means refl) f v fields setting.known setting.stands
-                refl sets.changes;
-          },
-    )
+    change_carried names same setting.shows sets.shows.shows
+    (set_room names f v setting.known setting.value_is sets.few
+    ∙ reshape_done graph setting.plain fields sets.shows.paths sets.shows.added)
+    refl sets.changes sets.room sets.uses
+    (λ rooms has. set_need_is has f v setting.value setting.known setting.value_is setting.stands)
+    (λ rooms one fewer. keeps_set one fewer f v fields setting.known setting.stands refl sets.changes)
 
 -- and one that was not
 pub set_stopped : {main : Mutator} {graph : Graph} {x at : ℕ} {v : Operand} {one : Held} (new : Mutator)
     (names : List (List ℕ)) (f : ℕ) (stop : FieldStop) → (setting : IsSetting main graph x v at one)
     → SetsField main new graph at setting.plain f setting.value (Err stop)
     → Carries names main new graph (Set x f v) [] (Err (stop_of stop))
-set_stopped {graph = graph} {x} {v = v} new names f FieldsFull setting sets = (
-  set_full names graph x f v (Ref setting.plain.number) setting.value setting.plain setting.known setting.value_is
-      sets.0,
-  sets.1,
-)
-set_stopped {graph = graph} {x} {v = v} new names f (ShapesFull full) setting sets = (
-  set_room names graph x f v (Ref setting.plain.number) setting.value setting.plain setting.known setting.value_is
-      sets.0
+set_stopped {v = v} new names f FieldsFull setting sets =
+    (set_full names f v setting.known setting.value_is sets.0, sets.1)
+set_stopped {graph = graph} {v = v} new names f (ShapesFull full) setting sets = (
+  set_room names f v setting.known setting.value_is sets.0
       ∙ reshape_full graph setting.plain (with_field setting.plain.fields f setting.value) sets.1.refused,
   sets.2,
 )
-set_stopped {graph = graph} {x} {v = v} new names f (Full room) setting sets =
+set_stopped {graph = graph} {v = v} new names f (Full room) setting sets =
     let fields = with_field setting.plain.fields f setting.value in
     let (more, added) =
     paths_there (with_path (Some paths_most) graph.paths (path_of setting.plain.cap fields)) sets.1 in (
       refill graph setting.plain fields more,
       [],
-      set_room names graph x f v (Ref setting.plain.number) setting.value setting.plain setting.known setting.value_is
-          sets.0
-          ∙ reshape_done graph setting.plain fields more added,
+      set_room names f v setting.known setting.value_is sets.0 ∙ reshape_done graph setting.plain fields more added,
       λ rooms has. sets.2 ∙ set_need_is has f v setting.value setting.known setting.value_is setting.stands,
       sets.3,
       sets.4,

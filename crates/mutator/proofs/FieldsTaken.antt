@@ -1,7 +1,6 @@
 -- `del` is carried out as the call on fields says.
 use Rattle.std.proofs.Common.{◌≡◌, ℕ, ◌==◌, true, false, cond, List, [], ◌∷◌, ◌++◌, length, Option, Ok, Err}
-use Rattle.std.proofs.Common.{Some, None}
-use Rattle.std.proofs.Common.{refl, sym, ◌∙◌, ap, subst, arith}
+use Rattle.std.proofs.Common.{Some, None, refl, sym, ◌∙◌, ap, subst, arith}
 use Rattle.std.specs.Prelude.{Bool, Contains}
 use Rattle.std.specs.FinMap.{get}
 use Rattle.std.proofs.lemmas.Option.{none-some}
@@ -12,8 +11,8 @@ use Rattle.object_graph.specs.declared.value.Value.TheVariants.{Ref}
 use Rattle.object_graph.specs.declared.object.Object.TheVariants.{Plain}
 use Rattle.object_graph.specs.Objects.{field_value, without_field}
 use Rattle.object_graph.specs.Paths.{path_of, missing}
-use Rattle.object_graph.specs.Graphs.{Graph, PlainObject, plain_at}
-use Rattle.object_graph.specs.Meaning.{fault, refill, reshape_if, does}
+use Rattle.object_graph.specs.Graphs.{Graph, PlainObject, as_plain}
+use Rattle.object_graph.specs.Meaning.{fault, reshape_if, does}
 use Rattle.object_graph.specs.Invariants.{HasItsPath}
 use Rattle.object_graph.specs.Limits.{ideal_limits}
 use Rattle.shape_tree.proofs.GrownPaths.{missing-there}
@@ -26,11 +25,12 @@ use Rattle.mutator.specs.declared.stop.Stop.TheVariants.{Fault}
 use Rattle.mutator.specs.declared.lookups.Found.{Found}
 use Rattle.mutator.specs.CarriesOut.{Carries}
 use Rattle.mutator.specs.Reading.{IsFound}
-use Rattle.mutator.proofs.FieldMeanings.{IsKnown, reshape_done, reshape_full, del_known}
+use Rattle.mutator.proofs.KnownObjects.{IsKnown, known_found, change_carried}
+use Rattle.mutator.proofs.FieldMeanings.{reshape_done, reshape_full, del_known}
 use Rattle.mutator.proofs.KeptStores.{keeps_still}
 use Rattle.heap_model.specs.Needs.{capacity_at}
-use Rattle.mutator.proofs.CommandRooms.{keeps_plain}
-use Rattle.mutator.proofs.Rebinding.{reaches_no_more, room_for_none}
+use Rattle.mutator.proofs.CommandRooms.{keeps_object}
+use Rattle.mutator.proofs.Rebinding.{room_for_none}
 use Rattle.mutator.proofs.StillShown.{shows_still}
 
 -- the same of a first field and the others, by whether it is the one
@@ -67,70 +67,57 @@ own_path_there {main} {graph} {plain = plain} shows is lacks =
 pub record IsTaking (main : Mutator) (graph : Graph) (x at : ℕ) : Type 0 where
   pub plain : PlainObject
   pub shows : MainShows main graph
-  pub known : IsKnown graph x (Ref plain.number) plain
+  pub known : IsKnown as_plain graph x (Ref plain.number) plain
   pub stands : IsPlainAt main graph at plain
 
 -- so it is once they were read
 pub taking_known : {main : Mutator} {graph : Graph} {where_at : Found} (x : ℕ) (target : Value) → MainShows main graph
     → get graph.bindings x ≡ Some target → IsFound main graph target where_at → IsTaking main graph x where_at.at
-taking_known {graph = graph} x target shows is found = record {
+taking_known x target shows is found = record {
   plain = found.plain;
   shows = shows;
-  known = record {
-    bound = is ∙ ap (λ one. Some one) found.is;
-    refers = ap (plain_at graph.objects) (sym found.is) ∙ found.refers;
-  };
+  known = known_found is found.is found.refers;
   stands = found.stands;
 }
 
 -- what `del` comes to by whether the field is there
-taken_by : {main new : Mutator} {graph : Graph} {x at : ℕ} (names : List (List ℕ)) (f : ℕ) (found : Option Value)
-    → (taking : IsTaking main graph x at) → field_value taking.plain.fields f ≡ found
-    → HasDeletedField main new graph at taking.plain f → Carries names main new graph (Del x f) [] (Ok tt)
-taken_by {main} {new} {graph} {x} {at} names f None taking is taken =
+taken_by : {old main new : Mutator} {graph : Graph} {x at : ℕ} (names : List (List ℕ)) (f : ℕ) (found : Option Value)
+    → main ≡ old → (taking : IsTaking main graph x at) → field_value taking.plain.fields f ≡ found
+    → HasDeletedField main new graph at taking.plain f → Carries names old new graph (Del x f) [] (Ok tt)
+taken_by {main = main} {new} {graph} {x} names f None same taking is taken =
     let plain = taking.plain in
-    let fields = without_field plain.fields f in
-    let same = taken.none is in (
+    let still = shows_still (taken.none is) taking.shows in
+    subst (λ main. Carries names main new graph (Del x f) [] (Ok tt)) same (
       graph,
-      del_known names graph x f (Ref plain.number) plain taking.known
-          ∙ ap (λ one. reshape_if ideal_limits graph plain one fields) is,
-      shows_still same taking.shows,
+      del_known names f taking.known
+          ∙ ap (λ one. reshape_if ideal_limits graph plain one (without_field plain.fields f)) is,
+      still,
       λ rooms has. record {
         room = room_for_none taking.shows;
         uses = taken.uses;
-        stores = keeps_still (Del x f) same taking.shows (shows_still same taking.shows) has (λ number marked. marked)
-            refl (λ number. refl);
+        stores = keeps_still (Del x f) (taken.none is) taking.shows still has (λ number marked. marked) refl
+            (λ number. refl);
       },
     )
-taken_by {main} {new} {graph} {x} {at} names f (Some value) taking is taken =
+taken_by {main = main} {graph = graph} {x} {at} names f (Some value) same taking is taken =
     let plain = taking.plain in
     let fields = without_field plain.fields f in
-    let means = del_known names graph x f (Ref plain.number) plain taking.known
-    ∙ ap (λ one. reshape_if ideal_limits graph plain one fields) is
-    ∙ reshape_done graph plain fields taken.shows.paths taken.shows.added in
-    let stands = taking.stands in (
-      refill graph plain fields taken.shows.paths,
-      means,
-      taken.shows.shows,
-      λ rooms has. record {
-        room = room_for_none taking.shows;
-        uses = taken.uses;
-        stores = keeps_plain (record {
-          shows = taking.shows;
-          shown = taken.shows.shows;
-          has = has;
-          stays = taken.changes.stays;
-        }) (reaches_no_more names (Del x f) [] taking.shows means refl) (Del x f) fields
-            (capacity_at (heap_of main) at) stands refl
-            (has plain.number at _ stands.object stands.reached stands.place) (λ number apart. refl) taken.changes;
-      },
-    )
+    let stands = taking.stands in
+    change_carried names same taking.shows taken.shows.shows
+    (del_known names f taking.known ∙ ap (λ one. reshape_if ideal_limits graph plain one fields) is
+    ∙ reshape_done graph plain fields taken.shows.paths taken.shows.added)
+    refl taken.changes (room_for_none taking.shows) taken.uses (λ rooms has. refl)
+    (λ rooms one fewer.
+    keeps_object one fewer (Del x f) (Plain plain.cap fields) (capacity_at (heap_of main) at) refl stands.object
+    stands.reached stands.place refl (one.has plain.number at _ stands.object stands.reached stands.place)
+    (λ number apart. refl) taken.changes)
 
 -- a field that was taken out, or was not there
-pub del_carried : {main new : Mutator} {graph : Graph} {x at : ℕ} (names : List (List ℕ)) (f : ℕ)
+pub del_carried : {old main new : Mutator} {graph : Graph} {x at : ℕ} (names : List (List ℕ)) (f : ℕ) → main ≡ old
     → (taking : IsTaking main graph x at) → HasDeletedField main new graph at taking.plain f
-    → Carries names main new graph (Del x f) [] (Ok tt)
-del_carried names f taking taken = taken_by names f (field_value taking.plain.fields f) taking refl taken
+    → Carries names old new graph (Del x f) [] (Ok tt)
+del_carried names f same taking taken =
+    taken_by names f (field_value taking.plain.fields f) same taking refl taken
 
 -- where the fields that are left lack paths, that is the fault
 stopped_by_paths : {main : Mutator} {graph : Graph} {x at : ℕ} (names : List (List ℕ)) (f : ℕ) (found : Option Value)
@@ -140,11 +127,11 @@ stopped_by_paths : {main : Mutator} {graph : Graph} {x at : ℕ} (names : List (
 stopped_by_paths {graph = graph} names f None taking is lacks =
     absurd (own_path_there taking.shows taking.stands
     (subst (LacksPaths graph taking.plain) (without_none taking.plain.fields f is) lacks))
-stopped_by_paths {graph = graph} {x} names f (Some value) taking is lacks =
+stopped_by_paths {graph = graph} names f (Some value) taking is lacks =
     let plain = taking.plain in
     let fields = without_field plain.fields f in
-    del_known names graph x f (Ref plain.number) plain taking.known
-    ∙ ap (λ one. reshape_if ideal_limits graph plain one fields) is ∙ reshape_full graph plain fields lacks
+    del_known names f taking.known ∙ ap (λ one. reshape_if ideal_limits graph plain one fields) is
+    ∙ reshape_full graph plain fields lacks
 
 -- and one that was not, as there may not be as many paths
 pub del_stopped : {main new : Mutator} {graph : Graph} {x at : ℕ} (names : List (List ℕ)) (f : ℕ)

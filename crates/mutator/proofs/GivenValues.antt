@@ -1,7 +1,6 @@
 -- The values that commands put: what is held of them.
-use Rattle.std.proofs.Common.{◌≡◌, Some, ◌∙◌, subst, sym}
+use Rattle.std.proofs.Common.{◌≡◌, Some}
 use Rattle.heap_model.specs.Types.{Operand, Value, Held}
-use Rattle.heap_command.specs.Commands.{NamesBelow}
 use Rattle.object_graph.specs.Graphs.{Graph, value_of}
 use Rattle.write_barrier.specs.MutatorState.{Mutator}
 use Rattle.object_cells.specs.HeldValues.{IsValueHeld}
@@ -13,15 +12,9 @@ pub record IsGiven (main : Mutator) (graph : Graph) (v : Operand) (one : Held) :
   pub value : Value
   pub is : value_of graph v ≡ Some value
   pub held : IsValueHeld main graph one value
-  pub names : NamesBelow main.seat.space.variables v
 
--- so it is once it was read, between two other reads
-pub given_read : {old between now : Mutator} {graph : Graph} {one : Held} (v : Operand) → between ≡ old → now ≡ between
+-- so it is once it was read, before another read
+pub given_read : {between now : Mutator} {graph : Graph} {one : Held} (v : Operand) → now ≡ between
     → (value : Value) × (value_of graph v ≡ Some value) × StandsFor between graph value one
-    → NamesBelow old.seat.space.variables v → IsGiven now graph v one
-given_read v before after (value, is, stands) names = record {
-  value = value;
-  is = is;
-  held = (stands_still after stands).is;
-  names = subst (λ (main : Mutator). NamesBelow main.seat.space.variables v) (sym (after ∙ before)) names;
-}
+    → IsGiven now graph v one
+given_read v after (value, is, stands) = record { value = value; is = is; held = (stands_still after stands).is }

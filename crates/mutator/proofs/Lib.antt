@@ -27,11 +27,10 @@ pub mod FoundKinds
 pub mod ListMeanings
 pub mod IndexedLists
 pub mod ElementsSet
-pub mod TrimMeanings
-pub mod ElementsTrimmed
 pub mod WeakMeanings
 pub mod EntriesSet
 mod KeptStores
+mod KnownObjects
 mod MadeRooms
 mod CommandNeeds
 mod CommandRooms

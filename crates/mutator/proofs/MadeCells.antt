@@ -1,9 +1,7 @@
 -- The commands that make objects, and the cells of the objects that they make.
-use Rattle.std.proofs.Common.{◌≡◌, ℕ, ◌+◌, ◌≤◌, List, [], length, slice_get, refl, ap, arith}
-use Rattle.heap_model.specs.Types.{Header}
-use Rattle.tagged_word.specs.declared.layout.Kind.TheVariants as kind
+use Rattle.std.proofs.Common.{◌≡◌, ℕ, ◌+◌, ◌≤◌, ◌<◌, ◌^◌, [], length, refl, sym, ap, subst, arith}
+use Rattle.heap_model.specs.Types.{Header, Kind, Object, Cell}
 use Rattle.tagged_word.specs.Headers.{IsHeader}
-use Rattle.tagged_word.specs.Shapes.{list_shape, weak_shape}
 use Rattle.object_graph.specs.declared.object.Object.TheVariants.{Plain, Weak, List as ListOf}
 use Rattle.object_graph.specs.Graphs.{Graph, make}
 use Rattle.object_graph.specs.Reach.{reach}
@@ -11,12 +9,17 @@ use Rattle.object_graph.specs.Invariants.{cap_most}
 use Rattle.graph_laws.specs.GraphLaws.{FitsCommand}
 use Rattle.shape_tree.specs.Shapes.{IsShapeOf}
 use Rattle.heap_model.specs.Heaps.{Heap}
-use Rattle.heap_model.specs.Kinds.{count_offset}
+use Rattle.heap_model.specs.Kinds.{IsSoundOf}
+use Rattle.heap_model.specs.Showing.{ShowsObject}
+use Rattle.heap_model.proofs.CountsStay.{HasCountOf}
+use Rattle.nursery.specs.Young.{HasRoom}
+use Rattle.page_space.specs.Extents.{Space}
+use Rattle.write_barrier.specs.MutatorState.{Mutator, heap_of, MainShows}
 use Rattle.heap_model.specs.Wholeness.{HasSizes}
 use Rattle.mutator.proofs.EmptyCells.{no_fields, plain_cell, plain_fresh, plain_laid, IsEmptyCell, empty_is_sound}
 use Rattle.mutator.proofs.EmptyCells.{empty_shows}
-use Rattle.mutator.proofs.EmptyCounted.{counted_cell, counted_fits, list_is_counted, weak_is_counted}
-use Rattle.mutator.proofs.EmptyCounted.{list_is_sound, list_shows, weak_is_sound, weak_shows}
+use Rattle.mutator.proofs.EmptyCounted.{IsCountedKind, counted_cell, counted_fresh}
+use Rattle.mutator.proofs.NewCells.{cell_of}
 use Rattle.mutator.proofs.PutCells.{next_at, with_cell, with_cell_words, HasRoomFor}
 use Rattle.heap_command.specs.declared.command.Command.TheVariants as command
 use Rattle.mutator.proofs.MadeObjects.{IsMaking, IsSoundNewCell}
@@ -59,34 +62,29 @@ plain_made {heap} {header = header} {cap} x sized is_header few shaped room carr
     record { shaped = shaped; words = with_cell_words fits } in
     record { fits = fits; sound = empty_is_sound is; shows = empty_shows is; counts = tt; carries = carries }
 
--- and so is that of a list without elements
-pub list_made : {heap : Heap} {graph : Graph} {header : Header} (x : ℕ) → HasSizes heap → IsHeader header
-    → header.shape ≡ list_shape → heap.survivors + heap.used + 3 ≤ heap.space.sizes.young
-    → header.object ≡ length graph.objects → IsSoundNewCell heap graph x (counted_cell kind.List header) (ListOf [])
-list_made {heap} {header = header} x sized is_header shape room carries =
-    let fits : HasRoomFor heap (counted_cell kind.List header) =
-    counted_fits list_shape list_is_counted sized is_header shape (omega arith) refl room in
-    let words = with_cell_words fits in
+-- and so is that of a list without elements, or of a weak map without entries
+pub counted_made : {main : Mutator} {graph : Graph} {k : Kind} {shape object : ℕ} {what : Object} (x : ℕ)
+    → IsCountedKind k shape what → MainShows main graph → HasRoom main.young 3 → object < 2 ^ 32
+    → object ≡ length graph.objects
+    → IsSoundNewCell (heap_of main) graph x (counted_cell k (record { shape = shape; object = object })) what
+counted_made {main} {graph} {k} {shape} {object} {what} x is shows room small carries =
+    let header : Header = record { shape = shape; object = object } in
+    let fits : HasRoomFor (heap_of main) (counted_cell k header) = record {
+      sized = shows.shows.whole.sized;
+      fresh = counted_fresh header is (record { shape = omega (arith, is.known); object = small });
+      known = is.known;
+      laid = is.laid main.paths;
+      room = omega (arith, room, ap (λ (space : Space). space.sizes.young) shows.tied);
+    } in
+    let heap : Heap = with_cell (heap_of main) (counted_cell k header) in
+    let at : ℕ = next_at (heap_of main) in
+    let cell : Cell = cell_of at (counted_cell k header) in
+    let words = sym (with_cell_words fits) in
     record {
       fits = fits;
-      sound = list_is_sound (next_at heap) header words;
-      shows = list_shows (next_at heap) header words;
-      counts = tt;
-      carries = carries;
-    }
-
--- and that of a weak map without entries
-pub weak_made : {heap : Heap} {graph : Graph} {header : Header} (x : ℕ) → HasSizes heap → IsHeader header
-    → header.shape ≡ weak_shape → heap.survivors + heap.used + 3 ≤ heap.space.sizes.young
-    → header.object ≡ length graph.objects → IsSoundNewCell heap graph x (counted_cell kind.Weak header) (Weak [])
-weak_made {heap} {graph} {header} x sized is_header shape room carries =
-    let fits : HasRoomFor heap (counted_cell kind.Weak header) =
-    counted_fits weak_shape weak_is_counted sized is_header shape (omega arith) refl room in
-    let words = with_cell_words fits in
-    record {
-      fits = fits;
-      sound = weak_is_sound (next_at heap) header words;
-      shows = weak_shows (next_at heap) header (reach (make graph x (Weak []))) words;
-      counts = ap (λ (all : List ℕ). slice_get all count_offset) words;
+      sound = subst (IsSoundOf k heap cell) words (is.sound heap at header);
+      shows = subst (λ all. ShowsObject heap (reach (make graph x what)) cell all what) words
+          (is.shows heap (reach (make graph x what)) at header);
+      counts = subst (λ all. HasCountOf all what) words (is.counts header);
       carries = carries;
     }

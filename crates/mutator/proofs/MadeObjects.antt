@@ -39,7 +39,7 @@ use Rattle.object_cells.proofs.RestOfWords.{range_beside, variable_beside}
 use Rattle.mutator.specs.CarriesOut.{Carries}
 use Rattle.mutator.proofs.NewCells.{NewCell, cell_of}
 use Rattle.mutator.proofs.MadeRooms.{HasNoEntry, MakesOne, makes_one, keeps_made}
-use Rattle.mutator.proofs.PutCells.{next_at, with_cell, HasRoomFor, IsSoundThere, with_cell_put}
+use Rattle.mutator.proofs.PutCells.{next_at, with_cell, HasRoomFor, IsSoundThere, IsPutCell, with_cell_put}
 use Rattle.mutator.proofs.Rebinding.{HoldsAnew, heap_bound}
 use Rattle.mutator.specs.declared.stop.Stop.TheVariants.{NoRoom}
 
@@ -128,115 +128,110 @@ pub record IsSoundNewCell (heap : Heap) (graph : Graph) (x : ℕ) (one : NewCell
   pub counts : HasCountOf (words_of_cell (with_cell heap one) (cell_of (next_at heap) one)) what
   pub carries : one.header.object ≡ length graph.objects
 
--- so it shows the graph in which the object is made
-made_shows : {old mid filled new : Mutator} {graph : Graph} {command : Command} {x at : ℕ} {one : NewCell}
-    {what : Object}
-    → MainShows old graph → IsMaking graph command x one.size what
-    → MakesObject old mid filled new x at one → IsSoundNewCell (heap_of old) graph x one what → at < 2 ^ 32
-    → x < old.seat.space.variables → Shows (heap_of new) (make graph x what)
-made_shows {old} {mid} {filled} {new} {graph} {command} {x} {at} {one} {what} shows making makes made small below =
-    let heap : Heap = heap_of old in
-    let now : Heap = with_cell heap one in
-    let cell = cell_of (next_at heap) one in
-    let put = with_cell_put shows.shows.whole made.fits made.sound in
-    let next = run_is_next old shows.tied makes.run in
-    let shown = new_objects_show heap now graph x cell what
-    below shows.shows put.whole shows.shows.paths put.cells
-    put.own (subst (λ a. a < 2 ^ 32) next small) made.carries made.shows (no_entry_key graph shows.is_graph)
-    (reaches_one_more shows.is_graph making) in
-    subst (λ h. Shows h (make graph x what)) (sym (bound_heap shows.tied makes)) shown
+module _ {old mid filled new : Mutator} {graph : Graph} {command : Command} {x at : ℕ} {one : NewCell} {what : Object}
+    (shows : MainShows old graph) (making : IsMaking graph command x one.size what)
+    (makes : MakesObject old mid filled new x at one) (made : IsSoundNewCell (heap_of old) graph x one what)
+    (small : at < 2 ^ 32) (below : x < old.seat.space.variables) where
+  -- the heap with the cell
+  abbrev now : Heap
+  now = with_cell (heap_of old) one
 
--- and weak maps count their entries: a cell that stood stands
-made_counts : {old mid filled new : Mutator} {graph : Graph} {command : Command} {x at : ℕ} {one : NewCell}
-    {what : Object} → MainShows old graph → IsMaking graph command x one.size what
-    → MakesObject old mid filled new x at one → IsSoundNewCell (heap_of old) graph x one what
-    → x < old.seat.space.variables
-    → Shows (heap_of new) (make graph x what) → CountsEntries (heap_of new) (make graph x what)
-made_counts {old} {new = new} {graph} {x = x} {one = one} {what} shows making makes made below shown =
-    let heap : Heap = heap_of old in
-    let now : Heap = with_cell heap one in
-    let cell : Cell = cell_of (next_at heap) one in
-    let words : List ℕ = words_of_cell now cell in
-    let put = with_cell_put shows.shows.whole made.fits made.sound in
-    let stands : (other : Cell) (others : List ℕ) → HasCell now other others → HasCell (heap_of new) other others =
-    λ other others has. subst (λ h. HasCell h other others) (sym (bound_heap shows.tied makes))
-    ((bound_moves now x (held.Ref (next_at heap)) below put.whole).cells.kept other others has (none_in other)) in
-    counts_made x what shows.shows shown shows.counts (reaches_one_more shows.is_graph making)
-    (λ other others has. stands other others (put.cells.kept other others has (none_in other)))
-    (stands cell words (put.cells.comes cell (first_in cell [])))
-    (object_of_shown now (reach (make graph x what)) cell words what made.shows) made.carries made.counts
+  -- the cell
+  abbrev cell : Cell
+  cell = cell_of (next_at (heap_of old)) one
 
--- and no cell comes to a page or to the half that is empty
-made_collectable : {old mid filled new : Mutator} {graph : Graph} {x at : ℕ} {one : NewCell} {what : Object}
-    → MainShows old graph → MakesObject old mid filled new x at one → IsSoundNewCell (heap_of old) graph x one what
-    → x < old.seat.space.variables → IsCollectable (heap_of new) (other_half new.young.half)
-made_collectable {old} {new = new} {x = x} {one = one} shows makes made below =
-    let heap : Heap = heap_of old in
-    let now : Heap = with_cell heap one in
-    let refers : Held = held.Ref (next_at heap) in
-    let half : ℕ = other_half old.young.half in
-    let put = with_cell_put shows.shows.whole made.fits made.sound in
-    let with_it = own_changes_stay_collectable heap now [] [] (cell_of (next_at heap) one ∷ []) half shows.shows.whole
-    put.whole.rows put.cells put.own shows.collectable in
-    let bound_too = bound_stays_collectable now x refers half below put.whole with_it in
-    let same : new.young.half ≡ old.young.half = ap (λ (main : Mutator). main.young.half) (made_is makes) in
-    subst (λ h. IsCollectable h (other_half new.young.half)) (sym (bound_heap shows.tied makes))
-    (subst (λ n. IsCollectable (bound now x refers) (other_half n)) (sym same) bound_too)
+  -- what the variable holds then
+  abbrev refers : Held
+  refers = held.Ref (next_at (heap_of old))
 
--- and the command is carried out
-pub making_carried : {old mid filled new : Mutator} {graph : Graph} {command : Command} {x at : ℕ} {one : NewCell}
-    {what : Object} (names : List (List ℕ)) → MainShows old graph
-    → IsMaking graph command x one.size what → MakesObject old mid filled new x at one
-    → IsSoundNewCell (heap_of old) graph x one what → at < 2 ^ 32 → x < old.seat.space.variables
-    → HasRoom old.young one.size
-    → Carries names old new graph command [] (Ok tt)
-making_carried {old} {new = new} {graph} {command} {x} {at} {one} {what} names shows making makes made small below
-    room =
-    let after : Graph = make graph x what in
-    let whole = made_is makes in
-    let shown = made_shows shows making makes made small below in
-    let main : MainShows new after = record {
-      tied = subst IsTied (sym whole) shows.tied;
-      is_graph = graphs_stay ideal_limits names graph command
-          after [] ideal_field_limit making.fits (making.done names) shows.is_graph;
-      quiet = subst (λ (now : Mutator). now.seat.phase ≡ Quiet) (sym whole) shows.quiet;
-      shows = shown;
-      counts = made_counts shows making makes made below shown;
-      collectable = made_collectable shows makes made below;
-    } in
-    let filled_one : Mutator = filled_from old at one in
-    let within : at + length one.words ≤ marks_start old.seat.space =
-    omega (
-      arith,
-      run_before_marks old one.size at old.seat.space shows.tied room (run_is_next old shows.tied makes.run) refl,
-      made.fits.fresh.long,
-    ) in
-    let beside : RestStays old.seat (with_variable filled_one x (held.Ref at)).seat =
-    rest_stays_again old.seat filled_one.seat (with_variable filled_one x (held.Ref at)).seat
-    (range_beside (reserved old one.size) at one.words shows.shows.whole.sized.words within)
-    (variable_beside filled_one x (held.Ref at) below) in
-    let uses : UsesMore old new one.size = record {
-      beside = subst (λ (now : Mutator). RestStays old.seat now.seat) (sym whole) beside;
-      young = ap (λ (now : Mutator). now.young) whole;
-    } in
-    let put = with_cell_put shows.shows.whole made.fits made.sound in
-    let makes_it : MakesOne (heap_of old) (heap_of new) =
-    subst (MakesOne (heap_of old)) (sym (bound_heap shows.tied makes))
-    (makes_one x (held.Ref (next_at (heap_of old))) shows.shows.whole made.fits.fresh put below) in (
-      after,
-      making.done names,
-      main,
-      λ rooms has. record {
-        room = subst (HasRoom old.young) (sym (making.need rooms)) room;
-        uses = subst (UsesMore old new) (sym (making.need rooms)) uses;
-        stores = keeps_made command what (record {
-          shows = shows;
-          shown = main;
-          has = has;
-          stays = makes_it.stays;
-        }) (reaches_one_more shows.is_graph making) refl making.none (making.gives rooms) makes_it;
-      },
-    )
+  -- the cell was put
+  put : IsPutCell (heap_of old) now one
+  put = with_cell_put shows.shows.whole made.fits made.sound
+
+  -- so the heap shows the graph in which the object is made
+  made_shows : Shows (heap_of new) (make graph x what)
+  made_shows =
+      let next = run_is_next old shows.tied makes.run in
+      subst (λ h. Shows h (make graph x what)) (sym (bound_heap shows.tied makes))
+      (new_objects_show (heap_of old) now graph x cell what below shows.shows put.whole shows.shows.paths put.cells
+      put.own (subst (λ a. a < 2 ^ 32) next small) made.carries made.shows (no_entry_key graph shows.is_graph)
+      (reaches_one_more shows.is_graph making))
+
+  -- and weak maps count their entries: a cell that stood stands
+  made_counts : CountsEntries (heap_of new) (make graph x what)
+  made_counts =
+      let words : List ℕ = words_of_cell now cell in
+      let stands : (other : Cell) (others : List ℕ) → HasCell now other others → HasCell (heap_of new) other others =
+      λ other others has. subst (λ h. HasCell h other others) (sym (bound_heap shows.tied makes))
+      ((bound_moves now x refers below put.whole).cells.kept other others has (none_in other)) in
+      counts_made x what shows.shows made_shows shows.counts (reaches_one_more shows.is_graph making)
+      (λ other others has. stands other others (put.cells.kept other others has (none_in other)))
+      (stands cell words (put.cells.comes cell (first_in cell [])))
+      (object_of_shown now (reach (make graph x what)) cell words what made.shows) made.carries made.counts
+
+  -- and no cell comes to a page or to the half that is empty
+  made_collectable : IsCollectable (heap_of new) (other_half new.young.half)
+  made_collectable =
+      let half : ℕ = other_half old.young.half in
+      let with_it = own_changes_stay_collectable (heap_of old) now [] [] (cell ∷ []) half shows.shows.whole
+      put.whole.rows put.cells put.own shows.collectable in
+      let bound_too = bound_stays_collectable now x refers half below put.whole with_it in
+      let same : new.young.half ≡ old.young.half = ap (λ (main : Mutator). main.young.half) (made_is makes) in
+      subst (λ h. IsCollectable h (other_half new.young.half)) (sym (bound_heap shows.tied makes))
+      (subst (λ n. IsCollectable (bound now x refers) (other_half n)) (sym same) bound_too)
+
+  -- the mutator shows it then
+  made_main : MainShows new (make graph x what)
+  made_main = record {
+    tied = subst IsTied (sym (made_is makes)) shows.tied;
+    is_graph = graphs_stay ideal_limits [] graph command (make graph x what) [] ideal_field_limit making.fits
+        (making.done []) shows.is_graph;
+    quiet = subst (λ (now : Mutator). now.seat.phase ≡ Quiet) (sym (made_is makes)) shows.quiet;
+    shows = made_shows;
+    counts = made_counts;
+    collectable = made_collectable;
+  }
+
+  -- as many words more were used as the cell has
+  made_uses : HasRoom old.young one.size → UsesMore old new one.size
+  made_uses room =
+      let filled_one : Mutator = filled_from old at one in
+      let within : at + length one.words ≤ marks_start old.seat.space =
+      omega (
+        arith,
+        run_before_marks old one.size at old.seat.space shows.tied room (run_is_next old shows.tied makes.run) refl,
+        made.fits.fresh.long,
+      ) in
+      let beside : RestStays old.seat (with_variable filled_one x (held.Ref at)).seat =
+      rest_stays_again old.seat filled_one.seat (with_variable filled_one x (held.Ref at)).seat
+      (range_beside (reserved old one.size) at one.words shows.shows.whole.sized.words within)
+      (variable_beside filled_one x (held.Ref at) below) in
+      record {
+        beside = subst (λ (now : Mutator). RestStays old.seat now.seat) (sym (made_is makes)) beside;
+        young = ap (λ (now : Mutator). now.young) (made_is makes);
+      }
+
+  -- and the command is carried out
+  pub making_carried : (names : List (List ℕ)) → HasRoom old.young one.size
+      → Carries names old new graph command [] (Ok tt)
+  making_carried names room =
+      let makes_it : MakesOne (heap_of old) (heap_of new) =
+      subst (MakesOne (heap_of old)) (sym (bound_heap shows.tied makes))
+      (makes_one x refers shows.shows.whole made.fits.fresh put below) in (
+        make graph x what,
+        making.done names,
+        made_main,
+        λ rooms has. record {
+          room = subst (HasRoom old.young) (sym (making.need rooms)) room;
+          uses = subst (UsesMore old new) (sym (making.need rooms)) (made_uses room);
+          stores = keeps_made command what (record {
+            shows = shows;
+            shown = made_main;
+            has = has;
+            stays = makes_it.stays;
+          }) (reaches_one_more shows.is_graph making) refl making.none (making.gives rooms) makes_it;
+        },
+      )
 
 -- where eden has no room for the cell, the command stops with what it needs
 pub making_stopped : {main new : Mutator} {graph : Graph} {command : Command} {x size : ℕ} {what : Object}

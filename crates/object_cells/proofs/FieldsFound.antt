@@ -1,11 +1,12 @@
 -- The fields of a plain object by name, and by their place in its path.
-use Rattle.std.proofs.Common.{◌≡◌, ℕ, zero, suc, ◌==◌, true, false, List, [], ◌∷◌, map, Some, None, slice_get}
+use Rattle.std.proofs.Common.{◌≡◌, ℕ, zero, suc, ◌==◌, true, false, List, [], ◌∷◌, length, map, Some, None, slice_get}
 use Rattle.std.proofs.Common.{refl, sym, ◌∙◌, ap, cond}
 use Rattle.std.specs.Prelude.{option_map}
 use Rattle.std.specs.List.{list_any, IsDistinct, AllByRecursion}
 use Rattle.std.proofs.lemmas.Bool.{or_parts, eq-eqb}
 use Rattle.std.proofs.lemmas.Option.{none-some, same_Some, slice_get-map}
-use Rattle.heap_model.specs.Types.{Field, PathField}
+use Rattle.std.proofs.lemmas.List.{length-map}
+use Rattle.heap_model.specs.Types.{Field, Path, PathField}
 use Rattle.object_graph.specs.Objects.{field_value}
 use Rattle.object_graph.specs.Paths.{path_of}
 
@@ -60,6 +61,12 @@ named_at (field ∷ fields) zero name is = record { field = field; there = refl;
 named_at (field ∷ fields) (suc k) name is =
     let more = named_at fields k name is in
     record { field = more.field; there = more.there; named = more.named }
+
+-- the path of fields has as many
+pub path_long : {path : Path} {cap : ℕ} (fields : List Field) → path ≡ path_of cap fields
+    → length path.fields ≡ length fields
+path_long fields is =
+    ap (λ (p : Path). length p.fields) is ∙ length-map fields (λ (f : Field). record { name = f.name; rep = f.rep })
 
 -- a field of an object stands at the place
 pub record IsFieldAt (fields : List Field) (k : ℕ) (of_path : PathField) : Type 0 where

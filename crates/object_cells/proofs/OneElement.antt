@@ -1,7 +1,6 @@
 -- The elements of a list of which one was put, or one pushed, slot by slot.
-use Rattle.std.proofs.Common.{◌≡◌, ◌≢◌, ℕ, ◌<◌, ◌≤◌, ◌⊎◌, inl, inr, List, [], ◌∷◌, ◌++◌}
-use Rattle.std.proofs.Common.{length, Contains, Some, slice_get, set, length-set, length-append, sym, ◌∙◌, ap, subst}
-use Rattle.std.proofs.Common.{arith}
+use Rattle.std.proofs.Common.{◌≡◌, ◌≢◌, ℕ, ◌<◌, ◌≤◌, ◌⊎◌, inl, inr, List, [], ◌∷◌, ◌++◌, length, Contains, Some}
+use Rattle.std.proofs.Common.{slice_get, set, length-set, length-append, sym, ◌∙◌, ap, subst, arith}
 use Rattle.std.proofs.lemmas.Bool.{cases_eq, cases_lt}
 use Rattle.std.proofs.lemmas.Option.{same_Some, slice_get_within, slice_get_past}
 use Rattle.tagged_word.specs.declared.layout.Kind.TheVariants as kind
@@ -99,12 +98,12 @@ module _ {old new : Heap} {cell : Cell} {others made : List Cell} {before after 
   slot_comes : (k word : ℕ) → HasWord puts.now k word → ComesFrom new (HasWord puts.shown.slots) made k place k word
   slot_comes k word there = elim (cases_eq k place) [
     | inl same ↦
-        let here = subst (λ n. HasWord puts.now n word) same there in
-        subst (λ n. ComesFrom new (HasWord puts.shown.slots) made n place n word) (sym same) (puts.comes word here)
+        subst (λ n. HasWord puts.now n word → ComesFrom new (HasWord puts.shown.slots) made n place n word) (sym same)
+        (puts.comes word) there
     | inr apart ↦ elim (puts.keeps k word apart there) [
       | inl stood ↦ ComesFrom.moved stood
       | inr hole ↦ subst (ComesFrom new (HasWord puts.shown.slots) made k place k) (sym hole.1)
-          (ComesFrom.none (λ one words refers owned. hole_names_none one words refers owned))
+          (ComesFrom.none hole_names_none)
     ]
   ]
 
@@ -113,10 +112,9 @@ module _ {old new : Heap} {cell : Cell} {others made : List Cell} {before after 
       → ShowsElement new puts.shown.slots others before k word one
   slot_shows k word one is there = elim (cases_eq k place) [
     | inl same ↦
-        let here = subst (λ n. HasWord puts.now n word) same there in
-        let value_is : value ≡ one =
-        same_Some value one (sym puts.differs.here ∙ ap (slice_get after) (sym same) ∙ is) in
-        ShowsElement.fresh (subst (ShowsValue new word) value_is (puts.shows word here))
+        ShowsElement.fresh (subst (ShowsValue new word)
+        (same_Some value one (sym puts.differs.here ∙ ap (slice_get after) (sym same) ∙ is))
+        (puts.shows word (subst (λ n. HasWord puts.now n word) same there)))
     | inr apart ↦
         let was : slice_get before k ≡ Some one = sym (puts.differs.others k apart) ∙ is in
         elim (puts.keeps k word apart there) [

@@ -1,14 +1,11 @@
 -- The fields of a plain object of which one was set, slot by slot.
-use Rattle.std.proofs.Common.{◌≡◌, ◌≢◌, ℕ, ◌<◌, ◌≤◌, ◌⊎◌, inl, inr, List, ◌++◌, length, drop}
-use Rattle.std.proofs.Common.{Contains, Some, slice_get, set, length-set, nat_lt, length-drop, length-append, refl, sym}
-use Rattle.std.proofs.Common.{◌∙◌, ap, subst, arith}
+use Rattle.std.proofs.Common.{◌≡◌, ◌≢◌, ℕ, ◌<◌, ◌≤◌, ◌⊎◌, inl, inr, List, ◌++◌, length, drop, Contains, Some, slice_get}
+use Rattle.std.proofs.Common.{set, length-set, nat_lt, length-drop, length-append, refl, sym, ◌∙◌, ap, subst, arith}
 use Rattle.std.proofs.lemmas.Bool.{cases_eq}
-use Rattle.std.proofs.lemmas.List.{length-map}
 use Rattle.std.proofs.lemmas.Option.{same_Some}
 use Rattle.tagged_word.specs.declared.layout.Kind.TheVariants as kind
 use Rattle.tagged_word.specs.Cells.{plain_head, store_slot}
 use Rattle.heap_model.specs.Types.{Path, PathField, Field, Cell}
-use Rattle.object_graph.specs.declared.value.Rep.TheVariants as rep
 use Rattle.object_graph.specs.Paths.{path_of}
 use Rattle.object_graph.proofs.Lists.{slice_get-set_same, slice_get-set_other}
 use Rattle.shape_tree.specs.Shapes.{shape_path}
@@ -22,9 +19,8 @@ use Rattle.object_cells.specs.CellWrites.{reshaped}
 use Rattle.object_cells.specs.OwnSlots.{IsNoBoxOf, ComesFrom}
 use Rattle.object_cells.specs.SlotChanges.{IsTaggedSlot, HasTagged, ShowsSlot, RefillsSlots}
 use Rattle.object_cells.proofs.OwnerWrites.{becomes_cap}
-use Rattle.heap_model.proofs.OneBeside.{one_slots}
 use Rattle.object_cells.proofs.FieldsFound.{field_at}
-use Rattle.object_cells.proofs.PlainFields.{plain_sound}
+use Rattle.object_cells.proofs.PlainFields.{SlotsHeld, plain_sound, slots_held}
 use Rattle.object_cells.proofs.FieldWords.{path_field, field_is_tagged, tagged_is_field}
 use Rattle.object_cells.proofs.NumberedSlots.{IsNumbered}
 use Rattle.object_cells.proofs.SlotsNow.{PutsOwn, StoresStand, reshaped_stands, stores_stand, store_now, beside_now}
@@ -102,18 +98,9 @@ module _ {old new : Heap} {cell : Cell} {shape at word slot : ℕ} {others made 
   was_sound : IsPlainCell old cell (words_of_cell old cell)
   was_sound = plain_sound sets.puts.whole sets.puts.has sets.puts.plain
 
-  -- as many fields as before
-  as_many : length before ≡ length (shape_path old.paths cell.header.shape).fields
-  as_many =
-      let part : Field → PathField = λ f. record { name = f.name; rep = f.rep } in
-      sym (ap (λ (path : Path). length path.fields) sets.shown.path ∙ length-map before part)
-
-  -- there are slots for them
-  enough_slots : length before ≤ length sets.after.now
-  enough_slots =
-      let sound = was_sound in
-      let same = ap (λ (all : List ℕ). length all) (one_slots sound.has sets.shown.has) in
-      omega (arith, sound.hold.room, same, as_many, sets.after.long)
+  -- there are slots for all fields, and holes behind them
+  held : SlotsHeld before sets.shown.slots
+  held = slots_held sets.puts.whole sets.puts.has sets.shown
 
   -- A tagged slot of another number was one: it is that of a field that stands in the object and is not wide, and this
   -- field stays.
@@ -124,14 +111,12 @@ module _ {old new : Heap} {cell : Cell} {shape at word slot : ℕ} {others made 
       let of_path = tagged_is_field (reshaped new.paths cell shape) path k refl tagged within in
       let among = ap (λ (p : Path). slice_get p.fields k) (sym sets.path) ∙ of_path.there in
       let found = field_at cell.layout.cap (set before slot field) k of_path.field among in
-      let was : slice_get before k ≡ Some found.field = sym (slice_get-set_other before slot k field apart)
-      ∙ found.there in
       let there = ap (λ (p : Path). slice_get p.fields k) sets.shown.path
-      ∙ path_field cell.layout.cap before k found.field was in
-      let not_wide : found.field.rep ≡ rep.Wide → ⊥ =
-      λ wide. of_path.apart (sym (ap (λ (f : PathField). f.rep) found.same) ∙ wide) in
+      ∙ path_field cell.layout.cap before k found.field
+      (sym (slice_get-set_other before slot k field apart) ∙ found.there) in
       field_is_tagged k (record { name = found.field.name; rep = found.field.rep }) sets.puts.whole.sized sets.puts.has
-      sets.puts.plain was_sound.shape there (λ own wide. not_wide wide) below
+      sets.puts.plain was_sound.shape there
+      (λ own wide. of_path.apart (sym (ap (λ (f : PathField). f.rep) found.same) ∙ wide)) below
 
   -- a slot of another number holds what it held
   kept_word : (k holds : ℕ) → FillsOne sets → k ≢ slot → HasWord sets.after.now k holds
@@ -144,45 +129,37 @@ module _ {old new : Heap} {cell : Cell} {shape at word slot : ℕ} {others made 
   slot_comes : (k holds : ℕ) → FillsOne sets → HasWord sets.after.now k holds
       → IsTaggedSlot (reshaped new.paths cell shape) k
       → ComesFrom new (HasTagged cell sets.shown.slots) made k slot k holds
-  slot_comes k holds fills there tagged =
-      elim (cases_eq k slot) [
-        | inl same ↦
-            let here = subst (λ n. HasWord sets.after.now n holds) same there in
-            let tagged_here = subst (IsTaggedSlot (reshaped new.paths cell shape)) same tagged in
-            subst (λ n. ComesFrom new (HasTagged cell sets.shown.slots) made n slot n holds) (sym same)
-            (fills.comes holds here tagged_here)
-        | inr apart ↦ ComesFrom.moved (kept_word k holds fills apart there, tagged_before k apart tagged)
-      ]
+  slot_comes k holds fills there tagged = elim (cases_eq k slot) [
+    | inl same ↦
+        subst (λ n. HasWord sets.after.now n holds → IsTaggedSlot (reshaped new.paths cell shape) n
+        → ComesFrom new (HasTagged cell sets.shown.slots) made n slot n holds) (sym same) (fills.comes holds) there
+        tagged
+    | inr apart ↦ ComesFrom.moved (kept_word k holds fills apart there, tagged_before k apart tagged)
+  ]
 
   -- what each slot shows
   slot_shows : (k holds : ℕ) (one : Field) → FillsOne sets → slice_get (set before slot field) k ≡ Some one
       → HasWord sets.after.now k holds → ShowsSlot new cell sets.shown.slots others before k k holds one
-  slot_shows k holds one fills is there =
-      elim (cases_eq k slot) [
-        | inl same ↦
-            let here = subst (λ n. HasWord sets.after.now n holds) same there in
-            let is_field : field ≡ one = same_Some field one (sym (slice_get-set_same before slot field sets.there)
-            ∙ ap (slice_get (set before slot field)) (sym same) ∙ is) in
-            let shows = subst (λ n. ShowsField new (nat_lt n cell.layout.cap) holds field.rep field.value) (sym same)
-            (fills.shows holds here) in
-            ShowsSlot.fresh (subst (λ (f : Field). ShowsField new (nat_lt k cell.layout.cap) holds f.rep f.value)
-            is_field
-            shows)
-        | inr apart ↦
-            let was : slice_get before k ≡ Some one = sym (slice_get-set_other before slot k field apart) ∙ is in
-            let kept = kept_word k holds fills apart there in
-            ShowsSlot.kept one was refl refl kept refl (λ tagged. fills.no_box k holds apart kept tagged)
-      ]
+  slot_shows k holds one fills is there = elim (cases_eq k slot) [
+    | inl same ↦
+        let is_field : field ≡ one = same_Some field one (sym (slice_get-set_same before slot field sets.there)
+        ∙ ap (slice_get (set before slot field)) (sym same) ∙ is) in
+        subst (λ n. HasWord sets.after.now n holds → ShowsSlot new cell sets.shown.slots others before n n holds one)
+        (sym same) (λ here. ShowsSlot.fresh (subst (λ (f : Field). ShowsField new (nat_lt slot cell.layout.cap) holds
+        f.rep f.value) is_field (fills.shows holds here))) there
+    | inr apart ↦
+        let kept = kept_word k holds fills apart there in
+        ShowsSlot.kept one (sym (slice_get-set_other before slot k field apart) ∙ is) refl refl kept refl
+        (fills.no_box k holds apart kept)
+  ]
 
   -- the slots behind the fields are holes
   slot_rest : (k holds : ℕ) → FillsOne sets → length (set before slot field) ≤ k → HasWord sets.after.now k holds
       → holds ≡ hole_word
   slot_rest k holds fills behind there =
       let long = length-set before slot field in
-      let sound = was_sound in
-      let kept = kept_word k holds fills (λ same. omega (arith, same, sets.there, behind, long)) there in
-      sound.hold.rest k holds (omega (arith, behind, long, as_many))
-      (subst (λ all. HasWord all k holds) (sym (one_slots sound.has sets.shown.has)) kept)
+      held.rest k holds (omega (arith, behind, long))
+      (kept_word k holds fills (λ same. omega (arith, same, sets.there, behind, long)) there)
 
   -- so its slots refill the object
   pub refills_slots : FillsOne sets → RefillsSlots old new cell shape others made before (set before slot field)
@@ -192,7 +169,7 @@ module _ {old new : Heap} {cell : Cell} {shape at word slot : ℕ} {others made 
     now = sets.after.now;
     are = sets.after.are;
     path = sets.path;
-    enough = omega (arith, enough_slots, length-set before slot field);
+    enough = omega (arith, held.room, sets.after.long, length-set before slot field);
     refills = record {
       origin = λ k. k;
       apart = λ k other word another there there_too same. same;
@@ -206,6 +183,6 @@ module _ {old new : Heap} {cell : Cell} {shape at word slot : ℕ} {others made 
       stores = fills.stores;
       boxes = fills.boxes;
     };
-    each_field = λ k holds one is there. slot_shows k holds one fills is there;
-    rest = λ k holds behind there. slot_rest k holds fills behind there;
+    each_field = λ k holds one. slot_shows k holds one fills;
+    rest = λ k holds. slot_rest k holds fills;
   }

@@ -1,5 +1,5 @@
 -- Plain objects by their addresses: their cells, and the slots of their fields.
-use Rattle.std.proofs.Common.{◌≡◌, ℕ, Bool, List, length, Some, slice_get, sym, ◌∙◌, ap, subst, arith, nat_lt}
+use Rattle.std.proofs.Common.{◌≡◌, ◌≤◌, ℕ, Bool, List, length, Some, slice_get, sym, ◌∙◌, ap, subst, arith, nat_lt}
 use Rattle.std.specs.List.{IsDistinct}
 use Rattle.std.specs.Prelude.{map, ◌==◌}
 use Rattle.tagged_word.specs.declared.layout.Kind.TheVariants as kind
@@ -9,7 +9,7 @@ use Rattle.object_graph.specs.Graphs.{Graph, PlainObject}
 use Rattle.object_graph.specs.Invariants.{IsObject}
 use Rattle.shape_tree.specs.Shapes.{shape_path}
 use Rattle.heap_model.specs.Heaps.{Heap, HasCell}
-use Rattle.heap_model.specs.Slots.{IsFieldWord}
+use Rattle.heap_model.specs.Slots.{IsFieldWord, hole_word}
 use Rattle.heap_model.specs.Kinds.{HasWord, IsPlainCell, IsSoundOf}
 use Rattle.heap_model.specs.Wholeness.{Whole}
 use Rattle.heap_model.specs.Showing.{ShowsPlain}
@@ -18,6 +18,8 @@ use Rattle.heap_model.proofs.PathLayouts.{layout_is}
 use Rattle.heap_model.proofs.SlotWords.{All-slice_get}
 use Rattle.write_barrier.specs.MutatorState.{Mutator, heap_of, MainShows}
 use Rattle.object_cells.specs.PlainObjects.{IsPlainAt}
+use Rattle.object_cells.proofs.FieldsFound.{path_long}
+use Rattle.heap_model.proofs.OneBeside.{one_slots}
 use Rattle.object_cells.specs.CellsAt.{IsQuietWhole, HasPlainSlot, HasField, IsCapAt}
 
 -- a plain cell of a whole heap is sound
@@ -25,6 +27,24 @@ pub plain_sound : {heap : Heap} {cell : Cell} {words : List ℕ} → Whole heap 
     → cell.layout.kind ≡ kind.Plain → IsPlainCell heap cell words
 plain_sound {heap} {cell} {words} whole has plain =
     subst (λ k. IsSoundOf k heap cell words) plain (whole.sound cell words has)
+
+-- What the slots of an object that shows these fields hold: there are enough for these, and holes behind them.
+pub record SlotsHeld (fields : List Field) (slots : List ℕ) : Type 0 where
+  pub room : length fields ≤ length slots
+  pub rest : (at word : ℕ) → length fields ≤ at → HasWord slots at word → word ≡ hole_word
+
+-- so they do
+pub slots_held : {heap : Heap} {cell : Cell} {words : List ℕ} {cap : ℕ} {fields : List Field} → Whole heap
+    → HasCell heap cell words → (shows : ShowsPlain heap cell words cap fields) → SlotsHeld fields shows.slots
+slots_held {fields = fields} whole has shows =
+    let sound = plain_sound whole has shows.of_kind in
+    let same = one_slots sound.has shows.has in
+    let long = path_long fields shows.path in
+    record {
+      room = omega (arith, sound.hold.room, long, ap length same);
+      rest = λ at word from stands.
+          sound.hold.rest at word (omega (arith, from, long)) (ap (λ all. slice_get all at) same ∙ stands);
+    }
 
 -- a field has a slot
 pub field_slot_there : {heap : Heap} {at shape slot : ℕ} → Whole heap → HasField heap at shape slot

@@ -1,7 +1,5 @@
 -- A heap to whose plain object a field of a new name came shows the graph in which the object has it.
-use Rattle.std.proofs.Common.{◌≡◌, ℕ, List, [], ◌∷◌, ◌++◌, length, Some, None, sym}
-use Rattle.std.proofs.Common.{◌∙◌, ap, subst, arith}
-use Rattle.std.proofs.lemmas.List.{length-map}
+use Rattle.std.proofs.Common.{◌≡◌, ℕ, List, [], ◌∷◌, ◌++◌, length, Some, None, sym, ◌∙◌, ap, subst, arith}
 use Rattle.heap_model.specs.Types.{Header, Value, Field, Path, Cell, Held}
 use Rattle.object_graph.specs.Objects.{field_value, with_field}
 use Rattle.object_graph.specs.Paths.{path_of, with_path}
@@ -23,6 +21,7 @@ use Rattle.object_cells.specs.Contents.{held_rep}
 use Rattle.shape_change.specs.Additions.{CanAdd, AddsPath, added_path, count_of}
 use Rattle.object_cells.specs.Made.{PutsWords}
 use Rattle.object_cells.proofs.PlainFields.{plain_sound, plain_shown}
+use Rattle.object_cells.proofs.FieldsFound.{path_long}
 use Rattle.object_cells.proofs.NewFields.{written_fields_are_new}
 use Rattle.shape_change.proofs.FullStores.{cap_is}
 use Rattle.object_cells.proofs.OwnPlaces.{has_own_words}
@@ -95,8 +94,7 @@ module _ {old : Mutator} {graph : Graph} {plain : PlainObject} {object : ℕ} {h
         sound = sound;
         caps = caps;
         was = was;
-        count = ap (λ (p : Path). length p.fields) here
-            ∙ length-map plain.fields (λ (f : Field). record { name = f.name; rep = f.rep });
+        count = path_long plain.fields here;
         cap = ap (λ (p : Path). p.cap) here;
         path = ap (λ (p : Path). stepped p name (held_rep value)) here
             ∙ ap (stepped (path_of cell.layout.cap plain.fields) name) (held_rep_is value what held.shows)

@@ -2,9 +2,8 @@
 use Rattle.std.proofs.Common.{◌≡◌, ◌≢◌, ℕ, ◌≤◌, ◌<◌, ◌⊎◌, inl, inr, List, [], ◌∷◌, ◌++◌}
 use Rattle.std.proofs.Common.{length, Some, Contains, nat_lt, slice_get, refl, sym, ◌∙◌, ap, subst, arith}
 use Rattle.std.proofs.Common.{length-append}
-use Rattle.std.proofs.lemmas.List.{length-map}
 use Rattle.tagged_word.specs.declared.layout.Kind.TheVariants as kind
-use Rattle.heap_model.specs.Types.{Field, Path, Cell}
+use Rattle.heap_model.specs.Types.{Field, Cell}
 use Rattle.object_graph.specs.Paths.{path_of}
 use Rattle.shape_tree.specs.Shapes.{shape_path, stepped}
 use Rattle.shape_tree.specs.ShapeLayouts.{layout_of}
@@ -19,6 +18,7 @@ use Rattle.object_cells.specs.SlotChanges.{IsTaggedSlot, HasTagged, ShowsSlot, R
 use Rattle.shape_change.proofs.AddedFields.{path_of-push, push_cases}
 use Rattle.shape_change.proofs.FullStores.{cap_is}
 use Rattle.shape_change.proofs.TaggedBefore.{tagged_before}
+use Rattle.object_cells.proofs.FieldsFound.{path_long}
 use Rattle.object_cells.proofs.WrittenPlaces.{hole_names_none}
 
 -- What a slot holds after a word was put in one of number `slot`: that word, what it held before, or, behind the
@@ -72,9 +72,7 @@ module _ {old new : Heap} {cell : Cell} {next : ℕ} {others made : List Cell} {
     (adds : AddsSlot old new cell next others made fields field) where
   -- the path had as many fields
   pub as_many : length (shape_path old.paths cell.header.shape).fields ≡ length fields
-  as_many =
-      ap (λ (p : Path). length p.fields) adds.was
-      ∙ length-map fields (λ (f : Field). record { name = f.name; rep = f.rep })
+  as_many = path_long fields adds.was
 
   -- the layout after is that of the path with a step
   laid_after : (reshaped new.paths cell next).layout

@@ -1,7 +1,7 @@
 -- Once a field was taken out, each slot of a plain object shows the field that moved there, and names what that slot
--- named from which it moved.
-use Rattle.std.proofs.Common.{◌≡◌, ℕ, ◌<◌, ◌≤◌, true, List, []}
-use Rattle.std.proofs.Common.{length, Some, slice_get, get_or, nat_lt, ltb-true, refl, sym, ◌∙◌, ap, subst, arith}
+-- named from which it moved; so the object's fields become those without the one.
+use Rattle.std.proofs.Common.{◌≡◌, ℕ, ◌<◌, ◌≤◌, true, List, [], length, Some, slice_get, get_or, nat_lt, ltb-true, refl}
+use Rattle.std.proofs.Common.{sym, ◌∙◌, ap, subst, arith, ◌+◌, ◌++◌, Contains, inl}
 use Rattle.std.proofs.lemmas.Bool.{lt-ltb}
 use Rattle.std.proofs.lemmas.Option.{same_Some, slice_get-get_or, slice_get_within}
 use Rattle.object_graph.specs.declared.value.Value.TheVariants.{Undefined}
@@ -10,22 +10,28 @@ use Rattle.heap_model.specs.Types.{Field, Path, PathField, Cell}
 use Rattle.object_graph.specs.Objects.{without_field}
 use Rattle.object_graph.specs.Paths.{path_of}
 use Rattle.shape_tree.specs.Shapes.{shape_path, without}
-use Rattle.heap_model.specs.Slots.{hole_word}
-use Rattle.heap_model.specs.Kinds.{HasWord}
+use Rattle.heap_model.specs.Slots.{hole_word, is_object_kind, reference_word}
+use Rattle.heap_model.specs.Kinds.{HasWord, HasNoNumber, IsStoreCell, IsSoundOf}
 use Rattle.heap_model.specs.Showing.{ShowsField}
 use Rattle.write_barrier.specs.MutatorState.{Mutator, heap_of}
 use Rattle.object_cells.specs.OwnSlots.{NamesNone, ComesFrom}
-use Rattle.object_cells.specs.SlotChanges.{IsTaggedSlot, HasTagged, ShowsSlot}
-use Rattle.shape_change.proofs.FieldsLess.{origin_of, origin_of-behind, origins_few, AreLess}
+use Rattle.object_cells.specs.SlotChanges.{IsTaggedSlot, HasTagged, ShowsSlot, RefillsSlots}
+use Rattle.shape_change.proofs.FieldsLess.{origin_of, origin_of-behind, origins_few, AreLess, origins_apart}
 use Rattle.object_cells.proofs.PlainFields.{plain_sound}
 use Rattle.object_cells.proofs.FieldWords.{path_field, field_is_tagged, tagged_is_field}
 use Rattle.object_cells.proofs.OwnSteps.{written_places_stay, written_box_stays}
 use Rattle.object_cells.proofs.OwnerWrites.{plain_owns, becomes_cap}
 use Rattle.object_cells.proofs.WrittenPlaces.{hole_names_none}
-use Rattle.shape_change.proofs.DeletedSlots.{Deleting, count_is, NowHolds}
-use Rattle.shape_change.proofs.DeletedCells.{others_of, deleted_writes}
-use Rattle.shape_change.proofs.DeletedCame.{one_of, slots_now, now_read}
+use Rattle.shape_change.proofs.DeletedSlots.{Deleting, count_is, NowHolds, room_is}
+use Rattle.shape_change.proofs.DeletedCells.{others_of, deleted_writes, one_of, slots_now, now_read}
 use Rattle.shape_change.proofs.MovedInFields.{drawn_shown, drawn_is, no_box, drawn_field}
+use Rattle.std.proofs.lemmas.List.{append-nil}
+use Rattle.tagged_word.specs.declared.layout.Kind.TheVariants as kind
+use Rattle.tagged_word.specs.Cells.{store_slot}
+use Rattle.heap_model.specs.Heaps.{Heap, words_of_cell}
+use Rattle.heap_model.specs.Wholeness.{IsOwnedKind, NamesFrom}
+use Rattle.heap_model.proofs.ObjectSlots.{store_slot_at}
+use Rattle.object_cells.proofs.StoreCells.{is_store_cell}
 
 -- the field that a slot before the last shows
 pub record FieldMoved (fields : List Field) (slot one : ℕ) : Type 0 where
@@ -70,7 +76,7 @@ module _ {old new : Mutator} {cell : Cell} {slot : ℕ} {fields : List Field}
       shows.of_kind shape in_path
       (λ test wide. not_wide name one field less there tagged (ltb-true one cell.layout.cap (alike ∙ test)) wide)
 
-  -- there is one
+  -- each slot before the last shows one
   field_moved : (one : ℕ) → one < deleting.taken.last → FieldMoved fields slot one
   field_moved one below =
       let none : Field = record { name = 0; rep = rep.Small; value = Undefined } in
@@ -144,3 +150,74 @@ module _ {old new : Mutator} {cell : Cell} {slot : ℕ} {fields : List Field}
     | NowHolds.drawn_in behind below caps is ↦ absurd (omega (arith, below, from, less.count, count_is deleting))
     | NowHolds.hole behind is ↦ is
   ]
+
+  -- the object names its store
+  pub store_belongs : (other : Cell) → Contains (others_of deleting) other
+      → (at : ℕ) × NamesFrom (heap_of old) cell at other.at
+  store_belongs other there =
+      let heap : Heap = heap_of old in
+      let are = deleting.shows.has in
+      let is = is_store_cell are.stands other there in (
+        cell.at + store_slot,
+        record {
+          words = words_of_cell heap cell;
+          has = deleting.has;
+          object = ap is_object_kind deleting.shows.of_kind;
+          word = are.store;
+          of_owner = store_slot_at are.store (ap is_object_kind deleting.shows.of_kind) are.slot;
+          cell = other;
+          others = words_of_cell heap other;
+          refers = is.refers;
+          owned = subst IsOwnedKind (sym is.of_kind) tt;
+          at = refl;
+        },
+      )
+
+  -- its store has no number, and its slot refers to it
+  store_told : (other : Cell) → Contains (others_of deleting) other
+      → HasNoNumber other × (deleting.shows.has.store ≡ reference_word other.at)
+  store_told other there =
+      let heap : Heap = heap_of old in
+      let is = is_store_cell deleting.shows.has.stands other there in
+      let words : List ℕ = words_of_cell heap other in
+      let sound : IsStoreCell heap other words =
+      subst (λ k. IsSoundOf k heap other words) is.of_kind (deleting.whole.sound other words is.refers.has) in
+      (sound.no_number, is.refers.refers)
+
+  -- the fields of the object become those without the one, slot by slot
+  pub deleted_refills : (name : ℕ) → AreLess cell.layout.cap fields slot name
+      → RefillsSlots (heap_of old) (heap_of new) cell deleting.taken.next (others_of deleting) [] fields
+      (without_field fields name)
+  deleted_refills name less =
+      let shows = deleting.shows in
+      let now = slots_now deleting in
+      let among : (other : Cell) → Contains (others_of deleting ++ []) other → Contains (others_of deleting) other =
+      λ other there. subst (λ all. Contains all other) (append-nil (others_of deleting)) there in
+      record {
+        slots = shows.slots;
+        were = shows.has;
+        now = now.now;
+        are = now.are;
+        path = path_now name less;
+        enough = omega (arith, less.count, count_is deleting, room_is deleting, now.long);
+        refills = record {
+          origin = origin_of slot;
+          apart = λ one other word another there there_too. origins_apart slot one other;
+          one = 0;
+          each_slot = λ one word there. slot_comes name one word less there.0 there.1;
+          store = now.are.store;
+          has_store = now.are.slot;
+          store_comes = inl (subst (HasWord (words_of_cell (heap_of old) cell) store_slot) (sym now.store)
+              shows.has.slot);
+          belong = λ other there. store_belongs other there;
+          kinds = λ other there. absurd (omega (arith, there.1));
+          stores = λ other there store.
+              let told = store_told other (among other there) in (told.0, now.store ∙ told.1);
+          boxes = λ other there boxed.
+              let is = is_store_cell shows.has.stands other (among other there) in
+              let kinds : kind.Boxed ≡ kind.Store = sym boxed ∙ is.of_kind in
+              cc;
+        };
+        each_field = λ one word field of_field there. slot_shows name one word field less of_field there;
+        rest = λ one word from there. rest_is_hole name one word less from there;
+      }

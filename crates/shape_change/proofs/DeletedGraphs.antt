@@ -37,9 +37,8 @@ use Rattle.object_cells.proofs.OwnerWrites.{plain_owns}
 use Rattle.object_cells.proofs.RestOfWords.{keeps_regions}
 use Rattle.shape_change.proofs.FullPaths.{full_of_paths}
 use Rattle.shape_change.proofs.DeletedSlots.{Deleting}
-use Rattle.shape_change.proofs.DeletedCame.{slot_stays}
-use Rattle.shape_change.proofs.DeletedCells.{others_of, deleted_writes}
-use Rattle.shape_change.proofs.DeletedHeaps.{deleted_refills, store_belongs}
+use Rattle.shape_change.proofs.DeletedCells.{slot_stays, others_of, deleted_writes}
+use Rattle.shape_change.proofs.DeletedFields.{deleted_refills, store_belongs}
 use Rattle.shape_change.proofs.ShownFields.{ShownCell, FieldFound, shown_cell, shown_path, name_is_new}
 
 module _ {old : Mutator} {graph : Graph} {object : ℕ} {plain : PlainObject} {header : Header} {slot name : ℕ}

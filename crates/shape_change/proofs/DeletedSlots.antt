@@ -3,9 +3,8 @@ use Rattle.std.proofs.Common.{◌≡◌, ◌≢◌, ℕ, suc, ◌<◌, ◌≤◌
 use Rattle.std.proofs.Common.{Some, slice_get, nat_lt, refl, sym, ◌∙◌, ap, arith}
 use Rattle.std.proofs.lemmas.Bool.{cases_lt, cases_eq}
 use Rattle.std.proofs.lemmas.Bool.Decides.{nat_tests}
-use Rattle.std.proofs.lemmas.List.{length-map}
 use Rattle.std.proofs.lemmas.Option.{same_Some}
-use Rattle.heap_model.specs.Types.{Field, Path, PathField, Cell}
+use Rattle.heap_model.specs.Types.{Field, Path, Cell}
 use Rattle.heap_table.specs.Seats.{heap_words}
 use Rattle.heap_model.specs.Heaps.{HasCell, words_of_cell}
 use Rattle.heap_model.specs.Slots.{hole_word}
@@ -16,11 +15,10 @@ use Rattle.write_barrier.specs.MutatorState.{Mutator, heap_of}
 use Rattle.shape_change.specs.Shifts.{slot_at}
 use Rattle.shape_change.specs.Deletions.{TakesFieldOut}
 use Rattle.shape_change.proofs.FieldsLess.{origin_of, origin_of-before, origin_of-behind}
-use Rattle.object_cells.proofs.PlainFields.{plain_sound}
-use Rattle.heap_model.proofs.OneBeside.{one_slots}
+use Rattle.object_cells.proofs.PlainFields.{slots_held}
+use Rattle.object_cells.proofs.FieldsFound.{path_long}
 use Rattle.object_cells.proofs.StoreCells.{store_at, slots_counted}
-use Rattle.shape_change.proofs.SlotAddresses.{slot_at-own, SlotsStand, slots_stand}
-use Rattle.shape_change.proofs.SlotAddresses.{slots_are_apart, slot_read}
+use Rattle.shape_change.proofs.SlotAddresses.{slot_at-own, SlotsStand, slots_stand, slots_are_apart, slot_read}
 use Rattle.shape_change.proofs.StoresFound.{store_is_there}
 use Rattle.shape_change.proofs.TakenOut.{slot_stands}
 
@@ -31,11 +29,6 @@ pub record Deleting (old new : Mutator) (cell : Cell) (slot : ℕ) (fields : Lis
   pub shows : ShowsPlain (heap_of old) cell (words_of_cell (heap_of old) cell) cell.layout.cap fields
   pub taken : TakesFieldOut old new cell.at cell.header slot
   pub there : slot < length fields
-
--- what the slots of an object hold behind its fields, for which there are slots
-record SlotsHeld (old new : Mutator) (cell : Cell) (slot : ℕ) (fields : List Field) (slots : List ℕ) : Type 0 where
-  pub room : length fields ≤ length slots
-  pub rest : (at word : ℕ) → length fields ≤ at → HasWord slots at word → word ≡ hole_word
 
 -- What a slot holds now: what the slot held from which it comes, where both stand in the object or both in the store;
 -- or what was drawn in, where it is the last in the object; or nothing.
@@ -55,23 +48,7 @@ module _ {old new : Mutator} {cell : Cell} {slot : ℕ} {fields : List Field}
 
   -- the last field is the last
   pub count_is : length fields ≡ suc deleting.taken.last
-  count_is =
-      let part : Field → PathField = λ f. record { name = f.name; rep = f.rep } in
-      sym (length-map fields part) ∙ sym (ap (λ (p : Path). length p.fields) deleting.shows.path)
-      ∙ deleting.taken.counted
-
-  -- so they do
-  slots_held : SlotsHeld old new cell slot fields deleting.shows.slots
-  slots_held =
-      let sound = plain_sound deleting.whole deleting.has deleting.shows.of_kind in
-      let same = one_slots sound.has deleting.shows.has in
-      let part : Field → PathField = λ f. record { name = f.name; rep = f.rep } in
-      let long = ap (λ (p : Path). length p.fields) deleting.shows.path ∙ length-map fields part in
-      record {
-        room = omega (arith, sound.hold.room, long, ap length same);
-        rest = λ at word from stands.
-            sound.hold.rest at word (omega (arith, from, long)) (ap (λ all. slice_get all at) same ∙ stands);
-      }
+  count_is = sym (path_long fields deleting.shows.path) ∙ deleting.taken.counted
 
   -- where the slot of a number stands
   abbrev pub address : ℕ → ℕ
@@ -79,7 +56,7 @@ module _ {old new : Mutator} {cell : Cell} {slot : ℕ} {fields : List Field}
 
   -- there are slots for all fields
   pub room_is : suc deleting.taken.last ≤ length deleting.shows.slots
-  room_is = omega (arith, count_is, slots_held.room)
+  room_is = omega (arith, count_is, (slots_held deleting.whole deleting.has deleting.shows).room)
 
   -- where all slots stand
   pub all_stand : SlotsStand (heap_of old) cell.at cell.layout.cap (store_at deleting.shows.has.stands)
@@ -173,7 +150,8 @@ module _ {old new : Mutator} {cell : Cell} {slot : ℕ} {fields : List Field}
                 ∙ ap (slice_get (heap_words new.seat)) (sym (address_is taken.last (omega arith))) ∙ taken.hole))
             | inr apart ↦
                 let behind : taken.last < one = omega (arith, rest, apart) in
-                NowHolds.hole rest (slots_held.rest one word (omega (arith, count, behind))
+                NowHolds.hole rest ((slots_held deleting.whole deleting.has deleting.shows).rest one word
+                (omega (arith, count, behind))
                 (now_stays one word below stands (inr behind)))
           ]
         ]

@@ -26,13 +26,10 @@ mod AddedSlots
 mod FieldsLess
 mod StoresFound
 mod TakenOut
-mod TakenFields
 mod DeletedSlots
 mod DeletedCells
-mod DeletedCame
 mod MovedInFields
 mod DeletedFields
-mod DeletedHeaps
 mod DeletedGraphs
 mod AddedWords
 mod OneAdded

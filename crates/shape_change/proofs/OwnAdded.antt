@@ -8,7 +8,6 @@ use Rattle.object_graph.specs.declared.value.Rep.TheVariants as rep
 use Rattle.object_graph.specs.Values.{rep_of}
 use Rattle.object_graph.specs.Objects.{with_field}
 use Rattle.object_graph.specs.Graphs.{Graph, PlainObject}
-use Rattle.page_space.specs.Extents.{Space}
 use Rattle.shape_tree.specs.Shapes.{shape_path, stepped}
 use Rattle.heap_table.specs.Seats.{heap_words}
 use Rattle.heap_model.specs.Heaps.{words_of_cell}
@@ -36,13 +35,14 @@ use Rattle.shape_tree.specs.ShapeLayouts.{layout_of}
 use Rattle.object_graph.specs.Paths.{path_of}
 use Rattle.shape_change.proofs.OneAdded.{one_adds}
 use Rattle.object_cells.proofs.MadeBoxes.{row_of_none}
-use Rattle.nursery.specs.Young.{HasRoom}
 use Rattle.shape_change.proofs.FullStores.{length-slots}
 use Rattle.object_cells.proofs.NumberedSlots.{IsNumbered}
 use Rattle.object_cells.proofs.OwnCells.{cell_below_layouts}
 use Rattle.object_cells.proofs.SlotsNow.{plain_cell_size}
 use Rattle.shape_change.proofs.AddedFields.{new_field, path_of-push}
-use Rattle.shape_change.proofs.AddedWords.{PutsOver, over_last, reserved_none}
+use Rattle.shape_change.proofs.AddedWords.{PutsOver, over_last}
+use Rattle.object_cells.proofs.FilledSlots.{reserved_none}
+use Rattle.object_cells.proofs.NothingUsed.{room_for_none}
 use Rattle.shape_change.proofs.AddedShown.{Adding, added_shows}
 use Rattle.shape_change.proofs.OneAdding.{OneAdding, one_adding, path_after}
 
@@ -50,108 +50,85 @@ use Rattle.shape_change.proofs.OneAdding.{OneAdding, one_adding, path_after}
 abbrev own_place : Mutator → ℕ → Header → ℕ
 own_place old object header = object + (plain_head + count_of old.paths header.shape)
 
--- it is one of the object's cell, where that has the slot
-own_of_cell : {old : Mutator} {graph : Graph} {plain : PlainObject} {object : ℕ} {header : Header} {name : ℕ}
-    {value : Held} {what : Value} (known : Adding old graph plain object header name value what)
-    → count_of old.paths header.shape < (shape_path old.paths header.shape).cap
-    → IsOfCell known.cell (own_place old object header)
-own_of_cell known own =
-    let size = plain_cell_size known.has known.shown.of_kind in
-    record { from = omega (arith, known.stands); below = omega (arith, known.stands, known.cap, own, size) }
+module _ {old : Mutator} {graph : Graph} {plain : PlainObject} {object : ℕ} {header : Header} {name : ℕ} {value : Held}
+    {what : Value} (known : Adding old graph plain object header name value what)
+    (own : count_of old.paths header.shape < (shape_path old.paths header.shape).cap) where
+  -- where the object has the slot, its address is one of the object's cell
+  own_of_cell : IsOfCell known.cell (own_place old object header)
+  own_of_cell =
+      let size = plain_cell_size known.has known.shown.of_kind in
+      record { from = omega (arith, known.stands); below = omega (arith, known.stands, known.cap, own, size) }
 
--- it is that of the slot of this number
-own_numbered : {old : Mutator} {graph : Graph} {plain : PlainObject} {object : ℕ} {header : Header} {name : ℕ}
-    {value : Held} {what : Value} (known : Adding old graph plain object header name value what)
-    → count_of old.paths header.shape < (shape_path old.paths header.shape).cap
-    → IsNumbered (heap_of old) known.cell (words_of_cell (heap_of old) known.cell) (length plain.fields)
-    (own_place old object header)
-own_numbered known own =
-    IsNumbered.own (omega (arith, known.count, known.cap, own)) (omega (arith, known.count, known.stands))
-    (own_of_cell known own)
+  -- namely that of the slot of this number
+  own_numbered : IsNumbered (heap_of old) known.cell (words_of_cell (heap_of old) known.cell) (length plain.fields)
+      (own_place old object header)
+  own_numbered =
+      IsNumbered.own (omega (arith, known.count, known.cap, own)) (omega (arith, known.count, known.stands)) own_of_cell
 
--- there is room for no word
-room_for_none : {old : Mutator} {graph : Graph} {plain : PlainObject} {object : ℕ} {header : Header} {name : ℕ}
-    {value : Held} {what : Value} → Adding old graph plain object header name value what → HasRoom old.young 0
-room_for_none {old} known =
-    omega (arith, known.shows.shows.whole.rows.few, ap (λ (s : Space). s.sizes.young) known.shows.tied)
+  -- so the words that are put are one word and the header
+  pub own_over : {new : Mutator} → (adds : AddsOwn old new object header name value)
+      → PutsOver old adds.mid new (added_path old.paths header.shape name value) known.cell adds.next
+      (own_place old object header) (content_word (own_content value) 0) 0
+      (with_shape
+      (slice_set (heap_words adds.mid.seat) (own_place old object header) (content_word (own_content value) 0)) object
+      header adds.next)
+  own_over adds =
+      let whole = known.shows.shows.whole in
+      let path = subst (λ main. AddsPath main adds.mid (added_path old.paths header.shape name value) adds.next)
+      (reserved_none old) adds.path in
+      over_last adds.next (own_place old object header) (content_word (own_content value) 0) 0 object
+      (heap_words adds.mid.seat)
+      known.can.tied (room_for_none old known.can.tied whole) path adds.words refl (λ a not_new. refl)
+      known.stands known.headed
+      (λ same. omega (arith, same, known.stands)) (cell_below_layouts whole known.has (first_of_cell known.has))
+      (cell_below_layouts whole known.has own_of_cell)
 
--- so the words that are put are one word and the header
-pub own_over : {old new : Mutator} {graph : Graph} {plain : PlainObject} {object : ℕ} {header : Header} {name : ℕ}
-    {value : Held} {what : Value} (known : Adding old graph plain object header name value what)
-    → count_of old.paths header.shape < (shape_path old.paths header.shape).cap
-    → (adds : AddsOwn old new object header name value)
-    → PutsOver old adds.mid new (added_path old.paths header.shape name value) known.cell adds.next
-    (own_place old object header) (content_word (own_content value) 0) 0
-    (with_shape (slice_set (heap_words adds.mid.seat) (own_place old object header)
-    (content_word (own_content value) 0)) object header adds.next)
-own_over {old} {object = object} {header} {name} {value} known own adds =
-    let whole = known.shows.shows.whole in
-    let path = subst (λ main. AddsPath main adds.mid (added_path old.paths header.shape name value) adds.next)
-    (sym (reserved_none old)) adds.path in
-    over_last adds.next (own_place old object header) (content_word (own_content value) 0) 0 object
-    (heap_words adds.mid.seat)
-    known.can.tied (room_for_none known) path adds.words refl (λ a not_new. refl) known.stands known.headed
-    (λ same. omega (arith, same, known.stands)) (cell_below_layouts whole known.has (first_of_cell known.has))
-    (cell_below_layouts whole known.has (own_of_cell known own))
+  -- so the field is added
+  own_adding : {new : Mutator} → (adds : AddsOwn old new object header name value)
+      → OneAdding (heap_of old) (heap_of new) known.cell adds.next (own_place old object header)
+      (content_word (own_content value) 0) [] plain.fields (new_field name what)
+  own_adding {new} adds =
+      one_adding [] known (own_over adds) (row_of_none (heap_of new) (next_at old)) own_numbered
+      (omega (arith, known.count, known.cap, own, length-slots known.has known.shown.of_kind known.sound.has))
 
--- so the field is added
-own_adding : {old new : Mutator} {graph : Graph} {plain : PlainObject} {object : ℕ} {header : Header} {name : ℕ}
-    {value : Held} {what : Value} (known : Adding old graph plain object header name value what)
-    → count_of old.paths header.shape < (shape_path old.paths header.shape).cap
-    → (adds : AddsOwn old new object header name value)
-    → OneAdding (heap_of old) (heap_of new) known.cell adds.next (own_place old object header)
-    (content_word (own_content value) 0) [] plain.fields (new_field name what)
-own_adding {old} {new} {plain = plain} known own adds =
-    one_adding [] known (own_over known own adds) (row_of_none (heap_of new) (next_at old)) (own_numbered known own)
-    (omega (arith, known.count, known.cap, own, length-slots known.has known.shown.of_kind known.sound.has))
+  -- where the field is wide, its slot is raw
+  own_not_tagged : {new : Mutator} → (adds : AddsOwn old new object header name value)
+      → IsTaggedSlot (reshaped new.paths known.cell adds.next) (length plain.fields) → rep_of what ≡ rep.Wide → ⊥
+  own_not_tagged {new = new} adds tagged wide =
+      let cap : ℕ = known.cell.layout.cap in
+      let before : Path = path_of cap plain.fields in
+      let path : shape_path new.paths adds.next ≡ stepped before name rep.Wide =
+      path_after known (own_over adds) ∙ path_of-push cap plain.fields (new_field name what)
+      ∙ ap (stepped before name) wide in
+      wide_not_tagged (reshaped new.paths known.cell adds.next) before name (length plain.fields) (ap layout_of path)
+      (sym (length-map plain.fields (λ (f : Field). record { name = f.name; rep = f.rep })))
+      (omega (arith, known.count, known.cap, own)) tagged
 
--- where the field is wide, its slot is raw
-own_not_tagged : {old new : Mutator} {graph : Graph} {plain : PlainObject} {object : ℕ} {header : Header} {name : ℕ}
-    {value : Held} {what : Value} (known : Adding old graph plain object header name value what)
-    → count_of old.paths header.shape < (shape_path old.paths header.shape).cap
-    → (adds : AddsOwn old new object header name value)
-    → IsTaggedSlot (reshaped new.paths known.cell adds.next) (length plain.fields) → rep_of what ≡ rep.Wide → ⊥
-own_not_tagged {new = new} {plain = plain} {name = name} {what = what} known own adds tagged wide =
-    let cap : ℕ = known.cell.layout.cap in
-    let before : Path = path_of cap plain.fields in
-    let path : shape_path new.paths adds.next ≡ stepped before name rep.Wide =
-    path_after known (own_over known own adds) ∙ path_of-push cap plain.fields (new_field name what)
-    ∙ ap (stepped before name) wide in
-    wide_not_tagged (reshaped new.paths known.cell adds.next) before name (length plain.fields) (ap layout_of path)
-    (sym (length-map plain.fields (λ (f : Field). record { name = f.name; rep = f.rep })))
-    (omega (arith, known.count, known.cap, own)) tagged
+  -- and the graph is shown in which the object has it
+  pub own_shown : {new : Mutator} → AddsOwn old new object header name value
+      → ShowsRefilled new graph plain (with_field plain.fields name what)
+  own_shown {new} adds =
+      let one = own_adding adds in
+      let over = own_over adds in
+      let slot : ℕ = length plain.fields in
+      let word : ℕ = content_word (own_content value) 0 in
+      let places = written_places_stay plain_owns known.shows.shows.whole one.writes in
+      let holds = new_value_held true value what known.held.shows in
+      let below : slot < known.cell.layout.cap = omega (arith, known.count, known.cap, own) in
+      let test : nat_lt slot known.cell.layout.cap ≡ true = lt-ltb slot known.cell.layout.cap below in
+      let shows : ShowsField (heap_of new) true word (rep_of what) what =
+      content_shows (length graph.objects) 0 holds places known.fits
+      (λ v boxed. absurd (own_holds_no_box v holds boxed)) in
+      added_shows 0 known over.adds over.puts one.writes
+      (one_adds one.adds (subst (λ o. ShowsField (heap_of new) o word (rep_of what) what) (sym test) shows)
+      (λ tagged. content_comes (HasTagged known.cell one.adds.sound.slots) [] slot slot 0 holds places
+      (λ is_own wide. own_not_tagged adds tagged wide) (λ v boxed. absurd (own_holds_no_box v holds boxed)))
+      (λ other there. absurd (none_in other there)) (λ other there. absurd (none_in other there)))
 
--- and the graph is shown in which the object has it
-pub own_shown : {old new : Mutator} {graph : Graph} {plain : PlainObject} {object : ℕ} {header : Header} {name : ℕ}
-    {value : Held} {what : Value} → Adding old graph plain object header name value what
-    → count_of old.paths header.shape < (shape_path old.paths header.shape).cap
-    → AddsOwn old new object header name value
-    → ShowsRefilled new graph plain (with_field plain.fields name what)
-own_shown {old} {new} {graph} {plain} {object} {header} {name} {value} {what} known own adds =
-    let one = own_adding known own adds in
-    let over = own_over known own adds in
-    let slot : ℕ = length plain.fields in
-    let word : ℕ = content_word (own_content value) 0 in
-    let places = written_places_stay plain_owns known.shows.shows.whole one.writes in
-    let holds = new_value_held true value what known.held.shows in
-    let below : slot < known.cell.layout.cap = omega (arith, known.count, known.cap, own) in
-    let test : nat_lt slot known.cell.layout.cap ≡ true = lt-ltb slot known.cell.layout.cap below in
-    let shows : ShowsField (heap_of new) true word (rep_of what) what =
-    content_shows (length graph.objects) 0 holds places known.fits
-    (λ v boxed. absurd (own_holds_no_box v holds boxed)) in
-    added_shows 0 known over.adds over.puts one.writes
-    (one_adds one.adds (subst (λ o. ShowsField (heap_of new) o word (rep_of what) what) (sym test) shows)
-    (λ tagged. content_comes (HasTagged known.cell one.adds.sound.slots) [] slot slot 0 holds places
-    (λ is_own wide. own_not_tagged known own adds tagged wide) (λ v boxed. absurd (own_holds_no_box v holds boxed)))
-    (λ other there. absurd (none_in other there)) (λ other there. absurd (none_in other there)))
-
--- each property store has as many slots as before
-pub own_keeps : {old new : Mutator} {graph : Graph} {plain : PlainObject} {object : ℕ} {header : Header} {name : ℕ}
-    {value : Held} {what : Value} (known : Adding old graph plain object header name value what)
-    → count_of old.paths header.shape < (shape_path old.paths header.shape).cap
-    → AddsOwn old new object header name value
-    → ChangesObject (heap_of old) (heap_of new) known.cell.at (capacity_at (heap_of old) known.cell.at)
-own_keeps known own adds =
-    one_keeps (own_adding known own adds).adds.puts
-    (λ other among. (known.cell.at + store_slot, ((own_adding known own adds).adds.place.stores other among).named))
-    (λ other there. absurd (none_in other there))
+  -- each property store has as many slots as before
+  pub own_keeps : {new : Mutator} → AddsOwn old new object header name value
+      → ChangesObject (heap_of old) (heap_of new) known.cell.at (capacity_at (heap_of old) known.cell.at)
+  own_keeps adds =
+      one_keeps (own_adding adds).adds.puts
+      (λ other among. (known.cell.at + store_slot, ((own_adding adds).adds.place.stores other among).named))
+      (λ other there. absurd (none_in other there))

@@ -3,7 +3,6 @@ use Rattle.std.proofs.Common.{◌≡◌, ℕ, ◌<◌, Bool, List, length, Some,
 use Rattle.std.proofs.Common.{refl, sym, ◌∙◌, ap, subst, arith}
 use Rattle.std.specs.Prelude.{option_map}
 use Rattle.std.proofs.lemmas.Option.{same_Some, slice_get-get_or}
-use Rattle.std.proofs.lemmas.List.{length-map}
 use Rattle.heap_model.specs.Types.{Value, Rep, Field, Path, PathField, Held}
 use Rattle.object_graph.specs.declared.value.Value.TheVariants.{Undefined}
 use Rattle.object_graph.specs.declared.value.Rep.TheVariants as rep
@@ -25,13 +24,13 @@ use Rattle.object_cells.specs.Contents.{held_rep, content_of, HoldsSlotWord}
 use Rattle.shape_change.specs.Fillings.{IsSlotSetting}
 use Rattle.shape_change.specs.Places.{place_at, IsPlaceOf}
 use Rattle.object_cells.proofs.FieldWords.{path_field}
+use Rattle.object_cells.proofs.FieldsFound.{path_long}
 use Rattle.shape_change.proofs.FieldsSet.{path_changed}
 use Rattle.shape_change.proofs.FoundPlaces.{place_numbered}
 use Rattle.object_cells.proofs.HeldContents.{HoldsValue, held_rep_is, value_held, held_slot_word}
-use Rattle.object_cells.proofs.PlainFields.{plain_sound, plain_shown, shape_there}
+use Rattle.object_cells.proofs.PlainFields.{slots_held, plain_shown, shape_there}
 use Rattle.shape_change.proofs.Settings.{Setting, mapped, setting, slot_is_field}
 use Rattle.shape_change.proofs.SetShown.{FillsAt, was_field_word}
-use Rattle.heap_model.proofs.OneBeside.{one_slots}
 use Rattle.object_cells.proofs.SlotsNow.{numbered_stands}
 
 -- The slot of the field is at the place, in the object itself or not; the field had this representation, and the
@@ -59,16 +58,15 @@ pub shown_setting : {old : Mutator} {object shape slot : ℕ} {held : Held} (sho
 shown_setting {old} {slot = slot} shown there fits =
     let plain = shown.plain in
     let known = plain_shown shown.shows shown.is in
-    let part : Field → PathField = λ f. record { name = f.name; rep = f.rep } in
     let path = ap (shape_path old.paths) (sym (shape_there there known.has known.stands)) ∙ known.shows.path in
-    let few = ap (λ (p : Path). length p.fields) path ∙ length-map plain.fields part in
+    let few = path_long plain.fields path in
     let below : slot < length plain.fields = omega (arith, there.below, few) in
     setting shown.shows shown.is shown.is_held fits
     (ap (option_map (λ (field : Field). field.name)) (slice_get-get_or plain.fields slot no_field below))
 
 module _ {old : Mutator} {graph : Graph} {object slot : ℕ} {plain : PlainObject} {what : Value} {name : ℕ}
     (s : Setting old graph object slot plain what name) where
-  -- so it is read off the shapes
+  -- this is read off the shapes
   pub is_read : (tree : List Path) (shape cap : ℕ) (place : Place) (own : Bool) (known : PathField)
       → HasField (heap_of old) object shape slot → tree ≡ old.paths → cap ≡ (shape_path tree shape).cap
       → IsPlaceOf (heap_of old) object cap slot place → own ≡ nat_lt slot cap
@@ -94,11 +92,8 @@ module _ {old : Mutator} {graph : Graph} {object slot : ℕ} {plain : PlainObjec
   -- there is a slot for the field
   slot_is_there : slot < length s.shown.slots
   slot_is_there =
-      let sound = plain_sound s.shows.shows.whole s.has s.shown.of_kind in
-      let same = ap (λ (all : List ℕ). length all) (one_slots sound.has s.shown.has) in
-      let part : Field → PathField = λ f. record { name = f.name; rep = f.rep } in
-      let few = ap (λ (p : Path). length p.fields) s.shown.path ∙ length-map plain.fields part in
-      omega (arith, sound.hold.room, same, few, slot_is_field s)
+      let held = slots_held s.shows.shows.whole s.has s.shown in
+      omega (arith, held.room, slot_is_field s)
 
   -- what the slot comes to hold for the value that is held, and what it held
   pub fills_at : {shape : ℕ} (place : Place) (own : Bool) (was one : Rep) (held : Held) (content : SlotContent)

@@ -1,6 +1,5 @@
 -- The cell of a plain object that a heap shows, and the field of a name that was found in its path.
-use Rattle.std.proofs.Common.{None, false, ◌≡◌, ℕ, List, Some, slice_get}
-use Rattle.std.proofs.Common.{sym, ◌∙◌, ap, subst}
+use Rattle.std.proofs.Common.{None, false, ◌≡◌, ℕ, List, Some, slice_get, sym, ◌∙◌, ap, subst}
 use Rattle.std.specs.Prelude.{option_map}
 use Rattle.std.proofs.lemmas.Option.{slice_get_within}
 use Rattle.heap_model.specs.Types.{Header, LayoutWord, Field, Path, PathField, Cell}

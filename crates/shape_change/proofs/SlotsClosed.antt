@@ -1,7 +1,6 @@
 -- Slots of a plain object that moved down by one, in the object and in its store.
-use Rattle.std.proofs.Common.{◌≡◌, ◌≢◌, ℕ, suc, ◌+◌, ◌-◌}
-use Rattle.std.proofs.Common.{◌<◌, ◌≤◌, ◌⊎◌, inl, inr, slice_get}
-use Rattle.std.proofs.Common.{Some, length, sym, ◌∙◌, ap, subst, arith, length-set}
+use Rattle.std.proofs.Common.{◌≡◌, ◌≢◌, ℕ, suc, ◌+◌, ◌-◌, ◌<◌, ◌≤◌, ◌⊎◌, inl, inr, slice_get, Some, length, sym, ◌∙◌}
+use Rattle.std.proofs.Common.{ap, subst, arith, length-set}
 use Rattle.std.specs.Prelude.{slice_set}
 use Rattle.std.proofs.lemmas.Bool.{cases_lt}
 use Rattle.tagged_word.specs.Cells.{plain_head, store_head}
@@ -34,7 +33,6 @@ rest_then old mid new before then = record {
   count = then.count ∙ before.count;
 }
 
--- words moved down, and then one was put in the last place
 module _ {old mid new : Mutator} {from to : ℕ} (word : ℕ) (moves : MovesDown old mid from to)
     (is : new ≡ with_word mid to word) (heap : heap_words new.seat ≡ slice_set (heap_words mid.seat) to word)
     (ordered : from ≤ to) (below : to < marks_start old.seat.space) (within : to < length (heap_words old.seat)) where

@@ -1,9 +1,7 @@
 -- The field is taken out, or there may not be as many paths.
-use Rattle.std.proofs.Common.{[], Ok, subst}
 use Rattle.heap_command.specs.declared.command.Command.TheVariants.{Del}
 use Rattle.heap_command.specs.declared.command.FaultWord.TheVariants.{ShapesFull}
 use Rattle.mutator.specs.declared.stop.Stop.TheVariants.{Fault}
-use Rattle.mutator.specs.CarriesOut.{Carries}
 use Rattle.mutator.proofs.FieldsTaken.{taking_known, del_carried, del_stopped}
 use Rattle.mutator.proofs.StoppedBy.{stopped_with}
 use Rattle.mutator.proofs.StillShown.{shows_still, stands_still, value_still}
@@ -31,8 +29,8 @@ returns c = record {
       let shown = shows_still same shows in
       let found = c.in_ok-found.ensures graph target shown (stands_still same stands) in
       let taking = taking_known c.args.x target shown is found in
-      subst (λ main. Carries names main c.delete.new.main graph (Del c.args.x c.args.f) [] (Ok tt)) same
-      (del_carried names c.args.f taking (c.in_ok-delete.ensures graph taking.plain taking.shows taking.stands));
+      del_carried names c.args.f same taking
+      (c.in_ok-delete.ensures graph taking.plain taking.shows taking.stands);
 }
 
 pub returns-in_err-delete : goal.returns-in_err-delete

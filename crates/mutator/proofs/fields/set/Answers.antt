@@ -1,9 +1,7 @@
 -- The field comes to have the value, or the command stops with why it cannot.
-use Rattle.std.proofs.Common.{[], Ok, subst}
 use Rattle.heap_command.specs.declared.command.Command.TheVariants.{Set}
 use Rattle.heap_command.specs.declared.command.Operand.TheVariants.{Var}
 use Rattle.mutator.specs.Stops.{stop_of}
-use Rattle.mutator.specs.CarriesOut.{Carries}
 use Rattle.mutator.proofs.FieldsSet.{setting_known, setting_shown, set_carried, set_stopped}
 use Rattle.mutator.proofs.StoppedBy.{stopped_with}
 use Rattle.mutator.proofs.StillShown.{shows_still, stands_still, first_still}
@@ -19,7 +17,7 @@ set-requires c =
     let same = c.operands.ensures.same in
     let both = c.in_ok-target.ensures.found graph shows in
     let found = c.in_ok-found.ensures graph both.first (shows_still same shows) (stands_still same both.stands_first) in
-    setting_shown (setting_known c.args.x c.args.v same shows both found c.requires.within.0 c.requires.within.2)
+    setting_shown (setting_known c.args.x c.args.v same shows both found)
 
 pub returns : goal.returns
 returns c = record {
@@ -28,10 +26,9 @@ returns c = record {
       let both = c.in_ok-target.ensures.found graph shows in
       let found = c.in_ok-found.ensures graph both.first (shows_still same shows)
       (stands_still same both.stands_first) in
-      let setting = setting_known c.args.x c.args.v same shows both found c.requires.within.0 c.requires.within.2 in
-      let sets = c.in_ok-set.ensures graph setting.plain setting.value setting.shows setting.stands setting.held in
-      subst (λ main. Carries names main c.set.new.main graph (Set c.args.x c.args.f c.args.v) [] (Ok tt)) same
-      (set_carried names c.args.f setting sets);
+      let setting = setting_known c.args.x c.args.v same shows both found in
+      set_carried names c.args.f same setting
+      (c.in_ok-set.ensures graph setting.plain setting.value setting.shows setting.stands setting.held);
 }
 
 pub returns-in_err-set : goal.returns-in_err-set
@@ -41,7 +38,7 @@ returns-in_err-set c = record {
       let both = c.in_ok-target.ensures.found graph shows in
       let found = c.in_ok-found.ensures graph both.first (shows_still same shows)
       (stands_still same both.stands_first) in
-      let setting = setting_known c.args.x c.args.v same shows both found c.requires.within.0 c.requires.within.2 in
+      let setting = setting_known c.args.x c.args.v same shows both found in
       let stop = c.in_err-set.field-0.0 in
       let sets = c.in_err-set.ensures graph setting.plain setting.value setting.shows setting.stands setting.held in
       stopped_with c.set.new.main graph names (Set c.args.x c.args.f c.args.v) c.from_residual-in_err-set.result

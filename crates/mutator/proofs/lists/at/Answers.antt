@@ -3,7 +3,6 @@ use Rattle.std.proofs.Common.{◌<◌, [], Ok, refl, sym, subst, ℤ, w64, SFits
 use Rattle.std.proofs.lemmas.Int.{to_z-of_z}
 use Rattle.heap_command.specs.declared.command.Command.TheVariants.{At}
 use Rattle.heap_command.specs.declared.command.Operand.TheVariants.{Var}
-use Rattle.object_graph.specs.declared.value.Value.TheVariants.{Ref}
 use Rattle.object_graph.specs.Graphs.{bind}
 use Rattle.write_barrier.specs.MutatorState.{Mutator, heap_of}
 use Rattle.heap_model.specs.Showing.{ShowsHeld}
@@ -25,7 +24,7 @@ at-requires c =
     let (graph, shows) = c.requires.shown in
     indexed_shown (indexed_read c.args.x c.args.i c.operands.ensures.same shows
     (c.in_ok-target.ensures.found graph shows) (c.in_ok-from.ensures graph)
-    (c.in_ok-which.ensures c.operands.new.main graph) c.requires.within.1 c.requires.within.2)
+    (c.in_ok-which.ensures c.operands.new.main graph))
 
 pub returns-clause-carried : goal.returns-clause-carried
 returns-clause-carried c graph names shows =
@@ -33,7 +32,7 @@ returns-clause-carried c graph names shows =
     let now = c.operands.new.main in
     let y = c.args.y in
     let indexed = indexed_read c.args.x c.args.i same shows (c.in_ok-target.ensures.found graph shows)
-    (c.in_ok-from.ensures graph) (c.in_ok-which.ensures now graph) c.requires.within.1 c.requires.within.2 in
+    (c.in_ok-from.ensures graph) (c.in_ok-which.ensures now graph) in
     let list = indexed.list in
     let held = c.in_ok-value.value in
     let n = c.in_ok-which.which in
@@ -43,7 +42,7 @@ returns-clause-carried c graph names shows =
     (c.in_ok-value.ensures graph list indexed.shows indexed.stands) in
     let below = subst (λ (main : Mutator). y < main.seat.space.variables) (sym same) c.requires.within.0 in
     let read = subst (ShowsHeld (heap_of now) held) (sym (get-insert_same graph.bindings y value)) told in
-    let carried = at_done names y c.args.x c.args.i (Ref list.number) list n value indexed.known indexed.index is in
+    let carried = at_done names indexed.known indexed.index y is in
     subst (λ main. Carries names main c.hold.new.self graph (At y c.args.x c.args.i) [] (Ok tt)) same
     (binding_carried (bind graph y value) names (At y c.args.x c.args.i) y held indexed.shows carried refl
     tt (binds_anew graph y value) below c.hold.ensures.holds.fits read

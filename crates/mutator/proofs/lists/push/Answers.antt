@@ -1,9 +1,7 @@
 -- The value becomes the last element, or the command stops with why it cannot.
-use Rattle.std.proofs.Common.{[], Ok, subst}
 use Rattle.heap_command.specs.declared.command.Command.TheVariants.{Push}
 use Rattle.heap_command.specs.declared.command.Operand.TheVariants.{Var}
 use Rattle.mutator.specs.Stops.{stop_of_push}
-use Rattle.mutator.specs.CarriesOut.{Carries}
 use Rattle.mutator.proofs.ElementsSet.{putting_read, putting_shown, push_carried, push_stopped}
 use Rattle.mutator.proofs.StoppedBy.{stopped_with}
 use Rattle.mutator.proofs.StillShown.{first_still}
@@ -17,17 +15,16 @@ pub push-requires : goal.push-requires
 push-requires c =
     let (graph, shows) = c.requires.shown in
     putting_shown (putting_read c.args.x c.args.v c.operands.ensures.same shows
-    (c.in_ok-target.ensures.found graph shows) (c.in_ok-found.ensures graph) c.requires.within.0 c.requires.within.1)
+    (c.in_ok-target.ensures.found graph shows) (c.in_ok-found.ensures graph))
 
 pub returns : goal.returns
 returns c = record {
   carried = λ graph names shows.
       let same = c.operands.ensures.same in
       let putting = putting_read c.args.x c.args.v same shows (c.in_ok-target.ensures.found graph shows)
-      (c.in_ok-found.ensures graph) c.requires.within.0 c.requires.within.1 in
-      let pushes = c.in_ok-push.ensures graph putting.list putting.value putting.shows putting.stands putting.held in
-      subst (λ main. Carries names main c.push.new.main graph (Push c.args.x c.args.v) [] (Ok tt)) same
-      (push_carried names putting pushes);
+      (c.in_ok-found.ensures graph) in
+      push_carried names same putting
+      (c.in_ok-push.ensures graph putting.list putting.value putting.shows putting.stands putting.held);
 }
 
 pub returns-in_err-push : goal.returns-in_err-push
@@ -35,7 +32,7 @@ returns-in_err-push c = record {
   carried = λ graph names shows.
       let same = c.operands.ensures.same in
       let putting = putting_read c.args.x c.args.v same shows (c.in_ok-target.ensures.found graph shows)
-      (c.in_ok-found.ensures graph) c.requires.within.0 c.requires.within.1 in
+      (c.in_ok-found.ensures graph) in
       let stop = c.in_err-push.field-0.0 in
       let pushes = c.in_err-push.ensures graph putting.list putting.value putting.shows putting.stands putting.held in
       stopped_with c.push.new.main graph names (Push c.args.x c.args.v) c.from_residual-in_err-push.result

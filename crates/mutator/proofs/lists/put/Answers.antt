@@ -25,9 +25,9 @@ put-requires c =
     let read = c.operands.ensures.same in
     let indexed = indexed_read c.args.x c.args.i (c.operand.ensures.same ∙ read) shows
     (c.in_ok-target.ensures.found graph shows) (c.in_ok-found.ensures graph)
-    (c.in_ok-place.ensures c.operand.new.main graph) c.requires.within.0 c.requires.within.1 in
-    indexed_setting indexed (given_read c.args.v read c.operand.ensures.same
-    (c.in_ok-value.ensures.found graph (shows_still read shows)) c.requires.within.2)
+    (c.in_ok-place.ensures c.operand.new.main graph) in
+    indexed_setting indexed (given_read c.args.v c.operand.ensures.same
+    (c.in_ok-value.ensures.found graph (shows_still read shows)))
 
 pub returns : goal.returns
 returns c = record {
@@ -35,12 +35,11 @@ returns c = record {
       let read = c.operands.ensures.same in
       let same = c.operand.ensures.same ∙ read in
       let indexed = indexed_read c.args.x c.args.i same shows (c.in_ok-target.ensures.found graph shows)
-      (c.in_ok-found.ensures graph) (c.in_ok-place.ensures c.operand.new.main graph) c.requires.within.0
-      c.requires.within.1 in
-      let given = given_read c.args.v read c.operand.ensures.same
-      (c.in_ok-value.ensures.found graph (shows_still read shows)) c.requires.within.2 in
+      (c.in_ok-found.ensures graph) (c.in_ok-place.ensures c.operand.new.main graph) in
+      let given = given_read c.args.v c.operand.ensures.same
+      (c.in_ok-value.ensures.found graph (shows_still read shows)) in
       let fits : SFits w64 c.in_ok-place.place = search rules in
-      put_carried names same indexed given (to_z-of_z w64 c.in_ok-place.place fits)
+      put_carried names indexed (to_z-of_z w64 c.in_ok-place.place fits) same given
       (c.in_ok-put.ensures graph indexed.list given.value indexed.shows indexed.stands given.held);
 }
 
@@ -50,14 +49,14 @@ returns-in_err-put c = record {
       let read = c.operands.ensures.same in
       let same = c.operand.ensures.same ∙ read in
       let indexed = indexed_read c.args.x c.args.i same shows (c.in_ok-target.ensures.found graph shows)
-      (c.in_ok-found.ensures graph) (c.in_ok-place.ensures c.operand.new.main graph) c.requires.within.0
-      c.requires.within.1 in
-      let given = given_read c.args.v read c.operand.ensures.same
-      (c.in_ok-value.ensures.found graph (shows_still read shows)) c.requires.within.2 in
+      (c.in_ok-found.ensures graph) (c.in_ok-place.ensures c.operand.new.main graph) in
+      let given = given_read c.args.v c.operand.ensures.same
+      (c.in_ok-value.ensures.found graph (shows_still read shows)) in
       let fits : SFits w64 c.in_ok-place.place = search rules in
       let stop = c.in_err-put.field-0.0 in
       let puts = c.in_err-put.ensures graph indexed.list given.value indexed.shows indexed.stands given.held in
       stopped_with c.put.new.main graph names (Put c.args.x c.args.i c.args.v) c.from_residual-in_err-put.result
       (stop_of_put stop) same c.from_residual-in_err-put.ensures.1
-      (put_stopped c.put.new.main names stop indexed given (to_z-of_z w64 c.in_ok-place.place fits) puts);
+      (put_stopped names indexed (to_z-of_z w64 c.in_ok-place.place fits) c.put.new.main stop given
+      puts);
 }

@@ -19,7 +19,7 @@ returns c = record {
       let shaped = subst (λ paths. IsShapeOf paths (record { cap = c.args.cap; fields = [] }) c.root-shape.result)
       c.shapes.ensures c.root-shape.ensures in
       let header : Header = record { shape = c.root-shape.result; object = c.args.object } in
-      making_carried names shows (plain_making graph c.args.x c.args.cap c.requires.within.1)
+      making_carried shows (plain_making graph c.args.x c.args.cap c.requires.within.1)
       (record {
         run = c.in_ok-run.ensures.run.at;
         taken = c.in_ok-run.ensures.reserved;
@@ -34,7 +34,7 @@ returns c = record {
       })
       c.requires.within.1 shaped
       (omega (arith, c.in_ok-run.ensures.room, ap (λ (space : Space). space.sizes.young) shows.tied)) count)
-      c.hold.ensures.holds.fits c.requires.within.0 c.in_ok-run.ensures.room;
+      c.hold.ensures.holds.fits c.requires.within.0 names c.in_ok-run.ensures.room;
   binds =
       let header : Header = record { shape = c.root-shape.result; object = c.args.object } in
       binds_made c.args.x _ (empty_plain header c.args.cap) c.in_ok-run.ensures.run.at

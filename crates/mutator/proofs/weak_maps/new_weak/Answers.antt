@@ -1,10 +1,10 @@
 -- The new weak map: its cell is put and bound, or there is no room for it.
-use Rattle.std.proofs.Common.{refl, ap, arith}
+use Rattle.std.proofs.Common.{refl, arith}
 use Rattle.heap_command.specs.declared.command.Command.TheVariants as command
-use Rattle.page_space.specs.Extents.{Space}
 use Rattle.mutator.specs.Making.{empty_counted}
 use Rattle.mutator.specs.declared.stop.Stop.TheVariants.{NoRoom}
-use Rattle.mutator.proofs.MadeCells.{weak_making, weak_made}
+use Rattle.mutator.proofs.EmptyCounted.{weak_is_counted}
+use Rattle.mutator.proofs.MadeCells.{weak_making, counted_made}
 use Rattle.mutator.proofs.MadeObjects.{making_carried, making_stopped}
 use Rattle.mutator.proofs.OnlyMade.{binds_made}
 use Rattle.mutator.proofs.StoppedBy.{stopped_with}
@@ -13,7 +13,7 @@ use Rattle.mutator.proofs.weak_maps.new_weak.Goals as goal
 pub returns : goal.returns
 returns c = record {
   carried = λ graph names shows count.
-      making_carried names shows (weak_making graph c.args.x)
+      making_carried shows (weak_making graph c.args.x)
       (record {
         run = c.in_ok-run.ensures.run.at;
         taken = c.in_ok-run.ensures.reserved;
@@ -21,10 +21,8 @@ returns c = record {
         heap = c.fill_counted.ensures.heap;
         holds = record { held = c.hold.ensures.held; heap = c.hold.ensures.heap };
       })
-      (weak_made {header = record { shape = 2; object = c.args.object }} c.args.x shows.shows.whole.sized
-      (record { shape = omega arith; object = omega arith }) refl
-      (omega (arith, c.in_ok-run.ensures.room, ap (λ (space : Space). space.sizes.young) shows.tied)) count)
-      c.hold.ensures.holds.fits c.requires.within c.in_ok-run.ensures.room;
+      (counted_made c.args.x weak_is_counted shows c.in_ok-run.ensures.room (omega arith) count)
+      c.hold.ensures.holds.fits c.requires.within names c.in_ok-run.ensures.room;
   binds = binds_made c.args.x _ (empty_counted (record { shape = 2; object = c.args.object }))
       c.in_ok-run.ensures.run.at refl c.in_ok-run.ensures.reserved c.fill_counted.ensures.filled c.hold.ensures.held;
 }

@@ -1,8 +1,5 @@
 -- The entry goes.
-use Rattle.std.proofs.Common.{[], Ok, subst}
-use Rattle.heap_command.specs.declared.command.Command.TheVariants.{WDel}
 use Rattle.heap_command.specs.declared.command.Operand.TheVariants.{Var}
-use Rattle.mutator.specs.CarriesOut.{Carries}
 use Rattle.mutator.proofs.EntriesSet.{entering_read, entering_shown, wdel_carried}
 use Rattle.mutator.proofs.StillShown.{first_still}
 use Rattle.mutator.proofs.weak_maps.wdel.Goals as goal
@@ -17,7 +14,7 @@ delete-requires c =
     record {
       shown = entering_shown (entering_read c.args.m c.args.k c.operands.ensures.same shows
           (c.in_ok-target.ensures.found graph shows) (c.in_ok-found.ensures graph)
-          (c.in_ok-gone.ensures c.operands.new.main graph) c.requires.within.0 c.requires.within.1);
+          (c.in_ok-gone.ensures c.operands.new.main graph));
     }
 
 pub returns : goal.returns
@@ -25,10 +22,7 @@ returns c = record {
   carried = λ graph names shows.
       let same = c.operands.ensures.same in
       let entering = entering_read c.args.m c.args.k same shows (c.in_ok-target.ensures.found graph shows)
-      (c.in_ok-found.ensures graph) (c.in_ok-gone.ensures c.operands.new.main graph) c.requires.within.0
-      c.requires.within.1 in
-      let deletes = c.delete.ensures.entry graph entering.weak entering.number entering.shows entering.stands
-      entering.key_stands in
-      subst (λ main. Carries names main c.delete.new.main graph (WDel c.args.m c.args.k) [] (Ok tt)) same
-      (wdel_carried names entering deletes);
+      (c.in_ok-found.ensures graph) (c.in_ok-gone.ensures c.operands.new.main graph) in
+      wdel_carried names same entering
+      (c.delete.ensures.entry graph entering.weak entering.number entering.shows entering.stands entering.key_stands);
 }

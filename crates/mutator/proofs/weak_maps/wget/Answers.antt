@@ -4,7 +4,7 @@ use Rattle.std.specs.Prelude.{unwrap_or}
 use Rattle.heap_command.specs.declared.command.Command.TheVariants.{WGet}
 use Rattle.heap_command.specs.declared.command.Operand.TheVariants.{Var}
 use Rattle.heap_model.specs.Types.{Value}
-use Rattle.object_graph.specs.declared.value.Value.TheVariants.{Undefined, Ref}
+use Rattle.object_graph.specs.declared.value.Value.TheVariants.{Undefined}
 use Rattle.object_graph.specs.Objects.{entry_value}
 use Rattle.object_graph.specs.Graphs.{bind}
 use Rattle.write_barrier.specs.MutatorState.{Mutator, heap_of}
@@ -27,7 +27,7 @@ get-value-requires c =
     record {
       shown = entering_shown (entering_read c.args.m c.args.k c.operands.ensures.same shows
           (c.in_ok-target.ensures.found graph shows) (c.in_ok-from.ensures graph)
-          (c.in_ok-which.ensures c.operands.new.main graph) c.requires.within.1 c.requires.within.2);
+          (c.in_ok-which.ensures c.operands.new.main graph));
     }
 
 pub returns : goal.returns
@@ -37,7 +37,7 @@ returns c = record {
       let now = c.operands.new.main in
       let y = c.args.y in
       let entering = entering_read c.args.m c.args.k same shows (c.in_ok-target.ensures.found graph shows)
-      (c.in_ok-from.ensures graph) (c.in_ok-which.ensures now graph) c.requires.within.1 c.requires.within.2 in
+      (c.in_ok-from.ensures graph) (c.in_ok-which.ensures now graph) in
       let weak = entering.weak in
       let held = c.get-value.result in
       let told = c.get-value.ensures.entry graph weak entering.number entering.shows entering.stands
@@ -45,8 +45,7 @@ returns c = record {
       let value : Value = unwrap_or (entry_value weak.entries entering.number) Undefined in
       let below = subst (λ (main : Mutator). y < main.seat.space.variables) (sym same) c.requires.within.0 in
       let read = subst (ShowsHeld (heap_of now) held) (sym (get-insert_same graph.bindings y value)) told in
-      let carried = wget_done names y c.args.m c.args.k (Ref weak.number) weak entering.number entering.known
-      entering.named in
+      let carried = wget_done names c.args.k entering.known entering.named y in
       subst (λ main. Carries names main c.hold.new.self graph (WGet y c.args.m c.args.k) [] (Ok tt)) same
       (binding_carried (bind graph y value) names (WGet y c.args.m c.args.k) y held entering.shows carried refl
       tt (binds_anew graph y value) below c.hold.ensures.holds.fits read

@@ -1,14 +1,8 @@
 -- A field is added to the slot that it comes to.
-use Rattle.std.proofs.Common.{sym, ◌∙◌, ap, subst, arith, length}
-use Rattle.std.proofs.lemmas.Result.{on_ok_weaker, IfErr-weaker}
+use Rattle.std.proofs.Common.{arith}
+use Rattle.std.proofs.lemmas.Result.{on_ok_weaker}
 use Rattle.shape_change.specs.Additions.{AddsField}
-use Rattle.shape_tree.specs.Shapes.{shape_path}
-use Rattle.heap_model.specs.Needs.{capacity_at}
-use Rattle.heap_model.specs.Rooms.{new_field_need}
-use Rattle.write_barrier.specs.MutatorState.{heap_of}
-use Rattle.object_cells.specs.Made.{RefusesRoom, is_wide_held}
 use Rattle.object_cells.proofs.PlainFields.{plain_sound}
-use Rattle.shape_change.proofs.NewNeeds.{need_to_store, need_to_new_store}
 use Rattle.shape_change.proofs.FullStores.{store_is_full}
 use Rattle.shape_change.proofs.add_field.add_field.Goals as goal
 
@@ -38,14 +32,6 @@ returns-then-new-store-clause-ok c =
     (λ adds. AddsField.to_store c.store_of-store.result (omega arith) c.store_of-store.ensures (omega arith) adds)
     c.add_to_store.ensures.ok
 
-pub returns-then-new-store-clause-refused : goal.returns-then-new-store-clause-refused
-returns-then-new-store-clause-refused c =
-    let need = need_to_store (capacity_at (heap_of c.args.main.now) c.args.object) _ _ c.args.new.value (omega arith)
-    (omega (arith, c.store_of-store.ensures.capacity)) in
-    IfErr-weaker c.add_to_store.result _ _
-    (λ no_room lacks. subst (λ n. RefusesRoom c.args.main.now c.add_to_store.new.main n no_room) (sym need) lacks)
-    c.add_to_store.ensures.refused
-
 pub returns-else-new-store-clause-ok : goal.returns-else-new-store-clause-ok
 returns-else-new-store-clause-ok c =
     let full = store_is_full c.args.main.now c.args.object c.args.header c.args.new.field.name c.args.new.value
@@ -54,16 +40,3 @@ returns-else-new-store-clause-ok c =
     on_ok_weaker c.add_to_new_store.result
     (λ adds. AddsField.to_new_store c.store_of-store.result (omega arith) c.store_of-store.ensures full adds)
     c.add_to_new_store.ensures.ok
-
-pub returns-else-new-store-clause-refused : goal.returns-else-new-store-clause-refused
-returns-else-new-store-clause-refused c =
-    let full = store_is_full c.args.main.now c.args.object c.args.header c.args.new.field.name c.args.new.value
-    c.store_of-store.result
-    c.requires.can c.store_of-store.ensures (omega arith) (omega arith) in
-    let path = shape_path c.args.main.now.paths c.args.header.shape in
-    let wide = is_wide_held c.args.new.value in
-    let need = ap (λ n. new_field_need n path.cap (length path.fields) wide) c.store_of-store.ensures.capacity
-    ∙ need_to_new_store c.store_of-store.result.capacity _ _ c.args.new.value (omega arith) full in
-    IfErr-weaker c.add_to_new_store.result _ _
-    (λ no_room lacks. subst (λ n. RefusesRoom c.args.main.now c.add_to_new_store.new.main n no_room) (sym need) lacks)
-    c.add_to_new_store.ensures.refused

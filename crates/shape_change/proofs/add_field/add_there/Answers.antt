@@ -11,7 +11,7 @@ use Rattle.object_cells.specs.Made.{RefusesRoom, is_wide_held}
 use Rattle.object_cells.proofs.HeldNeeds.{held_is_value}
 use Rattle.shape_change.specs.FieldChanges.{SetsField}
 use Rattle.shape_change.specs.declared.stop.FieldStop.TheVariants as stop
-use Rattle.shape_change.specs.Additions.{IsNewField, AddsField, CanAdd}
+use Rattle.shape_change.specs.Additions.{AddsField, CanAdd}
 use Rattle.shape_change.proofs.AddedShown.{adding}
 use Rattle.shape_change.proofs.FieldAdded.{field_is_set, new_need_is}
 use Rattle.shape_change.proofs.NewNames.{shown_shape, field_refused, lacks_no_field, lacks_no_path, can_add}
@@ -36,14 +36,6 @@ add_field-requires-clause-can c =
     subst (λ n. CanAdd old c.args.object c.args.header n c.in_ok-new.new.value) (sym new.named)
     (subst (CanAdd old c.args.object c.args.header c.args.name) (sym new.value_is)
     (can_add c.requires.shown c.requires.headed c.requires.is_new new.few new.may))
-
-pub add_field-requires-clause-new : goal.add_field-requires-clause-new
-add_field-requires-clause-new c =
-    let paths = c.args.main.now.paths in
-    let shape = c.args.header.shape in
-    let new = c.in_ok-new.ensures.new in
-    subst (λ n. IsNewField paths shape n c.in_ok-new.new.value c.in_ok-new.new) (sym new.named)
-    (subst (λ v. IsNewField paths shape c.args.name v c.in_ok-new.new) (sym new.value_is) new)
 
 pub returns : goal.returns
 returns c graph plain what shows is holds fresh =

@@ -1,29 +1,18 @@
 -- The box that is made stands in the words that were reserved.
-use Rattle.std.proofs.Common.{◌≡◌, ◌+◌, ◌-◌, ◌<◌, ap, ◌∙◌, arith, rules}
+use Rattle.std.proofs.Common.{◌≡◌, ◌+◌, ◌-◌, ◌<◌, ap, sym, subst, ◌∙◌, arith, rules}
 use Rattle.page_space.specs.Extents.{Space, marks_start}
-use Rattle.write_barrier.specs.MutatorState.{Mutator}
+use Rattle.heap_model.specs.Wholeness.{HasSizes}
+use Rattle.write_barrier.specs.MutatorState.{Mutator, heap_of}
 use Rattle.object_cells.specs.Made.{content_need}
 use Rattle.object_cells.proofs.UnusedWords.{run_before_marks}
 use Rattle.object_cells.proofs.RestOfWords.{put_rest}
-use Rattle.shape_change.proofs.NewNeeds.{content_need_few}
 use Rattle.shape_change.proofs.add_field.add_to_store.Goals as goal
 
-pub room_for-requires-clause-few : goal.room_for-requires-clause-few
-room_for-requires-clause-few c =
-    omega (
-      arith,
-      content_need_few c.content_of-content.result,
-      c.need_of.ensures,
-    )
-
-pub step_to-next-requires-clause-quiet : goal.step_to-next-requires-clause-quiet
-step_to-next-requires-clause-quiet c =
-    ap (λ (main : Mutator). main.seat.phase) c.in_ok-at.ensures.reserved ∙ c.requires.can.whole.quiet
-
-pub boxed_word-word-requires-clause-quiet : goal.boxed_word-word-requires-clause-quiet
-boxed_word-word-requires-clause-quiet c =
-    c.step_to-next.ensures.beside.phase
-    ∙ ap (λ (main : Mutator). main.seat.phase) c.in_ok-at.ensures.reserved ∙ c.requires.can.whole.quiet
+pub step_to-next-requires-clause-sized : goal.step_to-next-requires-clause-sized
+step_to-next-requires-clause-sized c =
+    let sized = c.requires.can.whole.whole.sized in
+    subst (λ (main : Mutator). HasSizes (heap_of main)) (sym c.in_ok-at.ensures.reserved)
+    (record { words = sized.words; shapes = sized.shapes; layouts = sized.layouts })
 
 pub boxed_word-word-requires-clause-within : goal.boxed_word-word-requires-clause-within
 boxed_word-word-requires-clause-within c v boxed =
@@ -33,11 +22,6 @@ boxed_word-word-requires-clause-within c v boxed =
     let before = run_before_marks c.args.main.now c.need_of.result c.in_ok-at.at c.step_to-next.new.main.seat.space
     c.requires.can.tied c.in_ok-at.ensures.room (c.in_ok-at.ensures.at (omega arith)) space in
     omega (arith, before, need)
-
-pub store-requires-clause-quiet : goal.store-requires-clause-quiet
-store-requires-clause-quiet c =
-    c.boxed_word-word.ensures.made.beside.phase ∙ c.step_to-next.ensures.beside.phase
-    ∙ ap (λ (main : Mutator). main.seat.phase) c.in_ok-at.ensures.reserved ∙ c.requires.can.whole.quiet
 
 pub store-requires-clause-within : goal.store-requires-clause-within
 store-requires-clause-within c =
@@ -51,19 +35,6 @@ store-requires-clause-within c =
       c.requires.new.slot,
       c.requires.new.cap,
     )
-
-pub set_shape-requires-clause-quiet : goal.set_shape-requires-clause-quiet
-set_shape-requires-clause-quiet c =
-    ap (λ (main : Mutator). main.seat.phase) c.store.ensures.stored
-    ∙ c.boxed_word-word.ensures.made.beside.phase ∙ c.step_to-next.ensures.beside.phase
-    ∙ ap (λ (main : Mutator). main.seat.phase) c.in_ok-at.ensures.reserved ∙ c.requires.can.whole.quiet
-
-pub set_shape-requires-clause-within : goal.set_shape-requires-clause-within
-set_shape-requires-clause-within c =
-    let space = ap (λ (main : Mutator). main.seat.space) c.store.ensures.stored
-    ∙ c.boxed_word-word.ensures.made.beside.space ∙ c.step_to-next.ensures.beside.space
-    ∙ ap (λ (main : Mutator). main.seat.space) c.in_ok-at.ensures.reserved in
-    omega (arith, ap (λ (s : Space). marks_start s) space, c.requires.can.within)
 
 pub returns-clause-ok : goal.returns-clause-ok
 returns-clause-ok c =

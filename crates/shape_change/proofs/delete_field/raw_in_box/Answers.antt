@@ -3,20 +3,9 @@ use Rattle.std.proofs.Common.{◌≡◌, sym, ◌∙◌}
 use Rattle.std.proofs.lemmas.Option.{same_Some, none-some}
 use Rattle.tagged_word.proofs.Readings.{reference_to}
 use Rattle.heap_model.specs.Slots.{raw_word}
-use Rattle.object_cells.proofs.CellsRead.{word_is, word_before_marks}
+use Rattle.object_cells.proofs.CellsRead.{word_is}
 use Rattle.object_cells.proofs.WordsTold.{cell_fits}
 use Rattle.shape_change.proofs.delete_field.raw_in_box.Goals as goal
-
-pub slot-requires-clause-within : goal.slot-requires-clause-within
-slot-requires-clause-within c =
-    let v = c.requires.boxed.0 in
-    let refers = c.requires.boxed.1 in
-    let sized = c.requires.whole.whole.sized in
-    let fits = cell_fits sized c.addresses_fit.ensures.within refers.target.has in
-    let at : refers.cell.at ≡ c.in-Some.at = same_Some refers.cell.at c.in-Some.at
-    (sym (reference_to c.args.word.0 refers.cell.at fits refers.target.refers) ∙ sym c.address.ensures
-    ∙ c.in-Some.is) in
-    word_before_marks 1 (raw_word v) sized refers.target.has at refers.holds
 
 pub unreachable-requires : goal.unreachable-requires
 unreachable-requires c =

@@ -1,24 +1,10 @@
 -- The path is added, and then its layout words.
-use Rattle.std.proofs.Common.{List, length, sym, ◌∙◌, ap, subst}
+use Rattle.std.proofs.Common.{List, sym, subst}
 use Rattle.heap_model.specs.Types.{Path}
 use Rattle.shape_tree.specs.Shapes.{Leads, shape_path, without}
 use Rattle.write_barrier.specs.MutatorState.{Mutator}
-use Rattle.shape_change.proofs.NewLayouts.{led_longer, led_layouts, led_paths}
+use Rattle.shape_change.proofs.NewLayouts.{led_paths}
 use Rattle.shape_change.proofs.delete_field.shape_without.Goals as goal
-
-pub put_new_layouts-requires-clause-quiet : goal.put_new_layouts-requires-clause-quiet
-put_new_layouts-requires-clause-quiet c =
-    ap (λ (main : Mutator). main.seat.phase) c.path_without.ensures.rest ∙ c.requires.whole.quiet
-
-pub put_new_layouts-requires-clause-fewer : goal.put_new_layouts-requires-clause-fewer
-put_new_layouts-requires-clause-fewer c =
-    led_longer c.paths-before.result c.in_ok-next.ensures.taken_out
-    (c.paths-before.ensures.counted ∙ ap (λ (all : List Path). length all) c.shapes.ensures)
-
-pub put_new_layouts-requires-clause-were : goal.put_new_layouts-requires-clause-were
-put_new_layouts-requires-clause-were c =
-    led_layouts c.paths-before.result c.requires.whole.whole.sized c.in_ok-next.ensures.taken_out
-    c.path_without.ensures.rest (c.paths-before.ensures.counted ∙ ap (λ (all : List Path). length all) c.shapes.ensures)
 
 pub returns : goal.returns
 returns c =

@@ -3,14 +3,9 @@ use Rattle.std.proofs.Common.{sym, ◌∙◌, ap}
 use Rattle.std.proofs.lemmas.Option.{same_Some, none-some}
 use Rattle.tagged_word.specs.Readings.{reference_in}
 use Rattle.tagged_word.proofs.Readings.{reference_to}
-use Rattle.object_cells.proofs.CellsRead.{word_is, word_before_marks}
+use Rattle.object_cells.proofs.CellsRead.{word_is}
 use Rattle.object_cells.proofs.WordsTold.{cell_fits}
 use Rattle.shape_change.proofs.delete_field.store_of.Goals as goal
-
-pub slot-requires-clause-within : goal.slot-requires-clause-within
-slot-requires-clause-within c =
-    let there = c.requires.there.1 in
-    word_before_marks 1 there.word c.requires.whole.whole.sized there.has there.stands there.slot
 
 pub unreachable-requires : goal.unreachable-requires
 unreachable-requires c =

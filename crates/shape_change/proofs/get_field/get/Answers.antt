@@ -1,6 +1,5 @@
 -- A field's value is read where it stands.
-use Rattle.std.proofs.Common.{ℕ, ap, sym, ◌∙◌, subst, refl, Some, slice_get}
-use Rattle.std.proofs.Common.{get_or, nat_lt, length, arith}
+use Rattle.std.proofs.Common.{ℕ, ap, sym, ◌∙◌, subst, refl, Some, slice_get, get_or, nat_lt, arith}
 use Rattle.std.specs.Prelude.{List, unwrap_or}
 use Rattle.std.proofs.lemmas.Option.{slice_get_within, slice_get-get_or}
 use Rattle.heap_model.specs.Types.{Path}
@@ -12,8 +11,7 @@ use Rattle.write_barrier.specs.MutatorState.{heap_of}
 use Rattle.object_cells.proofs.FieldsFound.{value_found}
 use Rattle.object_cells.proofs.FieldWords.{path_field}
 use Rattle.shape_change.proofs.ShownFields.{shown_cell, shown_shape, name_is_new, field_found, found_there}
-use Rattle.object_cells.proofs.PlainFields.{plain_sound, plain_shown, names_distinct}
-use Rattle.heap_model.proofs.OneBeside.{one_slots}
+use Rattle.object_cells.proofs.PlainFields.{slots_held, plain_shown, names_distinct}
 use Rattle.write_barrier.proofs.Headers.{has_header}
 use Rattle.shape_change.proofs.get_field.get.Goals as goal
 
@@ -48,12 +46,11 @@ returns-in-Some c graph plain shows is =
     (found_there _ _ _ _ _ c.shapes.ensures c.in-Some.ensures.found) in
     let shown = shown_cell shows is header_at in
     let slots = shown.shows.slots in
-    let sound = plain_sound shows.shows.whole shown.has shown.shows.of_kind in
-    let long = ap (λ (all : List ℕ). length all) (one_slots sound.has shown.shows.has) in
+    let held = slots_held shows.shows.whole shown.has shown.shows in
     let of_path = ap (λ (p : Path). slice_get p.fields slot) shown.shows.path
     ∙ path_field plain.cap plain.fields slot at.field at.there in
-    let few = slice_get_within (shape_path c.args.main.now.paths shown.cell.header.shape).fields slot _ of_path in
-    let there = slice_get-get_or slots slot 0 (omega (arith, sound.hold.room, long, few)) in
+    let few = slice_get_within plain.fields slot at.field at.there in
+    let there = slice_get-get_or slots slot 0 (omega (arith, held.room, few)) in
     let P : ℕ → Type 0 =
     λ cap. ShowsField (heap_of c.args.main.now) (nat_lt slot cap) (get_or slots slot 0) at.field.rep at.field.value in
     let tells = c.value_of_slot.ensures shown.cell _ slots _ _ at.field.value shown.has shown.at shown.shows.has of_path

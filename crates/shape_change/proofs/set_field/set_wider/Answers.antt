@@ -1,32 +1,14 @@
 -- The regions stay, and so what is before the marks.
 use Rattle.std.proofs.Common.{◌≡◌, ◌<◌, ℕ, sym, ◌∙◌, ap, subst, rules}
 use Rattle.page_space.specs.Extents.{Space, marks_start}
-use Rattle.heap_table.specs.Seats.{Seat, RestStays}
+use Rattle.heap_table.specs.Seats.{RestStays}
 use Rattle.write_barrier.specs.MutatorState.{Mutator}
 use Rattle.shape_change.specs.Places.{place_at}
-use Rattle.object_cells.specs.Contents.{IsBeforeMarks, filled}
+use Rattle.object_cells.specs.Contents.{filled}
 use Rattle.object_cells.proofs.CellsRead.{cell_at_before_marks}
-use Rattle.object_cells.proofs.RestOfWords.{put_rest, filled_still, allocates_seat}
-use Rattle.shape_change.proofs.Filled.{allocates_sized, laid_space, filled_space}
+use Rattle.object_cells.proofs.RestOfWords.{put_rest, filled_still}
+use Rattle.shape_change.proofs.Filled.{laid_space, filled_space}
 use Rattle.shape_change.proofs.set_field.set_wider.Goals as goal
-
-pub changed_shape-next-requires-clause-quiet : goal.changed_shape-next-requires-clause-quiet
-changed_shape-next-requires-clause-quiet c =
-    ap (λ (seat : Seat). seat.phase)
-    (allocates_seat c.args.main.now c.filling_of.new.main c.in_ok-filling.filling c.in_ok-filling.ensures.allocates)
-    ∙ c.requires.can.whole.quiet
-
-pub changed_shape-next-requires-clause-sized : goal.changed_shape-next-requires-clause-sized
-changed_shape-next-requires-clause-sized c =
-    allocates_sized c.args.main.now c.filling_of.new.main c.in_ok-filling.filling c.in_ok-filling.ensures.allocates
-    c.requires.can.whole.whole.sized
-
-pub blacken_for-requires-clause-quiet : goal.blacken_for-requires-clause-quiet
-blacken_for-requires-clause-quiet c =
-    c.changed_shape-next.ensures.changes.seat.phase
-    ∙ ap (λ (seat : Seat). seat.phase)
-    (allocates_seat c.args.main.now c.filling_of.new.main c.in_ok-filling.filling c.in_ok-filling.ensures.allocates)
-    ∙ c.requires.can.whole.quiet
 
 pub blacken_for-requires-clause-within : goal.blacken_for-requires-clause-within
 blacken_for-requires-clause-within c =
@@ -37,30 +19,6 @@ blacken_for-requires-clause-within c =
     subst (λ (space : Space). c.args.object < marks_start space) (sym same)
     (subst (λ at. at < marks_start c.args.main.now.seat.space) there.stands
     (cell_at_before_marks c.requires.can.whole.whole.sized there.has))
-
-pub fill-requires-clause-quiet : goal.fill-requires-clause-quiet
-fill-requires-clause-quiet c =
-    ap (λ (main : Mutator). main.seat.phase) c.blacken_for.ensures
-    ∙ c.changed_shape-next.ensures.changes.seat.phase
-    ∙ ap (λ (seat : Seat). seat.phase)
-    (allocates_seat c.args.main.now c.filling_of.new.main c.in_ok-filling.filling c.in_ok-filling.ensures.allocates)
-    ∙ c.requires.can.whole.quiet
-
-pub fill-requires-clause-within : goal.fill-requires-clause-within
-fill-requires-clause-within c =
-    let same = ap (λ (main : Mutator). main.seat.space) c.blacken_for.ensures
-    ∙ laid_space c.args.main.now c.filling_of.new.main c.changed_shape-next.new.main c.in_ok-filling.filling _ _
-    c.in_ok-filling.ensures.allocates c.changed_shape-next.ensures.changes in
-    subst (λ (space : Space). place_at c.args.object c.args.setting.place < marks_start space) (sym same)
-    c.requires.can.within
-
-pub fill-requires-clause-room : goal.fill-requires-clause-room
-fill-requires-clause-room c =
-    let filling = c.in_ok-filling.filling in
-    let same = ap (λ (main : Mutator). main.seat.space) c.blacken_for.ensures
-    ∙ laid_space c.args.main.now c.filling_of.new.main c.changed_shape-next.new.main filling _ _
-    c.in_ok-filling.ensures.allocates c.changed_shape-next.ensures.changes in
-    subst (λ (space : Space). IsBeforeMarks space filling) (sym same) c.in_ok-filling.ensures.before_marks
 
 pub set_shape-requires-clause-within : goal.set_shape-requires-clause-within
 set_shape-requires-clause-within c =

@@ -1,6 +1,5 @@
 -- Where a slot stands: in the object, or in its property store.
-use Rattle.std.proofs.Common.{◌≡◌, ℕ, ◌+◌, ◌-◌, ◌<◌, ap, sym, ◌∙◌, subst, arith, get_or, slice_get}
-use Rattle.std.proofs.Common.{Some}
+use Rattle.std.proofs.Common.{◌≡◌, ℕ, ◌+◌, ◌-◌, ◌<◌, ap, sym, ◌∙◌, subst, arith, get_or, slice_get, Some}
 use Rattle.std.proofs.lemmas.Option.{slice_get-get_or}
 use Rattle.page_space.specs.Extents.{marks_start}
 use Rattle.tagged_word.specs.Readings.{reference_in}
