@@ -1,13 +1,11 @@
 -- Cells that show objects, by the words of their slots.
-use Rattle.std.proofs.Common.{◌≡◌, ℕ, List, ◌++◌, Bool, length, drop, Some, sym, ◌∙◌, ap, subst, IsTrue}
+use Rattle.std.proofs.Common.{◌≡◌, ℕ, List, ◌++◌, Bool, length, drop, Some, sym, ◌∙◌, ap, subst}
 use Rattle.tagged_word.specs.declared.layout.Kind.TheVariants as kind
 use Rattle.tagged_word.specs.Cells.{store_slot, plain_head}
 use Rattle.heap_model.specs.Types.{Value, Object, Field, Entry, Cell}
-use Rattle.object_graph.specs.declared.object.Object.TheVariants as graph_object
 use Rattle.object_graph.specs.Paths.{path_of}
 use Rattle.shape_tree.specs.Shapes.{IsPathShape, shape_path}
 use Rattle.heap_model.specs.Heaps.{Heap, HasCell, words_of_cell}
-use Rattle.heap_model.specs.Slots.{is_object_kind}
 use Rattle.heap_model.specs.Kinds.{HasWord, IsSoundCell, IsSoundOf, count_offset}
 use Rattle.heap_model.specs.Showing.{ShowsPlain, ShowsList, ShowsWeak, ShowsObject, ShowsReached}
 use Rattle.heap_model.proofs.CellsApart.{one_at}
