@@ -1,10 +1,10 @@
 -- A heap in which a variable was bound anew shows the graph after the command.
-use Rattle.std.proofs.Common.{◌≡◌, ℕ, ◌<◌, List, [], None, Ok, inl, inr, sym, ◌∙◌, ap, subst, arith, add-zero}
+use Rattle.std.proofs.Common.{◌≡◌, ℕ, ◌<◌, List, [], Some, None, Ok, inl, inr, sym, ◌∙◌, ap, subst, arith, add-zero}
 use Rattle.std.specs.Prelude.{Option, IsTrue, is_some}
 use Rattle.std.specs.FinMap.{get}
 use Rattle.std.proofs.lemmas.Bool.{false≢true}
-use Rattle.heap_model.specs.Types.{Command, Held, Cell}
-use Rattle.object_graph.specs.Graphs.{Graph}
+use Rattle.heap_model.specs.Types.{Command, Value, Held, Cell}
+use Rattle.object_graph.specs.Graphs.{Graph, bind}
 use Rattle.object_graph.specs.Meaning.{done, does}
 use Rattle.object_graph.specs.Limits.{ideal_limits}
 use Rattle.graph_laws.specs.GraphLaws.{FitsCommand}
@@ -23,6 +23,7 @@ use Rattle.heap_model.specs.Collectable.{IsCollectable}
 use Rattle.heap_model.specs.Rooms.{Room, need_of, rooms_after}
 use Rattle.heap_model.specs.Showing.{ShowsHeld, Shows}
 use Rattle.heap_model.specs.Laws.{ReachesNoMore, BindsAnew, bound}
+use Rattle.heap_model.proofs.AnewBindings.{get-insert_same, binds_anew}
 use Rattle.heap_model.proofs.BoundHeaps.{none_in, bound_moves}
 use Rattle.heap_model.proofs.BoundGraphs.{bindings_show}
 use Rattle.heap_model.proofs.CountsStay.{counts_stay}
@@ -120,8 +121,7 @@ NeedsNone graph command =
 
 -- so the command is carried out, if it is one that binds a variable and needs no words
 pub binding_carried : {old new : Mutator} {graph : Graph} (after : Graph) (names : List (List ℕ)) (command : Command)
-    (x : ℕ)
-    (one : Held) → MainShows old graph → does ideal_limits names graph command ≡ done after []
+    (x : ℕ) (one : Held) → MainShows old graph → does ideal_limits names graph command ≡ done after []
     → made_for command ≡ None → FitsCommand command → BindsAnew graph after x → x < old.seat.space.variables
     → FitsHeld one → ShowsHeld (heap_of old) one (get after.bindings x) → HoldsAnew old new x one
     → NeedsNone graph command → Carries names old new graph command [] (Ok tt)
@@ -138,3 +138,16 @@ binding_carried {old} {new} after names command x one shows carried none fits an
             (reaches_no_more names command [] shows carried none) anew.objects (no_need rooms).1;
       },
     )
+
+-- so is one that binds a variable to a value that is held, on a heap that is the same as before
+pub value_carried : {old now new : Mutator} {graph : Graph} {command : Command} {value : Value} (names : List (List ℕ))
+    (y : ℕ) (one : Held) → now ≡ old → MainShows now graph
+    → does ideal_limits names graph command ≡ done (bind graph y value) [] → made_for command ≡ None
+    → FitsCommand command → y < old.seat.space.variables → FitsHeld one → ShowsHeld (heap_of now) one (Some value)
+    → HoldsAnew now new y one → NeedsNone graph command → Carries names old new graph command [] (Ok tt)
+value_carried {now = now} {new} {graph} {command} {value} names y one same shows carried none fits below held_fits shown
+    holds no_need =
+    subst (λ main. Carries names main new graph command [] (Ok tt)) same
+    (binding_carried (bind graph y value) names command y one shows carried none fits (binds_anew graph y value)
+    (subst (λ (main : Mutator). y < main.seat.space.variables) (sym same) below) held_fits
+    (subst (ShowsHeld (heap_of now) one) (sym (get-insert_same graph.bindings y value)) shown) holds no_need)

@@ -1,16 +1,11 @@
 -- The variable is bound to the sum.
-use Rattle.std.proofs.Common.{◌≡◌, ℤ, ◌+ℤ◌, to_z, of_z, w64, SFits, rules, refl, sym, ◌∙◌, ap, subst, arith}
+use Rattle.std.proofs.Common.{◌≡◌, ℤ, ◌+ℤ◌, to_z, of_z, w64, SFits, rules, refl, ◌∙◌, ap, subst, arith}
 use Rattle.std.proofs.lemmas.Int.{ints, to_z-of_z}
-use Rattle.heap_command.specs.declared.command.Command.TheVariants.{Add}
-use Rattle.object_graph.specs.declared.value.Value.TheVariants.{Int}
-use Rattle.object_graph.specs.Graphs.{bind}
 use Rattle.heap_model.specs.Types.{Held}
 use Rattle.handle_roots.specs.declared.held.Held.TheVariants as held
-use Rattle.write_barrier.specs.MutatorState.{heap_of}
 use Rattle.heap_model.specs.Showing.{ShowsHeld}
-use Rattle.heap_model.proofs.AnewBindings.{get-insert_same, binds_anew}
 use Rattle.mutator.proofs.Meanings.{add_done}
-use Rattle.mutator.proofs.Rebinding.{HoldsAnew, binds_after, holds_after, binding_carried}
+use Rattle.mutator.proofs.Rebinding.{HoldsAnew, binds_after, holds_after, value_carried}
 use Rattle.mutator.proofs.bindings.add.Goals as goal
 
 pub returns : goal.returns
@@ -30,13 +25,11 @@ returns c = record {
       let holds = subst P (ap (λ v. held.Int v) (to_z-of_z w64 c.in-Some.sum fits ∙ same))
       (holds_after x _ c.operands.ensures.same (record { held = c.hold.ensures.held; heap = c.hold.ensures.heap })) in
       let sum_fits = subst (SFits w64) same fits in
-      let shown = subst (ShowsHeld (heap_of old) (held.Int sum)) (sym (get-insert_same graph.bindings x (Int sum)))
-      (ShowsHeld.integer sum) in
-      binding_carried (bind graph x (Int sum)) names (Add x c.args.v) x (held.Int sum) shows
+      value_carried names x (held.Int sum) refl shows
       (add_done names graph x c.args.v both.first both.second first second both.is_first both.is_second
       (c.in_ok-first.ensures old graph both.first both.stands_first)
       (c.in_ok-second.ensures old graph both.second both.stands_second) sum_fits) refl
-      tt (binds_anew graph x (Int sum)) c.requires.within.0 sum_fits shown holds (λ rooms. (refl, λ number. refl));
+      tt c.requires.within.0 sum_fits (ShowsHeld.integer sum) holds (λ rooms. (refl, λ number. refl));
   binds = binds_after c.args.x (held.Int (to_z w64 (of_z w64 c.in-Some.sum))) c.operands.ensures.same
       c.hold.ensures.held;
 }

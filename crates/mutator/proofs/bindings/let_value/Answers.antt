@@ -17,13 +17,12 @@ use Rattle.handle_roots.specs.Roots.{Holds, IsRoot}
 use Rattle.heap_table.specs.Seats.{heap_words}
 use Rattle.write_barrier.specs.MutatorState.{Mutator, heap_of, MainShows, with_variable}
 use Rattle.heap_model.specs.Showing.{ShowsHeld}
-use Rattle.heap_model.proofs.AnewBindings.{get-insert_same, binds_anew}
 use Rattle.mutator.specs.Reading.{StandsFor}
 use Rattle.mutator.specs.Binding.{Binds}
 use Rattle.mutator.specs.CarriesOut.{Carries}
 use Rattle.mutator.specs.declared.stop.Stop.TheVariants.{Fault}
 use Rattle.mutator.proofs.HeldValues.{is_root, operand_fits, some_shown, none_shown, bound_stands}
-use Rattle.mutator.proofs.Rebinding.{HoldsAnew, binds_after, holds_after, binding_carried}
+use Rattle.mutator.proofs.Rebinding.{HoldsAnew, binds_after, holds_after, value_carried}
 use Rattle.mutator.proofs.bindings.let_value.Goals as goal
 
 -- a literal integer stands for itself
@@ -38,12 +37,9 @@ undefined_stands main graph = record { is = record { shows = ShowsHeld.undefined
 let_carried : {old new : Mutator} {graph : Graph} {one : Held} (names : List (List ℕ)) (x : ℕ) (v : Operand)
     (value : Value) → MainShows old graph → value_of graph v ≡ Some value → StandsFor old graph value one
     → x < old.seat.space.variables → HoldsAnew old new x one → Carries names old new graph (LetValue x v) [] (Ok tt)
-let_carried {old} {graph = graph} {one} names x v value shows is stands known holds =
-    let shown = subst (ShowsHeld (heap_of old) one) (sym (get-insert_same graph.bindings x value)) stands.is.shows in
-    binding_carried (bind graph x value) names (LetValue x v) x one shows
-    (ap (λ found. given Unbound found (λ one. done (bind graph x one) [])) is) refl
-    (operand_fits v value one is stands) (binds_anew graph x value) known stands.fits shown holds
-    (λ rooms. (refl, λ number. refl))
+let_carried {graph = graph} {one} names x v value shows is stands known holds =
+    value_carried names x one refl shows (ap (λ found. given Unbound found (λ one. done (bind graph x one) [])) is) refl
+    (operand_fits v value one is stands) known stands.fits stands.is.shows holds (λ rooms. (refl, λ number. refl))
 
 -- so is one to which what another variable holds was copied, where that is something
 copy_carried : {old now new : Mutator} {graph : Graph} (names : List (List ℕ)) (x source : ℕ) → MainShows old graph

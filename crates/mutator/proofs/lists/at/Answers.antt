@@ -1,17 +1,11 @@
 -- The variable is bound to the element.
-use Rattle.std.proofs.Common.{◌<◌, [], Ok, refl, sym, subst, ℤ, w64, SFits, rules}
+use Rattle.std.proofs.Common.{Ok, refl, subst, ℤ, w64, SFits, rules}
 use Rattle.std.proofs.lemmas.Int.{to_z-of_z}
-use Rattle.heap_command.specs.declared.command.Command.TheVariants.{At}
 use Rattle.heap_command.specs.declared.command.Operand.TheVariants.{Var}
-use Rattle.object_graph.specs.Graphs.{bind}
-use Rattle.write_barrier.specs.MutatorState.{Mutator, heap_of}
-use Rattle.heap_model.specs.Showing.{ShowsHeld}
-use Rattle.heap_model.proofs.AnewBindings.{get-insert_same, binds_anew}
 use Rattle.list_store.specs.ListChanges.{TellsElement}
-use Rattle.mutator.specs.CarriesOut.{Carries}
 use Rattle.mutator.proofs.IndexedLists.{indexed_read, indexed_shown}
 use Rattle.mutator.proofs.ListMeanings.{at_done}
-use Rattle.mutator.proofs.Rebinding.{binds_after, binding_carried}
+use Rattle.mutator.proofs.Rebinding.{binds_after, value_carried}
 use Rattle.mutator.proofs.StillShown.{first_still}
 use Rattle.mutator.proofs.lists.at.Goals as goal
 
@@ -29,24 +23,16 @@ at-requires c =
 pub returns-clause-carried : goal.returns-clause-carried
 returns-clause-carried c graph names shows =
     let same = c.operands.ensures.same in
-    let now = c.operands.new.main in
-    let y = c.args.y in
     let indexed = indexed_read c.args.x c.args.i same shows (c.in_ok-target.ensures.found graph shows)
-    (c.in_ok-from.ensures graph) (c.in_ok-which.ensures now graph) in
-    let list = indexed.list in
-    let held = c.in_ok-value.value in
+    (c.in_ok-from.ensures graph) (c.in_ok-which.ensures c.operands.new.main graph) in
     let n = c.in_ok-which.which in
     let fits : SFits w64 n = search rules in
     let (value, is, told) =
-    subst (λ (k : ℤ). TellsElement now list k (Ok held)) (to_z-of_z w64 n fits)
-    (c.in_ok-value.ensures graph list indexed.shows indexed.stands) in
-    let below = subst (λ (main : Mutator). y < main.seat.space.variables) (sym same) c.requires.within.0 in
-    let read = subst (ShowsHeld (heap_of now) held) (sym (get-insert_same graph.bindings y value)) told in
-    let carried = at_done names indexed.known indexed.index y is in
-    subst (λ main. Carries names main c.hold.new.self graph (At y c.args.x c.args.i) [] (Ok tt)) same
-    (binding_carried (bind graph y value) names (At y c.args.x c.args.i) y held indexed.shows carried refl
-    tt (binds_anew graph y value) below c.hold.ensures.holds.fits read
-    (record { held = c.hold.ensures.held; heap = c.hold.ensures.heap }) (λ rooms. (refl, λ number. refl)))
+    subst (λ (k : ℤ). TellsElement c.operands.new.main indexed.list k (Ok c.in_ok-value.value)) (to_z-of_z w64 n fits)
+    (c.in_ok-value.ensures graph indexed.list indexed.shows indexed.stands) in
+    value_carried names c.args.y c.in_ok-value.value same indexed.shows
+    (at_done names indexed.known indexed.index c.args.y is) refl tt c.requires.within.0 c.hold.ensures.holds.fits told
+    (record { held = c.hold.ensures.held; heap = c.hold.ensures.heap }) (λ rooms. (refl, λ number. refl))
 
 pub returns-clause-binds : goal.returns-clause-binds
 returns-clause-binds c = binds_after c.args.y c.in_ok-value.value c.operands.ensures.same c.hold.ensures.held
