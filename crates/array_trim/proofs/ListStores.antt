@@ -21,7 +21,7 @@ use Rattle.object_cells.proofs.KeptCapacities.{capacity_of_store}
 use Rattle.object_cells.proofs.ListSlots.{list_sound}
 use Rattle.object_cells.proofs.OwnCells.{list_size, cell_below_layouts}
 use Rattle.object_cells.proofs.OwnPlaces.{has_own_words}
-use Rattle.object_cells.proofs.SlotPlaces.{one_store_slots}
+use Rattle.heap_model.proofs.OneBeside.{one_beside}
 use Rattle.object_cells.proofs.StoresRead.{IsFoundStore, found_store}
 use Rattle.object_cells.proofs.WordsTold.{cell_fits}
 use Rattle.object_cells.proofs.ListCells.{ListShown, list_shown}
@@ -75,7 +75,7 @@ module _ {main : Mutator} {graph : Graph} {at : ℕ} {list : ListObject} (store 
       let sound = list_sound shows.shows.whole shown.has shown.shows.of_kind in
       let same : sound.store ≡ shown.shows.store =
       same_Some sound.store shown.shows.store (sym sound.slot ∙ shown.shows.slot) in
-      let slots = one_store_slots sound.store shown.shows.store sound.beside shown.shows.slots same sound.stands
+      let slots = one_beside sound.store shown.shows.store sound.beside shown.shows.slots same sound.stands
       shown.shows.has in
       omega (
         arith,

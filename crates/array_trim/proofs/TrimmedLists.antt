@@ -19,7 +19,7 @@ use Rattle.object_cells.proofs.OwnCells.{list_size}
 use Rattle.object_cells.proofs.OwnNames.{renamed_own}
 use Rattle.object_cells.proofs.OwnSteps.{own_places_stay, own_box_stays}
 use Rattle.object_cells.proofs.ShownLists.{shown_list_is_sound, list_store_sound}
-use Rattle.object_cells.proofs.SlotPlaces.{one_store_slots}
+use Rattle.heap_model.proofs.OneBeside.{one_beside}
 use Rattle.object_cells.proofs.SlotsNow.{word_at_offset}
 use Rattle.array_trim.proofs.TrimmedCells.{IsFreeCell, Trimming, list_now, store_now}
 use Rattle.array_trim.proofs.TrimmedSlots.{trim_step, went_no_box, came_cases, refers_now, slots_now, elements_now}
@@ -69,7 +69,7 @@ module _ {old new : Heap} {cell store came : Cell} {pieces : List Cell} {before 
       let same : trim.shown.store ≡ sound.store =
       same_Some trim.shown.store sound.store (sym trim.shown.slot ∙ sound.slot) in
       let slots : trim.shown.slots ≡ sound.beside =
-      one_store_slots trim.shown.store sound.store trim.shown.slots sound.beside same trim.shown.has sound.stands in
+      one_beside trim.shown.store sound.store trim.shown.slots sound.beside same trim.shown.has sound.stands in
       let count : length before ≡ sound.count =
       same_Some (length before) sound.count (sym trim.shown.counted ∙ sound.counted) in
       sound.hold.rest (from + k) word (omega (arith, trim.rest k past below, count))

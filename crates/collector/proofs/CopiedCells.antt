@@ -2,12 +2,11 @@
 use Rattle.std.proofs.Common.{◌≡◌, ℕ, ◌+◌, inl, inr, List, All, Contains, slice_get}
 use Rattle.std.proofs.Common.{refl, sym, ◌∙◌, subst, arith}
 use Rattle.std.proofs.lemmas.Bool.{cases_lt}
-use Rattle.std.proofs.lemmas.List.Elements.{All-contains, All-weaker, All-contains_itself}
+use Rattle.std.proofs.lemmas.List.Elements.{All-weaker, All-contains_itself}
 use Rattle.tagged_word.specs.Shapes.{shapes_most}
-use Rattle.tagged_word.proofs.Members.{in_map}
 use Rattle.heap_model.specs.Types.{Region, Cell}
-use Rattle.page_space.specs.declared.region.Region.TheVariants.{Page, Eden, Segment, Root, Layout, Mark, Board, Outside}
-use Rattle.page_space.specs.Extents.{Extent, layouts_start}
+use Rattle.page_space.specs.declared.region.Region.TheVariants.{Page, Eden, Segment}
+use Rattle.page_space.specs.Extents.{layouts_start}
 use Rattle.page_space.proofs.Starts.{marks_start_is}
 use Rattle.cell_layout.specs.Cells.{IsRow, layouts_in}
 use Rattle.cell_layout.specs.CellLaws.{ReadsAlike}
@@ -22,7 +21,8 @@ use Rattle.heap_model.proofs.RowCovers.{stretch_alike}
 use Rattle.cell_layout.proofs.Puts.{two_words}
 use Rattle.heap_model.proofs.WordsAlike.{extent_below_roots}
 use Rattle.collector.specs.Images.{AreWordsOf}
-use Rattle.collector.proofs.RowAddresses.{not_behind, row_of}
+use Rattle.heap_model.proofs.RegionRows.{row_is, row_of}
+use Rattle.collector.proofs.RowAddresses.{not_behind}
 
 -- the words are those of an image of a heap whose sizes and rows are right
 pub record Copying (heap : Heap) (words : List ℕ) : Type 0 where
@@ -107,11 +107,7 @@ ends_of {heap} row (Segment half worker) copying among used ends = (
     | inr at_end ↦ inl (omega (arith, ends.0, at_end))
   ],
 )
-ends_of row (Root variable) copying among used ends = ends
-ends_of row (Layout shape) copying among used ends = ends
-ends_of row (Mark mark) copying among used ends = ends
-ends_of row (Board place) copying among used ends = ends
-ends_of row Outside copying among used ends = ends
+ends_of row _ copying among used ends = ends
 
 -- a used row is one in the words of the image
 pub row_stays : {heap : Heap} {words : List ℕ} (row : Row) → Copying heap words
@@ -136,33 +132,26 @@ cell_stays copying has = record {
 pub cell_stood : {heap : Heap} {words : List ℕ} {cell : Cell} {others : List ℕ} → Copying heap words
     → HasCell (written heap words) cell others → HasCell heap cell others
 cell_stood {heap} {words} {cell} copying has =
-    let own = row_of heap has.row.extent copying.rows has.in_region in
+    let own = row_of has.row.extent copying.rows.are has.in_region in
     let row = own.row in
-    let Has : Extent → Type 0 = λ extent. Contains (cell_extents heap.space) extent in
-    let among : Has row.extent = subst Has (sym own.of_extent) has.in_region in
+    let among = own.is.among in
+    let used = own.is.used in
     let one =
-    one_used_row (written heap words) row has.row (row_stays row copying among own.used) has.used own.of_extent in
+    one_used_row (written heap words) row has.row (row_stays row copying among used) has.used own.same in
     let stood : HasCell heap cell (words_of_cell heap cell) = record {
       row = row;
       in_region = among;
-      used = own.used;
+      used = used;
       in_row = subst (λ (cells : List Cell). Contains cells cell) (sym one.cells) has.in_row;
       words_are = refl;
     } in
     record {
       row = row;
       in_region = among;
-      used = own.used;
+      used = used;
       in_row = stood.in_row;
       words_are = sym (cell_words copying stood) ∙ has.words_are;
     }
-
--- a row of the heap stands in a region of cells
-among_rows : {heap : Heap} (rows : HasRows heap) (row : Row) → Contains rows.rows row
-    → Contains (cell_extents heap.space) row.extent
-among_rows rows row there =
-    subst (λ all. Contains all row.extent) rows.are.everywhere
-    (in_map (λ (one : Row). one.extent) rows.rows row there)
 
 -- the rows of the heap are those of the image
 pub rows_are : {heap : Heap} {words : List ℕ} (copying : Copying heap words)
@@ -170,8 +159,8 @@ pub rows_are : {heap : Heap} {words : List ℕ} (copying : Copying heap words)
 rows_are {heap} {words} copying =
     let rows = copying.rows in
     let used = λ (row : Row) (there : Contains rows.rows row).
-    row_stays row copying (among_rows rows row there)
-    (All-contains (IsUsedRow heap) rows.rows row rows.are.each there) in
+    let is = row_is row rows.are there in
+    row_stays row copying is.among is.used in
     All-weaker (Contains rows.rows) (IsUsedRow (written heap words)) used rows.rows (All-contains_itself rows.rows)
 
 -- the image has rows
@@ -201,8 +190,7 @@ is_blank {heap} copying =
       rows = rows.rows;
       are = record { everywhere = rows.are.everywhere; each = rows_are copying };
       rest = λ row at there past below.
-          let among = among_rows rows row there in
-          copying.are.rest at (omega (arith, below, extent_below_roots heap.space row.extent among))
-          (not_behind heap row at rows among (All-contains (IsUsedRow heap) rows.rows row rows.are.each there) past
-          below);
+          let is = row_is row rows.are there in
+          copying.are.rest at (omega (arith, below, extent_below_roots heap.space row.extent is.among))
+          (not_behind heap row at rows is.among is.used past below);
     }

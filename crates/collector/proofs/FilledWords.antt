@@ -9,9 +9,10 @@ use Rattle.heap_model.specs.Wholeness.{HasRows}
 use Rattle.heap_model.proofs.CellsApart.{ends_within, used_few}
 use Rattle.heap_model.proofs.WordsAlike.{cell_below_roots, extent_below_roots}
 use Rattle.collector.specs.Images.{AreWordsOf}
-use Rattle.collector.specs.Filling.{CopiesWithin, BlanksWithin, StandsBetween, EndsRowAt, FillsWithin}
+use Rattle.heap_model.specs.RegionRows.{StandsBetween}
+use Rattle.heap_model.proofs.RegionRows.{row_between}
+use Rattle.collector.specs.Filling.{CopiesWithin, BlanksWithin, EndsRowAt, FillsWithin}
 use Rattle.collector.proofs.RowAddresses.{of_row, not_behind}
-use Rattle.collector.proofs.RowWalks.{row_between}
 
 -- where the used row of a region may end
 pub record LiesBetween (heap : Heap) (start row_end end : ℕ) : Type 0 where
@@ -23,7 +24,7 @@ pub record LiesBetween (heap : Heap) (start row_end end : ℕ) : Type 0 where
 pub row_lies_between : (heap : Heap) (start row_end end : ℕ) → HasRows heap → StandsBetween heap.space start end
     → EndsRowAt heap start row_end → LiesBetween heap start row_end end
 row_lies_between heap start row_end end rows stands ends =
-    let own = row_between heap start end rows stands in
+    let own = row_between rows.are stands in
     let row = own.row in
     let is = own.is in
     let at_end : row.end ≡ row_end = ends row is in
@@ -46,7 +47,7 @@ pub region_filled : (heap : Heap) (old mid new : List ℕ) (start row_end end : 
     → StandsBetween heap.space start end → EndsRowAt heap start row_end → CopiesWithin heap.words old mid start row_end
     → BlanksWithin mid new row_end end → FillsWithin heap old new start end
 region_filled heap old mid new start row_end end rows stands ends copies blanks =
-    let own = row_between heap start end rows stands in
+    let own = row_between rows.are stands in
     let row = own.row in
     let is = own.is in
     let at_end : row.end ≡ row_end = ends row is in

@@ -1,5 +1,5 @@
 -- An image keeps only what is reached, if the heap does.
-use Rattle.std.proofs.Common.{inl, inr, ℕ, List, sym, ◌∙◌, subst, arith}
+use Rattle.std.proofs.Common.{ℕ, List, sym, ◌∙◌, subst, arith}
 use Rattle.page_space.proofs.Starts.{layouts_start_is}
 use Rattle.handle_roots.specs.Roots.{root_at}
 use Rattle.heap_model.specs.Heaps.{Heap}
@@ -25,9 +25,6 @@ pub images_are_tight : ImagesAreTight
 images_are_tight heap image whole tight is =
     let copied = copying whole is in
     subst IsTight (sym (image_is heap image is)) record {
-      each = λ cell words has.
-          elim (tight.each cell words (cell_stood copied has)) [
-            | inl reached ↦ inl (reached_stays cell.at copied reached)
-            | inr free ↦ inr record { below = free.below; free = free.free }
-          ];
+      young = λ cell words has above. reached_stays cell.at copied (tight.young cell words (cell_stood copied has) above);
+      pages = λ cell words has. tight.pages cell words (cell_stood copied has);
     }

@@ -1,8 +1,6 @@
 -- Which addresses of a region are of cells: those of its used row, and no others.
-use Rattle.std.proofs.Common.{◌≡◌, ℕ, ◌+◌, ◌≤◌, ◌<◌, List, Contains, refl, sym, subst, arith}
-use Rattle.std.proofs.lemmas.List.Elements.{All-contains}
-use Rattle.tagged_word.proofs.Members.{map_from}
-use Rattle.page_space.specs.Extents.{Extent, ContainsAddress}
+use Rattle.std.proofs.Common.{◌≡◌, ℕ, ◌+◌, ◌≤◌, ◌<◌, Contains, refl, arith}
+use Rattle.page_space.specs.Extents.{ContainsAddress}
 use Rattle.page_space.proofs.Covering.{disjoint}
 use Rattle.cell_layout.proofs.Rows.{cell_within, row_ascends}
 use Rattle.heap_model.specs.Heaps.{Heap, Row, IsUsedRow, cell_extents, words_of_cell}
@@ -41,21 +39,3 @@ not_behind heap row at rows among used past below of_some =
     let within =
     cell_within heap.space heap.words own.extent.start own.end own.cells of_some.cell has.used.stands has.in_row in
     omega (arith, within.1, (one_used_row heap own row has.used used same).end, past, of_cell.below)
-
--- the used row of a region
-pub record HasRow (heap : Heap) (extent : Extent) : Type 0 where
-  pub row : Row
-  pub used : IsUsedRow heap row
-  pub of_extent : row.extent ≡ extent
-
--- each region of cells has one
-pub row_of : (heap : Heap) (extent : Extent) → HasRows heap → Contains (cell_extents heap.space) extent
-    → HasRow heap extent
-row_of heap extent rows among =
-    let Has : List Extent → Type 0 = λ all. Contains all extent in
-    let found = map_from (λ (row : Row). row.extent) rows.rows extent (subst Has (sym rows.are.everywhere) among) in
-    record {
-      row = found.0;
-      used = All-contains (IsUsedRow heap) rows.rows found.0 rows.are.each found.1;
-      of_extent = found.2;
-    }

@@ -1,5 +1,5 @@
 -- The end of the used row of a region, and the walk to it in a segment.
-use Rattle.std.proofs.Common.{◌≡◌, ℕ, ◌+◌, ◌≤◌, ◌⊎◌, inl, inr, List, [], ◌∷◌, Contains, Some}
+use Rattle.std.proofs.Common.{◌≡◌, ℕ, ◌+◌, ◌≤◌, ◌⊎◌, inl, inr, List, [], ◌∷◌, Some}
 use Rattle.std.proofs.Common.{slice_get, refl, sym, ◌∙◌, ap, subst, arith}
 use Rattle.heap_model.specs.Types.{Region, Cell}
 use Rattle.page_space.specs.declared.region.Region.TheVariants.{Page, Eden, Segment}
@@ -8,59 +8,19 @@ use Rattle.page_space.specs.RegionLaws.{IsSpace}
 use Rattle.cell_layout.specs.Cells.{IsCell, IsRow, HasNoCell}
 use Rattle.cell_layout.proofs.OneCell.{one_cell}
 use Rattle.cell_layout.proofs.Rows.{row_begins, row_of_none, first_ends}
-use Rattle.heap_model.specs.Heaps.{Heap, Row, EndsUsed, cell_extents}
+use Rattle.heap_model.specs.Heaps.{Heap, Row, EndsUsed}
 use Rattle.heap_model.specs.Wholeness.{HasRows}
-use Rattle.heap_model.proofs.RowEnds.{one_used_row, first_word_counts}
-use Rattle.collector.specs.Filling.{StandsBetween, IsSegmentBetween, IsRowFrom, EndsRowAt}
-use Rattle.heap_model.proofs.RegionStarts.{one_extent, region_at_start}
-use Rattle.collector.proofs.RowAddresses.{row_of}
+use Rattle.heap_model.proofs.RowEnds.{first_word_counts}
+use Rattle.heap_model.specs.RegionRows.{StandsBetween, IsRowFrom}
+use Rattle.heap_model.proofs.RegionStarts.{region_at_start}
+use Rattle.heap_model.proofs.RegionRows.{row_of, one_row_from, region_ends, region_is}
+use Rattle.collector.specs.Filling.{IsSegmentBetween, EndsRowAt}
 
--- the used row of a region, as it stands between two addresses
-pub record RowBetween (heap : Heap) (start end : ℕ) : Type 0 where
-  pub row : Row
-  pub is : IsRowFrom heap start row
-  pub ends : row.extent.start + row.extent.words ≡ end
-
--- each region of cells has one
-pub row_between : (heap : Heap) (start end : ℕ) → HasRows heap → StandsBetween heap.space start end
-    → RowBetween heap start end
-row_between heap start end rows stands =
-    let own = row_of heap stands.extent rows stands.among in
-    let Has : Extent → Type 0 = λ extent. Contains (cell_extents heap.space) extent in
-    record {
-      row = own.row;
-      is = record {
-        among = subst Has (sym own.of_extent) stands.among;
-        starts = ap (λ (extent : Extent). extent.start) own.of_extent ∙ stands.starts;
-        used = own.used;
-      };
-      ends = ap (λ (extent : Extent). extent.start + extent.words) own.of_extent ∙ stands.ends;
-    }
-
--- the used row of a region is one
-pub one_row_from : (heap : Heap) (start : ℕ) (row other : Row) → IsSpace heap.space → IsRowFrom heap start row
-    → IsRowFrom heap start other → row.end ≡ other.end
-one_row_from heap start row other limits is is_too =
-    let same =
-    one_extent heap.space row.extent other.extent limits is.among is_too.among (is.starts ∙ sym is_too.starts) in
-    (one_used_row heap row other is.used is_too.used same).end
-
--- it lies in its region
-pub row_lies : (heap : Heap) (start end : ℕ) (row : Row) → IsSpace heap.space → StandsBetween heap.space start end
-    → IsRowFrom heap start row → row.extent.start + row.extent.words ≡ end
-row_lies heap start end row limits stands is =
-    let same =
-    one_extent heap.space row.extent stands.extent limits is.among stands.among (is.starts ∙ sym stands.starts) in
-    ap (λ (extent : Extent). extent.start + extent.words) same ∙ stands.ends
-
--- it ends as is told by the region that its first address is in
-pub row_ends : (heap : Heap) (start : ℕ) (region : Region) (row : Row) → IsSpace heap.space
+-- a used row ends as is told by the region that its first address is in
+row_ends : (heap : Heap) (start : ℕ) (region : Region) (row : Row) → IsSpace heap.space
     → IsIn heap.space start region → IsRowFrom heap start row → EndsUsed heap row.extent row.end region
 row_ends heap start region row limits inside is =
-    let In : ℕ → Type 0 = λ at. IsIn heap.space at region in
-    let same : region ≡ row.extent.region =
-    region_at_start heap.space row.extent region limits is.among (subst In (sym is.starts) inside) in
-    subst (EndsUsed heap row.extent row.end) (sym same) is.used.ends
+    subst (EndsUsed heap row.extent row.end) (sym (region_is region limits inside is)) is.used.ends
 
 -- in eden it ends behind the used words
 pub eden_ends : (heap : Heap) (start : ℕ) (region : Region) → IsSpace heap.space → IsIn heap.space start region
@@ -85,7 +45,7 @@ pub whole_ends : (heap : Heap) (start end : ℕ) (region : Region) → IsSpace h
     → ((half worker : ℕ) → region ≡ Segment half worker → ⊥) → EndsRowAt heap start end
 whole_ends heap start end region limits stands inside not_eden no_segment row is =
     whole_of heap row.extent row.end region not_eden no_segment (row_ends heap start region row limits inside is)
-    ∙ row_lies heap start end row limits stands is
+    ∙ region_ends limits stands is
 
 -- a region is a segment where that of its first address is one
 pub segment_between : (space : Space) (start end half worker : ℕ) (region : Region) → IsSpace space
@@ -117,24 +77,20 @@ pub walk_begins : (heap : Heap) (start end : ℕ) → HasRows heap → IsSegment
     → Walking heap start end start
 walk_begins heap start end rows segment =
     let stands = segment.stands in
-    let own = row_of heap stands.extent rows stands.among in
+    let own = row_of stands.extent rows.are stands.among in
     let row = own.row in
     let used : EndsUsed heap stands.extent row.end (Segment segment.half segment.worker) =
     subst (EndsUsed heap stands.extent row.end) segment.of_region
-    (subst (λ (extent : Extent). EndsUsed heap extent row.end extent.region) own.of_extent own.used.ends) in
-    let starts = ap (λ (extent : Extent). extent.start) own.of_extent ∙ stands.starts in
+    (subst (λ (extent : Extent). EndsUsed heap extent row.end extent.region) own.same own.is.used.ends) in
+    let is = subst (λ (at : ℕ). IsRowFrom heap at row) stands.starts own.is in
     record {
       row = row;
-      is = record {
-        among = subst (λ (extent : Extent). Contains (cell_extents heap.space) extent) (sym own.of_extent) stands.among;
-        starts = starts;
-        used = own.used;
-      };
+      is = is;
       near = omega (arith, stands.starts, stands.ends);
       within = omega (arith, used.0, stands.ends);
       stops = elim used.1 [ inl last ↦ inl (last ∙ stands.ends) | inr zero ↦ inr zero ];
       cells = row.cells;
-      rest = subst (λ (from : ℕ). IsRow heap.space heap.words from row.end row.cells) starts own.used.stands;
+      rest = subst (λ (from : ℕ). IsRow heap.space heap.words from row.end row.cells) is.starts is.used.stands;
     }
 
 -- the rest of a row begins with the cell, and goes on behind it
@@ -201,5 +157,5 @@ row_is_over heap end row_end at (cell ∷ cells) within (inr none) rest =
 pub walk_ends : (heap : Heap) (start end at : ℕ) → IsSpace heap.space → Walking heap start end at
     → (at ≡ end) ⊎ HasNoCell heap.space heap.words at → EndsRowAt heap start at
 walk_ends heap start end at limits walking over row is =
-    one_row_from heap start row walking.row limits is walking.is
+    (one_row_from limits is walking.is).end
     ∙ sym (row_is_over heap end walking.row.end at walking.cells walking.within over walking.rest)

@@ -1,8 +1,9 @@
 -- How the words of an image are put: stretch by stretch, and region by region.
-use Rattle.std.specs.Prelude.{◌≡◌, ℕ, ◌+◌, ◌<◌, ◌≤◌, ◌⊎◌, List, length, Contains, Some, slice_get}
+use Rattle.std.specs.Prelude.{◌≡◌, ℕ, ◌<◌, ◌≤◌, ◌⊎◌, List, length, Some, slice_get}
 use Rattle.page_space.specs.declared.region.Region.TheVariants.{Segment}
-use Rattle.page_space.specs.Extents.{Space, Extent}
-use Rattle.heap_model.specs.Heaps.{Heap, Row, IsUsedRow, cell_extents}
+use Rattle.page_space.specs.Extents.{Space}
+use Rattle.heap_model.specs.Heaps.{Heap, Row}
+use Rattle.heap_model.specs.RegionRows.{StandsBetween, IsRowFrom}
 use Rattle.collector.specs.Images.{IsOfSomeCell}
 
 -- the words from an address to another have become those of a source, and no other has changed
@@ -17,27 +18,14 @@ pub record BlanksWithin (old new : List ℕ) (from to : ℕ) : Type 0 where
   pub there : (at : ℕ) → from ≤ at → at < to → slice_get new at ≡ Some 0
   pub others : (at : ℕ) → (at < from) ⊎ (to ≤ at) → slice_get new at ≡ slice_get old at
 
--- a region of cells stands from the first address to the one behind it
-pub record StandsBetween (space : Space) (start end : ℕ) : Type 0 where
-  pub extent : Extent
-  pub among : Contains (cell_extents space) extent
-  pub starts : extent.start ≡ start
-  pub ends : extent.start + extent.words ≡ end
-
--- it is a segment
+-- the region that stands there is a segment
 pub record IsSegmentBetween (space : Space) (start end : ℕ) : Type 0 where
   pub stands : StandsBetween space start end
   pub half : ℕ
   pub worker : ℕ
   pub of_region : stands.extent.region ≡ Segment half worker
 
--- the used row of the region that begins at an address
-pub record IsRowFrom (heap : Heap) (start : ℕ) (row : Row) : Type 0 where
-  pub among : Contains (cell_extents heap.space) row.extent
-  pub starts : row.extent.start ≡ start
-  pub used : IsUsedRow heap row
-
--- it ends there
+-- the used row of the region that begins at an address ends there
 abbrev pub EndsRowAt : Heap → ℕ → ℕ → Type 0
 EndsRowAt heap start end = (row : Row) → IsRowFrom heap start row → row.end ≡ end
 

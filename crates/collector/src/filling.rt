@@ -3,10 +3,11 @@ ghost use Rattle.std.specs.Prelude.{◌≡◌, ◌≤◌, length};
 ghost use Rattle.page_space.specs.Extents.{marks_start, roots_start};
 ghost use Rattle.heap_table.specs.declared.phase.Phase.TheVariants.{Quiet};
 ghost use Rattle.heap_table.specs.Seats.{heap_words};
+ghost use Rattle.heap_model.specs.RegionRows.{StandsBetween};
 ghost use Rattle.heap_model.specs.Wholeness.{Whole};
 ghost use Rattle.write_barrier.specs.MutatorState.{heap_of};
 ghost use Rattle.collector.specs.Images.{AreWordsOf};
-ghost use Rattle.collector.specs.Filling.{CopiesWithin, BlanksWithin, StandsBetween, FillsWithin};
+ghost use Rattle.collector.specs.Filling.{CopiesWithin, BlanksWithin, FillsWithin};
 
 use crate::row_ends::row_end;
 use word_store::Reads;

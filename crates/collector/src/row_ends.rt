@@ -1,9 +1,10 @@
 //! Where the used row of a region ends.
 ghost use Rattle.std.specs.Prelude.{◌≡◌};
 ghost use Rattle.heap_table.specs.declared.phase.Phase.TheVariants.{Quiet};
+ghost use Rattle.heap_model.specs.RegionRows.{StandsBetween};
 ghost use Rattle.heap_model.specs.Wholeness.{Whole};
 ghost use Rattle.write_barrier.specs.MutatorState.{heap_of};
-ghost use Rattle.collector.specs.Filling.{StandsBetween, IsSegmentBetween, EndsRowAt};
+ghost use Rattle.collector.specs.Filling.{IsSegmentBetween, EndsRowAt};
 
 use cell_layout::cell_at;
 use page_space::Region;

@@ -21,10 +21,9 @@ use Rattle.object_cells.proofs.RestOfWords.{keeps_regions}
 use Rattle.ephemeron_table.specs.EntryChanges.{map_room, HasPutEntry}
 use Rattle.ephemeron_table.specs.PairLaws.{WrittenEntriesShow, IsNewValue}
 use Rattle.weak_pairs.proofs.CountedPairs.{count_filled}
-use Rattle.ephemeron_table.proofs.GrownEntries.{length-with_entry_new}
+use Rattle.ephemeron_table.proofs.EntryCounts.{length-with_entry_new, length-with_entry_there}
 use Rattle.ephemeron_table.proofs.KeysFound.{weak_shown}
 use Rattle.ephemeron_table.proofs.PutShown.{CountsPut, PutsShown}
-use Rattle.ephemeron_table.proofs.ReplacedValues.{length-with_entry_there}
 
 -- as many pairs hold something as there are entries with this one
 counts_entries : {heap : Heap} {map number : ℕ} {entries : List Entry} {after : List Pair} (what : Value)

@@ -24,9 +24,13 @@ use Rattle.weak_pairs.proofs.KeyedPairs.{HaveKeys}
 use Rattle.weak_pairs.proofs.InsertedPairs.{has_free}
 
 module _ {old : Mutator} {map key count : ℕ} {table : Table} (can : CanGrow old map table key count)
-    (counted : length (heap_words old.seat) ≡ marks_start old.seat.space) (at capacity box : ℕ)
-    (room : HasRoom old.young (store_head + 2 * capacity + box)) (at_is : at ≡ next_at old)
+    (counted : length (heap_words old.seat) ≡ marks_start old.seat.space) {at capacity : ℕ} (box : ℕ)
+    (room : HasRoom old.young (store_head + 2 * capacity + box))
+    (begins_at : 0 < store_head + 2 * capacity + box → at ≡ next_at old)
     (capacity_is : capacity ≡ grown_table table.capacity) where
+  at_is : at ≡ next_at old
+  at_is = begins_at (omega arith)
+
   -- the table that is made
   abbrev made : Table
   made = record { at = at; capacity = capacity }

@@ -47,6 +47,21 @@ use Rattle.ephemeron_table.proofs.KnownTables.{are_before, KnownMap, cell, of_ma
 use Rattle.object_cells.specs.OwnSlots.{ComesFrom}
 use Rattle.ephemeron_table.proofs.StayingTables as staying
 use Rattle.ephemeron_table.proofs.StayingTables.{WritesMap}
+use Rattle.std.proofs.Common.{◌≡◌, ℕ, ◌+◌, ◌<◌, false, List, [], ◌∷◌, Some}
+use Rattle.std.proofs.Common.{slice_get, refl, sym, ◌∙◌, ap, subst, arith}
+use Rattle.std.proofs.lemmas.Option.{none-some, same_Some, slice_get_within}
+use Rattle.tagged_word.specs.Cells.{store_head}
+use Rattle.heap_model.specs.Types.{Value, Held}
+use Rattle.heap_model.specs.Slots.{RefersToPlace}
+use Rattle.heap_model.specs.Kinds.{Pair}
+use Rattle.heap_model.specs.Showing.{ShowsEntry}
+use Rattle.write_barrier.specs.MutatorState.{Mutator, heap_of}
+use Rattle.weak_pairs.specs.Pairs.{IsFilledAt}
+use Rattle.ephemeron_table.specs.PairLaws.{PutsOne}
+use Rattle.ephemeron_table.proofs.GrownPairs.{before, origin_other, moved, moved_apart, moved_stands, NowFilled}
+use Rattle.ephemeron_table.proofs.GrownPairs.{now_filled, one_stands}
+use Rattle.ephemeron_table.proofs.GrownWords.{GrowsTable, pair}
+use Rattle.ephemeron_table.proofs.KnownTables.{KnownMap, pairs_long}
 
 -- An entry whose key is new comes to a map in a table that is made: the key's object, and the value.
 pub record GrowsEntry (old new : Mutator) (map key count earlier number : ℕ) (table : Table) (value : Held)
@@ -204,4 +219,36 @@ module _ {old new : Mutator} {map key count earlier number : ℕ} {table : Table
     writes = takes.writes;
     paths = (filled grows).paths;
     pairs = refills;
+  }
+
+module _ {old new : Mutator} {map key count earlier number : ℕ} {table : Table} {value : Held} {what : Value}
+    (entry : GrowsEntry old new map key count earlier number table value what)
+    (none : (at : ℕ) (one : Pair) → IsFilledAt (before entry.grows) at one
+    → RefersToPlace (heap_of old) one.key number → ⊥) where
+  -- the pair that was put shows the entry
+  entry_shows : (put : Value) → ◌≡◌ {A = Value} what put
+      → ShowsEntry (heap_of new) (pair (grows entry)) (record { key = number; value = put })
+  entry_shows put same =
+      subst (λ v. ShowsEntry (heap_of new) (pair (grows entry)) (record { key = number; value = v })) same (record {
+        key = record { at = key; refers = refl; place = taken.places (takes entry) number key entry.key_place };
+        value = taken.value_shows (takes entry);
+      })
+
+  -- all pairs before are kept, and it is the one of its key
+  pub puts_one : PutsOne (heap_of old) (heap_of new) (refills_weak entry).pairs number (Some what)
+  puts_one = record {
+    kept = λ at one is other.
+        let below : at < table.capacity =
+        omega (arith, slice_get_within (before (grows entry)) at one is.stands, pairs_long (grows entry).known) in
+        let kept = (moved (grows entry)).kept at one is below in
+        let apart = moved_apart (grows entry) kept.0 one kept.1 in
+        (kept.0, moved_stands (grows entry) kept.0 one kept.1, origin_other (grows entry) kept.0 apart ∙ kept.2, apart);
+    own = λ at one is refers. elim (now_filled (grows entry) at one is) [
+      | NowFilled.here same put_is ↦ (same, refl)
+      | NowFilled.elsewhere apart now ↦
+          absurd (none ((moved (grows entry)).origin at) one ((moved (grows entry)).from at one now).0
+          (refers_back entry one.key number refers))
+    ];
+    shown = λ put is. (pair (grows entry), one_stands (grows entry), entry_shows put (same_Some what put is));
+    none_put = λ is. absurd (none-some what (sym is));
   }

@@ -24,7 +24,7 @@ use Rattle.weak_pairs.specs.Tables.{number_at, numbers, key_number, pairs_of}
 use Rattle.weak_pairs.specs.declared.table.Table.{Table}
 use Rattle.weak_pairs.proofs.CountedPairs.{count_filled, count_put}
 use Rattle.ephemeron_table.proofs.GrowingTables.{boxed_pairs, grown_pairs_stay}
-use Rattle.ephemeron_table.proofs.GrownWords.{GrowsTable, pair, made_table, capacity, need, run, keys_boxed, fits_boxed}
+use Rattle.ephemeron_table.proofs.GrownWords.{GrowsTable, pair, made_table, need, run, keys_boxed, fits_boxed}
 use Rattle.ephemeron_table.proofs.GrownWords.{begun_stays, boxed_stays, run_word, fits_new, inserted_as_long}
 use Rattle.ephemeron_table.proofs.KeysFound.{key_filled}
 use Rattle.ephemeron_table.proofs.KnownTables.{pairs_long}
@@ -84,9 +84,8 @@ module _ {old new : Mutator} {map key count earlier : ℕ} {table : Table} {valu
 
   boxed_same : pairs_of (heap_words grows.puts.boxed.seat) (made_table grows) ≡ far
   boxed_same =
-      boxed_pairs grows.can grows.known.whole.sized.words (next_at old) (capacity grows)
-      (content_need (store_content value))
-      grows.puts.room refl refl refl grows.puts.begins (store_content value) grows.puts.moves grows.puts.boxes
+      boxed_pairs grows.can grows.known.whole.sized.words (content_need (store_content value)) grows.puts.room
+      (λ some. refl) refl refl grows.puts.begins (store_content value) grows.puts.moves grows.puts.boxes
 
   inserted_are : pairs_of (heap_words grows.puts.inserted.seat) (made_table grows) ≡ slice_set far place one
   inserted_are =
@@ -114,8 +113,8 @@ module _ {old new : Mutator} {map key count earlier : ℕ} {table : Table} {valu
   pub moved : AreRehashed before far table.capacity
   moved =
       subst (λ all. AreRehashed all far table.capacity)
-      (grown_pairs_stay grows.can grows.known.whole.sized.words (next_at old) (capacity grows)
-      (content_need (store_content value)) grows.puts.room refl refl refl grows.puts.begins) grows.puts.moves.moved
+      (grown_pairs_stay grows.can grows.known.whole.sized.words (content_need (store_content value)) grows.puts.room
+      (λ some. refl) refl refl grows.puts.begins) grows.puts.moves.moved
 
   -- what is filled is the new pair, or was moved
   pub data NowFilled (at : ℕ) (found : Pair) : Type 0 where
@@ -196,17 +195,18 @@ module _ {old new : Mutator} {map key count earlier : ℕ} {table : Table} {valu
 
   -- the numbers of the keys are those in the heap before
   far_numbers : numbers (heap_of grows.puts.begun) far ≡ numbers (heap_of old) far
-  far_numbers = numbers_same (heap_of grows.puts.begun) (heap_of old) far (λ at found there. elim (free_or_filled found) [
-    | inl free ↦
-        ap (key_number (heap_of grows.puts.begun)) free ∙ sym (ap (key_number (heap_of old)) free)
-    | inr filled ↦
-        let known_key = grows.can.keys (moved.origin at) found
-        (moved.from at found (record { stands = there; filled = filled })).0 in
-        ap (option_map (number_at (heap_of grows.puts.begun))) known_key.1
-        ∙ ap (λ n. Some n) (number_stays (heap_of grows.puts.begun) (heap_of old) known_key.0
-        (begun_stays grows known_key.0 (used_not_new known_key.0 known_key.3)))
-        ∙ sym (ap (option_map (number_at (heap_of old))) known_key.1)
-  ])
+  far_numbers = numbers_same (heap_of grows.puts.begun) (heap_of old) far
+      (λ at found there. elim (free_or_filled found) [
+        | inl free ↦
+            ap (key_number (heap_of grows.puts.begun)) free ∙ sym (ap (key_number (heap_of old)) free)
+        | inr filled ↦
+            let known_key = grows.can.keys (moved.origin at) found
+            (moved.from at found (record { stands = there; filled = filled })).0 in
+            ap (option_map (number_at (heap_of grows.puts.begun))) known_key.1
+            ∙ ap (λ n. Some n) (number_stays (heap_of grows.puts.begun) (heap_of old) known_key.0
+            (begun_stays grows known_key.0 (used_not_new known_key.0 known_key.3)))
+            ∙ sym (ap (option_map (number_at (heap_of old))) known_key.1)
+      ])
 
   -- probing finds each
   pub all_found : reference_in (reference_word key) ≡ Some key → FindsAll (numbers (heap_of old) after)

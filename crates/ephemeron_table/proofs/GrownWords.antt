@@ -1,5 +1,6 @@
 -- The words where an entry came to a table that was made: those of the map's own cell, and newly used ones.
-use Rattle.std.proofs.Common.{◌≡◌, ◌≢◌, ℕ, ◌+◌, ◌*◌, ◌≤◌, ◌<◌, inl, inr, List, length, Some, slice_get, refl, sym, ◌∙◌, ap}
+use Rattle.std.proofs.Common.{◌≡◌, ◌≢◌, ℕ, ◌+◌, ◌*◌, ◌≤◌, ◌<◌, inl, inr, List, length, Some, slice_get, refl, sym, ◌∙◌}
+use Rattle.std.proofs.Common.{ap}
 use Rattle.std.proofs.Common.{arith, length-set}
 use Rattle.std.specs.Prelude.{slice_set}
 use Rattle.tagged_word.specs.declared.layout.Kind.TheVariants as kind
@@ -99,13 +100,13 @@ module _ {old new : Mutator} {map key count earlier : ℕ} {table : Table} {valu
   -- the table's words with its box
   pub keys_boxed : HaveKeys (pairs_of (heap_words grows.puts.boxed.seat) made_table)
   keys_boxed =
-      boxed_keys grows.can counted (next_at old) capacity (content_need (store_content value)) grows.puts.room refl refl
-      refl grows.puts.begins (store_content value) grows.puts.moves grows.puts.boxes
+      boxed_keys grows.can counted (content_need (store_content value)) grows.puts.room (λ some. refl) refl refl
+      grows.puts.begins (store_content value) grows.puts.moves grows.puts.boxes
 
   pub fits_boxed : next_at old + (store_head + 2 * capacity) ≤ length (heap_words grows.puts.boxed.seat)
   fits_boxed =
-      boxed_within grows.can counted (next_at old) capacity (content_need (store_content value)) grows.puts.room refl
-      refl refl grows.puts.begins (store_content value) grows.puts.moves grows.puts.boxes
+      boxed_within grows.can counted (content_need (store_content value)) grows.puts.room (λ some. refl) refl refl
+      grows.puts.begins (store_content value) grows.puts.moves grows.puts.boxes
 
   -- the new pair's place is one of the table
   pub place_below : grows.puts.inserts.place < capacity
@@ -115,8 +116,8 @@ module _ {old new : Mutator} {map key count earlier : ℕ} {table : Table} {valu
   moved_long : length (heap_words grows.puts.moved.seat) ≡ length (heap_words old.seat)
   moved_long =
       grows.puts.moves.changes.long
-      ∙ begun_words_long grows.can counted (next_at old) capacity (content_need (store_content value)) grows.puts.room
-      refl refl refl grows.puts.begins
+      ∙ begun_words_long grows.can counted (content_need (store_content value)) grows.puts.room (λ some. refl) refl
+      refl grows.puts.begins
 
   inserted_long : length (heap_words grows.puts.inserted.seat) ≡ length (heap_words old.seat)
   inserted_long =
@@ -173,8 +174,8 @@ module _ {old new : Mutator} {map key count earlier : ℕ} {table : Table} {valu
 
   begun_is : heap_words grows.puts.begun.seat ≡ begun_table (heap_words old.seat) made_table
   begun_is =
-      begun_words grows.can counted (next_at old) capacity (content_need (store_content value)) grows.puts.room refl
-      refl refl grows.puts.begins
+      begun_words grows.can counted (content_need (store_content value)) grows.puts.room (λ some. refl) refl refl
+      grows.puts.begins
 
   -- and one that was not reserved is as before
   pub begun_stays : (a : ℕ) → (next_at old ≤ a → a < next_at old + need → ⊥)

@@ -237,16 +237,6 @@ module _ {old : Mutator} {map : ℕ} {table : Table} (known : KnownMap old map t
         let apart : kind.Weak ≡ kind.Table = sym known.there.of_kind ∙ is in
         cc
 
-    -- so no word is one of both
-    pub map_apart : (a : ℕ) → IsOfCell cell a → IsOfCell other a → ⊥
-    map_apart a of_cell of_other =
-        map_no_table (ap (λ (c : Cell). c.layout.kind)
-        (cells_apart a known.whole.rows cell_has other_has of_cell of_other) ∙ found.of_kind)
-
-    -- the words of the table's head
-    pub of_head : (k : ℕ) → k < 2 → IsOfCell other (other.at + k)
-    of_head k below = record { from = omega arith; below = omega (arith, below, found.size) }
-
     -- so the words of the map's cell are beside the pairs
     pub map_beside : (k : ℕ) → k < 3 → IsOutsidePairs table (map + k)
     map_beside k below = cell_beside (map + k) cell_has map_no_table (of_map k below)

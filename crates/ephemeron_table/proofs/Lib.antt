@@ -35,7 +35,7 @@ pub mod BoxedMaps
 pub mod PutKeys
 pub mod NoPair
 pub mod GrowableMaps
-pub mod GrownEntries
+pub mod EntryCounts
 pub mod NewTableEntries
 pub mod PairsByKey
 pub mod PutRefusals

@@ -24,7 +24,7 @@ use Rattle.object_cells.specs.HeldValues.{IsValueHeld}
 use Rattle.object_cells.specs.Made.{store_content, content_need, RefusesRoom}
 use Rattle.object_cells.proofs.HeldNeeds.{new_value_held, content_need_is, wide_is}
 use Rattle.ephemeron_table.proofs.KeptTables.{tables_stay}
-use Rattle.ephemeron_table.specs.EntryChanges.{map_room, HasPutEntry, PutsEntry}
+use Rattle.ephemeron_table.specs.EntryChanges.{map_room, HasPutEntry, IsMapFull, PutsEntry}
 use Rattle.ephemeron_table.specs.declared.stop.TableStop.TheVariants as stop
 use Rattle.weak_pairs.specs.Pairs.{HasPairsAt}
 use Rattle.ephemeron_table.specs.PairChanges.{PutsPair}
@@ -85,125 +85,16 @@ refuses_pair value count lacks counted many has = (
   refl,
 )
 
--- The entry of a new key is to be put in the table that the map has.
-pub record FitsInTable (old : Mutator) (graph : Graph) (map key : ℕ) (weak : WeakObject) (number count : ℕ)
+-- What is known of a weak map, of a key for which probing ends at a free place of its table, and of a value: the entry
+-- is to be put there.
+pub record EndsFree (old : Mutator) (graph : Graph) (map key : ℕ) (weak : WeakObject) (number count place : ℕ)
     (table : Table) (value : Held) (what : Value) : Type 0 where
-  pub lacks : LacksKey old graph map key weak number table
+  pub ends : ComesToFree old graph map key weak number place table
   pub held : IsValueHeld old graph value what
+  pub is_value : IsValue (length graph.objects) what
   pub counted : count_at (heap_of old) map ≡ count
   pub few : count < weak_most
   pub fits : 2 * (count + 1) ≤ table.capacity
-
-module _ {old : Mutator} {graph : Graph} {map key : ℕ} {weak : WeakObject} {number count : ℕ} {table : Table}
-    {value : Held} {what : Value} (fitting : FitsInTable old graph map key weak number count table value what) where
-  stays : 2 * (count_at (heap_of old) map + 1) ≤ capacity_at (heap_of old) map
-  stays = omega (arith, fitting.fits, fitting.counted, fitting.lacks.is_table.capacity)
-
-  not_full : count_at (heap_of old) map < weak_most
-  not_full = omega (arith, fitting.few, fitting.counted)
-
-  -- so many words are needed
-  pub need_is : content_need (store_content value) ≡ wput_need (map_room old map weak) weak what number
-  need_is =
-      content_need_is value ∙ ap box_need (wide_is value what fitting.held.shows)
-      ∙ sym (need_in_table (map_room old map weak) what stays)
-      ∙ ap (wput_need_by (map_room old map weak) what) (sym fitting.lacks.fresh)
-
-  -- the map keeps its pairs
-  pub capacity_is : capacity_at (heap_of old) map
-      ≡ (room_put (map_room old map weak) (entry_value weak.entries number)).capacity
-  capacity_is =
-      sym (capacity_in_table (map_room old map weak) stays)
-      ∙ ap (λ found. (room_put (map_room old map weak) found).capacity) (sym fitting.lacks.fresh)
-
-  -- where there is no room, putting it is refused
-  pub refuses_in_table : {new : Mutator} (room : NoRoom)
-      → RefusesRoom old new (content_need (store_content value)) room
-      → PutsEntry old new graph map key weak number what (Err (stop.Full room))
-  refuses_in_table room refuses = (
-    not_full_for fitting.lacks not_full,
-    refuses.need_is ∙ need_is,
-    λ has. refuses.lacks (subst (HasRoom old.young) refuses.need_is has),
-    refuses.same,
-  )
-
-  module _ {new : Mutator} {place : ℕ} (ends : ComesToFree old graph map key weak number place table)
-      (is : IsValue (length graph.objects) what) (puts : PutsInTable old new map table place key (count + 1) value)
-    where
-      abbrev map_known : KnownMap old map table
-      map_known = known ends.lacks
-
-      abbrev put : Pair
-      put = pair map_known (below ends) puts
-
-      counted : count + 1 ≡ count_filled (slice_set (pairs_of (heap_words old.seat) table) place put)
-      counted = ap (λ n. n + 1) (sym fitting.counted) ∙ counted_put ends put refl
-
-      abbrev comes_there : ComesToPlace old new map place key (count + 1) number table value what
-      comes_there = record {
-        known = map_known;
-        below = below ends;
-        puts = puts;
-        objects = length graph.objects;
-        key_place = ends.lacks.is_key.place;
-        holds = new_value_held false value what fitting.held.shows;
-        fits = is;
-        all = finds_put ends put refl;
-        counted = counted;
-      }
-
-      one : PutsOne (heap_of old) (heap_of new) (refills_weak comes_there).pairs number (Some what)
-      one =
-          puts_one comes_there (λ at other filled refers. absurd (no_pair_refers ends.lacks at other filled refers))
-          (λ other filled. absurd (not_filled ends other filled))
-
-      -- one more pair holds something
-      filled_more : count_filled (pairs_of (heap_words new.seat) table) ≡ count_at (heap_of old) map + 1
-      filled_more =
-          omega (arith, ap count_filled (pairs_are_now map_known (below ends) puts), counted, fitting.counted)
-
-      -- only words of the map have changed, and its table stays
-      changes : ChangesObject (heap_of old) (heap_of new) map (capacity_at (heap_of old) map)
-      changes =
-          let heap = heap_of old in
-          subst (λ at. ChangesObject heap (heap_of new) at (capacity_at heap at)) (shown ends.lacks).stands
-          (tables_stay (refills_weak comes_there) (slot_stays comes_there))
-
-      -- the pair is put
-      pub puts_new_pair : PutsShown old new graph map key weak number value what
-      puts_new_pair = record {
-        shows = ends.lacks.shows;
-        is = ends.lacks.is;
-        is_key = ends.lacks.is_key;
-        is_held = fitting.held;
-        sizes = ends.lacks.sizes;
-        table = table;
-        is_table = ends.lacks.is_table;
-        few = not_full_for ends.lacks not_full;
-        puts = puts_to_table ends fitting.counted fitting.fits puts;
-        cell = cell map_known;
-        others = _;
-        made = _;
-        stands = (shown ends.lacks).stands;
-        refills = refills_weak comes_there;
-        one = one;
-        capacity = _;
-        changes = changes;
-        counted = CountsPut.fresh ends.lacks.fresh filled_more;
-      }
-
-      -- so the entry is
-      pub puts_new_entry : WrittenEntriesShow → HasPutEntry old new graph map key weak number what
-      unfolding puts_new_pair
-      puts_new_entry entries_show =
-          entry_put puts_new_pair entries_show is need_is capacity_is puts.room puts.words.beside puts.words.young
-
--- What is known of a weak map, of a key for which probing ends at a free place of its table, and of a value.
-pub record EndsFree (old : Mutator) (graph : Graph) (map key : ℕ) (weak : WeakObject) (number count place : ℕ)
-    (table : Table) (value : Held) (what : Value) : Type 0 where
-  pub fitting : FitsInTable old graph map key weak number count table value what
-  pub is_value : IsValue (length graph.objects) what
-  pub ends : EndsBy (heap_of old) table number (reference_word key) (probe_end.Free place)
 
 -- so it is where a graph is shown
 pub ends_free : {old : Mutator} {graph : Graph} {map key : ℕ} {weak : WeakObject} {number count place : ℕ}
@@ -215,41 +106,120 @@ pub ends_free : {old : Mutator} {graph : Graph} {map key : ℕ} {weak : WeakObje
     → count_at (heap_of old) map ≡ count → count < weak_most → 2 * (count + 1) ≤ table.capacity
     → EndsFree old graph map key weak number count place table value what
 ends_free shows is is_key held is_value sizes is_table ends counted few fits = record {
-  fitting = record {
+  ends = record {
     lacks = lacks_where_free shows is is_key sizes is_table ends;
-    held = held;
-    counted = counted;
-    few = few;
-    fits = fits;
+    comes = ends.0;
+    free = ends.1;
   };
+  held = held;
   is_value = is_value;
-  ends = ends;
+  counted = counted;
+  few = few;
+  fits = fits;
 }
 
--- the entry is put
-pub free_key_put : {old new : Mutator} {graph : Graph} {map key : ℕ} {weak : WeakObject} {number count place : ℕ}
-    {table : Table} {value : Held} {what : Value}
-    → EndsFree old graph map key weak number count place table value what
-    → PutsInTable old new map table place key (count + 1) value → WrittenEntriesShow
-    → HasPutEntry old new graph map key weak number what
-free_key_put free puts =
-    puts_new_entry free.fitting (record { lacks = free.fitting.lacks; comes = free.ends.0; free = free.ends.1 })
-    free.is_value puts
+module _ {old : Mutator} {graph : Graph} {map key : ℕ} {weak : WeakObject} {number count place : ℕ} {table : Table}
+    {value : Held} {what : Value} (free : EndsFree old graph map key weak number count place table value what) where
+  abbrev ends : ComesToFree old graph map key weak number place table
+  ends = free.ends
 
--- and its pair
-pub free_key_pair : {old new : Mutator} {graph : Graph} {map key : ℕ} {weak : WeakObject} {number count place : ℕ}
-    {table : Table} {value : Held} {what : Value}
-    → EndsFree old graph map key weak number count place table value what
-    → PutsInTable old new map table place key (count + 1) value
-    → PutsShown old new graph map key weak number value what
-free_key_pair free puts =
-    puts_new_pair free.fitting (record { lacks = free.fitting.lacks; comes = free.ends.0; free = free.ends.1 })
-    free.is_value puts
+  stays : 2 * (count_at (heap_of old) map + 1) ≤ capacity_at (heap_of old) map
+  stays = omega (arith, free.fits, free.counted, ends.lacks.is_table.capacity)
 
--- or there is no room
-pub free_key_refused : {old new : Mutator} {graph : Graph} {map key : ℕ} {weak : WeakObject} {number count place : ℕ}
-    {table : Table} {value : Held} {what : Value} (room : NoRoom)
-    → EndsFree old graph map key weak number count place table value what
-    → RefusesRoom old new (content_need (store_content value)) room
-    → PutsEntry old new graph map key weak number what (Err (stop.Full room))
-free_key_refused room free refuses = refuses_in_table free.fitting room refuses
+  not_full : IsMapFull weak number → ⊥
+  not_full = not_full_for ends.lacks (omega (arith, free.few, free.counted))
+
+  -- so many words are needed
+  need_is : content_need (store_content value) ≡ wput_need (map_room old map weak) weak what number
+  need_is =
+      content_need_is value ∙ ap box_need (wide_is value what free.held.shows)
+      ∙ sym (need_in_table (map_room old map weak) what stays)
+      ∙ ap (wput_need_by (map_room old map weak) what) (sym ends.lacks.fresh)
+
+  -- the map keeps its pairs
+  capacity_is : capacity_at (heap_of old) map
+      ≡ (room_put (map_room old map weak) (entry_value weak.entries number)).capacity
+  capacity_is =
+      sym (capacity_in_table (map_room old map weak) stays)
+      ∙ ap (λ found. (room_put (map_room old map weak) found).capacity) (sym ends.lacks.fresh)
+
+  -- where there is no room, putting it is refused
+  pub free_key_refused : {new : Mutator} (room : NoRoom)
+      → RefusesRoom old new (content_need (store_content value)) room
+      → PutsEntry old new graph map key weak number what (Err (stop.Full room))
+  free_key_refused room refuses = (
+    not_full,
+    refuses.need_is ∙ need_is,
+    λ has. refuses.lacks (subst (HasRoom old.young) refuses.need_is has),
+    refuses.same,
+  )
+
+  module _ {new : Mutator} (puts : PutsInTable old new map table place key (count + 1) value) where
+    abbrev map_known : KnownMap old map table
+    map_known = known ends.lacks
+
+    abbrev put : Pair
+    put = pair map_known (below ends) puts
+
+    counted : count + 1 ≡ count_filled (slice_set (pairs_of (heap_words old.seat) table) place put)
+    counted = ap (λ n. n + 1) (sym free.counted) ∙ counted_put ends put refl
+
+    abbrev comes_there : ComesToPlace old new map place key (count + 1) number table value what
+    comes_there = record {
+      known = map_known;
+      below = below ends;
+      puts = puts;
+      objects = length graph.objects;
+      key_place = ends.lacks.is_key.place;
+      holds = new_value_held false value what free.held.shows;
+      fits = free.is_value;
+      all = finds_put ends put refl;
+      counted = counted;
+    }
+
+    one : PutsOne (heap_of old) (heap_of new) (refills_weak comes_there).pairs number (Some what)
+    one =
+        puts_one comes_there (λ at other filled refers. absurd (no_pair_refers ends.lacks at other filled refers))
+        (λ other filled. absurd (not_filled ends other filled))
+
+    -- one more pair holds something
+    filled_more : count_filled (pairs_of (heap_words new.seat) table) ≡ count_at (heap_of old) map + 1
+    filled_more =
+        omega (arith, ap count_filled (pairs_are_now map_known (below ends) puts), counted, free.counted)
+
+    -- only words of the map have changed, and its table stays
+    changes : ChangesObject (heap_of old) (heap_of new) map (capacity_at (heap_of old) map)
+    changes =
+        let heap = heap_of old in
+        subst (λ at. ChangesObject heap (heap_of new) at (capacity_at heap at)) (shown ends.lacks).stands
+        (tables_stay (refills_weak comes_there) (slot_stays comes_there))
+
+    -- the pair is put
+    pub free_key_pair : PutsShown old new graph map key weak number value what
+    free_key_pair = record {
+      shows = ends.lacks.shows;
+      is = ends.lacks.is;
+      is_key = ends.lacks.is_key;
+      is_held = free.held;
+      sizes = ends.lacks.sizes;
+      table = table;
+      is_table = ends.lacks.is_table;
+      few = not_full;
+      puts = puts_to_table ends free.counted free.fits puts;
+      cell = cell map_known;
+      others = _;
+      made = _;
+      stands = (shown ends.lacks).stands;
+      refills = refills_weak comes_there;
+      one = one;
+      capacity = _;
+      changes = changes;
+      counted = CountsPut.fresh ends.lacks.fresh filled_more;
+    }
+
+    -- so the entry is
+    pub free_key_put : WrittenEntriesShow → HasPutEntry old new graph map key weak number what
+    unfolding free_key_pair
+    free_key_put entries_show =
+        entry_put free_key_pair entries_show free.is_value need_is capacity_is puts.room puts.words.beside
+        puts.words.young

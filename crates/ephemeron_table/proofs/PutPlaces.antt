@@ -16,7 +16,8 @@ use Rattle.ephemeron_table.specs.declared.probing.End.TheVariants as probe_end
 use Rattle.weak_pairs.specs.declared.table.Table.{Table}
 use Rattle.ephemeron_table.proofs.EntryPairs.{HasEntryPair, key_stands}
 use Rattle.ephemeron_table.proofs.FreeKeys.{ComesToFree}
-use Rattle.ephemeron_table.proofs.GrownEntries.{IsGrowing, growing_can, shown}
+use Rattle.ephemeron_table.proofs.NewKeys.{LacksKey, shown}
+use Rattle.ephemeron_table.specs.Rehashing.{CanGrow}
 use Rattle.ephemeron_table.proofs.KeysFound.{number_is}
 use Rattle.ephemeron_table.proofs.NoPair.{no_key}
 
@@ -44,9 +45,9 @@ module _ {old new : Mutator} {graph : Graph} {map key : ℕ} {weak : WeakObject}
       (subst (λ n. PutsInTable old new map table place key (n + 1) value) (sym counted) puts)
 
   -- where there is none, it comes to a table that is made
-  pub puts_to_new_table : IsGrowing old graph map key weak number table
+  pub puts_to_new_table : LacksKey old graph map key weak number table
+      → CanGrow old map table key (count_at (heap_of old) map)
       → PutsInNewTable old new map table key (count_at (heap_of old) map + 1) value → PutsAt old new map key value
-  puts_to_new_table growing puts =
-      PutsAt.to_new_table table growing.is_table
-      (λ place below. no_key (shown growing) growing.is_key growing.fresh table place growing.is_table below)
-      (growing_can growing) puts
+  puts_to_new_table lacks can puts =
+      PutsAt.to_new_table table lacks.is_table
+      (λ place below. no_key (shown lacks) lacks.is_key lacks.fresh table place lacks.is_table below) can puts

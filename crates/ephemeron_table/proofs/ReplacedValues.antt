@@ -1,13 +1,12 @@
 -- The pair of an entry came to have another value: so the entry is put.
-use Rattle.std.proofs.Common.{◌≡◌, ◌≢◌, ℕ, ◌+◌, inl, inr, Bool, true, false, cond, List, [], ◌∷◌, length, Some}
-use Rattle.std.proofs.Common.{slice_get, refl, sym, ◌∙◌, ap, subst, arith, ◌==◌}
+use Rattle.std.proofs.Common.{◌≡◌, ◌≢◌, ℕ, ◌+◌, inl, inr, List, Some}
+use Rattle.std.proofs.Common.{slice_get, refl, sym, ◌∙◌, ap, subst}
 use Rattle.std.specs.Prelude.{slice_set}
 use Rattle.std.proofs.lemmas.Bool.{cases_eq}
 use Rattle.std.proofs.lemmas.Option.{none-some, same_Some, slice_get_within}
 use Rattle.tagged_word.specs.Cells.{store_slot}
 use Rattle.nursery.specs.Young.{HasRoom}
-use Rattle.heap_model.specs.Types.{Value, Entry, Cell}
-use Rattle.object_graph.specs.Objects.{entry_value, with_entry}
+use Rattle.heap_model.specs.Types.{Value, Cell}
 use Rattle.object_graph.specs.Graphs.{Graph, WeakObject}
 use Rattle.object_graph.proofs.Lists.{slice_get-set_same}
 use Rattle.heap_table.specs.Seats.{heap_words, RestStays}
@@ -28,22 +27,6 @@ use Rattle.ephemeron_table.proofs.EntryPairs.{HasEntryPair, known, entry_filled,
 use Rattle.ephemeron_table.proofs.KeysFound.{key_filled}
 use Rattle.ephemeron_table.proofs.KnownTables.{KnownMap, cell, count_is}
 use Rattle.weak_pairs.proofs.FilledPairs.{filled_elsewhere, still_filled, same_filled}
-
--- with the entry of a key that has a value put there are as many, by whether the first has it
-as_many_by : (test : Bool) (entry : Entry) (entries : List Entry) (key : ℕ) (value what : Value)
-    → cond test (Some entry.value) (entry_value entries key) ≡ Some value
-    → (entry_value entries key ≡ Some value → length (with_entry entries key what) ≡ length entries)
-    → length (cond test (record { key = key; value = what } ∷ entries) (entry ∷ with_entry entries key what))
-    ≡ length (entry ∷ entries)
-as_many_by true entry entries key value what is rest = omega arith
-as_many_by false entry entries key value what is rest = omega (arith, rest is)
-
--- so it is of all
-pub length-with_entry_there : (entries : List Entry) (key : ℕ) (value what : Value)
-    → entry_value entries key ≡ Some value → length (with_entry entries key what) ≡ length entries
-length-with_entry_there [] key value what is = absurd (none-some value is)
-length-with_entry_there (entry ∷ entries) key value what is =
-    as_many_by (entry.key == key) entry entries key value what is (length-with_entry_there entries key value what)
 
 -- Words of the map's own cells were written, so that the pair at the place came to have the value; so many words were
 -- reserved for it.

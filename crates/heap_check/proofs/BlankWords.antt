@@ -1,22 +1,19 @@
 -- The words behind the rows of a heap, region by region.
-use Rattle.std.proofs.Common.{◌≡◌, ℕ, ◌+◌, ◌≤◌, ◌<◌, List, Contains, sym, ◌∙◌, ap, subst}
+use Rattle.std.proofs.Common.{◌≡◌, ℕ, ◌+◌, ◌≤◌, ◌<◌, Contains, sym, ◌∙◌, ap, subst}
 use Rattle.std.proofs.Common.{inl, inr, arith}
 use Rattle.std.proofs.lemmas.Bool.{cases_lt}
-use Rattle.std.proofs.lemmas.List.Elements.{All-contains}
-use Rattle.tagged_word.proofs.Members.{in_map}
 use Rattle.page_space.specs.Extents.{Extent, ContainsAddress, CellsEndAt, roots_start}
 use Rattle.page_space.specs.RegionLaws.{IsSpace}
 use Rattle.page_space.proofs.Covering.{disjoint}
 use Rattle.heap_model.specs.Heaps.{Heap, Row, IsUsedRow, cell_extents}
 use Rattle.heap_model.specs.Wholeness.{HasRows, Blank}
-use Rattle.heap_model.proofs.RowEnds.{one_used_row}
 use Rattle.heap_model.proofs.CellsApart.{cell_extent_stands}
 use Rattle.heap_model.proofs.WordsAlike.{extent_below_roots}
-use Rattle.heap_model.proofs.RegionStarts.{one_extent}
-use Rattle.heap_check.specs.RegionRows.{StandsFrom, IsRowAt, EndsRowAt, AreZero, IsBlankFrom}
-use Rattle.heap_check.proofs.Extents.{holds_first}
-use Rattle.heap_check.proofs.CountedRows.{row_at}
-use Rattle.heap_check.proofs.Seams.{IsSeam, first_seam, next_seam, seam_stands}
+use Rattle.heap_model.proofs.RegionStarts.{holds_first}
+use Rattle.heap_model.specs.RegionRows.{StandsBetween, IsRowFrom}
+use Rattle.heap_model.proofs.RegionRows.{row_is, row_between, one_row_from}
+use Rattle.heap_check.specs.RegionRows.{EndsRowAt, AreZero, IsBlankFrom}
+use Rattle.heap_model.proofs.RegionSeams.{IsSeam, first_seam, next_seam, seam_stands}
 
 -- the words behind the rows of the regions before the address are 0
 pub record BlankTo (heap : Heap) (at : ℕ) : Type 0 where
@@ -49,8 +46,8 @@ blank_more heap at end limits cells to blank =
             let same : row.extent ≡ stands.extent =
             disjoint heap.space row.extent stands.extent row.extent.start there
             (cell_extent_stands heap.space stands.extent stands.among)
-            (holds_first heap.space row.extent limits there) here in
-            let is : IsRowAt heap at row = record {
+            (holds_first heap.space row.extent limits among) here in
+            let is : IsRowFrom heap at row = record {
               among = among;
               starts = ap (λ (e : Extent). e.start) same ∙ stands.starts;
               used = used;
@@ -67,36 +64,25 @@ blank_all heap at limits rows past to = record {
   rows = rows.rows;
   are = rows.are;
   rest = λ row a has from below.
-      let Has : List Extent → Type 0 = λ all. Contains all row.extent in
-      let among = subst Has rows.are.everywhere (in_map (λ (row : Row). row.extent) rows.rows row has) in
-      let used = All-contains (IsUsedRow heap) rows.rows row rows.are.each has in
-      let inside = holds_first heap.space row.extent limits (cell_extent_stands heap.space row.extent among) in
-      to.blank row among used
-      (omega (arith, inside.below, extent_below_roots heap.space row.extent among, past)) a from below;
+      let is = row_is row rows.are has in
+      let inside = holds_first heap.space row.extent limits is.among in
+      to.blank row is.among is.used
+      (omega (arith, inside.below, extent_below_roots heap.space row.extent is.among, past)) a from below;
 }
 
 -- in a blank heap the words behind the row of each region are 0
-pub blank_of : (heap : Heap) (start end : ℕ) → IsSpace heap.space → StandsFrom heap.space start end → Blank heap
+pub blank_of : (heap : Heap) (start end : ℕ) → IsSpace heap.space → StandsBetween heap.space start end → Blank heap
     → IsBlankFrom heap start end
 blank_of heap start end limits stands blank row is a from below =
-    let found = row_at heap blank.rows row.extent blank.are is.among in
-    let other = found.0 in
-    let one =
-    one_used_row heap other row (All-contains (IsUsedRow heap) blank.rows other blank.are.each found.1) is.used
-    found.2 in
-    let same : row.extent ≡ stands.extent =
-    one_extent heap.space row.extent stands.extent limits is.among stands.among (is.starts ∙ sym stands.starts) in
-    let ends = ap (λ (e : Extent). e.start + e.words) (found.2 ∙ same) ∙ stands.ends in
-    blank.rest other a found.1 (omega (arith, one.end, from)) (omega (arith, ends, below))
+    let own = row_between blank.are stands in
+    blank.rest own.row a own.there (omega (arith, (one_row_from limits own.is is).end, from))
+    (omega (arith, own.ends, below))
 
 -- the row of a region ends in one place, behind which words are 0 or not
 pub zero_from : (heap : Heap) (start end at : ℕ) → EndsRowAt heap start at → IsSpace heap.space
     → AreZero heap at end → IsBlankFrom heap start end
 zero_from heap start end at ends limits zero row is =
-    let same : row.extent ≡ ends.row.extent =
-    one_extent heap.space row.extent ends.row.extent limits is.among ends.is.among (is.starts ∙ sym ends.is.starts) in
-    let one = one_used_row heap row ends.row is.used ends.is.used same in
-    subst (λ (from : ℕ). AreZero heap from end) (sym (one.end ∙ ends.ends)) zero
+    subst (λ (from : ℕ). AreZero heap from end) (sym ((one_row_from limits is ends.is).end ∙ ends.ends)) zero
 
 -- and the other way round
 pub from_zero : (heap : Heap) (start end at : ℕ) → EndsRowAt heap start at → IsBlankFrom heap start end

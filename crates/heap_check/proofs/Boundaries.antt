@@ -2,7 +2,6 @@
 use Rattle.std.proofs.Common.{◌≡◌, ℕ, ◌+◌, ◌-◌, ◌≤◌, ◌<◌, inl, inr, Contains, List, ◌++◌}
 use Rattle.std.proofs.Common.{sym, ◌∙◌, ap, subst, arith}
 use Rattle.std.proofs.lemmas.Bool.{cases_lt}
-use Rattle.std.proofs.lemmas.List.Elements.{All-contains}
 use Rattle.heap_model.specs.Types.{Region, Cell}
 use Rattle.page_space.specs.Extents.{Space, Stretch, Extent, ContainsAddress, StartsAt, CellsEndAt, words_in, extents}
 use Rattle.page_space.specs.Extents.{cell_stretches, root_stretches, layout_stretches, mark_stretches, board_stretches}
@@ -17,8 +16,10 @@ use Rattle.heap_model.specs.Wholeness.{HasRows}
 use Rattle.heap_model.proofs.RowEnds.{one_used_row}
 use Rattle.heap_model.proofs.CellsApart.{IsOfCell, first_of_cell, cell_extent_stands, ends_within, used_few}
 use Rattle.heap_model.proofs.CellsApart.{cells_apart}
+use Rattle.heap_model.proofs.Patches.{row_holds}
+use Rattle.heap_model.specs.RegionRows.{StandsBetween}
 use Rattle.heap_check.specs.NextCell.{IsBoundary}
-use Rattle.heap_check.proofs.CountedRows.{row_at}
+use Rattle.heap_model.proofs.RegionRows.{row_of}
 
 -- a region begins in one place
 pub starts_once : (space : Space) (region : Region) (start : ℕ) (extent : Extent) → StartsAt space region start
@@ -70,24 +71,14 @@ row_there heap at end rows cells =
     let below : cells.extent.start < roots_start heap.space =
     omega (arith, cells.holds.from, before_end heap.space at end cells, end_before_roots heap.space at end cells) in
     let among = among_cells heap.space cells.extent cells.stands below in
-    let found = row_at heap rows.rows cells.extent rows.are among in
-    let same = sym found.2 in
+    let own = row_of cells.extent rows.are among in
     record {
-      row = found.0;
-      among = subst (Contains (cell_extents heap.space)) same among;
-      used = All-contains (IsUsedRow heap) rows.rows found.0 rows.are.each found.1;
-      holds = subst (λ (e : Extent). ContainsAddress e at) same cells.holds;
-      ends = ap (λ (e : Extent). e.start + e.words) found.2 ∙ cells.ends;
+      row = own.row;
+      among = own.is.among;
+      used = own.is.used;
+      holds = subst (λ (e : Extent). ContainsAddress e at) (sym own.same) cells.holds;
+      ends = ap (λ (e : Extent). e.start + e.words) own.same ∙ cells.ends;
     }
-
--- the region of a cell's row holds the addresses of the cell
-cell_in_region : {heap : Heap} {cell : Cell} {words : List ℕ} (at : ℕ) → HasRows heap → (has : HasCell heap cell words)
-    → cell.at ≤ at → at < cell.at + cell.size → ContainsAddress has.row.extent at
-cell_in_region {heap} {cell} at rows has from below =
-    let row = has.row in
-    let within = cell_within heap.space heap.words row.extent.start row.end row.cells cell has.used.stands has.in_row in
-    let ends = ends_within heap row (used_few rows) has.in_region has.used in
-    record { from = omega (arith, within.0, from); below = omega (arith, within.1, below, ends) }
 
 -- a cell with an address in the region of a used row ends where the row does, or before
 pub cell_in_row : {heap : Heap} {cell : Cell} {words : List ℕ} (row : Row) (at : ℕ) → HasRows heap
@@ -96,9 +87,10 @@ pub cell_in_row : {heap : Heap} {cell : Cell} {words : List ℕ} (row : Row) (at
     → cell.at ≤ at → at < cell.at + cell.size → cell.at + cell.size ≤ row.end
 cell_in_row {heap} {cell} row at rows has among used holds from below =
     let own = has.row in
+    let of_cell : IsOfCell cell at = record { from = from; below = below } in
     let same : own.extent ≡ row.extent =
     disjoint heap.space own.extent row.extent at (cell_extent_stands heap.space own.extent has.in_region)
-    (cell_extent_stands heap.space row.extent among) (cell_in_region at rows has from below) holds in
+    (cell_extent_stands heap.space row.extent among) (row_holds rows has.in_region has.used has.in_row of_cell) holds in
     let within = cell_within heap.space heap.words own.extent.start own.end own.cells cell has.used.stands has.in_row in
     omega (arith, within.1, (one_used_row heap own row has.used used same).end)
 
@@ -118,6 +110,29 @@ boundary_first heap = record {
   apart = λ cell words has before. absurd (omega (arith, before));
   reached = λ row among used holds. omega arith;
 }
+
+-- the first address of a region of cells
+pub boundary_start : (heap : Heap) (start end : ℕ) → HasRows heap → StandsBetween heap.space start end → start < end
+    → IsBoundary heap start
+boundary_start heap start end rows stands some =
+    let extent = stands.extent in
+    let here : ContainsAddress extent start =
+    record { from = omega (arith, stands.starts); below = omega (arith, stands.ends, some) } in
+    let one = λ (other : Extent) (among : Contains (cell_extents heap.space) other) (holds : ContainsAddress other start).
+    disjoint heap.space other extent start (cell_extent_stands heap.space other among)
+    (cell_extent_stands heap.space extent stands.among) holds here in
+    record {
+      apart = λ cell words has before. elim (cases_lt start (cell.at + cell.size)) [
+        | inl over ↦
+            let of_cell : IsOfCell cell start = record { from = omega arith; below = over } in
+            let same = one has.row.extent has.in_region (row_holds rows has.in_region has.used has.in_row of_cell) in
+            let first = row_holds rows has.in_region has.used has.in_row (first_of_cell has) in
+            absurd (omega (arith, first.from, ap (λ (e : Extent). e.start) same, stands.starts, before))
+        | inr within ↦ within
+      ];
+      reached = λ row among used holds. reached_from heap row start used holds (λ within.
+          absurd (omega (arith, within, ap (λ (e : Extent). e.start) (one row.extent among holds), stands.starts)));
+    }
 
 -- the address behind a cell
 pub boundary_behind : (heap : Heap) (cell : Cell) (words : List ℕ) → HasRows heap → HasCell heap cell words

@@ -3,7 +3,7 @@ use Rattle.std.proofs.Common.{◌≡◌, ℕ, ◌+◌, ◌≤◌, ◌<◌, ◌�
 use Rattle.std.proofs.Common.{sym, subst, arith, MatchOption, slice_get}
 use Rattle.std.proofs.lemmas.Bool.{cases_lt}
 use Rattle.heap_model.specs.Types.{Region, Cell}
-use Rattle.page_space.specs.declared.region.Region.TheVariants.{Page, Eden, Segment, Root, Layout, Mark, Board, Outside}
+use Rattle.page_space.specs.declared.region.Region.TheVariants.{Page, Eden, Segment}
 use Rattle.page_space.specs.Extents.{Extent, ContainsAddress, CellsEndAt, roots_start}
 use Rattle.page_space.proofs.CellEnds.{before_end}
 use Rattle.page_space.proofs.Covering.{disjoint}
@@ -59,11 +59,7 @@ no_cell_of heap extent at (Segment half worker) cell ends used below is_cell sam
       first_word_counts heap.space heap.words cell is_cell
       (subst (λ a. slice_get heap.words a ≡ Some 0) (sym same) zero)
 ]
-no_cell_of heap extent at (Root variable) cell ends used below is_cell same = ends
-no_cell_of heap extent at (Layout shape) cell ends used below is_cell same = ends
-no_cell_of heap extent at (Mark mark) cell ends used below is_cell same = ends
-no_cell_of heap extent at (Board place) cell ends used below is_cell same = ends
-no_cell_of heap extent at Outside cell ends used below is_cell same = ends
+no_cell_of heap extent at _ cell ends used below is_cell same = ends
 
 -- so a word of the heap that reads as a cell at the address is before the end of the row
 before_row_end : (heap : Heap) (at end : ℕ) (there : RowThere heap at end) (cell : Cell) → IsBoundary heap at

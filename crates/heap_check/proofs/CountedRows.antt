@@ -1,21 +1,20 @@
 -- The rows of a heap, region by region, and the survivors in them.
-use Rattle.std.proofs.Common.{◌≡◌, ℕ, ◌+◌, ◌-◌, ◌≤◌, List, [], ◌∷◌, ◌++◌, length, map}
-use Rattle.std.proofs.Common.{All, Contains, refl, sym, ◌∙◌}
-use Rattle.std.proofs.Common.{ap, subst, arith}
+use Rattle.std.proofs.Common.{◌≡◌, ℕ, ◌+◌, ◌≤◌, List, [], ◌∷◌, ◌++◌, map}
+use Rattle.std.proofs.Common.{All, refl, sym, ◌∙◌}
+use Rattle.std.proofs.Common.{ap, arith}
 use Rattle.std.proofs.lemmas.List.{map-append}
 use Rattle.std.proofs.lemmas.List.Sums.{sum_by-append, sum_by-cons}
-use Rattle.std.proofs.lemmas.List.Elements.{All-nil, All-push, All-contains, All-head, All-tail}
-use Rattle.tagged_word.proofs.Members.{map_from}
-use Rattle.heap_model.specs.Types.{Region}
+use Rattle.std.proofs.lemmas.List.Elements.{All-nil, All-push, All-head, All-tail}
 use Rattle.page_space.specs.Extents.{Extent, CellsEndAt, extents_from, words_in, roots_start}
 use Rattle.page_space.specs.RegionLaws.{IsSpace}
 use Rattle.page_space.proofs.Stretches.{extents_from-append}
-use Rattle.heap_model.specs.Heaps.{Heap, Row, IsUsedRow, AreRows, survivors_in, survivors_of, cell_extents}
+use Rattle.heap_model.specs.Heaps.{Heap, Row, IsUsedRow, survivors_in, survivors_of}
 use Rattle.heap_model.proofs.RowEnds.{one_used_row}
 use Rattle.heap_model.proofs.RegionStarts.{one_extent}
-use Rattle.heap_check.specs.RegionRows.{StandsFrom, HasNoRowAt, CountsRowAt, CountsRows, HasNoRows, survivors_by}
-use Rattle.heap_check.proofs.UsedRows.{counts_by}
-use Rattle.heap_check.proofs.Seams.{IsSeam, first_seam, next_seam, all_done}
+use Rattle.heap_model.specs.RegionRows.{StandsBetween}
+use Rattle.heap_model.proofs.RegionRows.{row_between}
+use Rattle.heap_check.specs.RegionRows.{HasNoRowAt, CountsRowAt, CountsRows, HasNoRows}
+use Rattle.heap_model.proofs.RegionSeams.{IsSeam, first_seam, next_seam, all_done}
 
 -- the rows of the regions before the address, and the survivors in them
 pub record RowsTo (heap : Heap) (at count : ℕ) : Type 0 where
@@ -81,72 +80,25 @@ rows_all heap at count limits past to = record {
   counted = to.counted;
 }
 
--- the rows of a heap have one for each region
-pub row_at : (heap : Heap) (rows : List Row) (extent : Extent) → AreRows heap rows
-    → Contains (cell_extents heap.space) extent → (row : Row) × Contains rows row × (row.extent ≡ extent)
-row_at heap rows extent are there =
-    let Has : List Extent → Type 0 = λ all. Contains all extent in
-    map_from (λ (row : Row). row.extent) rows extent (subst Has (sym are.everywhere) there)
-
 -- without the row of a region there are no rows
-pub no_rows : (heap : Heap) (start end : ℕ) → StandsFrom heap.space start end → HasNoRowAt heap start → HasNoRows heap
+pub no_rows : (heap : Heap) (start end : ℕ) → StandsBetween heap.space start end → HasNoRowAt heap start → HasNoRows heap
 no_rows heap start end stands none rows are =
-    let found = row_at heap rows stands.extent are stands.among in
-    let Has : Extent → Type 0 = λ extent. Contains (cell_extents heap.space) extent in
-    none found.0 record {
-      among = subst Has (sym found.2) stands.among;
-      starts = ap (λ (e : Extent). e.start) found.2 ∙ stands.starts;
-      used = All-contains (IsUsedRow heap) rows found.0 are.each found.1;
-    }
+    let own = row_between are stands in
+    none own.row own.is
 
--- a list without its first
-abbrev tail_of : {X : Type 0} → List X → List X
-tail_of [] = []
-tail_of (x ∷ xs) = xs
-
--- the first of a list, or else this
-abbrev head_or : {X : Type 0} → X → List X → X
-head_or d [] = d
-head_or d (x ∷ xs) = x
-
--- the survivors of a row do not depend on its cells
-cells_aside : (extent : Extent) (end : ℕ) (row : Row) (region : Region) → row.extent ≡ extent → row.end ≡ end
-    → survivors_in row region ≡ survivors_in (record { extent = extent; end = end; cells = [] }) region
-cells_aside extent end row region same ends =
-    counts_by row region
-    ∙ ap (λ (n : ℕ). survivors_by region (n - row.extent.start)) ends
-    ∙ ap (λ (e : Extent). survivors_by region (end - e.start)) same
-    ∙ sym (counts_by (record { extent = extent; end = end; cells = [] }) region)
-
--- one row's survivors are those of another with the same region and end
-same_survivors : (row other : Row) → row.extent ≡ other.extent → row.end ≡ other.end
-    → survivors_in row row.extent.region ≡ survivors_in other other.extent.region
-same_survivors row other same ends =
-    cells_aside other.extent other.end row row.extent.region same ends
-    ∙ ap (λ (e : Extent). survivors_in (record { extent = other.extent; end = other.end; cells = [] }) e.region) same
-    ∙ sym (cells_aside other.extent other.end other other.extent.region refl refl)
-
--- two lists of used rows of the same regions have the same survivors
-pub one_count : (heap : Heap) (rows others : List Row)
+-- two lists of used rows of the same regions are one
+pub one_rows : (heap : Heap) (rows others : List Row)
     → map (λ (row : Row). row.extent) rows ≡ map (λ (row : Row). row.extent) others
-    → All (IsUsedRow heap) rows → All (IsUsedRow heap) others → survivors_of rows ≡ survivors_of others
-one_count heap [] [] same each each_other = refl
-one_count heap [] (other ∷ others) same each each_other =
-    let longer : 0 ≡ length (map (λ (row : Row). row.extent) others) + 1 = ap length same ∙ grind arith in
-    absurd (omega (arith, longer))
-one_count heap (row ∷ rows) [] same each each_other =
-    let longer : length (map (λ (row : Row). row.extent) rows) + 1 ≡ 0 = grind arith ∙ ap length same in
-    absurd (omega (arith, longer))
-one_count heap (row ∷ rows) (other ∷ others) same each each_other =
-    let survivors : Row → ℕ = λ row. survivors_in row row.extent.region in
-    let first : row.extent ≡ other.extent = ap (head_or row.extent) same in
+    → All (IsUsedRow heap) rows → All (IsUsedRow heap) others → rows ≡ others
+one_rows heap [] [] same each each_other = refl
+one_rows heap [] (other ∷ others) same each each_other = absurd (cc)
+one_rows heap (row ∷ rows) [] same each each_other = absurd (cc)
+one_rows heap (row ∷ rows) (other ∷ others) same each each_other =
+    let first : row.extent ≡ other.extent = cc in
+    let later : map (λ (row : Row). row.extent) rows ≡ map (λ (row : Row). row.extent) others = cc in
     let one = one_used_row heap row other (All-head (IsUsedRow heap) row rows each)
     (All-head (IsUsedRow heap) other others each_other) first in
-    omega (
-      arith,
-      sum_by-cons survivors row rows,
-      sum_by-cons survivors other others,
-      same_survivors row other first one.end,
-      one_count heap rows others (ap tail_of same) (All-tail (IsUsedRow heap) row rows each)
-          (All-tail (IsUsedRow heap) other others each_other),
-    )
+    let is : row ≡ other = λ i. record { extent = first i; end = one.end i; cells = one.cells i } in
+    let rest = one_rows heap rows others later (All-tail (IsUsedRow heap) row rows each)
+    (All-tail (IsUsedRow heap) other others each_other) in
+    ap (λ front. front ∷ rows) is ∙ ap (λ more. other ∷ more) rest

@@ -1,140 +1,43 @@
--- The first cell of a region of cells from an address on.
-use Rattle.std.proofs.Common.{◌≡◌, ℕ, ◌≤◌, ◌<◌, List, Contains, refl, sym, ◌∙◌, ap, subst, inl}
-use Rattle.std.proofs.Common.{inr, arith}
+-- The first cell of a heap at an address or behind it, cell by cell.
+use Rattle.std.proofs.Common.{ℕ, ◌+◌, ◌≤◌, ◌<◌, inl, inr, List, sym, ap, subst, arith}
 use Rattle.std.proofs.lemmas.Bool.{cases_lt}
-use Rattle.std.proofs.lemmas.List.Elements.{All-contains}
-use Rattle.page_space.specs.Extents.{Extent, ContainsAddress}
-use Rattle.page_space.proofs.Covering.{disjoint}
 use Rattle.heap_model.specs.Types.{Cell}
-use Rattle.cell_layout.specs.Cells.{IsRow}
-use Rattle.cell_layout.proofs.Rows.{cell_within}
-use Rattle.heap_model.specs.Heaps.{Heap, Row, IsUsedRow, HasCell, cell_extents, words_of_cell}
+use Rattle.heap_model.specs.Heaps.{Heap, HasCell}
 use Rattle.heap_model.specs.Wholeness.{HasRows}
-use Rattle.heap_model.proofs.RowEnds.{one_used_row}
-use Rattle.heap_model.proofs.CellsApart.{cell_extent_stands, ends_within, used_few, first_of_cell}
-use Rattle.heap_check.specs.declared.row.Bound.{Bound}
-use Rattle.heap_check.specs.Walks.{IsWalk, HasNoWalk, EndsBefore, IsFirstAmong}
-use Rattle.heap_check.specs.RegionRows.{StandsFrom, BoundsFrom, IsRowAt}
-use Rattle.heap_check.specs.Finding.{HasNoCellOf, IsFirstOf}
-use Rattle.heap_check.proofs.UsedRows.{row_walks}
-use Rattle.heap_check.proofs.CountedRows.{row_at}
+use Rattle.heap_check.specs.Finding.{HasNoCellFrom, IsFirstCell}
+use Rattle.heap_check.specs.NextCell.{IsNextCell}
+use Rattle.heap_check.proofs.CellsOnward.{passed_or_next}
 
--- the row of the region between two addresses
-pub row_between : (heap : Heap) (start end : ℕ) → HasRows heap → StandsFrom heap.space start end
-    → (row : Row) × IsRowAt heap start row
-row_between heap start end rows stands =
-    let found = row_at heap rows.rows stands.extent rows.are stands.among in
-    let Has : Extent → Type 0 = λ extent. Contains (cell_extents heap.space) extent in (
-      found.0,
-      record {
-        among = subst Has (sym found.2) stands.among;
-        starts = ap (λ (e : Extent). e.start) found.2 ∙ stands.starts;
-        used = All-contains (IsUsedRow heap) rows.rows found.0 rows.are.each found.1;
-      },
-    )
+-- no cell from the one address on stands before the other
+abbrev pub NoneFrom : Heap → ℕ → ℕ → Type 0
+NoneFrom heap least at = (cell : Cell) (words : List ℕ) → HasCell heap cell words → least ≤ cell.at → at ≤ cell.at
 
--- with whole rows a region has a walk
-pub some_walk : (heap : Heap) (start end : ℕ) (bound : Bound) → HasRows heap → StandsFrom heap.space start end
-    → BoundsFrom heap start end bound → HasNoWalk heap bound start → ⊥
-some_walk heap start end bound rows stands bounds none =
-    let row = row_between heap start end rows stands in
-    none row.0.end row.0.cells (row_walks heap start end bound row.0 bounds row.1)
+-- one cell more was passed
+pub none_from_more : (heap : Heap) (least at : ℕ) (next : Cell) → HasRows heap → IsNextCell heap at next
+    → NoneFrom heap least at → next.at < least → NoneFrom heap least (next.at + next.size)
+none_from_more heap least at next rows is none before cell words has from =
+    elim (cases_lt cell.at (next.at + next.size)) [
+      | inr behind ↦ behind
+      | inl within ↦ elim (passed_or_next heap at next cell rows is (subst (HasCell heap cell) (sym has.words_are) has) within) [
+        | inl early ↦ absurd (omega (arith, early, none cell words has from))
+        | inr same ↦ absurd (omega (arith, ap (λ (one : Cell). one.at) same, before, from))
+      ]
+    ]
 
--- the row of a cell that stands in the region, as a walk of the region
-pub record WalksTo (heap : Heap) (bound : Bound) (start : ℕ) (cell : Cell) : Type 0 where
-  pub end : ℕ
-  pub cells : List Cell
-  pub walk : IsWalk heap bound start end cells
-  pub among : Contains cells cell
-
--- a cell between the addresses of a region is one of its row
-pub walks_to : (heap : Heap) (start end : ℕ) (bound : Bound) (cell : Cell) (words : List ℕ) → HasRows heap
-    → StandsFrom heap.space start end → BoundsFrom heap start end bound → HasCell heap cell words → start ≤ cell.at
-    → cell.at < end → WalksTo heap bound start cell
-walks_to heap start end bound cell words rows stands bounds has from below =
-    let row = has.row in
-    let within = cell_within heap.space heap.words row.extent.start row.end row.cells cell has.used.stands has.in_row in
-    let ends = ends_within heap row (used_few rows) has.in_region has.used in
-    let some = (first_of_cell has).below in
-    let here : ContainsAddress row.extent cell.at =
-    record { from = within.0; below = omega (arith, within.1, ends, some) } in
-    let here_too : ContainsAddress stands.extent cell.at =
-    record { from = omega (arith, from, stands.starts); below = omega (arith, below, stands.ends) } in
-    let same : row.extent ≡ stands.extent =
-    disjoint heap.space row.extent stands.extent cell.at (cell_extent_stands heap.space row.extent has.in_region)
-    (cell_extent_stands heap.space stands.extent stands.among) here here_too in
-    record {
-      end = row.end;
-      cells = row.cells;
-      walk = row_walks heap start end bound row bounds record {
-        among = has.in_region;
-        starts = ap (λ (e : Extent). e.start) same ∙ stands.starts;
-        used = has.used;
-      };
-      among = has.in_row;
-    }
-
--- a walk of a region is its used row
-used_by_walk : (heap : Heap) (start end at : ℕ) (bound : Bound) (cells : List Cell)
-    → (bounds : BoundsFrom heap start end bound)
-    → IsWalk heap bound start at cells → IsUsedRow heap (record { extent = bounds.extent; end = at; cells = cells })
-used_by_walk heap start end at bound cells bounds walk = record {
-  ends = (bounds.bounds.ends at).1 (walk.within, walk.stops);
-  stands = subst (λ (from : ℕ). IsRow heap.space heap.words from at cells) (sym bounds.starts) walk.row;
+-- at the address or behind it, the next cell is the first
+pub first_of_next : (heap : Heap) (least at : ℕ) (next : Cell) → IsNextCell heap at next → NoneFrom heap least at
+    → least ≤ next.at → IsFirstCell heap least next
+first_of_next heap least at next is none reached = record {
+  has = is.first.has;
+  reached = reached;
+  first = λ other words has from. is.first.first other words has (none other words has from);
 }
 
--- two walks of a region are one
-one_walk : (heap : Heap) (start end : ℕ) (bound : Bound) (bounds : BoundsFrom heap start end bound) (at other : ℕ)
-    (cells others : List Cell) → IsWalk heap bound start at cells
-    → IsWalk heap bound start other others → cells ≡ others
-one_walk heap start end bound bounds at other cells others walk walk_other =
-    let extent = bounds.extent in
-    (one_used_row heap (record { extent = extent; end = at; cells = cells })
-    (record { extent = extent; end = other; cells = others }) (used_by_walk heap start end at bound cells bounds walk)
-    (used_by_walk heap start end other bound others bounds walk_other) refl).cells
-
--- a cell of a walk of a region is one of the heap
-pub walk_has : (heap : Heap) (start end at : ℕ) (bound : Bound) (cells : List Cell) (cell : Cell)
-    → BoundsFrom heap start end bound → IsWalk heap bound start at cells → Contains cells cell
-    → HasCell heap cell (words_of_cell heap cell)
-walk_has heap start end at bound cells cell bounds walk among = record {
-  row = record { extent = bounds.extent; end = at; cells = cells };
-  in_region = bounds.among;
-  used = used_by_walk heap start end at bound cells bounds walk;
-  in_row = among;
-  words_are = refl;
-}
-
--- what ends before an address has no cell of the region behind it
-pub none_of_region : (heap : Heap) (start end least at : ℕ) (bound : Bound) → HasRows heap
-    → StandsFrom heap.space start end → BoundsFrom heap start end bound → EndsBefore heap bound start least at
-    → HasNoCellOf heap start end least
-none_of_region heap start end least at bound rows stands bounds before cell words has from below =
-    let to = walks_to heap start end bound cell words rows stands bounds has from below in
-    let Has : List Cell → Type 0 = λ cells. Contains cells cell in
-    before.before cell (subst Has
-    (one_walk heap start end bound bounds to.end at to.cells before.cells to.walk before.walk) to.among)
-
--- the first cell of the walks of a region is the first of the region's
-pub first_of_walks : (heap : Heap) (start end least : ℕ) (bound : Bound) (cell : Cell) → HasRows heap
-    → StandsFrom heap.space start end → BoundsFrom heap start end bound
-    → ((end : ℕ) (cells : List Cell) → IsWalk heap bound start end cells → IsFirstAmong cells least cell)
-    → IsFirstOf heap start end least cell
-first_of_walks heap start end least bound cell rows stands bounds first =
-    let row = row_between heap start end rows stands in
-    let walk = row_walks heap start end bound row.0 bounds row.1 in
-    let found = first row.0.end row.0.cells walk in
-    record {
-      has = walk_has heap start end row.0.end bound row.0.cells cell bounds walk found.among;
-      reached = found.reached;
-      first = λ other words has from far. elim (cases_lt other.at end) [
-        | inl below ↦
-            let to = walks_to heap start end bound other words rows stands bounds has from below in
-            let Has : List Cell → Type 0 = λ cells. Contains cells other in
-            let same = one_walk heap start end bound bounds to.end row.0.end to.cells row.0.cells to.walk walk in
-            found.first other (subst Has same to.among) far
-        | inr past ↦
-            let within = cell_within heap.space heap.words start row.0.end row.0.cells cell walk.row found.among in
-            omega (arith, past, within.1, walk.within, bounds.bounds.within, bounds.ends)
-      ];
-    }
+-- where no cell is left, none stands from the address on
+pub none_from_end : (heap : Heap) (least at : ℕ) → HasNoCellFrom heap at → NoneFrom heap least at
+    → HasNoCellFrom heap least
+none_from_end heap least at end none cell words has =
+    elim (cases_lt cell.at least) [
+      | inl before ↦ before
+      | inr from ↦ absurd (omega (arith, end cell words has, none cell words has from))
+    ]

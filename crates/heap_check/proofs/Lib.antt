@@ -1,9 +1,6 @@
 pub mod Walking
-pub mod Extents
 pub mod UsedRows
-pub mod Seams
 pub mod CountedRows
-pub mod FirstCells
 pub mod BlankWords
 pub mod RootReadings
 pub mod SpanWords
@@ -13,6 +10,7 @@ pub mod StoreSlots
 pub mod Boundaries
 pub mod RegionStarts
 pub mod CellsOnward
+pub mod FirstCells
 pub mod NamingSlots
 pub mod ObjectNaming
 pub mod NamedOnce

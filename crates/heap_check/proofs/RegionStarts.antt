@@ -4,7 +4,7 @@ use Rattle.heap_model.specs.Types.{Region}
 use Rattle.page_space.specs.Extents.{Space, Extent, IsIn, StartsAt, CellsEndAt}
 use Rattle.page_space.proofs.Covering.{disjoint}
 use Rattle.page_space.proofs.CellEnds.{before_end, end_before_roots}
-use Rattle.heap_check.specs.RegionRows.{StandsFrom}
+use Rattle.heap_model.specs.RegionRows.{StandsBetween}
 use Rattle.heap_check.proofs.Boundaries.{starts_once, among_cells}
 
 -- the region that the address is in begins where that of its cells does
@@ -18,7 +18,7 @@ begins_at space a start end region inside starts cells =
 
 -- it stands from there to where the cells end
 pub stands_from : (space : Space) (a start end : ℕ) (region : Region) → IsIn space a region → StartsAt space region start
-    → CellsEndAt space a end → StandsFrom space start end
+    → CellsEndAt space a end → StandsBetween space start end
 stands_from space a start end region inside starts cells = record {
   extent = cells.extent;
   among = among_cells space cells.extent cells.stands

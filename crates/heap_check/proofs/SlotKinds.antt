@@ -102,12 +102,7 @@ pub number_from : (heap : Heap) (word number : ℕ) (of : Referent) → IsSort h
     → RefersToPlace heap word number
 number_from heap word number (sort.Object other) has is =
     subst (RefersToPlace heap word) (same_Some other number is) has
-number_from heap word number sort.Small has is = absurd (none-some number is)
-number_from heap word number sort.Undefined has is = absurd (none-some number is)
-number_from heap word number sort.Hole has is = absurd (none-some number is)
-number_from heap word number (sort.Boxed v) has is = absurd (none-some number is)
-number_from heap word number (sort.Other cell) has is = absurd (none-some number is)
-number_from heap word number sort.Nothing has is = absurd (none-some number is)
+number_from heap word number _ has is = absurd (none-some number is)
 
 -- and no other does
 pub number_to : (heap : Heap) (word number : ℕ) (of : Referent) → IsSort heap word of → RefersToPlace heap word number

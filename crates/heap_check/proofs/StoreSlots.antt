@@ -9,6 +9,7 @@ use Rattle.heap_model.specs.Slots.{undefined_word, is_object_kind, RefersTo, Hol
 use Rattle.heap_model.specs.Kinds.{HasWord}
 use Rattle.heap_model.proofs.CellWords.{words_are_size, words_by_kind}
 use Rattle.heap_model.proofs.SlotWords.{same_target}
+use Rattle.heap_model.proofs.OneBeside.{one_beside}
 use Rattle.heap_model.proofs.WordClasses.{undefined_refers_not}
 use Rattle.heap_check.specs.declared.slots.Referent.{Referent}
 use Rattle.heap_check.specs.declared.slots.Referent.TheVariants as sort
@@ -50,29 +51,12 @@ beside_is HoldsStore.none = HasStoreSlots.none refl refl
 beside_is (HoldsStore.store to cell words refers is) =
     HasStoreSlots.store cell (target_stands refers) is (ap (drop store_head) (sym refers.has.words_are))
 
--- a word says it of one list of slots, case by case
-one_beside_of : {heap : Heap} {of : Kind} {word : ℕ} {slots others : List ℕ} → HasStoreSlots heap of word slots
-    → HasStoreSlots heap of word others → slots ≡ others
-one_beside_of (HasStoreSlots.none undefined are) (HasStoreSlots.none undefined_too are_too) = are ∙ sym are_too
-one_beside_of (HasStoreSlots.none undefined are) (HasStoreSlots.store cell refers is are_too) =
-    absurd (undefined_refers_not cell.at (sym undefined ∙ refers.refers))
-one_beside_of (HasStoreSlots.store cell refers is are) (HasStoreSlots.none undefined are_too) =
-    absurd (undefined_refers_not cell.at (sym undefined ∙ refers.refers))
-one_beside_of {heap} (HasStoreSlots.store cell refers is are) (HasStoreSlots.store other refers_other is_too are_too) =
-    are ∙ ap (λ one. drop store_head (words_of_cell heap one)) (same_target refers refers_other) ∙ sym are_too
-
--- a word says it of one list of slots
-pub one_beside : {heap : Heap} {of : Kind} {word : ℕ} {slots others : List ℕ} → HoldsStore heap of word slots
-    → HoldsStore heap of word others → slots ≡ others
-one_beside beside other = one_beside_of (beside_is beside) (beside_is other)
-
 -- where a slot of words says it, they are those of the span that was found for it
 pub beside_is_span : {heap : Heap} {of : Kind} {slots : List ℕ} (words : List ℕ) (offset one other : ℕ) (span : Span)
     → HasWord words offset one → HasWord words offset other → SpansStore heap of one span
     → HoldsStore heap of other slots → slots ≡ span_words heap span
 beside_is_span {heap} {of} {slots} words offset one other span slot slot_too stands beside =
-    let same : other ≡ one = same_Some _ _ (sym slot_too ∙ slot) in
-    one_beside (subst (λ w. HoldsStore heap of w slots) same beside) stands.beside
+    one_beside other one slots (span_words heap span) (same_Some other one (sym slot_too ∙ slot)) beside stands.beside
 
 -- `undefined` says that there are none
 pub none_beside : (heap : Heap) (of : Kind) (word : ℕ) → word ≡ undefined_word

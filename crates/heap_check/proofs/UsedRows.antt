@@ -1,27 +1,28 @@
 -- The used row of a region as a walk within a bound.
-use Rattle.std.proofs.Common.{◌≡◌, ℕ, ◌+◌, ◌-◌, ◌≤◌, ◌<◌, inl, inr, List, Contains, false}
+use Rattle.std.proofs.Common.{◌≡◌, ℕ, ◌+◌, ◌-◌, ◌≤◌, inl, inr, List, Contains, false}
+use Rattle.std.proofs.Common.{Option, Some, None, MatchOption}
 use Rattle.std.proofs.Common.{refl, sym, ◌∙◌, ap, subst, arith, IsTrue}
 use Rattle.std.proofs.lemmas.Bool.{false≢true}
 use Rattle.heap_model.specs.Types.{Region, Cell}
-use Rattle.page_space.specs.declared.region.Region.TheVariants.{Page, Eden, Segment, Root, Layout, Mark, Board, Outside}
-use Rattle.page_space.specs.Extents.{Space, Extent, IsIn, is_cell_region, words_count}
+use Rattle.page_space.specs.declared.region.Region.TheVariants.{Page, Eden, Segment}
+use Rattle.page_space.specs.Extents.{Space, Extent, IsIn, is_cell_region}
 use Rattle.page_space.specs.RegionLaws.{IsSpace}
+use Rattle.page_space.proofs.CellAddresses.{cells_are}
 use Rattle.page_space.proofs.Placed.{placed}
 use Rattle.page_space.proofs.Standing.{length_of}
 use Rattle.page_space.proofs.Starts.{layouts_start_is, marks_start_is, board_start_is, words_count_is}
 use Rattle.page_space.proofs.Limits.{words_count_most}
 use Rattle.cell_layout.specs.Cells.{IsRow}
-use Rattle.cell_layout.proofs.OneCell.{cells_have_words}
-use Rattle.cell_layout.proofs.Rows.{cell_within, rows_part_around, row_ascends}
 use Rattle.heap_model.specs.Heaps.{Heap, Row, EndsUsed, cell_extents, survivors_in}
-use Rattle.heap_model.proofs.CellsApart.{cell_extent_stands, ends_within}
+use Rattle.heap_model.proofs.CellsApart.{cell_extent_stands}
 use Rattle.heap_model.proofs.WordsAlike.{extent_below_roots}
-use Rattle.heap_model.proofs.RegionStarts.{one_extent, region_at_start}
+use Rattle.heap_model.proofs.RegionStarts.{region_at_start, holds_first}
+use Rattle.heap_model.proofs.RegionRows.{LiesBetween, of_region, region_is, lies_between}
+use Rattle.heap_model.specs.RegionRows.{StandsBetween, IsRowFrom}
 use Rattle.heap_check.specs.declared.row.Bound.{Bound}
-use Rattle.heap_check.specs.Walks.{Stops, IsWalk, IsFirstAmong}
-use Rattle.heap_check.specs.RegionRows.{IsFew, StandsFrom, BoundsFrom, IsBoundOf, IsRowAt, EndsRowAt, CountsRowAt}
+use Rattle.heap_check.specs.Walks.{Stops, IsWalk, HasNoWalk, EndsWalk}
+use Rattle.heap_check.specs.RegionRows.{IsFew, BoundsFrom, IsBoundOf, HasNoRowAt, EndsRowAt, CountsRowAt}
 use Rattle.heap_check.specs.RegionRows.{bound_in, survivors_by}
-use Rattle.heap_check.proofs.Extents.{holds_first, cells_only}
 
 -- a walk within a limit that may end nowhere else ends there
 ends_at_limit : (heap : Heap) (bound : Bound) (end : ℕ) → bound.blank ≡ false
@@ -39,11 +40,7 @@ bound_of_kind heap extent end (Page page) few ends long at is = (omega (arith, i
 bound_of_kind heap extent end Eden few ends long at is = (omega (arith, is), inl is)
 bound_of_kind heap extent end (Segment half worker) few ends long at is =
     (omega (arith, is.0, ends), elim is.1 [ inl last ↦ inl (last ∙ ends) | inr zero ↦ inr (refl, zero) ])
-bound_of_kind heap extent end (Root variable) few ends long at is = absurd is
-bound_of_kind heap extent end (Layout shape) few ends long at is = absurd is
-bound_of_kind heap extent end (Mark mark) few ends long at is = absurd is
-bound_of_kind heap extent end (Board place) few ends long at is = absurd is
-bound_of_kind heap extent end Outside few ends long at is = absurd is
+bound_of_kind heap extent end _ few ends long at is = absurd is
 
 -- where a walk may end, the used row of the region does, kind by kind
 used_of_kind : (heap : Heap) (extent : Extent) (end : ℕ) (region : Region) → IsTrue (is_cell_region region)
@@ -55,25 +52,24 @@ used_of_kind heap extent end Eden cells ends at within stops =
     ends_at_limit heap (record { limit = extent.start + heap.used; blank = false }) at refl stops
 used_of_kind heap extent end (Segment half worker) cells ends at within stops =
     (omega (arith, within, ends), elim stops [ inl last ↦ inl (last ∙ sym ends) | inr zero ↦ inr zero.1 ])
-used_of_kind heap extent end (Root variable) cells ends at within stops = absurd (false≢true cells)
-used_of_kind heap extent end (Layout shape) cells ends at within stops = absurd (false≢true cells)
-used_of_kind heap extent end (Mark mark) cells ends at within stops = absurd (false≢true cells)
-used_of_kind heap extent end (Board place) cells ends at within stops = absurd (false≢true cells)
-used_of_kind heap extent end Outside cells ends at within stops = absurd (false≢true cells)
+used_of_kind heap extent end _ cells ends at within stops = absurd (false≢true cells)
 
 -- the limit of a bound lies in the region, kind by kind
 limit_of_kind : (heap : Heap) (extent : Extent) (end : ℕ) (region : Region) → IsFew heap
     → extent.start + extent.words ≡ end → extent.words ≡ length_of heap.space region
     → (extent.start ≤ (bound_in region extent.start end heap.used).limit)
     × ((bound_in region extent.start end heap.used).limit ≤ end)
-limit_of_kind heap extent end (Page page) few ends long = (omega arith, omega arith)
 limit_of_kind heap extent end Eden few ends long = (omega arith, omega (arith, few, ends, long))
-limit_of_kind heap extent end (Segment half worker) few ends long = (omega arith, omega arith)
-limit_of_kind heap extent end (Root variable) few ends long = (omega arith, omega arith)
-limit_of_kind heap extent end (Layout shape) few ends long = (omega arith, omega arith)
-limit_of_kind heap extent end (Mark mark) few ends long = (omega arith, omega arith)
-limit_of_kind heap extent end (Board place) few ends long = (omega arith, omega arith)
-limit_of_kind heap extent end Outside few ends long = (omega arith, omega arith)
+limit_of_kind heap extent end _ few ends long = (omega arith, omega arith)
+
+-- the regions of cells are pages, eden and segments
+cells_only : (space : Space) (extent : Extent) → IsSpace space → Contains (cell_extents space) extent
+    → IsTrue (is_cell_region extent.region)
+cells_only space extent limits among =
+    let found = (cells_are space extent.start limits).0
+    (omega (arith, extent_below_roots space extent among, (holds_first space extent limits among).below)) in
+    subst (λ (r : Region). IsTrue (is_cell_region r))
+    (region_at_start space extent found.region limits among found.is_in) found.of_kind
 
 -- the bound of a region is that of its kind
 bounds_of : (heap : Heap) (extent : Extent) (end : ℕ) → IsSpace heap.space → IsFew heap
@@ -95,7 +91,7 @@ bounds_of heap extent end within few there ends =
 
 -- the bound of the region that stands there, by the region that its first address is in
 pub bounds_from : (heap : Heap) (start end : ℕ) (region : Region) → IsSpace heap.space → IsFew heap
-    → StandsFrom heap.space start end → IsIn heap.space start region
+    → StandsBetween heap.space start end → IsIn heap.space start region
     → BoundsFrom heap start end (bound_in region start end heap.used)
 bounds_from heap start end region within few stands inside =
     let extent = stands.extent in
@@ -108,15 +104,12 @@ bounds_from heap start end region within few stands inside =
     ∙ ap (λ (a : ℕ). bound_in region a end heap.used) stands.starts in
     record {
       limits = within;
-      extent = extent;
-      among = stands.among;
-      starts = stands.starts;
-      ends = stands.ends;
+      stands = stands;
       bounds = subst B bound (bounds_of heap extent end within few stands.among stands.ends);
     }
 
 -- no used word of eden is past 32 bits, as none of a heap is
-pub used_within : (heap : Heap) (start end : ℕ) → IsSpace heap.space → IsFew heap → StandsFrom heap.space start end
+pub used_within : (heap : Heap) (start end : ℕ) → IsSpace heap.space → IsFew heap → StandsBetween heap.space start end
     → start + heap.used ≤ 4294967295
 used_within heap start end within few stands =
     let extent = stands.extent in
@@ -134,12 +127,10 @@ used_within heap start end within few stands =
     )
 
 -- the used row of the region is a walk within the bound
-pub row_walks : (heap : Heap) (start end : ℕ) (bound : Bound) (row : Row) → BoundsFrom heap start end bound
-    → IsRowAt heap start row → IsWalk heap bound start row.end row.cells
+row_walks : (heap : Heap) (start end : ℕ) (bound : Bound) (row : Row) → BoundsFrom heap start end bound
+    → IsRowFrom heap start row → IsWalk heap bound start row.end row.cells
 row_walks heap start end bound row bounds is =
-    let same : row.extent ≡ bounds.extent =
-    one_extent heap.space row.extent bounds.extent bounds.limits is.among bounds.among
-    (is.starts ∙ sym bounds.starts) in
+    let same = of_region bounds.limits bounds.stands is in
     let Ends : Extent → Type 0 = λ extent. EndsUsed heap extent row.end extent.region in
     let ends = (bounds.bounds.ends row.end).0 (subst Ends same is.used.ends) in
     record {
@@ -149,52 +140,39 @@ row_walks heap start end bound row bounds is =
     }
 
 -- a walk within the bound is the used row of the region
-pub walk_is_row : (heap : Heap) (start end at : ℕ) (bound : Bound) (cells : List Cell) → BoundsFrom heap start end bound
+walk_is_row : (heap : Heap) (start end at : ℕ) (bound : Bound) (cells : List Cell) → BoundsFrom heap start end bound
     → IsWalk heap bound start at cells → EndsRowAt heap start at
-walk_is_row heap start end at bound cells bounds walk = record {
-  row = record { extent = bounds.extent; end = at; cells = cells };
-  is = record {
-    among = bounds.among;
-    starts = bounds.starts;
-    used = record {
-      ends = (bounds.bounds.ends at).1 (walk.within, walk.stops);
-      stands = subst (λ (from : ℕ). IsRow heap.space heap.words from at cells) (sym bounds.starts) walk.row;
-    };
-  };
-  ends = refl;
-}
+walk_is_row heap start end at bound cells bounds walk =
+    let stands = bounds.stands in
+    let from = subst (λ (from : ℕ). IsRow heap.space heap.words from at cells) (sym stands.starts) walk.row in
+    record {
+      row = record { extent = stands.extent; end = at; cells = cells };
+      is = record {
+        among = stands.among;
+        starts = stands.starts;
+        used = record { ends = (bounds.bounds.ends at).1 (walk.within, walk.stops); stands = from };
+      };
+      ends = refl;
+    }
 
--- no walk has a cell at its limit
-pub no_cell_at_limit : (heap : Heap) (bound : Bound) (from end : ℕ) (cells : List Cell) (cell : Cell)
-    → IsWalk heap bound from end cells → IsFirstAmong cells bound.limit cell → ⊥
-no_cell_at_limit heap bound from end cells cell walk first =
-    let within = cell_within heap.space heap.words from end cells cell walk.row first.among in
-    let parts = rows_part_around heap.space heap.words from end cells cell walk.row first.among in
-    let some = (cells_have_words heap.space heap.words cell parts.is_cell).0 in
-    omega (arith, within.1, walk.within, first.reached, some)
+-- so the used row of the region ends where the walk does
+pub row_by_walk : (heap : Heap) (start end : ℕ) (bound : Bound) (found : Option ℕ) → BoundsFrom heap start end bound
+    → MatchOption found (HasNoWalk heap bound start) (λ at. EndsWalk heap bound start at)
+    → MatchOption found (HasNoRowAt heap start) (λ at. EndsRowAt heap start at)
+row_by_walk heap start end bound None bounds none =
+    λ row is. none row.end row.cells (row_walks heap start end bound row bounds is)
+row_by_walk heap start end bound (Some at) bounds ends = walk_is_row heap start end at bound ends.cells bounds ends.walk
 
 -- the words of survivors of a row, by its region
 pub counts_by : (row : Row) (region : Region)
     → survivors_in row region ≡ survivors_by region (row.end - row.extent.start)
-counts_by row (Page page) = refl
-counts_by row Eden = refl
 counts_by row (Segment half worker) = refl
-counts_by row (Root variable) = refl
-counts_by row (Layout shape) = refl
-counts_by row (Mark mark) = refl
-counts_by row (Board place) = refl
-counts_by row Outside = refl
+counts_by row _ = refl
 
 -- they are no more than its words
 pub few_survivors : (region : Region) (words : ℕ) → survivors_by region words ≤ words
-few_survivors (Page page) words = omega arith
-few_survivors Eden words = omega arith
 few_survivors (Segment half worker) words = omega arith
-few_survivors (Root variable) words = omega arith
-few_survivors (Layout shape) words = omega arith
-few_survivors (Mark mark) words = omega arith
-few_survivors (Board place) words = omega arith
-few_survivors Outside words = omega arith
+few_survivors _ words = omega arith
 
 -- a row's survivors, by the region that its first address is in
 pub counts_row : (heap : Heap) (start end : ℕ) (region : Region) → IsSpace heap.space
@@ -202,9 +180,7 @@ pub counts_row : (heap : Heap) (start end : ℕ) (region : Region) → IsSpace h
     → CountsRowAt heap start (survivors_by region (end - start))
 counts_row heap start end region within ends inside =
     let row = ends.row in
-    let here : IsIn heap.space row.extent.start region =
-    subst (λ (a : ℕ). IsIn heap.space a region) (sym ends.is.starts) inside in
-    let same : region ≡ row.extent.region = region_at_start heap.space row.extent region within ends.is.among here in
+    let same = region_is region within inside ends.is in
     record {
       row = row;
       is = ends.is;
@@ -215,33 +191,8 @@ counts_row heap start end region within ends inside =
           ∙ ap (λ (n : ℕ). survivors_by region (end - n)) ends.is.starts;
     }
 
--- a used row lies in its region
-pub row_within : (heap : Heap) (start end at : ℕ) → IsSpace heap.space → IsFew heap → StandsFrom heap.space start end
-    → EndsRowAt heap start at → (start ≤ at) × (at ≤ end)
-row_within heap start end at limits few stands ends =
-    let row = ends.row in
-    let same : row.extent ≡ stands.extent =
-    one_extent heap.space row.extent stands.extent limits ends.is.among stands.among
-    (ends.is.starts ∙ sym stands.starts) in
-    let below = ends_within heap row few ends.is.among ends.is.used in
-    let above = row_ascends heap.space heap.words row.extent.start row.end row.cells ends.is.used.stands in (
-      omega (arith, above, ends.is.starts, ends.ends),
-      omega (arith, below, ends.ends, stands.ends, ap (λ (e : Extent). e.start + e.words) same),
-    )
-
--- a region of cells begins at a word of the heap
-pub start_inside : (space : Space) (start end : ℕ) → IsSpace space → StandsFrom space start end
-    → start < words_count space
-start_inside space start end limits stands =
-    let there = cell_extent_stands space stands.extent stands.among in
-    let inside = holds_first space stands.extent limits there in
-    omega (
-      arith,
-      inside.below,
-      extent_below_roots space stands.extent stands.among,
-      stands.starts,
-      layouts_start_is space,
-      marks_start_is space,
-      board_start_is space,
-      words_count_is space,
-    )
+-- it lies in its region
+pub row_within : {heap : Heap} {start end at : ℕ} → IsSpace heap.space → IsFew heap → StandsBetween heap.space start end
+    → EndsRowAt heap start at → LiesBetween start at end
+row_within {start = start} {end} limits few stands ends =
+    subst (λ at. LiesBetween start at end) ends.ends (lies_between limits few stands ends.is)

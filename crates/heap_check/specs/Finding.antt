@@ -21,10 +21,3 @@ pub record IsFirstCell (heap : Heap) (least : ℕ) (cell : Cell) : Type 0 where
 abbrev pub HasNoCellOf : Heap → ℕ → ℕ → ℕ → Type 0
 HasNoCellOf heap start end least =
     (cell : Cell) (words : List ℕ) → HasCell heap cell words → start ≤ cell.at → cell.at < end → cell.at < least
-
--- of the cells between two addresses, it is the first that stands at another or behind it
-pub record IsFirstOf (heap : Heap) (start end least : ℕ) (cell : Cell) : Type 0 where
-  pub has : HasCell heap cell (words_of_cell heap cell)
-  pub reached : least ≤ cell.at
-  pub first : (other : Cell) (words : List ℕ) → HasCell heap other words → start ≤ other.at → least ≤ other.at
-      → cell.at ≤ other.at

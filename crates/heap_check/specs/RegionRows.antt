@@ -1,25 +1,19 @@
 -- The used rows of the regions of cells, by their first addresses.
-use Rattle.std.specs.Prelude.{◌≡◌, ℕ, ◌+◌, ◌≤◌, ◌<◌, true, false, ◌↔◌, Contains, List, Some}
+use Rattle.std.specs.Prelude.{◌≡◌, ℕ, ◌+◌, ◌≤◌, ◌<◌, true, false, ◌↔◌, List, Some}
 use Rattle.std.specs.Prelude.{slice_get}
 use Rattle.heap_model.specs.Types.{Region}
 use Rattle.page_space.specs.declared.region.Region.TheVariants.{Eden, Segment}
 use Rattle.page_space.specs.Sizes.{AreWithin}
-use Rattle.page_space.specs.Extents.{Space, Extent}
-use Rattle.heap_model.specs.Heaps.{Heap, Row, EndsUsed, IsUsedRow, cell_extents, survivors_in}
+use Rattle.page_space.specs.Extents.{Extent}
+use Rattle.heap_model.specs.Heaps.{Heap, Row, EndsUsed, survivors_in}
 use Rattle.heap_model.specs.Heaps.{AreRows, survivors_of}
+use Rattle.heap_model.specs.RegionRows.{StandsBetween, IsRowFrom}
 use Rattle.heap_check.specs.declared.row.Bound.{Bound}
 use Rattle.heap_check.specs.Walks.{Stops}
 
 -- eden has as many words as are used of it
 abbrev pub IsFew : Heap → Type 0
 IsFew heap = heap.used ≤ heap.space.sizes.young
-
--- a region of cells stands from the first address to the one behind it
-pub record StandsFrom (space : Space) (start end : ℕ) : Type 0 where
-  pub extent : Extent
-  pub among : Contains (cell_extents space) extent
-  pub starts : extent.start ≡ start
-  pub ends : extent.start + extent.words ≡ end
 
 -- how far the row of a region may go, by its kind
 abbrev pub bound_in : Region → ℕ → ℕ → ℕ → Bound
@@ -36,26 +30,17 @@ pub record IsBoundOf (heap : Heap) (extent : Extent) (bound : Bound) : Type 0 wh
 -- so it is of the region that stands there, and the sizes of the heap are within their limits
 pub record BoundsFrom (heap : Heap) (start end : ℕ) (bound : Bound) : Type 0 where
   pub limits : AreWithin heap.space.sizes heap.space.variables
-  pub extent : Extent
-  pub among : Contains (cell_extents heap.space) extent
-  pub starts : extent.start ≡ start
-  pub ends : extent.start + extent.words ≡ end
-  pub bounds : IsBoundOf heap extent bound
-
--- the used row of the region that begins at the address
-pub record IsRowAt (heap : Heap) (start : ℕ) (row : Row) : Type 0 where
-  pub among : Contains (cell_extents heap.space) row.extent
-  pub starts : row.extent.start ≡ start
-  pub used : IsUsedRow heap row
+  pub stands : StandsBetween heap.space start end
+  pub bounds : IsBoundOf heap stands.extent bound
 
 -- the region that begins at the address has no used row
 abbrev pub HasNoRowAt : Heap → ℕ → Type 0
-HasNoRowAt heap start = (row : Row) → IsRowAt heap start row → ⊥
+HasNoRowAt heap start = (row : Row) → IsRowFrom heap start row → ⊥
 
 -- the used row of the region that begins at the address ends there
 pub record EndsRowAt (heap : Heap) (start end : ℕ) : Type 0 where
   pub row : Row
-  pub is : IsRowAt heap start row
+  pub is : IsRowFrom heap start row
   pub ends : row.end ≡ end
 
 -- how many words of survivors a row of so many words has, by its region
@@ -66,7 +51,7 @@ survivors_by _ words = 0
 -- the used row of the region that begins at the address has so many words of survivors
 pub record CountsRowAt (heap : Heap) (start count : ℕ) : Type 0 where
   pub row : Row
-  pub is : IsRowAt heap start row
+  pub is : IsRowFrom heap start row
   pub counts : survivors_in row row.extent.region ≡ count
 
 -- the rows of the heap have so many words of survivors
@@ -85,4 +70,4 @@ AreZero heap from end = (at : ℕ) → from ≤ at → at < end → slice_get he
 
 -- the words behind the used row of the region between two addresses are 0
 abbrev pub IsBlankFrom : Heap → ℕ → ℕ → Type 0
-IsBlankFrom heap start end = (row : Row) → IsRowAt heap start row → AreZero heap row.end end
+IsBlankFrom heap start end = (row : Row) → IsRowFrom heap start row → AreZero heap row.end end

@@ -1,5 +1,5 @@
 -- Walks along a row of cells: how far a row may go, and what a walk comes to.
-use Rattle.std.specs.Prelude.{◌≡◌, ℕ, ◌+◌, ◌≤◌, ◌<◌, ◌⊎◌, List, length, Contains, IsTrue}
+use Rattle.std.specs.Prelude.{◌≡◌, ℕ, ◌+◌, ◌≤◌, ◌<◌, ◌⊎◌, List, length, IsTrue}
 use Rattle.std.specs.Prelude.{Some, slice_get}
 use Rattle.tagged_word.specs.Shapes.{shapes_most}
 use Rattle.page_space.specs.Extents.{layouts_start, marks_start}
@@ -49,25 +49,7 @@ IsStep heap bound at (Ended end) = (end ≡ at) × Stops heap bound at
 IsStep heap bound at (Found cell) = GoesOn heap bound at cell
 IsStep heap bound at Broken = HasNoWalk heap bound at
 
--- all cells of a row stand before an address
-abbrev pub AreBefore : ℕ → List Cell → Type 0
-AreBefore least cells = (cell : Cell) → Contains cells cell → cell.at < least
-
--- the row ends there, and no cell of it is at the address or behind it
-pub record EndsBefore (heap : Heap) (bound : Bound) (from least end : ℕ) : Type 0 where
+-- a row goes on from the address, and ends there
+pub record EndsWalk (heap : Heap) (bound : Bound) (from end : ℕ) : Type 0 where
   pub cells : List Cell
   pub walk : IsWalk heap bound from end cells
-  pub before : AreBefore least cells
-
--- the cell is the first of the cells that stands at the address or behind it
-pub record IsFirstAmong (cells : List Cell) (least : ℕ) (cell : Cell) : Type 0 where
-  pub among : Contains cells cell
-  pub reached : least ≤ cell.at
-  pub first : (other : Cell) → Contains cells other → least ≤ other.at → cell.at ≤ other.at
-
--- what a walk from an address comes to that looks for the first cell at another address or behind it
-abbrev pub IsFirstOfWalk : Heap → Bound → ℕ → ℕ → Step → Type 0
-IsFirstOfWalk heap bound from least (Ended end) = EndsBefore heap bound from least end
-IsFirstOfWalk heap bound from least (Found cell) =
-    (end : ℕ) (cells : List Cell) → IsWalk heap bound from end cells → IsFirstAmong cells least cell
-IsFirstOfWalk heap bound from least Broken = HasNoWalk heap bound from

@@ -2,8 +2,9 @@
 ghost use Rattle.std.specs.Prelude.{◌↔◌, IsTrue};
 ghost use Rattle.heap_model.specs.Images.{image_heap};
 ghost use Rattle.heap_model.specs.Wholeness.{HasSizes, HasRows, Blank};
+ghost use Rattle.heap_model.specs.RegionRows.{StandsBetween};
 ghost use Rattle.heap_check.specs.Walks.{HasWords};
-ghost use Rattle.heap_check.specs.RegionRows.{StandsFrom, AreZero, IsBlankFrom};
+ghost use Rattle.heap_check.specs.RegionRows.{AreZero, IsBlankFrom};
 
 use crate::reads::is_zero;
 use crate::region_rows::row_end;
@@ -32,7 +33,7 @@ pub fn is_blank(image: &HeapImage) -> bool
 fn is_blank_behind(image: &HeapImage, start: u32, end: u32) -> bool
     requires sized { HasWords (image_heap image.now) }
     requires rows { HasRows (image_heap image.now) }
-    requires stands { StandsFrom image.now.regions start end }
+    requires stands { StandsBetween image.now.regions start end }
     ensures { IsTrue result ↔ IsBlankFrom (image_heap image.now) start end }
 {
     let _words_count = image.regions.count();

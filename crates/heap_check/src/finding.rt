@@ -4,12 +4,12 @@ ghost use Rattle.page_space.specs.Extents.{words_count, CellsEndAt};
 ghost use Rattle.heap_model.specs.Images.{image_heap};
 ghost use Rattle.heap_model.specs.Heaps.{HasCell, words_of_cell};
 ghost use Rattle.heap_model.specs.Wholeness.{HasRows};
+ghost use Rattle.heap_model.specs.RegionRows.{StandsBetween};
 ghost use Rattle.heap_check.specs.Walks.{HasWords};
-ghost use Rattle.heap_check.specs.RegionRows.{StandsFrom};
-ghost use Rattle.heap_check.specs.Finding.{HasNoCellOf, IsFirstOf, HasNoCellAt};
+ghost use Rattle.heap_check.specs.Finding.{HasNoCellFrom, IsFirstCell, HasNoCellAt};
+ghost use Rattle.heap_check.specs.NextCell.{IsBoundary};
 
-use crate::region_rows::bound_of;
-use crate::row::{Step, first_of_row};
+use crate::next_cell::next_from;
 use cell_layout::Cell;
 use heap_model::HeapImage;
 
@@ -24,7 +24,7 @@ pub fn find_cell(image: &HeapImage, address: u32) -> Option<Cell>
     let Some(end) = image.regions.cells_end(address) else {
         return None;
     };
-    match first_of_region(image, start_before(image, address, end), end, address) {
+    match first_from(image, start_before(image, address, end), address) {
         Some(cell) => { if cell.at == address { Some(cell) } else { None } }
         None => None,
     }
@@ -35,25 +35,28 @@ pub fn find_cell(image: &HeapImage, address: u32) -> Option<Cell>
 fn start_before(image: &HeapImage, address: u32, end: u32) -> u32
     requires within { CellsEndAt image.now.regions address end }
     requires inside { end ≤ words_count image.now.regions }
-    ensures stands { StandsFrom image.now.regions result end }
+    ensures stands { StandsBetween image.now.regions result end }
     ensures before { result ≤ address }
 {
     image.regions.start(image.regions.region(address))
 }
 
-/// The first cell of the region between two addresses that stands at another address or behind it.
-fn first_of_region(image: &HeapImage, start: u32, end: u32, least: u32) -> Option<Cell>
+/// The first cell of a heap that stands at an address or behind it, come to from one before it that
+/// no cell reaches over.
+fn first_from(image: &HeapImage, from: u32, least: u32) -> Option<Cell>
     requires sized { HasWords (image_heap image.now) }
     requires rows { HasRows (image_heap image.now) }
-    requires stands { StandsFrom image.now.regions start end }
-    ensures { MatchOption result (HasNoCellOf (image_heap image.now) start end least)
-        (λ cell. IsFirstOf (image_heap image.now) start end least cell) }
+    requires boundary { IsBoundary (image_heap image.now) from }
+    requires before { from ≤ least }
+    ensures { MatchOption result (HasNoCellFrom (image_heap image.now) least)
+        (λ cell. IsFirstCell (image_heap image.now) least cell) }
 {
-    let bound = bound_of(image, start, end);
-    match first_of_row(image, start, bound, least) {
-        Step::Found(cell) => Some(cell),
-        Step::Ended(_) => None,
-        // The rows are whole.
-        Step::Broken => None,
+    let mut at = from;
+    while let Some(cell) = next_from(image, at) {
+        if cell.at >= least {
+            return Some(cell);
+        }
+        at = cell.at + cell.size;
     }
+    None
 }

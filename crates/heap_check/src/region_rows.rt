@@ -1,18 +1,19 @@
 //! The used row of a region: where it ends.
 ghost use Rattle.std.specs.Prelude.{◌≡◌, ◌+◌, ◌≤◌, MatchOption};
 ghost use Rattle.heap_model.specs.Images.{image_heap};
+ghost use Rattle.heap_model.specs.RegionRows.{StandsBetween};
 ghost use Rattle.heap_check.specs.Walks.{HasWords};
-ghost use Rattle.heap_check.specs.RegionRows.{StandsFrom, BoundsFrom, bound_in, survivors_by};
+ghost use Rattle.heap_check.specs.RegionRows.{BoundsFrom, bound_in, survivors_by};
 ghost use Rattle.heap_check.specs.RegionRows.{HasNoRowAt, EndsRowAt, CountsRowAt, IsFew};
 
-use crate::row::{Bound, Step, first_of_row};
+use crate::row::{Bound, end_of_row};
 use heap_model::HeapImage;
 use page_space::Region;
 
 /// How far the row of a region may go that stands between two addresses.
 pub(crate) fn bound_of(image: &HeapImage, start: u32, end: u32) -> Bound
     requires few { IsFew (image_heap image.now) }
-    requires stands { StandsFrom image.now.regions start end }
+    requires stands { StandsBetween image.now.regions start end }
     ensures { BoundsFrom (image_heap image.now) start end result }
 {
     // Tells that the sizes are within their limits, so that no region is empty.
@@ -46,23 +47,17 @@ fn bound_by(region: Region, start: u32, end: u32, used: u32) -> Bound
 pub(crate) fn row_end(image: &HeapImage, start: u32, end: u32) -> Option<u32>
     requires sized { HasWords (image_heap image.now) }
     requires few { IsFew (image_heap image.now) }
-    requires stands { StandsFrom image.now.regions start end }
+    requires stands { StandsBetween image.now.regions start end }
     ensures { MatchOption result (HasNoRowAt (image_heap image.now) start)
         (λ row_end. EndsRowAt (image_heap image.now) start row_end) }
 {
-    let bound = bound_of(image, start, end);
-    match first_of_row(image, start, bound, bound.limit) {
-        Step::Ended(row_end) => Some(row_end),
-        // No cell of a row is at its limit.
-        Step::Found(_) => None,
-        Step::Broken => None,
-    }
+    end_of_row(image, start, bound_of(image, start, end))
 }
 
 /// How many words of survivors a row has.
 pub(crate) fn survivors_at(image: &HeapImage, start: u32, end: u32, row_end: u32) -> u32
     requires few { IsFew (image_heap image.now) }
-    requires stands { StandsFrom image.now.regions start end }
+    requires stands { StandsBetween image.now.regions start end }
     requires ends { EndsRowAt (image_heap image.now) start row_end }
     ensures counted { CountsRowAt (image_heap image.now) start result }
     ensures within { start + result ≤ end }

@@ -1,8 +1,8 @@
 //! The walk along one row of cells.
-ghost use Rattle.std.specs.Prelude.{◌<◌, ◌≤◌};
+ghost use Rattle.std.specs.Prelude.{◌<◌, ◌≤◌, MatchOption};
 ghost use Rattle.cell_layout.specs.Cells.{HasNoCell};
 ghost use Rattle.heap_model.specs.Images.{image_heap};
-ghost use Rattle.heap_check.specs.Walks.{HasWords, IsStep, IsFirstOfWalk};
+ghost use Rattle.heap_check.specs.Walks.{HasWords, HasNoWalk, IsStep, EndsWalk};
 
 use crate::reads::{cell_there, is_zero};
 use cell_layout::Cell;
@@ -61,23 +61,19 @@ fn no_cell(image: &HeapImage, at: u32, bound: Bound) -> Step
     Step::Broken
 }
 
-/// The first cell of the row from an address on that stands at another address or behind it.
-pub(crate) fn first_of_row(image: &HeapImage, from: u32, bound: Bound, least: u32) -> Step
+/// Where the row ends that goes on from an address; none where words there are no row.
+pub(crate) fn end_of_row(image: &HeapImage, from: u32, bound: Bound) -> Option<u32>
     requires sized { HasWords (image_heap image.now) }
     requires before { from ≤ bound.limit }
-    ensures { IsFirstOfWalk (image_heap image.now) bound from least result }
+    ensures { let heap = image_heap image.now in MatchOption result (HasNoWalk heap bound from)
+        (λ end. EndsWalk heap bound from end) }
 {
     let mut at = from;
     'walk: loop {
         match step_at(image, at, bound) {
-            Step::Found(cell) => {
-                if cell.at >= least {
-                    return Step::Found(cell);
-                }
-                at += cell.size;
-            }
-            Step::Ended(end) => return Step::Ended(end),
-            Step::Broken => return Step::Broken,
+            Step::Found(cell) => at += cell.size,
+            Step::Ended(end) => return Some(end),
+            Step::Broken => return None,
         }
     }
 }

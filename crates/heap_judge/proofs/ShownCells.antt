@@ -11,6 +11,7 @@ use Rattle.heap_model.specs.Slots.{is_object_kind}
 use Rattle.heap_model.specs.Kinds.{HasWord, IsSoundCell, IsSoundOf, count_offset}
 use Rattle.heap_model.specs.Showing.{ShowsPlain, ShowsList, ShowsWeak, ShowsObject, ShowsReached}
 use Rattle.heap_model.proofs.CellsApart.{one_at}
+use Rattle.heap_model.proofs.ShownObjects.{object_of_shown}
 use Rattle.heap_check.specs.declared.spans.Span.{Span}
 use Rattle.heap_check.specs.Spans.{EachWord, span_words, SpansStore}
 use Rattle.heap_check.specs.TablePairs.{table_pairs, IsTableAs}
@@ -109,13 +110,6 @@ weak_shown_to heap marks cell words entries store table slot has shows =
     (table_is_span words store_slot store shows.store table slot shows.slot has shows.table)
     record { each = shows.each; others = shows.others }
 
--- what shows an object is an object's own cell
-pub shown_is_object : (heap : Heap) (marks : List Bool) (cell : Cell) (words : List ℕ) (what : Object)
-    → ShowsObject heap marks cell words what → IsTrue (is_object_kind cell.layout.kind)
-shown_is_object heap marks cell words (graph_object.Plain cap fields) shows = ap is_object_kind shows.of_kind
-shown_is_object heap marks cell words (graph_object.List elements) shows = ap is_object_kind shows.of_kind
-shown_is_object heap marks cell words (graph_object.Weak entries) shows = ap is_object_kind shows.of_kind
-
 -- an object is shown where the cell at its only place shows it
 pub reached_from : (heap : Heap) (marks : List Bool) (number : ℕ) (cell : Cell) (what : Object)
     → IsOnlyPlace heap number cell → ShowsObject heap marks cell (words_of_cell heap cell) what
@@ -135,7 +129,7 @@ pub reached_place : (heap : Heap) (marks : List Bool) (number : ℕ) (what : Obj
 reached_place heap marks number what shows = record {
   stands = subst (HasCell heap shows.cell) (sym shows.has.words_are) shows.has;
   is = record {
-    object = shown_is_object heap marks shows.cell shows.words what shows.shows;
+    object = object_of_shown heap marks shows.cell shows.words what shows.shows;
     carries = shows.carries;
   };
   once = shows.once;

@@ -4,7 +4,7 @@ use Rattle.std.proofs.Common.{sym, ◌∙◌, ap, subst, arith}
 use Rattle.std.proofs.lemmas.List.Elements.{Contains-append_cases}
 use Rattle.tagged_word.proofs.Members.{in_cases}
 use Rattle.heap_model.specs.Types.{Region, Cell}
-use Rattle.page_space.specs.declared.region.Region.TheVariants.{Page, Eden, Segment, Root, Layout, Mark, Board, Outside}
+use Rattle.page_space.specs.declared.region.Region.TheVariants.{Page, Eden, Segment}
 use Rattle.page_space.specs.Extents.{Space, Extent, ContainsAddress, extents, cell_stretches, root_stretches}
 use Rattle.page_space.specs.Extents.{layout_stretches}
 use Rattle.page_space.specs.Extents.{mark_stretches, board_stretches}
@@ -67,11 +67,7 @@ ends_within_of : (heap : Heap) (extent : Extent) (end : ℕ) (region : Region) �
 ends_within_of heap extent end (Page page) few long ends = omega arith
 ends_within_of heap extent end Eden few long ends = omega arith
 ends_within_of heap extent end (Segment half worker) few long ends = ends.0
-ends_within_of heap extent end (Root variable) few long ends = absurd ends
-ends_within_of heap extent end (Layout shape) few long ends = absurd ends
-ends_within_of heap extent end (Mark mark) few long ends = absurd ends
-ends_within_of heap extent end (Board place) few long ends = absurd ends
-ends_within_of heap extent end Outside few long ends = absurd ends
+ends_within_of heap extent end _ few long ends = absurd ends
 
 -- a used row ends in its region, where no more words of eden are used than it has
 pub ends_within : (heap : Heap) (row : Row) → heap.used ≤ heap.space.sizes.young

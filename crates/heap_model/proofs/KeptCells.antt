@@ -2,7 +2,6 @@
 use Rattle.std.proofs.Common.{◌≡◌, ℕ, ◌+◌, ◌⊎◌, inl, inr, List, [], ◌++◌, Contains}
 use Rattle.std.proofs.Common.{sym, ◌∙◌, ap, subst, arith}
 use Rattle.std.proofs.lemmas.List.Elements.{All-contains, Contains-append_left, Contains-append_right}
-use Rattle.tagged_word.proofs.Members.{map_from}
 use Rattle.page_space.specs.declared.region.Region.TheVariants.{Eden}
 use Rattle.page_space.specs.Extents.{Space, Extent, eden_start, extents_from, words_in, half_of}
 use Rattle.tagged_word.proofs.Members.{first_in}
@@ -22,6 +21,7 @@ use Rattle.heap_model.proofs.FreeCells.{free_words}
 use Rattle.heap_model.proofs.PatchedRows.{RowPatching}
 use Rattle.heap_model.proofs.RowParts.{Origin}
 use Rattle.heap_model.proofs.NewRows.{row_of, new_row, new_row_used, made_stands, of_rows}
+use Rattle.heap_model.proofs.RegionRows.{row_of as row_for}
 use Rattle.heap_model.proofs.NewCells.{OriginAt, found, new_has, first_of_row, made_is_new}
 
 -- the old heap's row of a region
@@ -34,10 +34,8 @@ record RegionRow (old new : Heap) (patches : List Patch) (made : List Cell) (ext
 region_row : {old new : Heap} {patches : List Patch} {made : List Cell} {extent : Extent}
     → Patching old new patches made → Contains (cell_extents old.space) extent → RegionRow old new patches made extent
 region_row {extent = extent} patching there =
-    let rows = patching.rows in
-    let among = map_from (λ (row : Row). row.extent) rows.rows extent
-    (subst (λ all. Contains all extent) (sym rows.are.everywhere) there) in
-    record { row = among.0; context = of_rows patching among.1; same = among.2 }
+    let own = row_for extent patching.rows.are there in
+    record { row = own.row; context = of_rows patching own.there; same = own.same }
 
 -- eden is a region of cells
 eden_there : (space : Space) → Contains (cell_extents space) (extent_of space Eden)

@@ -24,6 +24,8 @@ pub mod ReachedStays
 pub mod ShownGraphs
 pub mod CountsStay
 pub mod RegionStarts
+pub mod RegionRows
+pub mod RegionSeams
 pub mod WordsAlike
 pub mod BoundRoots
 pub mod BoundHeaps

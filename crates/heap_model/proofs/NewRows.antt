@@ -3,12 +3,12 @@ use Rattle.std.proofs.Common.{◌≡◌, ℕ, ◌+◌, ◌≤◌, ◌<◌, inl, 
 use Rattle.std.proofs.Common.{◌++◌, map, Contains, All, slice_get}
 use Rattle.std.proofs.Common.{refl, sym, ◌∙◌, ap, subst, arith}
 use Rattle.std.proofs.lemmas.Bool.{cases_lt}
-use Rattle.std.proofs.lemmas.List.Elements.{All-nil, All-cons, All-append, All-contains, All-weaker}
+use Rattle.std.proofs.lemmas.List.Elements.{All-nil, All-cons, All-append, All-weaker}
 use Rattle.std.proofs.lemmas.List.Elements.{All-contains_itself}
 use Rattle.std.proofs.lemmas.List.Sums.{sum_by-cons}
-use Rattle.tagged_word.proofs.Members.{first_in, rest_in, in_map}
+use Rattle.tagged_word.proofs.Members.{first_in, rest_in}
 use Rattle.heap_model.specs.Types.{Region, Cell}
-use Rattle.page_space.specs.declared.region.Region.TheVariants.{Page, Eden, Segment, Root, Layout, Mark, Board, Outside}
+use Rattle.page_space.specs.declared.region.Region.TheVariants.{Page, Eden, Segment}
 use Rattle.page_space.specs.Extents.{Space, Extent, ContainsAddress, eden_start}
 use Rattle.page_space.proofs.Standing.{start_of}
 use Rattle.page_space.proofs.Placed.{placed}
@@ -19,6 +19,7 @@ use Rattle.heap_model.specs.Wholeness.{HasRows}
 use Rattle.heap_model.specs.Changes.{Patch}
 use Rattle.heap_model.proofs.CellsApart.{cell_extent_stands}
 use Rattle.heap_model.proofs.WordsAlike.{extent_below_roots}
+use Rattle.heap_model.proofs.RegionRows.{row_is}
 use Rattle.heap_model.proofs.Patches.{Patching, IsFree, Spot, spot, new_few}
 use Rattle.heap_model.proofs.PatchedRows.{RowPatching, patch_in_row}
 use Rattle.heap_model.proofs.RowParts.{Origin, new_part}
@@ -123,11 +124,7 @@ new_row_of {row = row} (Segment half worker) context start ends =
       grows = omega arith;
       survivors = refl;
     }
-new_row_of (Root variable) context start ends = absurd ends
-new_row_of (Layout shape) context start ends = absurd ends
-new_row_of (Mark mark) context start ends = absurd ends
-new_row_of (Board place) context start ends = absurd ends
-new_row_of Outside context start ends = absurd ends
+new_row_of _ context start ends = absurd ends
 
 -- the new row of a row
 pub new_row : {old new : Heap} {patches : List Patch} {made : List Cell} {row : Row}
@@ -180,14 +177,8 @@ new_rows {new = new} (row ∷ rows) patching contexts =
 pub of_rows : {old new : Heap} {patches : List Patch} {made : List Cell} {row : Row}
     (patching : Patching old new patches made)
     → Contains patching.rows.rows row → RowPatching old new patches made row
-of_rows {old} {row = row} patching there =
-    let rows = patching.rows in
-    record {
-      patching = patching;
-      there = subst (λ all. Contains all row.extent) rows.are.everywhere
-          (in_map (λ (one : Row). one.extent) rows.rows row there);
-      used = All-contains (IsUsedRow old) rows.rows row rows.are.each there;
-    }
+of_rows {row = row} patching there =
+    let is = row_is row patching.rows.are there in record { patching = patching; there = is.among; used = is.used }
 
 -- the new heap has rows
 pub has_rows : {old new : Heap} {patches : List Patch} {made : List Cell} → Patching old new patches made → HasRows new

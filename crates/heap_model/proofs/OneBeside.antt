@@ -1,9 +1,8 @@
 -- One word has one list of slots beside it, and a plain object one list of slots.
 use Rattle.std.proofs.Common.{◌≡◌, ℕ, List, drop, ◌++◌, refl, sym, ◌∙◌, ap, subst}
 use Rattle.std.proofs.lemmas.Option.{same_Some}
-use Rattle.tagged_word.specs.declared.layout.Kind.TheVariants as kind
 use Rattle.tagged_word.specs.Cells.{plain_head, store_head}
-use Rattle.heap_model.specs.Types.{Cell}
+use Rattle.heap_model.specs.Types.{Kind, Cell}
 use Rattle.heap_model.specs.Heaps.{Heap, HasCell}
 use Rattle.heap_model.specs.Slots.{HoldsStore}
 use Rattle.heap_model.specs.Kinds.{HasSlots}
@@ -11,9 +10,8 @@ use Rattle.heap_model.proofs.WordClasses.{same_reference, undefined_refers_not}
 use Rattle.heap_model.proofs.CellsApart.{one_at, one_words}
 
 -- one word has one list of slots beside it
-pub one_beside : {heap : Heap} (word other : ℕ) (beside others : List ℕ) → word ≡ other
-    → HoldsStore heap kind.Store word beside
-    → HoldsStore heap kind.Store other others → beside ≡ others
+pub one_beside : {heap : Heap} {of : Kind} (word other : ℕ) (beside others : List ℕ) → word ≡ other
+    → HoldsStore heap of word beside → HoldsStore heap of other others → beside ≡ others
 one_beside word other beside others same HoldsStore.none HoldsStore.none = refl
 one_beside word other beside others same HoldsStore.none (HoldsStore.store to cell words refers of_kind) =
     absurd (undefined_refers_not cell.at (same ∙ refers.refers))

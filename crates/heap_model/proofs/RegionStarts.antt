@@ -1,7 +1,7 @@
 -- The regions of cells by the addresses at which they begin.
 use Rattle.std.proofs.Common.{◌≡◌, ℕ, Contains, refl, sym, subst}
 use Rattle.heap_model.specs.Types.{Region}
-use Rattle.page_space.specs.Extents.{Space, Extent, IsIn}
+use Rattle.page_space.specs.Extents.{Space, Extent, ContainsAddress, IsIn}
 use Rattle.page_space.specs.RegionLaws.{IsSpace}
 use Rattle.page_space.proofs.LawsHold.{addresses_are_in_one, regions_stand_once, starts_are_inside}
 use Rattle.heap_model.specs.Heaps.{cell_extents}
@@ -17,6 +17,15 @@ start_is_in space extent limits among =
       of_region = refl;
       starts = refl;
     }
+
+-- a region has its first address
+pub holds_first : (space : Space) (extent : Extent) → IsSpace space → Contains (cell_extents space) extent
+    → ContainsAddress extent extent.start
+holds_first space extent limits among =
+    let inside = start_is_in space extent limits among in
+    subst (λ (one : Extent). ContainsAddress one extent.start)
+    (regions_stand_once space inside.extent extent inside.stands (cell_extent_stands space extent among)
+    inside.of_region) inside.holds
 
 -- the region of the address at which a region of cells begins is that one
 pub region_at_start : (space : Space) (extent : Extent) (region : Region) → IsSpace space

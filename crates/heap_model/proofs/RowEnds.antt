@@ -4,7 +4,7 @@ use Rattle.std.proofs.Common.{sym, ◌∙◌, ap, subst, arith}
 use Rattle.std.proofs.lemmas.Option.{same_Some}
 use Rattle.tagged_word.specs.Headers.{header_bits}
 use Rattle.heap_model.specs.Types.{Region, Cell}
-use Rattle.page_space.specs.declared.region.Region.TheVariants.{Page, Eden, Segment, Root, Layout, Mark, Board, Outside}
+use Rattle.page_space.specs.declared.region.Region.TheVariants.{Page, Eden, Segment}
 use Rattle.page_space.specs.Extents.{Space, Extent}
 use Rattle.cell_layout.specs.Cells.{IsCell, IsRow}
 use Rattle.cell_layout.proofs.OneCell.{one_cell}
@@ -63,11 +63,7 @@ one_used_end heap extent end other cells others Eden ends ends_other row row_oth
 one_used_end heap extent end other cells others (Segment half worker) ends ends_other row row_other =
     one_end heap.space heap.words extent.start end other (extent.start + extent.words) cells others row row_other
     ends.0 ends_other.0 ends.1 ends_other.1
-one_used_end heap extent end other cells others (Root variable) ends ends_other row row_other = absurd ends
-one_used_end heap extent end other cells others (Layout shape) ends ends_other row row_other = absurd ends
-one_used_end heap extent end other cells others (Mark mark) ends ends_other row row_other = absurd ends
-one_used_end heap extent end other cells others (Board place) ends ends_other row row_other = absurd ends
-one_used_end heap extent end other cells others Outside ends ends_other row row_other = absurd ends
+one_used_end heap extent end other cells others _ ends ends_other row row_other = absurd ends
 
 -- the two rows have the same end and the same cells
 pub record AreOneRow (row other : Row) : Type 0 where

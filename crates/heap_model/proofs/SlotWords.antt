@@ -68,11 +68,7 @@ store_word_of heap cell words kind.List word object sound slot =
     subst (IsStoreWord heap) (same_Some _ _ (sym sound.slot ∙ slot)) (beside_word sound.store sound.beside sound.stands)
 store_word_of heap cell words kind.Weak word object sound slot =
     subst (IsStoreWord heap) (same_Some _ _ (sym sound.slot ∙ slot)) (table_word sound.store sound.pairs sound.table)
-store_word_of heap cell words kind.Store word object sound slot = absurd (false≢true object)
-store_word_of heap cell words kind.Table word object sound slot = absurd (false≢true object)
-store_word_of heap cell words kind.Boxed word object sound slot = absurd (false≢true object)
-store_word_of heap cell words kind.Filler word object sound slot = absurd (false≢true object)
-store_word_of heap cell words kind.Gap word object sound slot = absurd (false≢true object)
+store_word_of heap cell words _ word object sound slot = absurd (false≢true object)
 
 -- the slot of an object's store holds that
 pub store_word : {heap : Heap} {cell : Cell} {words : List ℕ} (word : ℕ) → Whole heap → HasCell heap cell words

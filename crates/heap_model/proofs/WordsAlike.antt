@@ -1,12 +1,11 @@
 -- Words that are alike everywhere but in the roots: the same cells stand in them.
 use Rattle.std.proofs.Common.{◌≡◌, ℕ, ◌+◌, ◌<◌, ◌≤◌, inl, inr, List, length, Contains, slice_get}
-use Rattle.std.proofs.Common.{slice_range, sym, ◌∙◌, subst, arith}
+use Rattle.std.proofs.Common.{slice_range, sym, ◌∙◌, arith}
 use Rattle.std.proofs.lemmas.Bool.{cases_lt}
-use Rattle.std.proofs.lemmas.List.Elements.{All-weaker, All-contains, All-contains_itself}
+use Rattle.std.proofs.lemmas.List.Elements.{All-weaker, All-contains_itself}
 use Rattle.tagged_word.specs.Shapes.{shapes_most}
-use Rattle.tagged_word.proofs.Members.{in_map}
 use Rattle.heap_model.specs.Types.{Region, Cell}
-use Rattle.page_space.specs.declared.region.Region.TheVariants.{Page, Eden, Segment, Root, Layout, Mark, Board, Outside}
+use Rattle.page_space.specs.declared.region.Region.TheVariants.{Page, Eden, Segment}
 use Rattle.page_space.specs.Extents.{Space, Extent, cell_stretches, roots_start, layouts_start}
 use Rattle.page_space.proofs.Covering.{between}
 use Rattle.cell_layout.specs.Cells.{IsCell, IsRow, layouts_in}
@@ -17,6 +16,7 @@ use Rattle.cell_layout.proofs.CellsThere.{slice_get-layouts_in, slice_get-layout
 use Rattle.cell_layout.proofs.Puts.{two_words}
 use Rattle.heap_model.specs.Heaps.{Heap, Row, EndsUsed, IsUsedRow, HasCell, cell_extents}
 use Rattle.heap_model.specs.Wholeness.{HasSizes, HasRows}
+use Rattle.heap_model.proofs.RegionRows.{row_is}
 use Rattle.heap_model.proofs.CellsApart.{ends_within, used_few}
 
 -- the heap with other words
@@ -108,11 +108,7 @@ ends_alike_of heap other extent end (Segment half worker) alike below ends = (
     | inr at_end ↦ inl (omega (arith, ends.0))
   ],
 )
-ends_alike_of heap other extent end (Root variable) alike below ends = ends
-ends_alike_of heap other extent end (Layout shape) alike below ends = ends
-ends_alike_of heap other extent end (Mark mark) alike below ends = ends
-ends_alike_of heap other extent end (Board place) alike below ends = ends
-ends_alike_of heap other extent end Outside alike below ends = ends
+ends_alike_of heap other extent end _ alike below ends = ends
 
 -- a used row is one in the other words
 pub used_row_alike : (heap : Heap) (other : List ℕ) (row : Row) → AreAlike heap.space heap.words other
@@ -143,9 +139,8 @@ pub rows_alike : {heap : Heap} (other : List ℕ) → AreAlike heap.space heap.w
 rows_alike {heap} other alike rows =
     let few = used_few rows in
     let used = λ (row : Row) (there : Contains rows.rows row).
-    let among = subst (λ all. Contains all row.extent) rows.are.everywhere
-    (in_map (λ (one : Row). one.extent) rows.rows row there) in
-    used_row_alike heap other row alike few among (All-contains (IsUsedRow heap) rows.rows row rows.are.each there) in
+    let is = row_is row rows.are there in
+    used_row_alike heap other row alike few is.among is.used in
     record {
       rows = rows.rows;
       are = record {

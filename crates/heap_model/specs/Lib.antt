@@ -4,6 +4,7 @@ pub mod Images
 pub mod Slots
 pub mod Kinds
 pub mod Wholeness
+pub mod RegionRows
 pub mod Showing
 pub mod Changes
 pub mod Laws

@@ -1,5 +1,5 @@
 -- Which cells of a heap are reached from its variables, and when it keeps no others.
-use Rattle.std.specs.Prelude.{◌≡◌, ℕ, ◌<◌, ◌⊎◌, List, Contains, Some, slice_get, IsTrue}
+use Rattle.std.specs.Prelude.{◌≡◌, ℕ, ◌<◌, ◌≤◌, List, Contains, Some, slice_get, IsTrue}
 use Rattle.tagged_word.specs.Cells.{scavenge_offsets, is_free_kind}
 use Rattle.page_space.specs.Extents.{eden_start}
 use Rattle.handle_roots.specs.Roots.{root_at}
@@ -17,12 +17,9 @@ pub data IsReached (heap : Heap) : ℕ → Type 0 where
       → Contains (scavenge_offsets cell.layout cell.length) offset → HasWord words offset (reference_word at)
       → IsReached heap at
 
--- the cell stands in a page, and is free
-pub record IsFreeInPage (heap : Heap) (cell : Cell) : Type 0 where
-  pub below : cell.at < eden_start heap.space
-  pub free : IsTrue (is_free_kind cell.layout.kind)
-
--- Only what is reached is kept: each cell of the heap is reached, or it stands in a page and is free. So in eden and in
--- the segments no word is one of a cell that is not reached.
+-- Only what is reached is kept: each young cell is reached, and pages hold free cells alone.
 pub record IsTight (heap : Heap) : Type 0 where
-  pub each : (cell : Cell) (words : List ℕ) → HasCell heap cell words → IsReached heap cell.at ⊎ IsFreeInPage heap cell
+  pub young : (cell : Cell) (words : List ℕ) → HasCell heap cell words → eden_start heap.space ≤ cell.at
+      → IsReached heap cell.at
+  pub pages : (cell : Cell) (words : List ℕ) → HasCell heap cell words → cell.at < eden_start heap.space
+      → IsTrue (is_free_kind cell.layout.kind)

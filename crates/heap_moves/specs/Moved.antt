@@ -9,7 +9,7 @@ use Rattle.heap_model.specs.Kinds.{HasWord, HasNoNumber}
 use Rattle.heap_model.specs.Wholeness.{HasSizes, HasRows}
 
 -- The word is moved, where `to` tells at which address what stood at another stands afterwards, if it stays. A
--- reference to what stays has become one to where that stands, and any other word is as it was.
+-- reference is to what stays, and has become one to where that stands. A word that is no reference is as it was.
 pub data IsMovedWord (to : ℕ → Option ℕ) (old new : ℕ) : Type 0 where
   reference : (at now : ℕ) → old ≡ reference_word at → to at ≡ Some now → new ≡ reference_word now
       → IsMovedWord to old new
@@ -48,7 +48,7 @@ pub record IsMovedRoot (old new : Heap) (to : ℕ → Option ℕ) (variable : �
 
 -- The new heap is the old one moved: regions and paths are the same, sizes and rows are right, no two cells come to one
 -- address, and an address has 32 bits exactly where that of what came there had. Each cell that stays stands where it
--- came. Each cell of the new heap is from one that stays, or is free. The roots are moved.
+-- came. Each cell of the new heap is from one that stays, or is free and has no number. The roots are moved.
 pub record IsMoved (old new : Heap) (to : ℕ → Option ℕ) : Type 0 where
   pub space : new.space ≡ old.space
   pub paths : new.paths ≡ old.paths

@@ -2,10 +2,12 @@
 use Rattle.std.proofs.Common.{◌≡◌, ◌≢◌, ◌∙◌, ℕ, zero, suc, ◌≤◌, List, Result, Ok}
 use Rattle.std.proofs.Common.{Err, IsErrAnd, ap, arith, sym, subst}
 use Rattle.tagged_word.specs.Cells.{cell_words_most}
-use Rattle.heap_model.specs.Types.{Command}
+use Rattle.heap_model.specs.Types.{Command, FaultWord}
 use Rattle.heap_command.specs.declared.command.Command.TheVariants.{Scavenge}
 use Rattle.heap_command.specs.Commands.{IsWithin}
 use Rattle.object_graph.specs.Graphs.{Graph}
+use Rattle.object_graph.specs.Meaning.{does, fault}
+use Rattle.object_graph.specs.Limits.{ideal_limits}
 use Rattle.page_space.specs.Extents.{Space}
 use Rattle.nursery.specs.Young.{HasRoom}
 use Rattle.mutator.specs.declared.stop.Stop.{Stop}
@@ -17,11 +19,12 @@ use Rattle.heap_model.proofs.ShownRooms.{shown_objects_have_rooms}
 use Rattle.heap_script.specs.Collecting.{Tries, Finds}
 use Rattle.heap_script.proofs.FewWords.{need_few}
 
--- The heap is as it was. The command, which does not ask for a scavenge, needs so many words, and the young generation
--- has not these.
-pub record IsRefused (old new : Mutator) (graph : Graph) (command : Command) (need : ℕ) : Type 0 where
+-- The heap is as it was. The command, which does not ask for a scavenge and does not fault, needs so many words, and the
+-- young generation has not these.
+pub record IsRefused (names : List (List ℕ)) (old new : Mutator) (graph : Graph) (command : Command) (need : ℕ) : Type 0 where
   pub same : new ≡ old
   pub apart : command ≢ Scavenge
+  pub sound : (word : FaultWord) → does ideal_limits names graph command ≡ fault word → ⊥
   pub needs : (rooms : ℕ → Room) → HasRooms (heap_of old) graph rooms → need ≡ need_of graph rooms command
   pub lacks : HasRoom old.young need → ⊥
   pub some : 1 ≤ need
@@ -43,10 +46,18 @@ needs_apart graph rooms command need needs some is =
     let none : need ≡ 0 = needs ∙ ap (need_of graph rooms) is in
     absurd (omega (arith, none, some))
 
+-- so a command for which there is no room does not
+pub no_room_apart : (main : Mutator) (graph : Graph) (need : ℕ) (command : Command) → MainShows main graph
+    → ((rooms : ℕ → Room) → HasRooms (heap_of main) graph rooms → need ≡ need_of graph rooms command)
+    → (HasRoom main.young need → ⊥) → command ≢ Scavenge
+no_room_apart main graph need command shows needs lacks =
+    let (rooms, has) = shown_objects_have_rooms (heap_of main) graph shows.shows in
+    needs_apart graph rooms command need (needs rooms has) (wants_some main graph need shows lacks)
+
 -- a command that stops for want of room is refused
 refused_there : (names : List (List ℕ)) (old new : Mutator) (graph : Graph) (variables fields : ℕ) (command : Command)
     (text : List ℕ) (need : ℕ) → MainShows old graph → IsWithin variables fields command
-    → Carries names old new graph command text (Err (NoRoom need)) → IsRefused old new graph command need
+    → Carries names old new graph command text (Err (NoRoom need)) → IsRefused names old new graph command need
 refused_there names old new graph variables fields command text need shows within
     (after, written, does-is, needs, lacks, same) =
     let (rooms, has) = shown_objects_have_rooms (heap_of old) graph shows.shows in
@@ -54,6 +65,7 @@ refused_there names old new graph variables fields command text need shows withi
     record {
       same = same;
       apart = needs_apart graph rooms command need (needs rooms has) some;
+      sound = λ word is. cc;
       needs = needs;
       lacks = lacks;
       some = some;
@@ -64,7 +76,7 @@ refused_there names old new graph variables fields command text need shows withi
 -- so is one that was tried
 pub refused : (names : List (List ℕ)) {old new : Mutator} {graph : Graph} (variables fields : ℕ) {command : Command}
     {text : List ℕ} {need : ℕ} → MainShows old graph → IsWithin variables fields command
-    → Tries names old new graph command text (Err (NoRoom need)) → IsRefused old new graph command need
+    → Tries names old new graph command text (Err (NoRoom need)) → IsRefused names old new graph command need
 refused names {old} {new} {graph} variables fields {command} {text} {need} shows within tries =
     elim tries.finds [
       | Finds.scavenged is scavenges ↦

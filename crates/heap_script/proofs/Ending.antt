@@ -1,12 +1,12 @@
 -- How a run that goes no further has ended.
-use Rattle.std.proofs.Common.{◌≡◌, ℕ, ◌<◌, ◌≤◌, false, List, [], ◌∷◌, Option}
-use Rattle.std.proofs.Common.{Some, None, Err, cond, refl, sym, ap, subst, ◌∙◌, arith}
-use Rattle.std.specs.Prelude.{slice_get, ◌==◌, nat_lt}
-use Rattle.std.proofs.lemmas.Bool.Decides.{nat_tests}
-use Rattle.heap_model.specs.Types.{Command}
+use Rattle.std.proofs.Common.{◌≡◌, ℕ, ◌<◌, List, [], ◌∷◌, Option}
+use Rattle.std.proofs.Common.{Some, None, Err, refl, sym, ap, subst, ◌∙◌}
+use Rattle.std.specs.Prelude.{slice_get}
+use Rattle.heap_model.specs.Types.{Command, FaultWord}
 use Rattle.heap_command.specs.Executed.{Executed}
 use Rattle.object_graph.specs.Graphs.{Graph}
-use Rattle.object_graph.specs.Run.{lines_most, Ending, end, fault_at, limit_at, fault_in, fault_of, ending_here, ending}
+use Rattle.object_graph.specs.Meaning.{does, done, fault}
+use Rattle.object_graph.specs.Run.{lines_most, Ending, end, fault_at, limit_at, fault_in, ending}
 use Rattle.script_text.specs.Scripts.{ScriptText}
 use Rattle.script_text.specs.Unrolled.{executed}
 use Rattle.script_text.specs.Left.{IsLeft, Goes}
@@ -16,7 +16,8 @@ use Rattle.mutator.specs.declared.stop.Stop.TheVariants.{Fault, NoRoom, NoClear}
 use Rattle.object_graph.specs.Limits.{ideal_limits}
 use Rattle.heap_model.specs.Heaps.{Heap}
 use Rattle.heap_model.specs.Reaching.{IsTight}
-use Rattle.nursery.specs.Young.{Young}
+use Rattle.heap_model.specs.Rooms.{Room, HasRooms, need_of}
+use Rattle.nursery.specs.Young.{Young, HasRoom}
 use Rattle.write_barrier.specs.MutatorState.{Mutator, heap_of, IsTied, MainShows}
 use Rattle.scavenger.specs.Scavenged.{Scavenges}
 use Rattle.scavenger.proofs.Tight.{scavenges_are_tight}
@@ -24,28 +25,13 @@ use Rattle.collector.specs.States.{HeapState, HeapShows}
 use Rattle.collector.proofs.Keeping.{still_shows}
 use Rattle.mutator.specs.CarriesOut.{Carries}
 use Rattle.heap_script.specs.declared.finished.How.TheVariants as how
-use Rattle.heap_script.specs.Runs.{left_after, RanTo, Spends, EndsAs, EndsRun, IsFull, IsFullAt}
-use Rattle.heap_script.specs.Progress.{how_of, CarriesLine, Handed, Pauses}
+use Rattle.heap_script.specs.Runs.{left_after, RanTo, EndsAs, EndsRun, IsFull, IsFullAt}
+use Rattle.heap_script.specs.Progress.{how_of, CarriesLine, Pauses}
 use Rattle.heap_script.proofs.Lacking.{full_for}
 use Rattle.heap_script.proofs.Running.{Running}
-use Rattle.heap_script.proofs.LineCarried.{found_space, Running-found}
-
--- within the limit, a run ends by what stands at the lines that are left
-ending-within : (names : List (List ℕ)) (graph : Graph) (n : ℕ) (lines : List Executed) → n ≤ lines_most
-    → ending ideal_limits names graph n lines ≡ ending_here ideal_limits names graph n lines
-ending-within names graph n lines few =
-    let within : nat_lt lines_most n ≡ false = grind (arith, nat_tests) in
-    ap (λ test. cond test None (ending_here ideal_limits names graph n lines)) within
-
--- before the limit, it ends at a line by its fault
-ending-below : (names : List (List ℕ)) (graph : Graph) (n : ℕ) (next : Executed) (more : List Executed) → n < lines_most
-    → ending ideal_limits names graph n (next ∷ more) ≡ fault_of ideal_limits names graph next.number next.command
-ending-below names graph n next more below =
-    let few : n ≤ lines_most = omega (arith, below) in
-    let apart : (n == lines_most) ≡ false = grind (arith, nat_tests) in
-    ending-within names graph n (next ∷ more) few
-    ∙ ap (λ test. cond test (Some (limit_at next.number))
-    (fault_of ideal_limits names graph next.number next.command)) apart
+use Rattle.heap_script.proofs.Carrying.{no_room_apart}
+use Rattle.heap_script.proofs.GoingOn.{ending-within, ending-below, goes-on}
+use Rattle.heap_script.proofs.LineCarried.{found_space, wants_room, Running-found}
 
 -- at the limit, it ends at whatever line is next
 ending-limit : (names : List (List ℕ)) (graph : Graph) (next : Executed) (more : List Executed)
@@ -91,36 +77,37 @@ left_bare {old} {new} {graph} shows scavenges = record {
   tight = scavenges_are_tight old new graph shows scavenges;
 }
 
--- a command was not carried out
-EndsRun-stopped : (script : ScriptText) (main after : Mutator) (at' n number : ℕ) (ts' : List ℕ) (command : Command)
-    (text : List ℕ) (stop : Stop)
-    → IsTied main → ((need : ℕ) → stop ≡ NoRoom need → IsLeftBare main) → (r : RanTo script (heap_of main) n)
-    → n < lines_most → Goes script.lines at' ts' (left_after script n) (executed number (Some command))
-    → Carries script.fields main after r.so_far.graph command text (Err stop)
-    → EndsRun script (heap_of main) n r.so_far (how_of stop) number
-EndsRun-stopped script main after at' n number ts' command text (Fault word) tied bare r below goes (does-is, same) =
+-- a command faults
+EndsRun-faulted : (script : ScriptText) (heap : Heap) (at' n number : ℕ) (ts' : List ℕ) (command : Command)
+    (word : FaultWord) → (r : RanTo script heap n) → n < lines_most
+    → Goes script.lines at' ts' (left_after script n) (executed number (Some command))
+    → does ideal_limits script.fields r.so_far.graph command ≡ fault word
+    → EndsRun script heap n r.so_far (how.Fault word) number
+EndsRun-faulted script heap at' n number ts' command word r below goes does-is =
     let graph = r.so_far.graph in
     let ends : ending ideal_limits script.fields graph n (left_after script n) ≡ Some (fault_at number word) =
     ap (ending ideal_limits script.fields graph n) goes.is
     ∙ ending-below script.fields graph n (executed number (Some command)) goes.rest below
     ∙ ap (fault_in number) does-is in
-    EndsAs-reached script (heap_of main) n (fault_at number word) r ends
-EndsRun-stopped script main after at' n number ts' command text (NoRoom need) tied bare r below goes
-    (next, written, does-is, need-is, full, same) =
+    EndsAs-reached script heap n (fault_at number word) r ends
+
+-- there is no room for a command on a heap that was scavenged
+EndsRun-full : (script : ScriptText) (main : Mutator) (at' n number : ℕ) (ts' : List ℕ) (command : Command)
+    (need : ℕ) (after : Graph) (written : List ℕ) → IsTied main → IsLeftBare main
+    → (r : RanTo script (heap_of main) n) → n < lines_most
+    → Goes script.lines at' ts' (left_after script n) (executed number (Some command))
+    → does ideal_limits script.fields r.so_far.graph command ≡ done after written
+    → ((rooms : ℕ → Room) → HasRooms (heap_of main) r.so_far.graph rooms
+    → need ≡ need_of r.so_far.graph rooms command)
+    → (HasRoom main.young need → ⊥) → EndsRun script (heap_of main) n r.so_far (how.HeapFull need) number
+EndsRun-full script main at' n number ts' command need after written tied left r below goes does-is needs lacks =
     let graph = r.so_far.graph in
-    let first = executed number (Some command) in
-    let left = bare need refl in
     let filled : IsFull (heap_of main) need =
-    record { empty = left.empty; tight = left.tight; lacks = full_for main need tied full } in
+    record { empty = left.empty; tight = left.tight; lacks = full_for main need tied lacks } in
     record {
-      goes_on = ap (ending ideal_limits script.fields graph n) goes.is
-          ∙ ending-below script.fields graph n first goes.rest below
-          ∙ ap (fault_in number) does-is;
-      full = subst (IsFullAt (heap_of main) graph number need) (sym goes.is)
-          (refl, (need-is, filled));
+      goes_on = goes-on script graph after written at' n number ts' command below goes does-is;
+      full = subst (IsFullAt (heap_of main) graph number need) (sym goes.is) (refl, (needs, filled));
     }
-EndsRun-stopped script main after at' n number ts' command text (NoClear entries) tied bare r below goes carries =
-    absurd carries
 
 -- a command that is not carried out leaves the heap as it was
 same-stopped : (names : List (List ℕ)) (main after : Mutator) (graph : Graph) (command : Command) (text : List ℕ)
@@ -128,21 +115,6 @@ same-stopped : (names : List (List ℕ)) (main after : Mutator) (graph : Graph) 
 same-stopped names main after graph command text (Fault word) (does-is, same) = same
 same-stopped names main after graph command text (NoRoom need) (next, written, does-is, need-is, full, same) = same
 same-stopped names main after graph command text (NoClear entries) carries = absurd carries
-
--- a run that halts at a command that was not carried out
-Pauses-stopped : (script : ScriptText) (heap : Heap) (waiting : List ℕ) (n number : ℕ) (stop : Stop)
-    (old new : List ℕ → Type 0) (faults_old faults_new : ℕ)
-    → (r : RanTo script heap n) → Spends script heap n → EndsRun script heap n r.so_far (how_of stop) number
-    → Handed old new waiting r.so_far.bytes → faults_new ≡ faults_old
-    → Pauses script heap waiting (record { how = how_of stop; line = number; executed = n }) old new faults_old
-    faults_new
-Pauses-stopped script heap waiting n number (Fault word) old new faults_old faults_new r spends comes handed steady =
-    record { reached = r; spends = spends; halts = (comes, handed, steady) }
-Pauses-stopped script heap waiting n number (NoRoom need) old new faults_old faults_new r spends comes handed steady =
-    record { reached = r; spends = spends; halts = (comes, handed, steady) }
-Pauses-stopped script heap waiting n number (NoClear entries) old new faults_old faults_new r spends comes handed
-    steady =
-    record { reached = r; spends = spends; halts = (comes, handed, steady) }
 
 -- where a line was not executed, the heap shows what it showed, with the same regions
 pub stopped-line : (names : List (List ℕ)) (heap after : HeapState) (graph : Graph) (command : Option Command)
@@ -169,15 +141,25 @@ pub Pauses-line : (script : ScriptText) (heap after : HeapState) (objects : ℕ)
 Pauses-line script heap after objects waiting old new at at' ts ts' n number None text stop faults_old faults_new r
     below goes (same, nothing, is) steady =
     absurd (cc)
-Pauses-line script heap after objects waiting old new at at' ts ts' n number (Some command) text stop faults_old
-    faults_new r below goes carries steady =
+Pauses-line script heap after objects waiting old new at at' ts ts' n number (Some command) text (Fault word)
+    faults_old faults_new r below goes carries steady =
+    let comes = EndsRun-faulted script (heap_of heap.main) at' n number ts' command word r.reached below goes
+    carries.carries.0 in
+    rw (carries.faulted word refl)
+    (record { reached = r.reached; spends = r.spends; halts = (comes, r.handed, steady) })
+Pauses-line script heap after objects waiting old new at at' ts ts' n number (Some command) text (NoRoom need)
+    faults_old faults_new r below goes carries steady =
     let mid = carries.mid in
-    let found = Running-found r carries.collects carries.keeps in
-    let same = same-stopped script.fields mid after.main r.reached.so_far.graph command text stop carries.carries in
-    let bare : (need : ℕ) → stop ≡ NoRoom need → IsLeftBare mid = λ need is.
-    subst IsLeftBare same (left_bare r.shown.main (carries.gave_up need (ap (λ (e : Stop). Err e) is))) in
-    let comes = EndsRun-stopped script mid after.main at' n number ts' command text stop found.shown.main.tied bare
-    found.reached below goes carries.carries in
+    let graph = r.reached.so_far.graph in
+    let (next, written, does-is, needs, lacks, same) = carries.carries in
+    let apart = no_room_apart mid graph need command (carries.keeps.shows graph r.shown.main) needs lacks in
+    let found = Running-found r apart (λ short. wants_room heap.main r.reached below goes r.shown.main.tied does-is short)
+    carries.collects carries.keeps in
+    let left : IsLeftBare mid = subst IsLeftBare same (left_bare r.shown.main (carries.gave_up need refl)) in
+    let comes = EndsRun-full script mid at' n number ts' command need next written found.shown.main.tied left
+    found.reached below goes does-is needs lacks in
     rw same
-    (Pauses-stopped script (heap_of mid) waiting n number stop old new faults_old faults_new found.reached found.spends
-    comes found.handed steady)
+    (record { reached = found.reached; spends = found.spends; halts = (comes, found.handed, steady) })
+Pauses-line script heap after objects waiting old new at at' ts ts' n number (Some command) text (NoClear entries)
+    faults_old faults_new r below goes carries steady =
+    absurd carries.carries

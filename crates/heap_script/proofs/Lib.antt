@@ -7,6 +7,7 @@ mod Retrying
 pub mod Handing
 mod Ways
 mod Running
+mod GoingOn
 mod LineCarried
 mod Ending
 mod Finishing

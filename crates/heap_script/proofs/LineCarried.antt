@@ -1,26 +1,33 @@
 -- A run behind a line that was executed, whose command may have found the heap scavenged.
-use Rattle.std.proofs.Common.{◌≡◌, ℕ, ◌+◌, ◌<◌, List, ◌++◌, Option, Some, None, Ok}
+use Rattle.std.proofs.Common.{◌≡◌, ◌≢◌, ℕ, ◌+◌, ◌<◌, List, ◌++◌, Option, Some, None, Ok}
 use Rattle.std.proofs.Common.{refl, sym, ap, subst, ◌∙◌, add-zero, append-nil, arith}
 use Rattle.heap_model.specs.Types.{Command}
+use Rattle.heap_command.specs.declared.command.Command.TheVariants.{Scavenge}
 use Rattle.object_graph.specs.Graphs.{Graph}
+use Rattle.object_graph.specs.Limits.{ideal_limits}
+use Rattle.object_graph.specs.Meaning.{does, done}
 use Rattle.object_graph.specs.Run.{Told, told_with, lines_most}
 use Rattle.script_text.specs.Scripts.{ScriptText}
 use Rattle.script_text.specs.Unrolled.{executed, executed_lines}
 use Rattle.script_text.specs.Left.{Goes}
 use Rattle.page_space.specs.Extents.{Space}
 use Rattle.heap_model.specs.Heaps.{Heap}
+use Rattle.heap_model.specs.Rooms.{need_of}
 use Rattle.heap_model.specs.Showing.{Shows}
 use Rattle.nursery.specs.Young.{Young}
-use Rattle.write_barrier.specs.MutatorState.{Mutator, heap_of, MainShows}
+use Rattle.write_barrier.specs.MutatorState.{Mutator, heap_of, IsTied, MainShows}
 use Rattle.scavenger.specs.Scavenged.{Scavenges}
 use Rattle.scavenger.specs.Laws.{KeepsGraphs}
 use Rattle.scavenger.proofs.Tight.{scavenges_are_tight}
 use Rattle.collector.specs.States.{HeapState}
 use Rattle.collector.proofs.Keeping.{same_heap, still_shows}
-use Rattle.heap_script.specs.Collecting.{Collects}
-use Rattle.heap_script.specs.Runs.{left_after, RanTo, Spends, IsCollected, TellsAt}
-use Rattle.heap_script.specs.Progress.{made_by, CarriesLine}
-use Rattle.heap_script.proofs.Running.{Running, Running-passed, Running-carried, next-drop, said-next, takes_space}
+use Rattle.heap_script.specs.Collecting.{LacksWords, Collects, CarriesAtLast}
+use Rattle.heap_script.specs.Runs.{left_after, RanTo, Spends, LineAllocates, IsCollected, WantsRoom, TellsAt}
+use Rattle.heap_script.specs.Progress.{objects_made, made_by, CarriesLine}
+use Rattle.heap_script.proofs.Lacking.{full_for}
+use Rattle.heap_script.proofs.GoingOn.{goes-on}
+use Rattle.heap_script.proofs.Running.{Running, Running-passed, Running-carried, next-drop, next_at, said-next}
+use Rattle.heap_script.proofs.Running.{allocates, takes_space}
 
 -- what a command finds has the regions that there were
 pub found_space : {old mid : Mutator} {graph : Graph} {command : Command} → Collects old mid graph command
@@ -54,34 +61,52 @@ reached_on r space shows = record {
   shown = shows;
 }
 
--- it has spent what it had spent, and may have been scavenged
+-- where the run goes on at a command for which there was no room, the heap wants room
+pub wants_room : {script : ScriptText} (main : Mutator) {at' n number : ℕ} {ts' : List ℕ} {command : Command} {after : Graph}
+    {written : List ℕ} → (r : RanTo script (heap_of main) n) → n < lines_most
+    → Goes script.lines at' ts' (left_after script n) (executed number (Some command)) → IsTied main
+    → does ideal_limits script.fields r.so_far.graph command ≡ done after written
+    → LacksWords main r.so_far.graph command → WantsRoom script (heap_of main) n r.so_far
+wants_room {script} main {at'} {n} {number} {ts'} {command} {after} {written} r below goes tied does-is lacks =
+    let graph = r.so_far.graph in
+    record {
+      goes_on = goes-on script graph after written at' n number ts' command below goes does-is;
+      line = executed number (Some command);
+      next = next_at (executed_lines script.lines) n (executed number (Some command)) goes.rest goes.is;
+      lacks = λ rooms has. full_for main (need_of graph rooms command) tied (lacks rooms has);
+    }
+
+-- it has spent what it had spent, and may have been scavenged for want of room
 pub spends_on : {script : ScriptText} {old mid : Mutator} {n : ℕ} {command : Command} → (r : RanTo script (heap_of old) n)
-    → Spends script (heap_of old) n → Collects old mid r.so_far.graph command → KeepsGraphs old mid
-    → MainShows old r.so_far.graph → RanTo script (heap_of mid) n → Spends script (heap_of mid) n
-spends_on {old = old} {mid} {n} r spends (Collects.asked is scavenges) keeps shows reached =
-    Spends.collected (heap_of old) (heap_of mid) n spends r reached (collected_by scavenges keeps shows)
-spends_on {script} {n = n} r spends (Collects.unchanged apart same) keeps shows reached =
+    → Spends script (heap_of old) n → command ≢ Scavenge
+    → (LacksWords old r.so_far.graph command → WantsRoom script (heap_of old) n r.so_far)
+    → Collects old mid r.so_far.graph command → KeepsGraphs old mid → MainShows old r.so_far.graph
+    → RanTo script (heap_of mid) n → Spends script (heap_of mid) n
+spends_on r spends other wants (Collects.asked is scavenges) keeps shows reached = absurd (other is)
+spends_on {script} {n = n} r spends other wants (Collects.unchanged apart same) keeps shows reached =
     subst (λ (main : Mutator). Spends script (heap_of main) n) (sym same) spends
-spends_on {old = old} {mid} {n} r spends (Collects.for_room apart lacks scavenges) keeps shows reached =
-    Spends.collected (heap_of old) (heap_of mid) n spends r reached (collected_by scavenges keeps shows)
+spends_on {old = old} {mid} {n} r spends other wants (Collects.for_room apart lacks scavenges) keeps shows reached =
+    Spends.collected (heap_of old) (heap_of mid) n spends r (wants lacks) reached (collected_by scavenges keeps shows)
 
 -- the heap with another mutator's side
 abbrev pub heap_with : HeapState → Mutator → HeapState
 heap_with heap main = record heap { main = main }
 
--- between two lines, on the heap as the next command finds it
+-- between two lines, on the heap as the next command, which does not ask for a scavenge, finds it
 abbrev pub Running-found : {script : ScriptText} {heap : HeapState} {mid : Mutator} {objects : ℕ} {waiting : List ℕ}
     {old new : List ℕ → Type 0} {at : ℕ} {ts : List ℕ} {n : ℕ} {command : Command}
-    → (r : Running script heap objects waiting old new at ts n)
+    → (r : Running script heap objects waiting old new at ts n) → command ≢ Scavenge
+    → (LacksWords heap.main r.reached.so_far.graph command
+    → WantsRoom script (heap_of heap.main) n r.reached.so_far)
     → Collects heap.main mid r.reached.so_far.graph command → KeepsGraphs heap.main mid
     → Running script (heap_with heap mid) objects waiting old new at ts n
-Running-found {heap = heap} {mid} r collects keeps =
+Running-found {heap = heap} {mid} r apart wants collects keeps =
     let graph = r.reached.so_far.graph in
     let shows = keeps.shows graph r.shown.main in
     let reached = reached_on r.reached (found_space collects) shows.shows in
     record {
       reached = reached;
-      spends = spends_on r.reached r.spends collects keeps r.shown.main reached;
+      spends = spends_on r.reached r.spends apart wants collects keeps r.shown.main reached;
       shown = still_shows heap (heap_with heap mid) graph r.shown refl (found_space collects) shows;
       left = r.left;
       handed = r.handed;
@@ -98,6 +123,68 @@ same_space heap after graph (Some command) names text shows carries =
     let (next, does-is, shown, takes) = carries.carries in
     takes_space command (carries.keeps.shows graph shows) takes ∙ found_space carries.collects
 
+-- a command was carried out that does not ask for a scavenge
+Running-apart : (script : ScriptText) (heap after : HeapState) (objects : ℕ) (waiting : List ℕ)
+    (old new : List ℕ → Type 0) (at at' : ℕ) (ts ts' : List ℕ) (n number : ℕ) (command : Command) (text : List ℕ)
+    → (r : Running script heap objects waiting old new at ts n) → n < lines_most
+    → Goes script.lines at' ts' (left_after script n) (executed number (Some command))
+    → after.spare ≡ heap.spare → command ≢ Scavenge
+    → CarriesAtLast script.fields heap.main after.main r.reached.so_far.graph command text (Ok tt)
+    → Running script after (objects + objects_made command) (waiting ++ text) old new at' ts' (n + 1)
+Running-apart script heap after objects waiting old new at at' ts ts' n number command text r below goes spare apart
+    carries =
+    let (graph, does-is, shown, takes) = carries.carries in
+    let there = heap_with heap carries.mid in
+    let found = Running-found r apart (λ lacks. wants_room heap.main r.reached below goes r.shown.main.tied does-is lacks)
+    carries.collects carries.keeps in
+    Running-carried script there after objects waiting old new at at' ts ts' n number command text graph found below goes
+    spare (takes_space command found.shown.main takes) does-is shown
+    (LineAllocates.allocates command apart (allocates command found.shown.main takes))
+
+-- the command `scavenge` was carried out
+Running-asked : (script : ScriptText) (heap after : HeapState) (objects : ℕ) (waiting : List ℕ)
+    (old new : List ℕ → Type 0) (at at' : ℕ) (ts ts' : List ℕ) (n number : ℕ) (command : Command) (text : List ℕ)
+    → (r : Running script heap objects waiting old new at ts n) → n < lines_most
+    → Goes script.lines at' ts' (left_after script n) (executed number (Some command))
+    → after.spare ≡ heap.spare → command ≡ Scavenge
+    → (carries : CarriesAtLast script.fields heap.main after.main r.reached.so_far.graph command text (Ok tt))
+    → Scavenges heap.main carries.mid
+    → Running script after (objects + objects_made command) (waiting ++ text) old new at' ts' (n + 1)
+Running-asked script heap after objects waiting old new at at' ts ts' n number command text r below goes spare is
+    carries scavenges =
+    let (graph, does-is, shown, takes) = carries.carries in
+    let same = sym (carries.asked is) in
+    let scavenged : Scavenges heap.main after.main = subst (Scavenges heap.main) same scavenges in
+    let keeps : KeepsGraphs heap.main after.main = subst (KeepsGraphs heap.main) same carries.keeps in
+    let before = r.reached.so_far.graph in
+    let uses : LineAllocates (heap_of heap.main) (heap_of after.main) before graph (Some command) =
+    subst (λ (one : Command). LineAllocates (heap_of heap.main) (heap_of after.main) before graph (Some one)) (sym is)
+    (LineAllocates.collects (collected_by scavenged keeps r.shown.main)) in
+    Running-carried script heap after objects waiting old new at at' ts ts' n number command text graph r below goes
+    spare scavenged.seat.space does-is shown uses
+
+-- whichever the command finds
+Running-by : (script : ScriptText) (heap after : HeapState) (objects : ℕ) (waiting : List ℕ)
+    (old new : List ℕ → Type 0) (at at' : ℕ) (ts ts' : List ℕ) (n number : ℕ) (command : Command) (text : List ℕ)
+    → (r : Running script heap objects waiting old new at ts n) → n < lines_most
+    → Goes script.lines at' ts' (left_after script n) (executed number (Some command))
+    → after.spare ≡ heap.spare
+    → (carries : CarriesAtLast script.fields heap.main after.main r.reached.so_far.graph command text (Ok tt))
+    → Collects heap.main carries.mid r.reached.so_far.graph command
+    → Running script after (objects + objects_made command) (waiting ++ text) old new at' ts' (n + 1)
+Running-by script heap after objects waiting old new at at' ts ts' n number command text r below goes spare carries
+    (Collects.asked is scavenges) =
+    Running-asked script heap after objects waiting old new at at' ts ts' n number command text r below goes spare is
+    carries scavenges
+Running-by script heap after objects waiting old new at at' ts ts' n number command text r below goes spare carries
+    (Collects.unchanged apart same) =
+    Running-apart script heap after objects waiting old new at at' ts ts' n number command text r below goes spare apart
+    carries
+Running-by script heap after objects waiting old new at at' ts ts' n number command text r below goes spare carries
+    (Collects.for_room apart lacks scavenges) =
+    Running-apart script heap after objects waiting old new at at' ts ts' n number command text r below goes spare apart
+    carries
+
 -- a line was executed
 pub Running-line : (script : ScriptText) (heap after : HeapState) (objects : ℕ) (waiting : List ℕ)
     (old new : List ℕ → Type 0) (at at' : ℕ) (ts ts' : List ℕ) (n number : ℕ) (command : Option Command)
@@ -113,10 +200,8 @@ Running-line script heap after objects waiting old new at at' ts ts' n number No
     rw (same_heap heap after same spare, nothing, append-nil, add-zero) passed
 Running-line script heap after objects waiting old new at at' ts ts' n number (Some command) text r below goes spare
     carries =
-    let there = heap_with heap carries.mid in
-    let found = Running-found r carries.collects carries.keeps in
-    Running-carried script there after objects waiting old new at at' ts ts' n number command text found below goes
-    spare carries.carries
+    Running-by script heap after objects waiting old new at at' ts ts' n number command text r below goes spare carries
+    carries.collects
 
 -- and it told its text
 pub TellsAt-line : (script : ScriptText) (heap : Heap) (old new : Mutator) (at' : ℕ) (ts' : List ℕ) (n number : ℕ)

@@ -1,12 +1,14 @@
 -- A heap on which a command is tried: it is as it was, or a scavenge made room for the command.
-use Rattle.std.proofs.Common.{◌≡◌, ◌≢◌, ◌∙◌, ℕ, ◌<◌, List, Bool, true, false, length, Result, Err, if◌then◌else◌}
+use Rattle.std.proofs.Common.{◌≡◌, ◌≢◌, ◌∙◌, ℕ, ◌<◌, List, [], Bool, true, false, length, Result, Err, if◌then◌else◌}
 use Rattle.std.proofs.Common.{ap, arith, sym, subst, refl}
 use Rattle.std.specs.Prelude.{◌==◌}
 use Rattle.std.proofs.lemmas.Bool.Decides.{nat_tests}
-use Rattle.heap_model.specs.Types.{Command}
+use Rattle.heap_model.specs.Types.{Command, FaultWord}
 use Rattle.heap_command.specs.declared.command.Command.TheVariants.{Scavenge}
 use Rattle.heap_command.specs.Commands.{IsWithin}
 use Rattle.object_graph.specs.Graphs.{Graph}
+use Rattle.object_graph.specs.Meaning.{does, done, fault}
+use Rattle.object_graph.specs.Limits.{ideal_limits}
 use Rattle.heap_model.specs.Rooms.{Room, HasRooms, need_of}
 use Rattle.heap_model.proofs.ShownRooms.{shown_objects_have_rooms}
 use Rattle.nursery.specs.Young.{Young, HasRoom, other_half}
@@ -16,7 +18,7 @@ use Rattle.scavenger.specs.Laws.{KeepsGraphs}
 use Rattle.collector.specs.States.{HeapState, HeapShows}
 use Rattle.collector.proofs.Keeping.{same_heap}
 use Rattle.mutator.specs.declared.stop.Stop.{Stop}
-use Rattle.mutator.specs.declared.stop.Stop.TheVariants.{NoRoom}
+use Rattle.mutator.specs.declared.stop.Stop.TheVariants.{Fault, NoRoom}
 use Rattle.mutator.specs.CarriesOut.{Carries, field_numbers}
 use Rattle.heap_script.specs.Collecting.{LacksWords, Finds, Collects, Tries, CarriesAtLast}
 use Rattle.heap_script.proofs.Carrying.{IsRefused, refused}
@@ -29,8 +31,10 @@ pub record IsScavenged (old new : HeapState) : Type 0 where
   pub spare : new.spare ≡ old.spare
 
 -- The heap, which has so many objects, was scavenged for this command, since there was no room for it, and now there is.
-pub record MadeRoom (old now : HeapState) (objects : ℕ) (command : Command) : Type 0 where
+pub record MadeRoom (names : List (List ℕ)) (old now : HeapState) (objects : ℕ) (command : Command) : Type 0 where
   pub apart : command ≢ Scavenge
+  pub sound : (graph : Graph) (word : FaultWord) → HeapShows old graph → objects ≡ length graph.objects
+      → does ideal_limits names graph command ≡ fault word → ⊥
   pub scavenged : IsScavenged old now
   pub lacks : (graph : Graph) → HeapShows old graph → objects ≡ length graph.objects
       → LacksWords old.main graph command
@@ -38,56 +42,60 @@ pub record MadeRoom (old now : HeapState) (objects : ℕ) (command : Command) : 
       → HasRooms (heap_of now.main) graph rooms → HasRoom now.main.young (need_of graph rooms command)
 
 -- the heap at a try: as it was, or with room that was made
-pub data IsReady (old now : HeapState) (objects : ℕ) (command : Command) : Type 0 where
-  first : now ≡ old → IsReady old now objects command
-  again : MadeRoom old now objects command → IsReady old now objects command
+pub data IsReady (names : List (List ℕ)) (old now : HeapState) (objects : ℕ) (command : Command) : Type 0 where
+  first : now ≡ old → IsReady names old now objects command
+  again : MadeRoom names old now objects command → IsReady names old now objects command
 
 -- how many more tries there may be: none once the half of the survivors was turned
 abbrev pub tries_left : HeapState → HeapState → ℕ
 tries_left old now = if now.main.young.half == old.main.young.half then 1 else 0
 
 -- a heap at a try shows what was shown
-pub ready_shows : {old now : HeapState} {objects : ℕ} {command : Command} {graph : Graph}
-    → IsReady old now objects command → HeapShows old graph → HeapShows now graph
+pub ready_shows : {names : List (List ℕ)} {old now : HeapState} {objects : ℕ} {command : Command} {graph : Graph}
+    → IsReady names old now objects command → HeapShows old graph → HeapShows now graph
 ready_shows {graph = graph} (IsReady.first same) shown = subst (λ (heap : HeapState). HeapShows heap graph) (sym same) shown
 ready_shows {graph = graph} (IsReady.again made) shown = made.scavenged.shows graph shown
 
 -- it has the regions that there were
-pub ready_space : {old now : HeapState} {objects : ℕ} {command : Command} → IsReady old now objects command
+pub ready_space : {names : List (List ℕ)} {old now : HeapState} {objects : ℕ} {command : Command}
+    → IsReady names old now objects command
     → now.main.seat.space ≡ old.main.seat.space
 ready_space (IsReady.first same) = ap (λ (heap : HeapState). heap.main.seat.space) same
 ready_space (IsReady.again made) = made.scavenged.scavenges.seat.space
 
 -- and the memory for an image
-pub ready_spare : {old now : HeapState} {objects : ℕ} {command : Command} → IsReady old now objects command
+pub ready_spare : {names : List (List ℕ)} {old now : HeapState} {objects : ℕ} {command : Command}
+    → IsReady names old now objects command
     → now.spare ≡ old.spare
 ready_spare (IsReady.first same) = ap (λ (heap : HeapState). heap.spare) same
 ready_spare (IsReady.again made) = made.scavenged.spare
 
 -- no command is refused where room was made for it
-no_third : {old now : HeapState} {new : Mutator} {objects need : ℕ} {command : Command} {graph : Graph}
-    → MadeRoom old now objects command → HeapShows old graph → objects ≡ length graph.objects
-    → IsRefused now.main new graph command need → ⊥
+no_third : {names : List (List ℕ)} {old now : HeapState} {new : Mutator} {objects need : ℕ} {command : Command}
+    {graph : Graph}
+    → MadeRoom names old now objects command → HeapShows old graph → objects ≡ length graph.objects
+    → IsRefused names now.main new graph command need → ⊥
 no_third {now = now} {graph = graph} made shown counted told =
     let shows = (made.scavenged.shows graph shown).main.shows in
     let (rooms, has) = shown_objects_have_rooms (heap_of now.main) graph shows in
     told.lacks (subst (HasRoom now.main.young) (sym (told.needs rooms has)) (made.room graph rooms shown counted has))
 
 -- a command that is refused is tried for the first time
-at_first : {old now : HeapState} {new : Mutator} {objects need : ℕ} {command : Command} {graph : Graph}
-    → IsReady old now objects command → HeapShows old graph → objects ≡ length graph.objects
-    → IsRefused now.main new graph command need → now ≡ old
+at_first : {names : List (List ℕ)} {old now : HeapState} {new : Mutator} {objects need : ℕ} {command : Command}
+    {graph : Graph}
+    → IsReady names old now objects command → HeapShows old graph → objects ≡ length graph.objects
+    → IsRefused names now.main new graph command need → now ≡ old
 at_first (IsReady.first same) shown counted told = same
 at_first (IsReady.again made) shown counted told = absurd (no_third made shown counted told)
 
 module _ (names : List (List ℕ)) {old now : HeapState} (after : HeapState) {objects counted need : ℕ} {command : Command}
-    {stop : Stop} {Rest : Type 0} (ready : IsReady old now objects command) (same : counted ≡ objects)
+    {stop : Stop} {Rest : Type 0} (ready : IsReady names old now objects command) (same : counted ≡ objects)
     (within : IsWithin old.main.seat.space.variables field_numbers command) (is : stop ≡ NoRoom need)
     (carried : (graph : Graph) → HeapShows now graph → counted ≡ length graph.objects
     → (text : List ℕ) × Tries names now.main after.main graph command text (Err stop) × Rest) where
   -- a command that was tried and stopped for want of room was refused
   refused_now : (graph : Graph) → HeapShows old graph → objects ≡ length graph.objects
-      → IsRefused now.main after.main graph command need
+      → IsRefused names now.main after.main graph command need
   refused_now graph shown made =
       let shows = ready_shows ready shown in
       let (text, tries, rest) = carried graph shows (same ∙ made) in
@@ -100,9 +108,9 @@ module _ (names : List (List ℕ)) {old now : HeapState} (after : HeapState) {ob
 
   -- and refused on the heap as it was, whichever graph that shows
   pub refused_always : (graph : Graph) → HeapShows old graph → objects ≡ length graph.objects
-      → IsRefused old.main after.main graph command need
+      → IsRefused names old.main after.main graph command need
   refused_always graph shown made =
-      subst (λ (heap : HeapState). IsRefused heap.main after.main graph command need)
+      subst (λ (heap : HeapState). IsRefused names heap.main after.main graph command need)
       (was_first (graph, shown, made)) (refused_now graph shown made)
 
   -- the heap is as it was
@@ -112,8 +120,8 @@ module _ (names : List (List ℕ)) {old now : HeapState} (after : HeapState) {ob
       same_heap old after (refused_always graph shown made).same (spare ∙ ready_spare ready)
 
 -- a heap that was asked for the room that a refused command lacked was scavenged
-pub scavenged_for : {old mid new : HeapState} {graph : Graph} {command : Command} {need : ℕ} → mid ≡ old
-    → IsRefused old.main mid.main graph command need
+pub scavenged_for : {names : List (List ℕ)} {old mid new : HeapState} {graph : Graph} {command : Command} {need : ℕ} → mid ≡ old
+    → IsRefused names old.main mid.main graph command need
     → ((HasRoom mid.main.young need → ⊥) → Scavenges mid.main new.main)
     → ((graph : Graph) → HeapShows mid graph → HeapShows new graph) → KeepsGraphs mid.main new.main
     → new.spare ≡ mid.spare → IsScavenged old new
@@ -128,12 +136,14 @@ scavenged_for {old} {mid} {new} {need = need} same told scavenges shows keeps sp
     })
 
 -- a heap that was scavenged for a command, where there is room then
-pub made_room : {old new : HeapState} {mid : Mutator} {objects need : ℕ} {command : Command}
+pub made_room : {names : List (List ℕ)} {old new : HeapState} {mid : Mutator} {objects need : ℕ} {command : Command}
     → IsScavenged old new → command ≢ Scavenge
-    → ((graph : Graph) → HeapShows old graph → objects ≡ length graph.objects → IsRefused old.main mid graph command need)
-    → HasRoom new.main.young need → MadeRoom old new objects command
+    → ((graph : Graph) → HeapShows old graph → objects ≡ length graph.objects 
+    → IsRefused names old.main mid graph command need)
+    → HasRoom new.main.young need → MadeRoom names old new objects command
 made_room {old} {new} scavenged apart told room = record {
   apart = apart;
+  sound = λ graph word shown counted. (told graph shown counted).sound word;
   scavenged = scavenged;
   lacks = λ graph shown counted rooms has wanted.
       let one = told graph shown counted in
@@ -171,7 +181,7 @@ fewer_tries {old} {now} {new} same scavenged =
 -- a command that stops for want of room on a heap that was scavenged for it
 pub gives_up : {names : List (List ℕ)} {old new : HeapState} {start mid : Mutator} {need : ℕ} {command : Command}
     {graph : Graph} {text : List ℕ} {stop : Stop} → IsScavenged old new → HeapShows old graph
-    → IsRefused old.main mid graph command need → Tries names start mid graph command text (Err stop)
+    → IsRefused names old.main mid graph command need → Tries names start mid graph command text (Err stop)
     → stop ≡ NoRoom need → (HasRoom new.main.young need → ⊥)
     → CarriesAtLast names old.main new.main graph command text (Err (NoRoom need))
 gives_up {names} {old} {new} {start} {mid} {need} {command} {graph} {text} scavenged shown told tries is lacks =
@@ -191,6 +201,8 @@ gives_up {names} {old} {new} {start} {mid} {need} {command} {graph} {text} scave
         lacks,
         refl,
       );
+      asked = λ is. absurd (told.apart is);
+      faulted = λ word is. absurd (cc);
       gave_up = λ need is. scavenged.scavenges;
     }
 
@@ -200,9 +212,34 @@ first_found : {old mid : Mutator} {graph : Graph} {command : Command} → Finds 
 first_found (Finds.scavenged is scavenges) = Collects.asked is scavenges
 first_found (Finds.unchanged apart same) = Collects.unchanged apart same
 
+-- what is known of a command that was tried and faulted
+fault_carried : {names : List (List ℕ)} {old new : Mutator} {graph : Graph} {command : Command} {text : List ℕ}
+    {result : Result (Unit {0}) Stop} (word : FaultWord) → (tries : Tries names old new graph command text result)
+    → result ≡ Err (Fault word) → (does ideal_limits names graph command ≡ fault word) × (new ≡ tries.mid)
+fault_carried {names} {old} {new} {graph} {command} {text} word tries is =
+    subst (λ (one : Result (Unit {0}) Stop). Carries names tries.mid new graph command text one) is tries.carries
+
+-- the command `scavenge` does not fault
+scavenge_is_sound : (names : List (List ℕ)) (graph : Graph) (command : Command) (word : FaultWord) → command ≡ Scavenge
+    → does ideal_limits names graph command ≡ fault word → ⊥
+scavenge_is_sound names graph command word is faults =
+    let both : done graph [] ≡ fault word = sym (ap (does ideal_limits names graph) is) ∙ faults in
+    cc
+
+-- so one that faults at its first try leaves the heap as it was
+faulted_first : {names : List (List ℕ)} {old new : Mutator} {graph : Graph} {command : Command} {text : List ℕ}
+    {result : Result (Unit {0}) Stop} (word : FaultWord) → Tries names old new graph command text result
+    → result ≡ Err (Fault word) → new ≡ old
+faulted_first {names} {old} {new} {graph} {command} word tries is =
+    elim tries.finds [
+      | Finds.scavenged asked scavenges ↦
+          absurd (scavenge_is_sound names graph command word asked (fault_carried word tries is).0)
+      | Finds.unchanged apart same ↦ (fault_carried word tries is).1 ∙ same
+    ]
+
 -- a command that did not stop for want of room, at whichever try
 pub carried_at : {names : List (List ℕ)} {old now : HeapState} {new : Mutator} {objects : ℕ} {command : Command}
-    {graph : Graph} {text : List ℕ} {result : Result (Unit {0}) Stop} → IsReady old now objects command
+    {graph : Graph} {text : List ℕ} {result : Result (Unit {0}) Stop} → IsReady names old now objects command
     → HeapShows old graph → objects ≡ length graph.objects → ((need : ℕ) → result ≡ Err (NoRoom need) → ⊥)
     → Tries names now.main new graph command text result
     → CarriesAtLast names old.main new graph command text result
@@ -216,6 +253,8 @@ carried_at {names} {old} {now} {new} {objects} {command} {graph} {text} {result}
       collects = first_found there.finds;
       keeps = there.keeps;
       carries = there.carries;
+      asked = there.asked;
+      faulted = λ word is. faulted_first word there is;
       gave_up = λ need is. absurd (other need is);
     }
 carried_at {names} {old} {now} {new} {objects} {command} {graph} {text} {result} (IsReady.again made) shown counted other
@@ -227,6 +266,8 @@ carried_at {names} {old} {now} {new} {objects} {command} {graph} {text} {result}
         collects = Collects.for_room apart (made.lacks graph shown counted) made.scavenged.scavenges;
         keeps = made.scavenged.keeps;
         carries = subst (λ (main : Mutator). Carries names main new graph command text result) same tries.carries;
+        asked = λ is. absurd (made.apart is);
+        faulted = λ word is. absurd (made.sound graph word shown counted (fault_carried word tries is).0);
         gave_up = λ need is. absurd (other need is);
       }
     ]

@@ -1,11 +1,12 @@
 -- What holds of a run between two of its lines, and how a line carries it on.
 use Rattle.std.proofs.Common.{◌≡◌, ℕ, suc, zero, ◌+◌, ◌<◌, List, [], ◌∷◌, ◌++◌, length, take, drop}
 use Rattle.std.proofs.Common.{Some, ◌≤◌}
-use Rattle.std.proofs.Common.{None, Ok, refl, sym, ap, subst, ◌∙◌, add-one, arith}
+use Rattle.std.proofs.Common.{None, refl, sym, ap, subst, ◌∙◌, add-one, arith}
 use Rattle.std.specs.Prelude.{option_and_then, slice_get}
 use Rattle.heap_model.specs.Types.{Command}
 use Rattle.heap_command.specs.Executed.{Executed}
 use Rattle.object_graph.specs.Graphs.{Graph, start}
+use Rattle.object_graph.specs.Meaning.{does, done}
 use Rattle.object_graph.specs.Run.{Told, untold, told_with, tell, told, lines_most}
 use Rattle.object_graph.proofs.Runs.{told-push}
 use Rattle.script_text.specs.Scripts.{ScriptText}
@@ -21,8 +22,8 @@ use Rattle.nursery.specs.Young.{Young}
 use Rattle.write_barrier.specs.MutatorState.{Mutator, heap_of, MainShows, IsOpened}
 use Rattle.collector.specs.States.{HeapState, HeapShows}
 use Rattle.collector.proofs.Keeping.{still_shows}
-use Rattle.mutator.specs.CarriesOut.{Carries, TakesRoom}
-use Rattle.heap_script.specs.Runs.{left_after, RanTo, Spends, Allocates}
+use Rattle.mutator.specs.CarriesOut.{TakesRoom}
+use Rattle.heap_script.specs.Runs.{left_after, RanTo, Spends, Allocates, LineAllocates}
 use Rattle.heap_script.specs.Progress.{objects_made, Handed}
 use Rattle.heap_script.proofs.Counts.{length-does, makes_one}
 use Rattle.heap_script.proofs.Lacking.{not_lacking}
@@ -70,13 +71,13 @@ next-drop (first ∷ xs) zero x rest e =
 next-drop (first ∷ xs) (suc n) x rest e = next_after first xs n x rest (next-drop xs n x rest e)
 
 -- and it is at the place behind them
-next_at : {A : Type 0} (xs : List A) (n : ℕ) (x : A) (rest : List A) → drop n xs ≡ x ∷ rest → slice_get xs n ≡ Some x
+pub next_at : {A : Type 0} (xs : List A) (n : ℕ) (x : A) (rest : List A) → drop n xs ≡ x ∷ rest → slice_get xs n ≡ Some x
 next_at [] n x rest e = absurd (nil_cons n x rest e)
 next_at (first ∷ xs) zero x rest e = cc
 next_at (first ∷ xs) (suc n) x rest e = next_at xs n x rest e
 
 -- a command that has used its words allocates them
-allocates : {old new : Mutator} {graph after : Graph} (command : Command) → MainShows old graph
+pub allocates : {old new : Mutator} {graph after : Graph} (command : Command) → MainShows old graph
     → ((rooms : ℕ → Room) → HasRooms (heap_of old) graph rooms → TakesRoom old new graph after command rooms)
     → Allocates (heap_of old) (heap_of new) graph after command
 allocates {old} {new} {graph} command shows takes =
@@ -179,7 +180,8 @@ Running-passed script heap objects waiting old new at at' ts ts' n number r belo
     record {
       reached = reached;
       spends = Spends.one_more (heap_of heap.main) (heap_of heap.main) n line r.spends
-          (next_at (executed_lines script.lines) n line goes.rest goes.is) r.reached reached refl;
+          (next_at (executed_lines script.lines) n line goes.rest goes.is) r.reached reached
+          (LineAllocates.passes refl);
       shown = r.shown;
       left = subst (IsLeft script.lines at' ts') (sym (dropped-next script n next)) goes.left;
       handed = r.handed;
@@ -187,18 +189,17 @@ Running-passed script heap objects waiting old new at at' ts ts' n number r belo
       few = omega (arith, r.few);
     }
 
--- a command was carried out
+-- a command was carried out, and did this with the heap
 pub Running-carried : (script : ScriptText) (heap after : HeapState) (objects : ℕ) (waiting : List ℕ)
     (old new : List ℕ → Type 0) (at at' : ℕ) (ts ts' : List ℕ) (n number : ℕ) (command : Command) (text : List ℕ)
-    → (r : Running script heap objects waiting old new at ts n) → n < lines_most
+    (graph : Graph) → (r : Running script heap objects waiting old new at ts n) → n < lines_most
     → Goes script.lines at' ts' (left_after script n) (executed number (Some command))
-    → after.spare ≡ heap.spare
-    → Carries script.fields heap.main after.main r.reached.so_far.graph command text (Ok tt)
+    → after.spare ≡ heap.spare → after.main.seat.space ≡ heap.main.seat.space
+    → does ideal_limits script.fields r.reached.so_far.graph command ≡ done graph text → MainShows after.main graph
+    → LineAllocates (heap_of heap.main) (heap_of after.main) r.reached.so_far.graph graph (Some command)
     → Running script after (objects + objects_made command) (waiting ++ text) old new at' ts' (n + 1)
-Running-carried script heap after objects waiting old new at at' ts ts' n number command text r below goes spare
-    carries =
-    let (graph, does-is, shown, takes) = carries in
-    let space = takes_space command r.shown.main takes in
+Running-carried script heap after objects waiting old new at at' ts ts' n number command text graph r below goes spare
+    space does-is shown uses =
     let so_far = r.reached.so_far in
     let later : Told = record { graph = graph; bytes = so_far.bytes ++ text } in
     let line = executed number (Some command) in
@@ -214,8 +215,7 @@ Running-carried script heap after objects waiting old new at at' ts ts' n number
     record {
       reached = reached;
       spends = Spends.one_more (heap_of heap.main) (heap_of after.main) n line r.spends
-          (next_at (executed_lines script.lines) n line goes.rest goes.is) r.reached reached
-          (allocates command r.shown.main takes);
+          (next_at (executed_lines script.lines) n line goes.rest goes.is) r.reached reached uses;
       shown = still_shows heap after graph r.shown spare space shown;
       left = subst (IsLeft script.lines at' ts') (sym (dropped-next script n next)) goes.left;
       handed = Handed-told text r.handed;

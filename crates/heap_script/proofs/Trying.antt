@@ -39,6 +39,7 @@ tried {names} {old} {lent} {new} {graph} {command} {text} {result} is apart carr
   finds = Finds.unchanged apart refl;
   keeps = keeps_itself old;
   carries = subst (λ (main : Mutator). Carries names main new graph command text result) is carries;
+  asked = λ is. absurd (apart is);
 }
 
 -- the command `scavenge` leaves its graph, writes nothing and uses nothing of what the scavenge left
@@ -49,4 +50,5 @@ tried_scavenge names {old} {new} {graph} scavenges keeps shows = record {
   finds = Finds.scavenged refl scavenges;
   keeps = keeps;
   carries = writing_carried names Scavenge [] refl (keeps.shows graph shows) refl (λ rooms. (refl, λ number. refl));
+  asked = λ is. refl;
 }

@@ -1,6 +1,6 @@
 -- When a command finds its heap scavenged.
 use Rattle.std.specs.Prelude.{◌≡◌, ◌≢◌, ℕ, List, Result, Err}
-use Rattle.heap_model.specs.Types.{Command}
+use Rattle.heap_model.specs.Types.{Command, FaultWord}
 use Rattle.heap_command.specs.declared.command.Command.TheVariants.{Scavenge}
 use Rattle.object_graph.specs.Graphs.{Graph}
 use Rattle.heap_model.specs.Rooms.{Room, HasRooms, need_of}
@@ -9,7 +9,7 @@ use Rattle.write_barrier.specs.MutatorState.{Mutator, heap_of}
 use Rattle.scavenger.specs.Scavenged.{Scavenges}
 use Rattle.scavenger.specs.Laws.{KeepsGraphs}
 use Rattle.mutator.specs.declared.stop.Stop.{Stop}
-use Rattle.mutator.specs.declared.stop.Stop.TheVariants.{NoRoom}
+use Rattle.mutator.specs.declared.stop.Stop.TheVariants.{Fault, NoRoom}
 use Rattle.mutator.specs.CarriesOut.{Carries}
 
 -- the heap has no room for the words that the command needs, whatever rooms objects have in it
@@ -24,27 +24,33 @@ pub data Finds (old mid : Mutator) (command : Command) : Type 0 where
   unchanged : command ≢ Scavenge → mid ≡ old → Finds old mid command
 
 -- What a command finds of a heap, in which there may be room for it or not: what a scavenge left of it, if the command
--- asks for one, or if there was no room; and else the heap as it was.
+-- asks for one, or if there was no room; or, unless it asks, the heap as it was, also where there was no room:
+-- `gave_up`, below, says when that may not be.
 pub data Collects (old mid : Mutator) (graph : Graph) (command : Command) : Type 0 where
   asked : command ≡ Scavenge → Scavenges old mid → Collects old mid graph command
   unchanged : command ≢ Scavenge → mid ≡ old → Collects old mid graph command
   for_room : command ≢ Scavenge → LacksWords old graph command → Scavenges old mid
       → Collects old mid graph command
 
--- The command was tried once: it was carried out on what it found, or stopped there.
+-- The command was tried once: it was carried out on what it found, or stopped there. If it asks for a scavenge, it
+-- leaves what it found.
 pub record Tries (names : List (List ℕ)) (old new : Mutator) (graph : Graph) (command : Command) (text : List ℕ)
     (result : Result (Unit {0}) Stop) : Type 0 where
   pub mid : Mutator
   pub finds : Finds old mid command
   pub keeps : KeepsGraphs old mid
   pub carries : Carries names mid new graph command text result
+  pub asked : command ≡ Scavenge → new ≡ mid
 
--- The command was carried out on what it found, once there was room if need be, or stopped there. Where it stopped for
--- want of room, the heap that is left is what a scavenge left.
+-- The command was carried out on what it found, once there was room if need be, or stopped there. If it asks for a
+-- scavenge, it leaves what it found. Where it faults, nothing has changed, and where it stopped for want of room, the
+-- heap that is left is what a scavenge left.
 pub record CarriesAtLast (names : List (List ℕ)) (old new : Mutator) (graph : Graph) (command : Command) (text : List ℕ)
     (result : Result (Unit {0}) Stop) : Type 0 where
   pub mid : Mutator
   pub collects : Collects old mid graph command
   pub keeps : KeepsGraphs old mid
   pub carries : Carries names mid new graph command text result
+  pub asked : command ≡ Scavenge → new ≡ mid
+  pub faulted : (word : FaultWord) → result ≡ Err (Fault word) → new ≡ old
   pub gave_up : (need : ℕ) → result ≡ Err (NoRoom need) → Scavenges old new

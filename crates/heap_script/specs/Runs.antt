@@ -1,9 +1,10 @@
 -- How far a script was run on a heap, and how the run ended.
-use Rattle.std.specs.Prelude.{◌≡◌, ◌⊎◌, ◌↔◌, ℕ, ◌+◌, ◌<◌, ◌≤◌, List, ◌∷◌}
+use Rattle.std.specs.Prelude.{◌≡◌, ◌≢◌, ◌⊎◌, ◌↔◌, ℕ, ◌+◌, ◌<◌, ◌≤◌, List, ◌∷◌}
 use Rattle.std.specs.Prelude.{[], ◌++◌, length, take, drop, All, Option, Some, None, IsTrue}
 use Rattle.std.specs.Prelude.{false, slice_get, nat_lt, if◌then◌else◌}
 use Rattle.heap_model.specs.Types.{Command}
 use Rattle.heap_command.specs.Executed.{Executed}
+use Rattle.heap_command.specs.declared.command.Command.TheVariants.{Scavenge}
 use Rattle.object_graph.specs.Graphs.{Graph}
 use Rattle.object_graph.specs.Limits.{ideal_limits}
 use Rattle.object_graph.specs.Run.{Told, told, lines_most, Ending, end, fault_at, limit_at, ending, EndsAfter}
@@ -34,8 +35,8 @@ AreBuilt lines = All (λ line. IsBuilt unbuilt_keywords line.what) lines
 abbrev pub left_after : ScriptText → ℕ → List Executed
 left_after script executed = drop executed (executed_lines script.lines)
 
--- The heap is full for so many words, though it was scavenged for them: eden is empty, only what is reached is kept,
--- and the survivors and these words are more than the words of the young generation.
+-- The heap is full for so many words: eden is empty, each young cell is reached from a variable, where pairs of weak
+-- tables count as slots, and the survivors and these words are more than the words of the young generation.
 pub record IsFull (heap : Heap) (need : ℕ) : Type 0 where
   pub empty : heap.used ≡ 0
   pub tight : IsTight heap
@@ -65,14 +66,8 @@ pub record Allocates (old new : Heap) (graph after : Graph) (command : Command) 
   pub survivors : new.survivors ≡ old.survivors
   pub uses : (rooms : ℕ → Room) → HasRooms old graph rooms → UsesNeed old new graph after command rooms
 
--- what a line allocates; one that runs no command leaves the heap as it is
-abbrev pub LineAllocates : Heap → Heap → Graph → Graph → Option Command → Type 0
-LineAllocates old new graph after None = new ≡ old
-LineAllocates old new graph after (Some command) = Allocates old new graph after command
-
--- A scavenge leads from one heap to another, which show the same graph. The regions stay, and objects have the rooms
--- that they had. Eden is empty, the survivors are at most the survivors and the used words of before, and only what is
--- reached is kept.
+-- What is told of a collection: the regions stay, objects have the rooms that they had, eden is empty, the survivors are
+-- no more than survivors and used words before, and only what is reached is kept.
 pub record IsCollected (old new : Heap) (graph : Graph) : Type 0 where
   pub space : new.space ≡ old.space
   pub rooms : (rooms : ℕ → Room) → HasRooms old graph rooms ↔ HasRooms new graph rooms
@@ -80,9 +75,30 @@ pub record IsCollected (old new : Heap) (graph : Graph) : Type 0 where
   pub few : new.survivors ≤ old.survivors + old.used
   pub tight : IsTight new
 
+-- what a line does with the heap: one that runs no command leaves it as it is, `scavenge` collects, and any other command
+-- allocates
+pub data LineAllocates (old new : Heap) (graph after : Graph) : Option Command → Type 0 where
+  passes : new ≡ old → LineAllocates old new graph after None
+  collects : IsCollected old new graph → LineAllocates old new graph after (Some Scavenge)
+  allocates : (command : Command) → command ≢ Scavenge → Allocates old new graph after command
+      → LineAllocates old new graph after (Some command)
+
+-- the heap lacks room for the words that the command of a line needs, whatever rooms objects have in it
+abbrev pub LacksWordsFor : Heap → Graph → Option Command → Type 0
+LacksWordsFor heap graph None = ⊥
+LacksWordsFor heap graph (Some command) =
+    (rooms : ℕ → Room) → HasRooms heap graph rooms → IsTrue (lacks_room heap (need_of graph rooms command))
+
+-- The run does not end after so many lines, but the heap lacks room for the words that the next line needs.
+pub record WantsRoom (script : ScriptText) (heap : Heap) (executed : ℕ) (so_far : Told) : Type 0 where
+  pub goes_on : ending ideal_limits script.fields so_far.graph executed (left_after script executed) ≡ None
+  pub line : Executed
+  pub next : slice_get (executed_lines script.lines) executed ≡ Some line
+  pub lacks : LacksWordsFor heap so_far.graph line.command
+
 -- The words that the executed lines of a script spend, one line after another, up to this heap. No word is used before
 -- the first line, and each line uses what its command needs, by the graph and the rooms that the lines before it led
--- to. Before and behind each line the heap may be scavenged.
+-- to. Between two lines the heap is scavenged only where it lacks room for the words that the next line needs.
 pub data Spends (script : ScriptText) : Heap → ℕ → Type 0 where
   none : (heap : Heap) → heap.used ≡ 0 → heap.survivors ≡ 0 → RanTo script heap 0 → Spends script heap 0
   one_more : (old new : Heap) (executed : ℕ) (line : Executed) → Spends script old executed
@@ -90,7 +106,8 @@ pub data Spends (script : ScriptText) : Heap → ℕ → Type 0 where
       → (before : RanTo script old executed) (after : RanTo script new (executed + 1))
       → LineAllocates old new before.so_far.graph after.so_far.graph line.command → Spends script new (executed + 1)
   collected : (old new : Heap) (executed : ℕ) → Spends script old executed → (before : RanTo script old executed)
-      → RanTo script new executed → IsCollected old new before.so_far.graph → Spends script new executed
+      → WantsRoom script old executed before.so_far → RanTo script new executed
+      → IsCollected old new before.so_far.graph → Spends script new executed
 
 -- The heap has the regions of the one to which the lines led that spent words, and as many words are used and have
 -- survived. Each object stands where it stands there, with a store of as many slots. The rooms that the objects

@@ -1,5 +1,6 @@
 -- A value that comes behind the elements of a list, to a store that is made for it, is shown as its last element.
-use Rattle.std.proofs.Common.{◌≡◌, ◌≢◌, ℕ, ◌+◌, ◌≤◌, ◌<◌, ◌⊎◌, inl, inr, List, [], ◌∷◌, ◌++◌, length, drop, Some, slice_get}
+use Rattle.std.proofs.Common.{◌≡◌, ◌≢◌, ℕ, ◌+◌, ◌≤◌, ◌<◌, ◌⊎◌, inl, inr, List, [], ◌∷◌, ◌++◌, length, drop, Some}
+use Rattle.std.proofs.Common.{slice_get}
 use Rattle.std.proofs.Common.{false, refl, sym, ◌∙◌, ap, subst, arith, length-append, length-drop}
 use Rattle.tagged_word.specs.Cells.{store_head}
 use Rattle.tagged_word.specs.declared.layout.Kind.TheVariants as kind
@@ -97,7 +98,8 @@ module _ {old new : Mutator} {graph : Graph} {at count : ℕ} {list : ListObject
   }
 
   -- so the list takes the value
-  takes : TakesValue kind.List kind.Store (heap_of old) (heap_of new) cell cell [] (other ∷ []) (store_content value) box
+  takes : TakesValue kind.List kind.Store (heap_of old) (heap_of new) cell cell [] (other ∷ []) (store_content value)
+      box
       what (reference_word (next_at old))
   takes =
       filled_takes (length graph.objects) list_owns refl filled known.fits (new_value_held false value what
@@ -114,7 +116,8 @@ module _ {old new : Mutator} {graph : Graph} {at count : ℕ} {list : ListObject
   -- each holds what it held, the word, or nothing
   slot_is : (k x : ℕ) → HasWord now k x → NewSlotIs known.shown.shows.slots store.capacity word k x
   slot_is =
-      new_slot_is known.shows.shows.whole can.is known.shown.has known.shown.stands known.shown.shows.slot known.shown.shows.has store_has
+      new_slot_is known.shows.shows.whole can.is known.shown.has known.shown.stands known.shown.shows.slot
+      known.shown.shows.has store_has
       (λ a below. refl)
       (subst (λ all. CopiesSlots (heap_words old.seat) all store capacity (next_at old) word) (sym pushes.words.heap)
       (copies_slots makes (count + 1) count full))

@@ -14,8 +14,7 @@ use Rattle.write_barrier.specs.MutatorState.{Mutator, heap_of}
 use Rattle.object_cells.specs.Capacities.{ChangesObject}
 use Rattle.ephemeron_table.specs.WeakObjects.{IsWeakAt}
 use Rattle.ephemeron_table.specs.EntryChanges.{map_room}
-use Rattle.ephemeron_table.proofs.GrownEntries.{length-with_entry_new}
-use Rattle.ephemeron_table.proofs.ReplacedValues.{length-with_entry_there}
+use Rattle.ephemeron_table.proofs.EntryCounts.{length-with_entry_new, length-with_entry_there}
 use Rattle.ephemeron_table.proofs.DeletedEntries.{length-without_entry, without_none}
 use Rattle.mutator.specs.Capacities.{KeepsStores}
 use Rattle.mutator.proofs.KnownObjects.{IsKnown, known_is}

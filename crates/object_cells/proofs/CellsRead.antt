@@ -1,13 +1,11 @@
--- Cells as they are read: their words by address, their headers, and which shape is that of boxes.
-use Rattle.std.proofs.Common.{◌≡◌, ℕ, zero, suc, ◌+◌, ◌-◌, ◌≤◌, ◌<◌, List, length, map, drop, Some}
+-- Cells as they are read: their words by address, their layouts, and which shape is that of boxes.
+use Rattle.std.proofs.Common.{◌≡◌, ℕ, ◌+◌, ◌-◌, ◌≤◌, ◌<◌, List, length, map, drop, Some}
 use Rattle.std.proofs.Common.{◌%◌, Option}
-use Rattle.std.proofs.Common.{slice_get, refl, sym, ◌∙◌, ap, subst, arith, inl, inr, length-append, unwrap_or}
+use Rattle.std.proofs.Common.{slice_get, refl, sym, ◌∙◌, ap, subst, arith, length-append, unwrap_or}
 use Rattle.std.proofs.lemmas.List.{length-map}
-use Rattle.std.proofs.lemmas.Bool.{cases_lt}
 use Rattle.std.proofs.lemmas.Option.{slice_get_within, slice_get_past, same_Some}
 use Rattle.tagged_word.specs.declared.layout.Kind.TheVariants as kind
-use Rattle.heap_model.specs.Types.{LayoutWord, Path, Cell}
-use Rattle.tagged_word.specs.Headers.{header_bits}
+use Rattle.heap_model.specs.Types.{Path, Cell}
 use Rattle.tagged_word.specs.Layouts.{layout_bits, kind_number}
 use Rattle.tagged_word.specs.Shapes.{box_shape, first_path_shape, fixed_layout_words}
 use Rattle.tagged_word.proofs.Layouts.{parts, same_kind}
@@ -16,7 +14,6 @@ use Rattle.page_space.specs.Extents.{Space, marks_start}
 use Rattle.page_space.proofs.Limits.{words_count_most}
 use Rattle.page_space.proofs.Starts.{marks_start_is, board_start_is, words_count_is}
 use Rattle.std.proofs.Common.{Fits, w32}
-use Rattle.shape_tree.specs.Shapes.{IsPathShape}
 use Rattle.shape_tree.specs.ShapeLayouts.{layout_of, layout_word, layout_words}
 use Rattle.cell_layout.proofs.CellsThere.{slice_get-layouts_in}
 use Rattle.heap_model.specs.Heaps.{Heap, HasCell}
@@ -25,7 +22,6 @@ use Rattle.heap_model.specs.Kinds.{HasWord}
 use Rattle.heap_model.specs.Wholeness.{HasSizes}
 use Rattle.heap_model.proofs.CellsApart.{has_is_cell, first_of_cell}
 use Rattle.heap_model.proofs.CellWords.{slice_get-take, slice_get-drop, words_are_size}
-use Rattle.heap_model.proofs.PathLayouts.{layout_is}
 
 -- a word of a cell stands at its address
 pub word_stands : {heap : Heap} {cell : Cell} {words : List ℕ} (k word : ℕ) → HasCell heap cell words
@@ -72,12 +68,6 @@ pub word_before_marks : {heap : Heap} {cell : Cell} {words : List ℕ} {at : ℕ
 word_before_marks {words = words} k word sized has stands there =
     omega (arith, slice_get_within words k word there, words_are_size has, cell_before_marks sized has, stands)
 
--- the word of a cell's header is its first
-pub header_stands : {heap : Heap} {cell : Cell} {words : List ℕ} (at word : ℕ) → HasCell heap cell words → cell.at ≡ at
-    → slice_get heap.words at ≡ Some word → word ≡ header_bits cell.header
-header_stands {heap} {cell} at word has stands there =
-    same_Some _ _ (sym there ∙ ap (slice_get heap.words) (sym stands) ∙ (has_is_cell has).reads.first)
-
 -- the layout of a cell is that of its shape
 pub layout_stands : {heap : Heap} {cell : Cell} {words : List ℕ} → HasSizes heap → HasCell heap cell words
     → layout_bits cell.layout ≡ layout_word heap.paths cell.header.shape
@@ -99,19 +89,6 @@ shape_is_box {heap} {cell} sized has is =
     let word : layout_bits cell.layout ≡ 6 = layout_stands sized has ∙ ap (layout_word heap.paths) is in
     same_kind cell.layout.kind kind.Boxed (sym (kind_stands has) ∙ ap (λ n. n % 16) word)
 
--- which shape a layout word with the number of boxes has
-box_shape_by : (paths : List Path) (shape word : ℕ) → word ≡ layout_word paths shape → word % 16 ≡ 6
-    → (first_path_shape ≤ shape → ⊥) → shape ≡ box_shape
-box_shape_by paths zero word is six small = absurd (omega (arith, is, six))
-box_shape_by paths (suc zero) word is six small = absurd (omega (arith, is, six))
-box_shape_by paths (suc (suc zero)) word is six small = absurd (omega (arith, is, six))
-box_shape_by paths (suc (suc (suc zero))) word is six small = absurd (omega (arith, is, six))
-box_shape_by paths (suc (suc (suc (suc zero)))) word is six small = absurd (omega (arith, is, six))
-box_shape_by paths (suc (suc (suc (suc (suc zero))))) word is six small = refl
-box_shape_by paths (suc (suc (suc (suc (suc (suc zero)))))) word is six small = absurd (omega (arith, is, six))
-box_shape_by paths (suc (suc (suc (suc (suc (suc (suc zero))))))) word is six small = absurd (omega (arith, is, six))
-box_shape_by paths (suc (suc (suc (suc (suc (suc (suc (suc more)))))))) word is six small = absurd (small (omega arith))
-
 -- a shape that is not in use has the layout word 0
 word_past : (paths : List Path) (shape : ℕ) → first_path_shape + length paths ≤ shape → layout_word paths shape ≡ 0
 word_past paths shape past =
@@ -120,27 +97,3 @@ word_past paths shape past =
     let long : length (layout_words paths) ≤ shape =
     omega (arith, length-append fixed_layout_words words, length-map paths (λ path. layout_bits (layout_of path))) in
     ap (λ (found : Option ℕ). unwrap_or found 0) (slice_get_past (layout_words paths) shape long)
-
--- a box is no cell of a path's shape or of a shape that is not in use
-box_has_fixed : {heap : Heap} {cell : Cell} {words : List ℕ} → HasSizes heap → HasCell heap cell words
-    → cell.layout.kind ≡ kind.Boxed → first_path_shape ≤ cell.header.shape → ⊥
-box_has_fixed {heap} {cell} sized has box from =
-    elim (cases_lt cell.header.shape (first_path_shape + length heap.paths)) [
-      | inl below ↦
-          let path : IsPathShape heap.paths cell.header.shape = record { from = from; below = below } in
-          let plain : cell.layout.kind ≡ kind.Plain =
-          ap (λ (layout : LayoutWord). layout.kind) (layout_is sized has path) in
-          let apart : kind.Boxed ≡ kind.Plain = sym box ∙ plain in
-          cc
-      | inr past ↦
-          let word = layout_stands sized has ∙ word_past heap.paths cell.header.shape past in
-          let six : layout_bits cell.layout % 16 ≡ 6 = kind_stands has ∙ ap kind_number box in
-          omega (arith, word, six)
-    ]
-
--- a box has the shape of boxes
-pub box_has_shape : {heap : Heap} {cell : Cell} {words : List ℕ} → HasSizes heap → HasCell heap cell words
-    → cell.layout.kind ≡ kind.Boxed → cell.header.shape ≡ box_shape
-box_has_shape {heap} {cell} sized has box =
-    box_shape_by heap.paths cell.header.shape (layout_bits cell.layout) (layout_stands sized has)
-    (kind_stands has ∙ ap kind_number box) (box_has_fixed sized has box)

@@ -26,7 +26,8 @@ pub data NewSlotIs (slots : List ℕ) (slot word k x : ℕ) : Type 0 where
   more : slot < k → x ≡ hole_word → NewSlotIs slots slot word k x
 
 module _ {old new : Heap} {cell : Cell} {words mid others beside : List ℕ} {object named capacity at word : ℕ}
-    {store : Store} (whole : Whole old) (is : IsStoreAt old object store) (has : HasCell old cell words) (stands : cell.at ≡ object)
+    {store : Store} (whole : Whole old) (is : IsStoreAt old object store) (has : HasCell old cell words)
+    (stands : cell.at ≡ object)
     (slot : HasWord words store_slot named) (are : HoldsStore old kind.Store named beside)
     (has_new : HasCell new (store_cell at capacity) others)
     (stay : (a : ℕ) → a < layouts_start old.space → slice_get mid a ≡ slice_get old.words a)

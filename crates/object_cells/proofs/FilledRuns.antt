@@ -128,7 +128,8 @@ module _ {owner owned : Kind} {old new : Mutator} {cell first : Cell} {object ow
       → (next_at old ≤ a → a < next_at old + run_words first holds → ⊥)
       → slice_get (heap_words new.seat) a ≡ slice_get (heap_words old.seat) a
   word_stays a not_slot not_own not_run =
-      is.fills.stay a not_slot not_own (λ from below. not_run (omega (arith, is.at, from)) (omega (arith, is.at, below)))
+      is.fills.stay a not_slot not_own
+      (λ from below. not_run (omega (arith, is.at, from)) (omega (arith, is.at, below)))
 
   -- so words of the object's own cell were put
   pub own_puts : PutsOwn owner old new cell [] (run_words first holds) (heap_words new.seat)

@@ -45,7 +45,7 @@ pub data FilledBy (old new : Mutator) (at word : ℕ) (holds : SlotContent) : Ty
       → new ≡ with_word old (box + 1) (raw_word v) → FilledBy old new at word holds
 
 -- where nothing is reserved, nothing has changed
-reserved_none : (old : Mutator) → old ≡ reserved old 0
+pub reserved_none : (old : Mutator) → old ≡ reserved old 0
 reserved_none old =
     let none : old.young ≡ record old.young { used = old.young.used + 0 } =
     ap (λ n. record old.young { used = n }) (sym (add-zero old.young.used)) in

@@ -16,7 +16,7 @@ use Rattle.heap_model.proofs.CellWords.{slice_get-append_left, slice_get-append_
 use Rattle.object_cells.specs.OwnSlots.{IsNoBoxOf, ComesFrom, StoreComes}
 use Rattle.object_cells.specs.ElementChanges.{WritesList, HasElements, ShowsElement, RefillsElements}
 use Rattle.object_cells.proofs.ListSlots.{list_sound}
-use Rattle.object_cells.proofs.SlotPlaces.{one_store_slots}
+use Rattle.heap_model.proofs.OneBeside.{one_beside}
 use Rattle.object_cells.proofs.WrittenPlaces.{hole_names_none}
 
 -- At a place stands this element now, and each other place has what it had.
@@ -89,7 +89,7 @@ module _ {old new : Heap} {cell : Cell} {others made : List Cell} {before after 
       let shown = puts.shown in
       let sound = list_sound puts.whole puts.writes.stood puts.writes.of_kind in
       let store : sound.store ≡ shown.store = same_Some sound.store shown.store (sym sound.slot ∙ shown.slot) in
-      let slots = one_store_slots sound.store shown.store sound.beside shown.slots store sound.stands shown.has in
+      let slots = one_beside sound.store shown.store sound.beside shown.slots store sound.stands shown.has in
       let count : sound.count ≡ length before =
       same_Some sound.count (length before) (sym sound.counted ∙ shown.counted) in
       sound.hold.rest k word (omega (arith, count, behind)) (ap (λ all. slice_get all k) slots ∙ stood)

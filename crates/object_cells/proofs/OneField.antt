@@ -132,7 +132,8 @@ module _ {old new : Heap} {cell : Cell} {shape at word slot : ℕ} {others made 
   slot_comes k holds fills there tagged = elim (cases_eq k slot) [
     | inl same ↦
         subst (λ n. HasWord sets.after.now n holds → IsTaggedSlot (reshaped new.paths cell shape) n
-        → ComesFrom new (HasTagged cell sets.shown.slots) made n slot n holds) (sym same) (fills.comes holds) there tagged
+        → ComesFrom new (HasTagged cell sets.shown.slots) made n slot n holds) (sym same) (fills.comes holds) there
+        tagged
     | inr apart ↦ ComesFrom.moved (kept_word k holds fills apart there, tagged_before k apart tagged)
   ]
 

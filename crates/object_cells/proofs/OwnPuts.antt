@@ -1,15 +1,13 @@
 -- Words that were put in an object's own cells, once so many words of eden were reserved.
 use Rattle.std.proofs.Common.{◌≡◌, ℕ, ◌+◌, ◌≤◌, ◌<◌, inl, List, [], ◌∷◌, length, Contains}
 use Rattle.std.proofs.lemmas.List.{append-nil}
-use Rattle.std.proofs.Common.{Some, slice_get, refl, sym, ◌∙◌, ap, subst, arith, add-zero}
+use Rattle.std.proofs.Common.{slice_get, refl, sym, ◌∙◌, ap, subst, arith, add-zero}
 use Rattle.heap_model.specs.Types.{Kind, Cell}
 use Rattle.tagged_word.specs.Cells.{length_offset}
 use Rattle.tagged_word.proofs.Members.{one_in}
-use Rattle.page_space.specs.Extents.{Space, eden_start, segments_start, layouts_start, marks_start}
+use Rattle.page_space.specs.Extents.{Space, eden_start, segments_start, layouts_start}
 use Rattle.page_space.proofs.Starts.{roots_start_is, layouts_start_is, marks_start_is}
 use Rattle.nursery.specs.Young.{Young, HasRoom}
-use Rattle.shape_tree.specs.Shapes.{AreShapes}
-use Rattle.shape_tree.specs.ShapeLayouts.{layout_word}
 use Rattle.cell_layout.specs.Cells.{IsRow}
 use Rattle.heap_table.specs.Seats.{heap_words}
 use Rattle.heap_model.specs.Heaps.{Heap, HasCell, words_of_cell}
@@ -21,6 +19,7 @@ use Rattle.object_cells.specs.Contents.{next_at}
 use Rattle.object_cells.specs.Made.{PutsWords, content_need, with_content}
 use Rattle.object_cells.proofs.MadeBoxes.{BoxStands, put_box}
 use Rattle.object_cells.proofs.OwnCells.{cell_below_layouts}
+use Rattle.object_cells.proofs.WordsPut.{sizes_stay}
 use Rattle.object_cells.proofs.UnusedWords.{next_before_segments}
 
 -- So many words were reserved, and then words were put: those of the cell of an object of this
@@ -49,28 +48,19 @@ in_cell_below a puts has inside = cell_below_layouts puts.whole has
 pub own_sized : {owner : Kind} {old new : Mutator} {cell : Cell} {others : List Cell} {need : ℕ} {words : List ℕ}
     → PutsOwn owner old new cell others need words → HasSizes (heap_of new)
 own_sized {old = old} {new} {need = need} puts =
-    let sized = puts.whole.sized in
     let all = puts.puts in
-    record {
-      words = ap length all.heap ∙ puts.long ∙ sized.words ∙ ap marks_start (sym all.beside.space);
-      shapes = subst AreShapes (sym all.paths) sized.shapes;
-      layouts = λ shape below.
-          let at : ℕ = layouts_start old.seat.space + shape in
-          let behind : layouts_start old.seat.space ≤ at = omega arith in
-          let same = puts.stay at (λ inside. omega (arith, behind, in_cell_below at puts puts.has inside))
-          (λ other there inside. omega (arith, behind, in_cell_below at puts (puts.stood other there) inside))
-          (λ from high. omega (
-            arith,
-            high,
-            behind,
-            next_before_segments old need puts.tied puts.room,
-            roots_start_is old.seat.space,
-            layouts_start_is old.seat.space,
-          )) in
-          ap (λ (s : Space). slice_get (heap_words new.seat) (layouts_start s + shape)) all.beside.space
-          ∙ ap (λ every. slice_get every at) all.heap ∙ same ∙ sized.layouts shape below
-          ∙ ap (λ paths. Some (layout_word paths shape)) (sym all.paths);
-    }
+    sizes_stay old new puts.whole.sized all.beside all.paths (ap length all.heap ∙ puts.long) (λ at behind.
+    ap (λ every. slice_get every at) all.heap
+    ∙ puts.stay at (λ inside. omega (arith, behind, in_cell_below at puts puts.has inside))
+    (λ other there inside. omega (arith, behind, in_cell_below at puts (puts.stood other there) inside))
+    (λ from high. omega (
+      arith,
+      high,
+      behind,
+      next_before_segments old need puts.tied puts.room,
+      roots_start_is old.seat.space,
+      layouts_start_is old.seat.space,
+    )))
 
 -- and words of the object's own cells were written
 pub own_writes : {owner owned : Kind} {old new : Mutator} {cell : Cell} {others : List Cell} {need : ℕ} {words : List ℕ}
@@ -109,7 +99,8 @@ pub box_put : {owner : Kind} {old new : Mutator} {cell : Cell} {others : List Ce
     (before : List ℕ) (holds : SlotContent) (box : ℕ) → PutsOwn owner old new cell others need words
     → length before ≡ length (heap_words old.seat) → next_at old ≤ box → box + content_need holds ≤ next_at old + need
     → ((b : ℕ) → box ≤ b → b < box + content_need holds
-    → slice_get (heap_words new.seat) b ≡ slice_get (with_content before holds box) b) → BoxStands (heap_of new) holds box
+    → slice_get (heap_words new.seat) b ≡ slice_get (with_content before holds box) b) → BoxStands (heap_of new) holds
+    box
 box_put {old = old} {new} {need = need} before holds box puts long from below stands =
     let space = puts.puts.beside.space in
     let ends = next_before_segments old need puts.tied puts.room in

@@ -19,7 +19,7 @@ use Rattle.heap_model.proofs.SlotWords.{All-slice_get}
 use Rattle.write_barrier.specs.MutatorState.{Mutator, heap_of, MainShows}
 use Rattle.object_cells.specs.PlainObjects.{IsPlainAt}
 use Rattle.object_cells.proofs.FieldsFound.{path_long}
-use Rattle.object_cells.proofs.SlotPlaces.{one_slots}
+use Rattle.heap_model.proofs.OneBeside.{one_slots}
 use Rattle.object_cells.specs.CellsAt.{IsQuietWhole, HasPlainSlot, HasField, IsCapAt}
 
 -- a plain cell of a whole heap is sound

@@ -17,7 +17,7 @@ use Rattle.object_cells.proofs.OwnerWrites.{list_owns}
 use Rattle.object_cells.proofs.OwnSteps.{OwnStep, own_step, stands, own_places_stay, own_box_stays}
 use Rattle.object_cells.proofs.OwnNames.{Renames, refills_rename, renamed_own}
 use Rattle.object_cells.proofs.NumberedSlots.{IsNumbered, has_numbers}
-use Rattle.object_cells.proofs.SlotPlaces.{one_store_slots}
+use Rattle.heap_model.proofs.OneBeside.{one_beside}
 use Rattle.object_cells.proofs.ShownLists.{shown_list_is_sound, list_store_sound}
 use Rattle.object_cells.proofs.BesideSound.{beside_sound, came_sound}
 
@@ -41,7 +41,7 @@ module _ {old new : Heap} {cell : Cell} {others made : List Cell} {before after 
   one_elements =
       let were = slots.were in
       let same : were.store ≡ shown.store = same_Some were.store shown.store (sym were.slot ∙ shown.slot) in
-      one_store_slots were.store shown.store slots.slots shown.slots same were.stands shown.has
+      one_beside were.store shown.store slots.slots shown.slots same were.stands shown.has
 
   -- each slot shows its element
   element_shown : (slot word : ℕ) (value : Value) → slice_get after slot ≡ Some value → HasWord slots.now slot word

@@ -10,7 +10,7 @@ use Rattle.heap_model.specs.Showing.{ShowsField, ShowsPlain}
 use Rattle.heap_model.proofs.WordsStay.{shown_field}
 use Rattle.object_cells.specs.CellWrites.{reshaped}
 use Rattle.object_cells.specs.SlotChanges.{WritesFields, IsTaggedSlot, HasTagged, ShowsSlot, RefillsSlots}
-use Rattle.object_cells.proofs.SlotPlaces.{one_slots}
+use Rattle.heap_model.proofs.OneBeside.{one_slots}
 use Rattle.object_cells.proofs.PlainFields.{plain_sound}
 use Rattle.object_cells.proofs.FieldWords.{path_field, field_is_tagged}
 use Rattle.object_cells.proofs.NumberedSlots.{IsNumbered, slot_kind, slot_of_number, has_numbers}

@@ -100,27 +100,3 @@ pub behind_cap_below : {heap : Heap} {cell : Cell} {words slots : List ℕ} (slo
 behind_cap_below {words = words} slot cap has plain are caps from below =
     let own : List ℕ = drop plain_head words in
     omega (arith, plain_words has plain, length-drop plain_head words, ap length are.are, length-append own are.beside)
-
--- one word has one list of slots beside it
-pub one_store_slots : {heap : Heap} (word other : ℕ) (beside others : List ℕ) → word ≡ other
-    → HoldsStore heap kind.Store word beside
-    → HoldsStore heap kind.Store other others → beside ≡ others
-one_store_slots word other beside others same HoldsStore.none HoldsStore.none = refl
-one_store_slots word other beside others same HoldsStore.none (HoldsStore.store to cell words refers of_kind) =
-    absurd (undefined_refers_not cell.at (same ∙ refers.refers))
-one_store_slots word other beside others same (HoldsStore.store to cell words refers of_kind) HoldsStore.none =
-    absurd (undefined_refers_not cell.at (sym same ∙ refers.refers))
-one_store_slots {heap} word other beside others same (HoldsStore.store to cell words refers of_kind)
-    (HoldsStore.store to' cell' words' refers' of_kind') =
-    let one : cell ≡ cell' = one_at refers.has refers'.has
-    (same_reference cell.at cell'.at (sym refers.refers ∙ same ∙ refers'.refers)) in
-    let has = subst (λ (c : Cell). HasCell heap c words) one refers.has in
-    ap (λ all. drop store_head all) (one_words has refers'.has)
-
--- the words of a cell have one list of slots
-pub one_slots : {heap : Heap} {words slots others : List ℕ} → HasSlots heap words slots → HasSlots heap words others
-    → slots ≡ others
-one_slots {words = words} a b =
-    let store : a.store ≡ b.store = same_Some a.store b.store (sym a.slot ∙ b.slot) in
-    let beside = one_store_slots a.store b.store a.beside b.beside store a.stands b.stands in
-    a.are ∙ ap (λ all. drop plain_head words ++ all) beside ∙ sym b.are

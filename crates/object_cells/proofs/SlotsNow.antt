@@ -144,7 +144,8 @@ pub numbered_before : {old new : Heap} {cell : Cell} {shape at word : ℕ} {othe
     → IsNumbered new (reshaped new.paths cell shape) (words_of_cell new (reshaped new.paths cell shape)) k a
     → IsNumbered old cell (words_of_cell old cell) k a
 numbered_before puts are (IsNumbered.own below is of_cell) =
-    IsNumbered.own (omega (arith, below, becomes_cap puts.writes.becomes)) is (record { from = of_cell.from; below = of_cell.below })
+    IsNumbered.own (omega (arith, below, becomes_cap puts.writes.becomes)) is
+    (record { from = of_cell.from; below = of_cell.below })
 numbered_before {old} puts are (IsNumbered.beside store j other others slot refers of_kind counts is of_cell) =
     let same : are.store ≡ store = same_Some are.store store (sym (store_now puts are.slot) ∙ slot) in
     let before = target_before store are.beside (stores_stand puts)

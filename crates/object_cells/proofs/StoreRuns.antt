@@ -15,8 +15,8 @@ use Rattle.object_cells.proofs.NewStores.{store_cell}
 use Rattle.object_cells.proofs.StoreWords.{MakesStore, copied_long, copied_word, begun_stays, begun_word}
 use Rattle.object_cells.proofs.StoreWords.{empty_store_hole}
 
--- the words with the store, the slots of the one before, a word in the slot of this number behind them, maybe a box, the
--- reference to the store, and the other word
+-- the words with the store, the slots of the one before, a word in the slot of this number behind them, maybe a box,
+-- the reference to the store, and the other word
 abbrev pub filled_run : List ℕ → ℕ → ℕ → ℕ → Store → ℕ → ℕ → ℕ → SlotContent → List ℕ
 filled_run words object own value store slot capacity at holds =
     let box = at + (store_head + capacity) in

@@ -24,7 +24,8 @@ use Rattle.object_cells.specs.declared.stores.Store.{Store}
 use Rattle.object_cells.specs.Made.{HasStoreSlot, IsStoreAt}
 use Rattle.object_cells.proofs.CellsRead.{cell_before_marks, word_is}
 use Rattle.object_cells.proofs.KeptCapacities.{capacity_read, length_stands}
-use Rattle.object_cells.proofs.SlotPlaces.{one_store_slots, beside_refers}
+use Rattle.heap_model.proofs.OneBeside.{one_beside}
+use Rattle.object_cells.proofs.SlotPlaces.{beside_refers}
 use Rattle.object_cells.proofs.UnusedWords.{cell_apart}
 
 -- a store stands at the address, to which the word refers, and these are its slots
@@ -107,7 +108,7 @@ store_is {heap} object word at capacity whole there stands refers counted =
       slots = λ other others more word_other has_other stands_other slot_other are_other.
           let same = same_store word_other there.word has_other there.has (stands_other ∙ sym there.stands) slot_other
           there.slot in
-          ap length (one_store_slots word_other there.word more there.beside same are_other there.are) ∙ beside_long;
+          ap length (one_beside word_other there.word more there.beside same are_other there.are) ∙ beside_long;
       refers = λ other others more word_other has_other stands_other slot_other are_other some.
           same_store word_other there.word has_other there.has (stands_other ∙ sym there.stands) slot_other there.slot
           ∙ sym is ∙ (reference_from word at refers).1;
@@ -135,7 +136,7 @@ store_is_none {heap} object word whole within there stands none =
       slots = λ other others more word_other has_other stands_other slot_other are_other.
           let same = same_store word_other there.word has_other there.has (stands_other ∙ sym there.stands) slot_other
           there.slot in
-          ap length (one_store_slots word_other there.word more there.beside same are_other there.are) ∙ short;
+          ap length (one_beside word_other there.word more there.beside same are_other there.are) ∙ short;
       refers = λ other others more word_other has_other stands_other slot_other are_other some.
           absurd (omega (arith, some));
     }

@@ -82,7 +82,8 @@ module _ {owner owned : Kind} {old new : Heap} {cell came : Cell} {others firsts
 
   -- its stores
   pub others_have : (one : Cell) → Contains others one → HasCell new one (words_of_cell new one)
-  others_have one among = cells.comes one (rest_in came (others ++ made) one (Contains-append_left others made one among))
+  others_have one among =
+      cells.comes one (rest_in came (others ++ made) one (Contains-append_left others made one among))
 
   -- and those that were made
   pub made_has : (one : Cell) → Contains made one → HasCell new one (words_of_cell new one)

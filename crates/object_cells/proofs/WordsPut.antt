@@ -1,5 +1,5 @@
 -- The words of a heap where some were put.
-use Rattle.std.proofs.Common.{◌≡◌, ◌≢◌, ℕ, ◌+◌, ◌<◌, ◌⊎◌, inl, inr, length, Some, slice_get}
+use Rattle.std.proofs.Common.{◌≡◌, ◌≢◌, ℕ, ◌+◌, ◌<◌, ◌≤◌, ◌⊎◌, inl, inr, length, Some, slice_get}
 use Rattle.std.proofs.Common.{length-set, refl, sym, ◌∙◌, ap, subst, arith}
 use Rattle.std.specs.Prelude.{slice_set}
 use Rattle.std.proofs.Math.Seq.{take-set-lt}
@@ -91,17 +91,25 @@ puts_two old new object head at word below within counted apart (inr is) =
     subst (λ (main : Mutator). PutsTwo old main object head at word) (sym is)
     (puts_both old object head at word below within counted apart)
 
--- the sizes stay where words before the layout words are put
+-- the sizes stay where nothing changes from the layout words on
+pub sizes_stay : (old new : Mutator) → HasSizes (heap_of old) → RestStays old.seat new.seat → new.paths ≡ old.paths
+    → length (heap_words new.seat) ≡ length (heap_words old.seat)
+    → ((a : ℕ) → layouts_start old.seat.space ≤ a
+    → slice_get (heap_words new.seat) a ≡ slice_get (heap_words old.seat) a)
+    → HasSizes (heap_of new)
+sizes_stay old new sized beside paths long stay = record {
+  words = long ∙ sized.words ∙ ap marks_start (sym beside.space);
+  shapes = subst AreShapes (sym paths) sized.shapes;
+  layouts = λ shape below.
+      ap (λ (s : Space). slice_get (heap_words new.seat) (layouts_start s + shape)) beside.space
+      ∙ stay (layouts_start old.seat.space + shape) (omega arith) ∙ sized.layouts shape below
+      ∙ ap (λ all. Some (layout_word all shape)) (sym paths);
+}
+
+-- so they do where words before those are put
 pub sizes_put : (old new : Mutator) (object head at word : ℕ) → HasSizes (heap_of old)
     → object < layouts_start old.seat.space → at < layouts_start old.seat.space → PutsTwo old new object head at word
     → HasSizes (heap_of new)
 sizes_put old new object head at word sized object_below at_below puts =
-    let space : Space = old.seat.space in
-    record {
-      words = puts.count ∙ sized.words ∙ ap marks_start (sym puts.beside.space);
-      shapes = subst AreShapes (sym puts.paths) sized.shapes;
-      layouts = λ shape below.
-          ap (λ (s : Space). slice_get (heap_words new.seat) (layouts_start s + shape)) puts.beside.space
-          ∙ puts.stay (layouts_start space + shape) (λ same. omega (arith, same)) (λ same. omega (arith, same))
-          ∙ sized.layouts shape below ∙ ap (λ paths. Some (layout_word paths shape)) (sym puts.paths);
-    }
+    sizes_stay old new sized puts.beside puts.paths puts.count (λ a behind.
+    puts.stay a (λ same. omega (arith, same, behind)) (λ same. omega (arith, same, behind)))

@@ -2,9 +2,9 @@
 use Rattle.std.proofs.Common.{◌≡◌, ℕ, ◌+◌, ◌<◌, ◌≤◌, inl, inr, List, [], ◌∷◌, map, All, Contains, sum_by}
 use Rattle.std.proofs.Common.{refl, sym, ◌∙◌, ap, subst, arith}
 use Rattle.std.proofs.lemmas.Bool.{cases_lt}
-use Rattle.std.proofs.lemmas.List.Elements.{All-nil, All-cons, All-contains}
+use Rattle.std.proofs.lemmas.List.Elements.{All-nil, All-cons}
 use Rattle.std.proofs.lemmas.List.Sums.{sum_by-cons}
-use Rattle.tagged_word.proofs.Members.{first_in, rest_in, in_map, map_from}
+use Rattle.tagged_word.proofs.Members.{first_in, rest_in, map_from}
 use Rattle.page_space.specs.declared.region.Region.TheVariants.{Eden}
 use Rattle.page_space.specs.Extents.{Extent, eden_start}
 use Rattle.page_space.proofs.Covering.{disjoint}
@@ -18,6 +18,8 @@ use Rattle.heap_model.proofs.CellsApart.{IsOfCell, has_is_cell, first_of_cell, c
 use Rattle.heap_model.proofs.Patches.{row_holds}
 use Rattle.heap_model.proofs.RowCovers.{stretch_alike}
 use Rattle.heap_model.proofs.RowEnds.{one_used_row}
+use Rattle.heap_model.specs.RegionRows.{IsRowFrom}
+use Rattle.heap_model.proofs.RegionRows.{row_is, row_of}
 use Rattle.heap_moves.specs.Moved.{moved_to}
 use Rattle.scav_copy.specs.declared.places.Home.{Home}
 use Rattle.scav_copy.specs.Places.{Fixed}
@@ -29,11 +31,6 @@ use Rattle.scavenger.proofs.EndCopies.{layout_same, copy_cell}
 use Rattle.scavenger.proofs.EndSums.{adds_at, cells_add}
 use Rattle.scavenger.proofs.EndRows.{CameFrom, EndRow, ended_heap, row_after}
 use Rattle.scavenger.proofs.EndPages.{page_same}
-
--- a row of the heap, in one of its regions
-record IsOldRow (heap : Heap) (row : Row) : Type 0 where
-  among : Contains (cell_extents heap.space) row.extent
-  used : IsUsedRow heap row
 
 -- the rows of some regions at the end
 record EndRows (heap : Heap) (half : ℕ) (fixed : Fixed) (homes : List Home) (now : List ℕ) (rows : List Row)
@@ -53,7 +50,7 @@ module _ {heap : Heap} {half left : ℕ} {fixed : Fixed} {homes : List Home} {wo
   row_used one = record { ends = one.ends; stands = one.stands }
 
   -- each row has one
-  all_rows : (rows : List Row) → ((row : Row) → Contains rows row → IsOldRow heap row)
+  all_rows : (rows : List Row) → ((row : Row) → Contains rows row → IsRowFrom heap row.extent.start row)
       → EndRows heap half fixed homes now rows
   all_rows [] are = record {
     others = [];
@@ -79,21 +76,11 @@ module _ {heap : Heap} {half left : ℕ} {fixed : Fixed} {homes : List Home} {wo
             ∙ sym (sum_by-cons adds row.extent (map (λ some. some.extent) rows));
       }
 
-  -- the rows of the old heap are rows of its regions
-  old_rows : (row : Row) → Contains ending.begun.whole.rows.rows row → IsOldRow heap row
-  old_rows row there =
-      let rows = ending.begun.whole.rows in
-      record {
-        among = subst (λ all. Contains all row.extent) rows.are.everywhere
-            (in_map (λ (one : Row). one.extent) rows.rows row there);
-        used = All-contains (IsUsedRow heap) rows.rows row rows.are.each there;
-      }
-
   -- the heap at the end has rows
   pub has_rows : HasRows (ended_heap heap fixed homes now)
   has_rows =
       let rows = ending.begun.whole.rows in
-      let all = all_rows rows.rows old_rows in
+      let all = all_rows rows.rows (λ row. row_is row rows.are) in
       let many : ℕ = words_of_homes fixed homes in
       let room = room_extent heap.space half in
       record {
@@ -119,18 +106,15 @@ module _ {heap : Heap} {half left : ℕ} {fixed : Fixed} {homes : List Home} {wo
   -- a region of cells had a row, and has one at the end
   record RegionRow (extent : Extent) : Type 0 where
     row : Row
-    is : IsOldRow heap row
+    is : IsRowFrom heap extent.start row
     one : EndRow heap half fixed homes now row row.extent.region
     same : row.extent ≡ extent
 
   -- each has
   region_row : (extent : Extent) → Contains (cell_extents heap.space) extent → RegionRow extent
   region_row extent among =
-      let rows = ending.begun.whole.rows in
-      let found = map_from (λ (row : Row). row.extent) rows.rows extent
-      (subst (λ all. Contains all extent) (sym rows.are.everywhere) among) in
-      let is = old_rows found.0 found.1 in
-      record { row = found.0; is = is; one = row_after ending found.0 is.among is.used; same = found.2 }
+      let own = row_of extent ending.begun.whole.rows.are among in
+      record { row = own.row; is = own.is; one = row_after ending own.row own.is.among own.is.used; same = own.same }
 
   -- what stands in the row stands in the heap
   row_has : {row : Row} (one : EndRow heap half fixed homes now row row.extent.region) (cell : Cell)

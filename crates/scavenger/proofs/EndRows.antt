@@ -5,7 +5,7 @@ use Rattle.std.proofs.lemmas.Bool.{cases_lt, cases_eq}
 use Rattle.std.proofs.lemmas.List.Elements.{Contains-append_left}
 use Rattle.tagged_word.proofs.Members.{in_map, map_from}
 use Rattle.heap_model.specs.Types.{Region, Cell}
-use Rattle.page_space.specs.declared.region.Region.TheVariants.{Page, Eden, Segment, Root, Layout, Mark, Board, Outside}
+use Rattle.page_space.specs.declared.region.Region.TheVariants.{Page, Eden, Segment}
 use Rattle.page_space.specs.Extents.{Extent, eden_start}
 use Rattle.page_space.proofs.Placed.{placed}
 use Rattle.page_space.proofs.Standing.{start_of}
@@ -199,11 +199,7 @@ module _ {heap : Heap} {half left : ℕ} {fixed : Fixed} {homes : List Home} {wo
         | inl same ↦ room_row row of worker among used is same
         | inr other ↦ other_row row of worker among used is ends other
       ]
-  row_of_kind row (Root variable) among used is ends = absurd ends
-  row_of_kind row (Layout shape) among used is ends = absurd ends
-  row_of_kind row (Mark mark) among used is ends = absurd ends
-  row_of_kind row (Board place) among used is ends = absurd ends
-  row_of_kind row Outside among used is ends = absurd ends
+  row_of_kind row _ among used is ends = absurd ends
 
   -- the row of the region of a row
   pub row_after : (row : Row) → Contains (cell_extents heap.space) row.extent → IsUsedRow heap row

@@ -22,7 +22,7 @@ use Rattle.scav_copy.specs.declared.places.Home.{Home}
 use Rattle.scav_copy.specs.Places.{Fixed}
 use Rattle.scavenger.specs.Laws.{IsEnded, EndsAreScavenges}
 use Rattle.scavenger.specs.Scavenged.{Scavenges, place_after}
-use Rattle.scavenger.proofs.EndWords.{Ending, few, outside_same}
+use Rattle.scavenger.proofs.EndWords.{Ending, ended, few, outside_same}
 use Rattle.scavenger.proofs.EndCopies.{renaming}
 use Rattle.scavenger.proofs.EndRows.{CameFrom, ended_heap}
 use Rattle.scavenger.proofs.EndHeap.{came_from}
@@ -100,6 +100,7 @@ scavenged old new fixed homes words fill young is =
       homes = homes;
       begins = is.begun.begins;
       renaming = renaming ending;
+      housed = (ended ending).2;
       outside = outside_same ending;
       seat = is.seat;
       paths = is.paths;

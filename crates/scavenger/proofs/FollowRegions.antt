@@ -3,7 +3,7 @@ use Rattle.std.proofs.Common.{ℕ, ◌+◌, ◌*◌, ◌<◌, ◌≤◌, ◌≡�
 use Rattle.std.specs.List.{Contains}
 use Rattle.std.proofs.Math.Nat.{mul-le-mul_left}
 use Rattle.page_space.specs.declared.region.Region.{Region}
-use Rattle.page_space.specs.declared.region.Region.TheVariants.{Page, Eden, Segment, Root, Layout, Mark, Board, Outside}
+use Rattle.page_space.specs.declared.region.Region.TheVariants.{Page, Eden, Segment}
 use Rattle.page_space.specs.Extents.{Space, Extent, ContainsAddress, eden_start}
 use Rattle.page_space.specs.Extents.{half_segments}
 use Rattle.page_space.proofs.Standing.{start_of, length_of}
@@ -45,11 +45,7 @@ left_by heap half left at end extent (Segment one worker) other empty young is e
           segment_is_left heap.space left worker at
           (subst (λ (h : ℕ). IsInRegion heap.space (Segment h worker) at) rest is)
     ]
-left_by heap half left at end extent (Root variable) other empty young is ends = absurd ends
-left_by heap half left at end extent (Layout shape) other empty young is ends = absurd ends
-left_by heap half left at end extent (Mark mark) other empty young is ends = absurd ends
-left_by heap half left at end extent (Board place) other empty young is ends = absurd ends
-left_by heap half left at end extent Outside other empty young is ends = absurd ends
+left_by heap half left at end extent _ other empty young is ends = absurd ends
 
 -- the region of a cell's row holds its address
 region_holds : {heap : Heap} {cell : Cell} {words : List ℕ} → HasRows heap → (has : HasCell heap cell words)

@@ -4,7 +4,7 @@ use Rattle.std.specs.List.{All, AllPairs}
 use Rattle.std.proofs.lemmas.List.{map-append}
 use Rattle.std.proofs.lemmas.List.Elements.{All-nil, All-cons, All-head, All-tail, All-weaker}
 use Rattle.std.proofs.lemmas.List.Kept.{AllPairs-cons}
-use Rattle.page_space.specs.declared.region.Region.TheVariants.{Page, Eden, Segment, Root, Layout, Mark, Board, Outside}
+use Rattle.page_space.specs.declared.region.Region.TheVariants.{Eden, Segment}
 use Rattle.page_space.specs.Extents.{Space, Stretch, Extent, words_in, extents_from}
 use Rattle.page_space.proofs.Stretches.{words_in-cons}
 use Rattle.cell_layout.specs.Cells.{IsRow}
@@ -77,14 +77,9 @@ row_climbs space words from to (cell ∷ cells) row =
 -- so do those of them that are young, kind by kind
 if_young_climbs : (from to : ℕ) (cells : List Cell) (region : Region) → Climbs from to (addresses cells)
     → Climbs from to (addresses (if_young cells region))
-if_young_climbs from to cells (Page page) climbs = climbs_ordered from to (addresses cells) climbs
 if_young_climbs from to cells Eden climbs = climbs
 if_young_climbs from to cells (Segment half worker) climbs = climbs
-if_young_climbs from to cells (Root variable) climbs = climbs_ordered from to (addresses cells) climbs
-if_young_climbs from to cells (Layout shape) climbs = climbs_ordered from to (addresses cells) climbs
-if_young_climbs from to cells (Mark mark) climbs = climbs_ordered from to (addresses cells) climbs
-if_young_climbs from to cells (Board place) climbs = climbs_ordered from to (addresses cells) climbs
-if_young_climbs from to cells Outside climbs = climbs_ordered from to (addresses cells) climbs
+if_young_climbs from to cells _ climbs = climbs_ordered from to (addresses cells) climbs
 
 -- the cells stand one behind another in the row's region
 pub record StandsIn (heap : Heap) (row : Row) : Type 0 where

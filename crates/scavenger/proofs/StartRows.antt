@@ -1,9 +1,7 @@
 -- The cells of the young generation, row by row, and that these are all that stand from the first address of eden on.
 use Rattle.std.proofs.Common.{◌≡◌, ℕ, ◌+◌, ◌≤◌, ◌<◌, List, [], Contains, refl, sym, ap, subst, arith}
 use Rattle.std.specs.List.{flat_map}
-use Rattle.std.proofs.lemmas.List.Elements.{All-contains}
-use Rattle.tagged_word.proofs.Members.{in_map, map_from}
-use Rattle.page_space.specs.declared.region.Region.TheVariants.{Page, Eden, Segment, Root, Layout, Mark, Board, Outside}
+use Rattle.page_space.specs.declared.region.Region.TheVariants.{Page, Eden, Segment}
 use Rattle.page_space.specs.Extents.{Extent, IsRegion, eden_start}
 use Rattle.page_space.proofs.Lists.{contains_none}
 use Rattle.page_space.proofs.Standing.{start_of, length_of}
@@ -11,9 +9,10 @@ use Rattle.page_space.proofs.Placed.{placed}
 use Rattle.page_space.proofs.CellAddresses.{page_ends}
 use Rattle.cell_layout.proofs.Rows.{cell_within}
 use Rattle.heap_model.specs.Types.{Region, Cell}
-use Rattle.heap_model.specs.Heaps.{Heap, Row, EndsUsed, IsUsedRow, HasCell, cell_extents, words_of_cell}
+use Rattle.heap_model.specs.Heaps.{Heap, Row, EndsUsed, HasCell, words_of_cell}
 use Rattle.heap_model.specs.Wholeness.{HasRows}
 use Rattle.heap_model.proofs.RowEnds.{one_used_row}
+use Rattle.heap_model.proofs.RegionRows.{row_is, row_of}
 use Rattle.heap_model.proofs.CellsApart.{cell_extent_stands, ends_within, used_few, first_of_cell}
 use Rattle.heap_model.proofs.RowCovers.{from_one, of_one}
 
@@ -40,15 +39,10 @@ pub record IsOfYoung (heap : Heap) (row : Row) (cell : Cell) : Type 0 where
 young_is_of : (heap : Heap) (row : Row) (cell : Cell) (region : Region)
     → row.extent.start ≡ start_of heap.space region → Contains (if_young row.cells region) cell
     → IsOfYoung heap row cell
-young_is_of heap row cell (Page page) starts there = contains_none [] cell refl there
 young_is_of heap row cell Eden starts there = record { among = there; from = omega (arith, starts) }
 young_is_of heap row cell (Segment half worker) starts there =
     record { among = there; from = omega (arith, starts) }
-young_is_of heap row cell (Root variable) starts there = contains_none [] cell refl there
-young_is_of heap row cell (Layout shape) starts there = contains_none [] cell refl there
-young_is_of heap row cell (Mark mark) starts there = contains_none [] cell refl there
-young_is_of heap row cell (Board place) starts there = contains_none [] cell refl there
-young_is_of heap row cell Outside starts there = contains_none [] cell refl there
+young_is_of heap row cell _ starts there = contains_none [] cell refl there
 
 -- what stands from eden on is no cell of a page, kind by kind
 of_young_is : (heap : Heap) (row : Row) (cell : Cell) (region : Region)
@@ -60,34 +54,7 @@ of_young_is heap row cell (Page page) starts is_one within ends there below from
     absurd (omega (arith, page_ends heap.space page is_one))
 of_young_is heap row cell Eden starts is_one within ends there below from = there
 of_young_is heap row cell (Segment half worker) starts is_one within ends there below from = there
-of_young_is heap row cell (Root variable) starts is_one within ends there below from = absurd ends
-of_young_is heap row cell (Layout shape) starts is_one within ends there below from = absurd ends
-of_young_is heap row cell (Mark mark) starts is_one within ends there below from = absurd ends
-of_young_is heap row cell (Board place) starts is_one within ends there below from = absurd ends
-of_young_is heap row cell Outside starts is_one within ends there below from = absurd ends
-
--- the used row of a region, as one of the rows
-record HasRowOf (heap : Heap) (rows : List Row) (extent : Extent) : Type 0 where
-  row : Row
-  among : Contains rows row
-  in_region : Contains (cell_extents heap.space) row.extent
-  used : IsUsedRow heap row
-  of_extent : row.extent ≡ extent
-
--- each region of cells has one
-row_of : {heap : Heap} (rows : HasRows heap) (extent : Extent) → Contains (cell_extents heap.space) extent
-    → HasRowOf heap rows.rows extent
-row_of {heap} rows extent among =
-    let Has : List Extent → Type 0 = λ all. Contains all extent in
-    let found = map_from (λ (row : Row). row.extent) rows.rows extent (subst Has (sym rows.are.everywhere) among) in
-    let Among : Extent → Type 0 = λ one. Contains (cell_extents heap.space) one in
-    record {
-      row = found.0;
-      among = found.1;
-      in_region = subst Among (sym found.2) among;
-      used = All-contains (IsUsedRow heap) rows.rows found.0 rows.are.each found.1;
-      of_extent = found.2;
-    }
+of_young_is heap row cell _ starts is_one within ends there below from = absurd ends
 
 -- a young cell of the heap
 pub record IsYoungOf (heap : Heap) (cell : Cell) : Type 0 where
@@ -100,15 +67,13 @@ pub young_has : {heap : Heap} (rows : HasRows heap) (cell : Cell) → Contains (
 young_has {heap} rows cell there =
     let found = from_one young_of rows.rows cell there in
     let row : Row = found.one in
-    let Among : List Extent → Type 0 = λ all. Contains all row.extent in
-    let in_region = subst Among rows.are.everywhere (in_map (λ (one : Row). one.extent) rows.rows row found.among) in
-    let used : IsUsedRow heap row = All-contains (IsUsedRow heap) rows.rows row rows.are.each found.among in
-    let place = (placed heap.space row.extent (cell_extent_stands heap.space row.extent in_region)).place in
+    let one = row_is row rows.are found.among in
+    let place = (placed heap.space row.extent (cell_extent_stands heap.space row.extent one.among)).place in
     let is = young_is_of heap row cell row.extent.region (ap (λ (e : Extent). e.start) place) found.has in
     let within =
-    cell_within heap.space heap.words row.extent.start row.end row.cells cell used.stands is.among in
+    cell_within heap.space heap.words row.extent.start row.end row.cells cell one.used.stands is.among in
     record {
-      has = record { row = row; in_region = in_region; used = used; in_row = is.among; words_are = refl };
+      has = record { row = row; in_region = one.among; used = one.used; in_row = is.among; words_are = refl };
       young = omega (arith, is.from, within.0);
     }
 
@@ -116,19 +81,19 @@ young_has {heap} rows cell there =
 pub young_in : {heap : Heap} {words : List ℕ} (rows : HasRows heap) (cell : Cell) → HasCell heap cell words
     → eden_start heap.space ≤ cell.at → Contains (young_cells rows.rows) cell
 young_in {heap} rows cell has young =
-    let found = row_of rows has.row.extent has.in_region in
+    let found = row_of has.row.extent rows.are has.in_region in
     let row : Row = found.row in
-    let one = one_used_row heap row has.row found.used has.used found.of_extent in
+    let one = one_used_row heap row has.row found.is.used has.used found.same in
     let there = subst (λ (cells : List Cell). Contains cells cell) (sym one.cells) has.in_row in
-    let place = placed heap.space row.extent (cell_extent_stands heap.space row.extent found.in_region) in
+    let place = placed heap.space row.extent (cell_extent_stands heap.space row.extent found.is.among) in
     let few = used_few rows in
-    let within = cell_within heap.space heap.words row.extent.start row.end row.cells cell found.used.stands there in
+    let within = cell_within heap.space heap.words row.extent.start row.end row.cells cell found.is.used.stands there in
     let below : cell.at < row.end = omega (arith, within.1, (first_of_cell has).below) in
     let is = of_young_is heap row cell row.extent.region (ap (λ (e : Extent). e.start) place.place) place.is_region
     (omega (
       arith,
-      ends_within heap row few found.in_region found.used,
+      ends_within heap row few found.is.among found.is.used,
       ap (λ (e : Extent). e.words) place.place,
     ))
-    found.used.ends there below young in
-    of_one young_of rows.rows row cell found.among is
+    found.is.used.ends there below young in
+    of_one young_of rows.rows row cell found.there is

@@ -4,7 +4,7 @@ use Rattle.std.specs.List.{All, sum_by, range_with_len}
 use Rattle.std.proofs.lemmas.List.Sums.{sum_by-cons, sum_by-append}
 use Rattle.std.proofs.lemmas.List.Elements.{All-head, All-tail}
 use Rattle.tagged_word.proofs.Members.{first_in, rest_in}
-use Rattle.page_space.specs.declared.region.Region.TheVariants.{Page, Eden, Segment, Root, Layout, Mark, Board, Outside}
+use Rattle.page_space.specs.declared.region.Region.TheVariants.{Page, Eden, Segment}
 use Rattle.page_space.specs.Sizes.{page_words}
 use Rattle.page_space.specs.Extents.{Space, Stretch, Extent, each_of, half_of, half_segments, extents_from}
 use Rattle.page_space.specs.Extents.{cell_stretches}
@@ -94,11 +94,7 @@ if_young_words : (heap : Heap) (row : Row) (region : Region) → EndsUsed heap r
 if_young_words heap row (Page page) ends full = refl
 if_young_words heap row Eden ends full = omega (arith, full)
 if_young_words heap row (Segment half worker) ends full = omega (arith, full)
-if_young_words heap row (Root variable) ends full = absurd ends
-if_young_words heap row (Layout shape) ends full = absurd ends
-if_young_words heap row (Mark mark) ends full = absurd ends
-if_young_words heap row (Board place) ends full = absurd ends
-if_young_words heap row Outside ends full = absurd ends
+if_young_words heap row _ ends full = absurd ends
 
 -- the survivors' words of a row, and its used ones
 abbrev survivors_by : Row → ℕ

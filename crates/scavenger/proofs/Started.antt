@@ -2,16 +2,17 @@
 use Rattle.std.proofs.Common.{◌≡◌, ℕ, ◌+◌, ◌≤◌, ◌<◌, ◌↔◌, List, [], ◌∷◌, map, Contains, inl, inr, refl, sym, ◌∙◌}
 use Rattle.std.proofs.Common.{ap, subst, arith}
 use Rattle.std.specs.List.{All, AllPairs, range_with_len, sum_by}
-use Rattle.std.proofs.lemmas.List.Elements.{All-contains, All-contains_itself, All-weaker}
+use Rattle.std.proofs.lemmas.List.Elements.{All-contains_itself, All-weaker}
 use Rattle.tagged_word.proofs.Members.{in_map, map_from, in_range, range_bounds}
-use Rattle.page_space.specs.Extents.{Space, Extent, eden_start, cell_stretches}
+use Rattle.page_space.specs.Extents.{Space, eden_start, cell_stretches}
 use Rattle.page_space.specs.RegionLaws.{IsSpace}
 use Rattle.cell_layout.specs.Cells.{layouts_in}
 use Rattle.handle_roots.specs.Roots.{root_at}
 use Rattle.heap_model.specs.Types.{Cell}
-use Rattle.heap_model.specs.Heaps.{Heap, Row, IsUsedRow, words_of_cell}
+use Rattle.heap_model.specs.Heaps.{Heap, Row, words_of_cell}
 use Rattle.heap_model.specs.Wholeness.{HasRows, Whole}
 use Rattle.heap_model.specs.Collectable.{IsCollectable}
+use Rattle.heap_model.proofs.RegionRows.{row_is}
 use Rattle.heap_model.proofs.CellsApart.{has_is_cell, ends_within, used_few}
 use Rattle.nursery.specs.Young.{other_half}
 use Rattle.write_barrier.specs.MutatorState.{heap_of}
@@ -89,12 +90,9 @@ fixed_begins heap rows half = record {
 -- each row stands in its region
 rows_stand : (heap : Heap) (rows : HasRows heap) → All (StandsIn heap) rows.rows
 rows_stand heap rows =
-    let Among : Row → List Extent → Type 0 = λ row all. Contains all row.extent in
     let each : (row : Row) → Contains rows.rows row → StandsIn heap row = λ row there.
-    let used : IsUsedRow heap row = All-contains (IsUsedRow heap) rows.rows row rows.are.each there in
-    let among = in_map (λ (one : Row). one.extent) rows.rows row there in
-    let in_region = subst (Among row) rows.are.everywhere among in
-    record { stands = used.stands; within = ends_within heap row (used_few rows) in_region used } in
+    let is = row_is row rows.are there in
+    record { stands = is.used.stands; within = ends_within heap row (used_few rows) is.among is.used } in
     All-weaker (Contains rows.rows) (StandsIn heap) each rows.rows (All-contains_itself rows.rows)
 
 -- the cells ascend

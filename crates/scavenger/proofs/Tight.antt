@@ -1,7 +1,6 @@
 -- After a scavenge the heap is tight: what was reached in the old heap is reached in the new one, where it came.
-use Rattle.std.proofs.Common.{◌≡◌, ℕ, ◌+◌, ◌<◌, ◌≤◌, ◌⊎◌, inl, inr, List, Contains, Option, Some, None, IsTrue}
+use Rattle.std.proofs.Common.{◌≡◌, ℕ, ◌+◌, ◌<◌, ◌≤◌, List, Contains, Option, Some, None, IsTrue}
 use Rattle.std.proofs.Common.{slice_get, get_or, refl, sym, ◌∙◌, ap, subst, arith}
-use Rattle.std.proofs.lemmas.Bool.{cases_lt}
 use Rattle.std.proofs.lemmas.Option.{same_Some, slice_get-get_or}
 use Rattle.tagged_word.specs.declared.reading.Reading.{Reading}
 use Rattle.tagged_word.specs.Cells.{ReadsAs, scavenge_offsets, is_free_kind}
@@ -9,6 +8,7 @@ use Rattle.tagged_word.specs.Readings.{read_cell}
 use Rattle.tagged_word.proofs.Cells.{same_reading}
 use Rattle.tagged_word.proofs.CellReadings.{cell_from}
 use Rattle.tagged_word.proofs.Readings.{reference_from}
+use Rattle.tagged_word.proofs.Members.{one_in}
 use Rattle.page_space.specs.Extents.{Space, eden_start, marks_start}
 use Rattle.page_space.proofs.Starts.{layouts_start_is, marks_start_is}
 use Rattle.cell_layout.specs.Cells.{reading_of}
@@ -20,17 +20,19 @@ use Rattle.heap_model.specs.Slots.{reference_word}
 use Rattle.heap_model.specs.Kinds.{HasWord}
 use Rattle.heap_model.specs.Wholeness.{HasSizes}
 use Rattle.heap_model.specs.Collectable.{IsCollectable}
-use Rattle.heap_model.specs.Reaching.{IsReached, IsFreeInPage, IsTight}
+use Rattle.heap_model.specs.Reaching.{IsReached, IsTight}
 use Rattle.heap_model.proofs.CellsApart.{has_is_cell}
 use Rattle.heap_model.proofs.CellWords.{word_there}
 use Rattle.heap_moves.specs.Moved.{IsMovedWord, moved_to, IsFrom, IsMoved}
 use Rattle.heap_moves.proofs.MovedCells.{came}
 use Rattle.heap_moves.proofs.MovedWords.{referred}
 use Rattle.scav_copy.specs.declared.places.Home.{Home}
+use Rattle.scav_copy.specs.declared.places.Room.{Room}
 use Rattle.scav_copy.specs.Places.{Fixed, last_address, cell_before, offsets_in, offsets_of}
 use Rattle.scav_copy.specs.Renamings.{IsReachable, RefersToAddress, Renaming}
+use Rattle.scav_copy.specs.Copies.{AreHoused}
 use Rattle.scav_copy.proofs.Spots.{none_in, reached_is}
-use Rattle.scavenger.specs.Starts.{Begins, IsYoungCell, IsRootAt}
+use Rattle.scavenger.specs.Starts.{Begins, IsYoungCell, IsRootAt, room_of}
 use Rattle.scavenger.specs.Scavenged.{home_of, place_after}
 use Rattle.scavenger.specs.Laws.{ScavengesAreTight}
 use Rattle.scavenger.proofs.StartTargets.{word_reads}
@@ -158,45 +160,50 @@ module _ {old new : Heap} {half : ℕ} {fixed : Fixed} {homes : List Home} {word
       reaches home.from home.to reached
       (goes_home old homes home.from is.young ∙ home_found homes home renaming.one_each there)
 
-  -- a cell that stays came from a page, where it was free, or is a home copy
-  stood_kept : {cell was : Cell} {body others : List ℕ} → IsCollectable old half → HasCell new cell others
-      → HasCell old was body → place_after old homes was.at ≡ Some cell.at → cell.at < eden_start old.space
-      → StaysAt old homes was.at cell.at → IsReached new cell.at ⊎ IsFreeInPage new cell
-  stood_kept {cell} {was} {body} collectable has had stays below (StaysAt.in_page page same) =
+  -- a home is in the segments
+  home_young : AreHoused fixed homes → (home : Home) → Contains homes home → eden_start old.space ≤ home.to
+  home_young housed home there =
+      let lies = housed home there in
+      let same : room_of old.space half ≡ lies.0 =
+      one_in (room_of old.space half) lies.0
+      (subst (λ (rooms : List Room). Contains rooms lies.0) begins.rooms lies.1.among) in
+      omega (arith, ap (λ (room : Room). room.from) same, lies.1.from)
+
+  -- a cell of a page stood there before, and was free
+  stood_free : {cell was : Cell} {body others : List ℕ} → AreHoused fixed homes → IsCollectable old half
+      → HasCell new cell others → HasCell old was body → place_after old homes was.at ≡ Some cell.at
+      → cell.at < eden_start old.space → StaysAt old homes was.at cell.at → IsTrue (is_free_kind cell.layout.kind)
+  stood_free {was = was} {body} housed collectable has had stays below (StaysAt.in_page page same) =
       let free = collectable.pages was body had page in
-      inr record {
-        below = subst (λ space. cell.at < eden_start space) (sym moved.space) below;
-        free = subst (λ (one : Cell). IsTrue (is_free_kind one.layout.kind)) (came moved has had stays).same free;
-      }
-  stood_kept {cell} collectable has had stays below (StaysAt.at_home young found) =
-      inl (subst (IsReached new) found.to (home_reached found.home found.among))
+      subst (λ (one : Cell). IsTrue (is_free_kind one.layout.kind)) (came moved has had stays).same free
+  stood_free housed collectable has had stays below (StaysAt.at_home young found) =
+      absurd (omega (arith, below, found.to, home_young housed found.home found.among))
 
-  -- a cell of a page was one before, and free
-  page_kept : {cell : Cell} {others : List ℕ} → IsCollectable old half → HasCell new cell others
+  -- so it is free
+  page_free : {cell : Cell} {others : List ℕ} → AreHoused fixed homes → IsCollectable old half → HasCell new cell others
       → cell.at < eden_start old.space → IsFrom old (place_after old homes) cell
-      → IsReached new cell.at ⊎ IsFreeInPage new cell
-  page_kept {cell} collectable has below (IsFrom.stood was body had stays) =
-      stood_kept collectable has had stays below (stays_at old homes was.at cell.at stays)
-  page_kept {cell} collectable has below (IsFrom.free free none) =
-      inr record { below = subst (λ space. cell.at < eden_start space) (sym moved.space) below; free = free }
+      → IsTrue (is_free_kind cell.layout.kind)
+  page_free {cell} housed collectable has below (IsFrom.stood was body had stays) =
+      stood_free housed collectable has had stays below (stays_at old homes was.at cell.at stays)
+  page_free housed collectable has below (IsFrom.free free none) = free
 
-  -- so the new heap is tight, where the young cells are home copies
-  new_is_tight : IsCollectable old half
+  -- the new heap is tight, where its young cells are home copies
+  new_is_tight : AreHoused fixed homes → IsCollectable old half
       → ((cell : Cell) (others : List ℕ) → HasCell new cell others → eden_start old.space ≤ cell.at
       → (home : Home) × Contains homes home × (home.to ≡ cell.at))
       → IsTight new
-  new_is_tight collectable alone = record {
-    each = λ cell others has.
-        elim (cases_lt cell.at (eden_start old.space)) [
-          | inl below ↦ page_kept collectable has below (moved.back cell others has)
-          | inr young ↦
-              let found = alone cell others has young in
-              inl (subst (IsReached new) found.2 (home_reached found.0 found.1))
-        ];
-  }
+  new_is_tight housed collectable alone =
+      let same = ap eden_start moved.space in
+      record {
+        young = λ cell others has above.
+            let found = alone cell others has (omega (arith, same, above)) in
+            subst (IsReached new) found.2 (home_reached found.0 found.1);
+        pages = λ cell others has below.
+            page_free housed collectable has (omega (arith, same, below)) (moved.back cell others has);
+      }
 
 -- a scavenge leaves a tight heap
 pub scavenges_are_tight : ScavengesAreTight
 scavenges_are_tight old new graph shows scavenged =
-    new_is_tight shows.shows.whole.sized scavenged.begins scavenged.renaming scavenged.moved shows.collectable
-    scavenged.alone
+    new_is_tight shows.shows.whole.sized scavenged.begins scavenged.renaming scavenged.moved scavenged.housed
+    shows.collectable scavenged.alone

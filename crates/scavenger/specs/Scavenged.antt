@@ -11,6 +11,7 @@ use Rattle.write_barrier.specs.MutatorState.{Mutator, heap_of}
 use Rattle.scav_copy.specs.declared.places.Home.{Home}
 use Rattle.scav_copy.specs.Places.{Fixed, size_of}
 use Rattle.scav_copy.specs.Renamings.{Renaming}
+use Rattle.scav_copy.specs.Copies.{AreHoused}
 use Rattle.scavenger.specs.Starts.{Begins, IsRootAt}
 
 -- the home of the cell at an address, if it has one
@@ -27,13 +28,14 @@ abbrev pub words_of_homes : Fixed → List Home → ℕ
 words_of_homes fixed homes = sum_by (λ home. size_of fixed home.from) homes
 
 -- A scavenge. Exactly the young cells that were reached, from variables through slots of such cells, have homes: they
--- stand there, in the half that was empty, and all that referred to them refers to that. Eden is empty then, and the
--- survivors are the home copies alone. In pages, in second root words and in layout words nothing changed.
+-- stand there, in the main side's segment of the half that was empty, and all that referred to them refers to that. Eden
+-- is empty then, and the survivors are the home copies alone. In pages, in second root words and in layout words nothing changed.
 pub record Scavenges (old new : Mutator) : Type 0 where
   pub fixed : Fixed
   pub homes : List Home
   pub begins : Begins (heap_of old) (other_half old.young.half) fixed
   pub renaming : Renaming fixed (heap_words new.seat) homes
+  pub housed : AreHoused fixed homes
   pub outside : (at : ℕ) → (at < eden_start old.seat.space) ⊎ (roots_start old.seat.space ≤ at)
       → (IsRootAt old.seat.space at → ⊥) → slice_get (heap_words new.seat) at ≡ slice_get (heap_words old.seat) at
   pub seat : RestStays old.seat new.seat

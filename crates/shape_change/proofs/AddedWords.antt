@@ -12,8 +12,6 @@ use Rattle.object_graph.proofs.Lists.{slice_get-set_same, slice_get-set_other}
 use Rattle.page_space.specs.Extents.{Space, eden_start, layouts_start, marks_start}
 use Rattle.page_space.proofs.Starts.{roots_start_is, layouts_start_is, marks_start_is}
 use Rattle.nursery.specs.Young.{Young, HasRoom}
-use Rattle.shape_tree.specs.Shapes.{AreShapes}
-use Rattle.shape_tree.specs.ShapeLayouts.{layout_word}
 use Rattle.cell_layout.specs.Cells.{IsRow}
 use Rattle.heap_table.specs.Seats.{heap_words, RestStays}
 use Rattle.heap_table.specs.Staying.{rest_stays_again}
@@ -24,6 +22,7 @@ use Rattle.shape_change.specs.Additions.{AddsPath, with_shape}
 use Rattle.object_cells.specs.Made.{PutsWords}
 use Rattle.object_cells.proofs.OneWord.{WritesOne}
 use Rattle.object_cells.proofs.UnusedWords.{next_before_segments}
+use Rattle.object_cells.proofs.WordsPut.{sizes_stay}
 
 -- A path was added once so many words were reserved, and then words were put: the header of the cell at an address, one
 -- other word, and else words that are newly used.
@@ -41,13 +40,7 @@ pub record PutsOver (old mid new : Mutator) (path : Path) (cell : Cell) (shape a
   pub cell_below : cell.at < layouts_start old.seat.space
   pub at_below : at < layouts_start old.seat.space
 
--- nothing is reserved where no word is
-pub reserved_none : (main : Mutator) → reserved main 0 ≡ main
-reserved_none main =
-    let none : main.young.used + 0 ≡ main.young.used = omega arith in
-    ap (λ (n : ℕ). record main { young = record main.young { used = n } }) none
-
--- words were put over others where they are those from before, but for newly used ones, with one word put and then the header
+-- words were put over others where these are as before, but for newly used ones, with one word put and then the header
 pub over_last : {old mid new : Mutator} {path : Path} {cell : Cell} {header : Header} (shape place word need object : ℕ)
     (words : List ℕ) → IsTied old → HasRoom old.young need → AddsPath (reserved old need) mid path shape
     → PutsWords mid new (with_shape (slice_set words place word) object header shape)
@@ -108,19 +101,9 @@ module _ {old mid new : Mutator} {path : Path} {cell : Cell} {shape at word need
   -- the sizes are there
   pub over_sized : PutsOver old mid new path cell shape at word need words → HasSizes (heap_of new)
   over_sized over =
-      let sized = over.adds.sized in
-      let puts = over.puts in
-      record {
-        words = ap length puts.heap ∙ over.long ∙ sized.words ∙ ap marks_start (sym puts.beside.space);
-        shapes = subst AreShapes (sym puts.paths) sized.shapes;
-        layouts = λ shape below.
-            let at : ℕ = layouts_start mid.seat.space + shape in
-            let behind : layouts_start old.seat.space ≤ at =
-            omega (arith, ap (λ (s : Space). layouts_start s) over.adds.beside.space) in
-            ap (λ (s : Space). slice_get (heap_words new.seat) (layouts_start s + shape)) puts.beside.space
-            ∙ ap (λ all. slice_get all at) puts.heap ∙ layouts_stay at over behind ∙ sized.layouts shape below
-            ∙ ap (λ paths. Some (layout_word paths shape)) (sym puts.paths);
-      }
+      let space = ap (λ (s : Space). layouts_start s) over.adds.beside.space in
+      sizes_stay mid new over.adds.sized over.puts.beside over.puts.paths (ap length over.puts.heap ∙ over.long)
+      (λ a behind. ap (λ all. slice_get all a) over.puts.heap ∙ layouts_stay a over (omega (arith, behind, space)))
 
   -- how many words of eden are used afterwards
   pub over_young : PutsOver old mid new path cell shape at word need words

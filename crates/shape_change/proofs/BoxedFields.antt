@@ -36,7 +36,7 @@ use Rattle.object_cells.proofs.OneWord.{IsReady}
 use Rattle.object_cells.proofs.OwnPlaces.{box_size, box_place, store_not_in_box}
 use Rattle.object_cells.proofs.OwnCells.{cell_below_layouts, beside_not_header}
 use Rattle.object_cells.proofs.PlainFields.{plain_sound}
-use Rattle.object_cells.proofs.SlotPlaces.{one_slots}
+use Rattle.heap_model.proofs.OneBeside.{one_slots}
 use Rattle.object_cells.proofs.UnusedWords.{cell_is_used, next_before_segments}
 use Rattle.object_cells.proofs.WordsPut.{PutsTwo, HasHead, puts_two, sizes_put}
 use Rattle.shape_change.proofs.ContentsShown.{box_shows}

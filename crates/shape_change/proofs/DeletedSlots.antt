@@ -150,7 +150,8 @@ module _ {old new : Mutator} {cell : Cell} {slot : ℕ} {fields : List Field}
                 ∙ ap (slice_get (heap_words new.seat)) (sym (address_is taken.last (omega arith))) ∙ taken.hole))
             | inr apart ↦
                 let behind : taken.last < one = omega (arith, rest, apart) in
-                NowHolds.hole rest ((slots_held deleting.whole deleting.has deleting.shows).rest one word (omega (arith, count, behind))
+                NowHolds.hole rest ((slots_held deleting.whole deleting.has deleting.shows).rest one word
+                (omega (arith, count, behind))
                 (now_stays one word below stands (inr behind)))
           ]
         ]

@@ -1,8 +1,7 @@
 -- What filling a slot leaves of the mutator.
-use Rattle.std.proofs.Common.{◌≡◌, ℕ, refl, sym, ap, subst, ◌∙◌}
+use Rattle.std.proofs.Common.{◌≡◌, ℕ, refl, ap, ◌∙◌}
 use Rattle.heap_table.specs.Seats.{Seat}
-use Rattle.heap_model.specs.Wholeness.{HasSizes}
-use Rattle.write_barrier.specs.MutatorState.{Mutator, heap_of}
+use Rattle.write_barrier.specs.MutatorState.{Mutator}
 use Rattle.write_barrier.specs.Opening.{ChangesWithin}
 use Rattle.object_cells.specs.declared.content.SlotWrite.{SlotWrite}
 use Rattle.object_cells.specs.declared.content.SlotWrite.TheVariants as filling
@@ -30,16 +29,3 @@ pub laid_space : (old between laid : Mutator) (filling : SlotWrite) (from to : �
     → ChangesWithin (with_paths between laid.paths) laid from to → laid.seat.space ≡ old.seat.space
 laid_space old between laid filling from to allocates changes =
     changes.seat.space ∙ ap (λ (seat : Seat). seat.space) (allocates_seat old between filling allocates)
-
--- where words were used, there are as many words and paths as before, and the layout words are the same
-pub allocates_sized : (old new : Mutator) (filling : SlotWrite) → AllocatesBox old new filling → HasSizes (heap_of old)
-    → HasSizes (heap_of new)
-allocates_sized old new (filling.Tagged word) same sized =
-    subst (λ (main : Mutator). HasSizes (heap_of main)) (sym same) sized
-allocates_sized old new (filling.Raw word) same sized =
-    subst (λ (main : Mutator). HasSizes (heap_of main)) (sym same) sized
-allocates_sized old new (filling.NewBox at v) more sized =
-    subst (λ (main : Mutator). HasSizes (heap_of main)) (sym more.1)
-    (record { words = sized.words; shapes = sized.shapes; layouts = sized.layouts })
-allocates_sized old new (filling.OldBox at v) same sized =
-    subst (λ (main : Mutator). HasSizes (heap_of main)) (sym same) sized

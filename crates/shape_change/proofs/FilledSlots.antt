@@ -48,7 +48,8 @@ pub fills_slot : {old new : Heap} {cell : Cell} {shape at word slot : ℕ} {othe
     {field : Field} (sets : SetsOne old new cell shape at word slot others made before field)
     → IsNumbered old cell (words_of_cell old cell) slot at → IsSlotPlace old cell sets.shown.has.store at others
     → AreBoxes new made
-    → (IsTaggedSlot (reshaped new.paths cell shape) slot → ComesFrom new (HasTagged cell sets.shown.slots) made slot slot slot word)
+    → (IsTaggedSlot (reshaped new.paths cell shape) slot
+    → ComesFrom new (HasTagged cell sets.shown.slots) made slot slot slot word)
     → ShowsField new (nat_lt slot cell.layout.cap) word field.rep field.value → FillsOne sets
 fills_slot {old} {new} {cell} {shape} {at} {word} {slot} {others} {made} {field = field} sets numbered place boxes
     comes shows =

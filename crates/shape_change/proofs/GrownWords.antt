@@ -81,7 +81,8 @@ module _ {old new : Mutator} {graph : Graph} {plain : PlainObject} {object : ℕ
   abbrev pub bits : ℕ
   bits = shaped_bits header growing.adds.next
 
-  pub words_are : heap_words new.seat ≡ filled_run (heap_words growing.adds.mid.seat) object object bits store store.capacity
+  pub words_are : heap_words new.seat ≡ filled_run (heap_words growing.adds.mid.seat) object object bits store
+      store.capacity
       (grown store.capacity) (next_at old) (store_content value)
   words_are =
       let begun = begun_store (heap_words growing.adds.mid.seat) store (grown store.capacity) (next_at old) in
@@ -128,6 +129,7 @@ module _ {old new : Mutator} {graph : Graph} {plain : PlainObject} {object : ℕ
   pub filled : FilledRow (heap_of new) new_store (store_content value)
   filled =
       let space = over_space over in
-      filled_row (heap_of new) (over_sized over) (store_is_long (next_at old) (grown store.capacity) (omega (arith, few)))
+      filled_row (heap_of new) (over_sized over)
+      (store_is_long (next_at old) (grown store.capacity) (omega (arith, few)))
       fills (omega (arith, ap (λ (s : Space). eden_start s) space))
       (omega (arith, run.ends, ap (λ (s : Space). segments_start s) space))

@@ -2,24 +2,17 @@
 use Rattle.std.proofs.Common.{◌≡◌, ℕ, zero, suc, ◌+◌, ◌≤◌, ◌<◌, List, ◌++◌, length, map, take, drop}
 use Rattle.std.proofs.Common.{Some, slice_get, unwrap_or, refl, sym, ◌∙◌, ap, subst, arith, inl, length-append}
 use Rattle.std.proofs.Common.{length-take}
-use Rattle.std.proofs.Math.Seq.{take-append_seam}
 use Rattle.std.proofs.lemmas.List.{length-map, take-append-drop}
 use Rattle.std.proofs.lemmas.Option.{slice_get_past}
 use Rattle.tagged_word.specs.Layouts.{layout_bits}
 use Rattle.tagged_word.specs.Shapes.{shapes_most, first_path_shape, fixed_layout_words}
 use Rattle.page_space.specs.Extents.{layouts_start, marks_start}
 use Rattle.heap_model.specs.Types.{Path}
-use Rattle.object_graph.specs.Limits.{paths_most}
-use Rattle.object_graph.specs.Paths.{missing}
-use Rattle.object_graph.proofs.AddedPaths.{with_path-is}
-use Rattle.shape_tree.specs.Shapes.{Leads}
 use Rattle.shape_tree.specs.ShapeLayouts.{layout_of, layout_word, layout_words}
 use Rattle.shape_tree.proofs.PathLayouts.{layout_word-append}
 use Rattle.heap_table.specs.Seats.{Seat, RestStays, heap_words}
-use Rattle.heap_model.specs.Wholeness.{HasSizes}
-use Rattle.write_barrier.specs.MutatorState.{Mutator, heap_of}
+use Rattle.write_barrier.specs.MutatorState.{Mutator}
 use Rattle.write_barrier.specs.Opening.{ChangesWithin, LayoutsBelow}
-use Rattle.shape_change.specs.Additions.{AddsPath}
 use Rattle.shape_change.specs.Deletions.{AddsPaths}
 
 -- where paths are added, the layout word of each shape that was there stays, and that of shape 0
@@ -57,34 +50,6 @@ new_layouts_below main before fewer were =
           were shape few ∙ ap (λ word. Some word) (layout_word_past first shape (omega (arith, long)));
     }
 
--- a path that was added stands behind those that were there
-led_behind : {old new : List Path} {path : Path} {next : ℕ} → Leads old new path next → old ++ missing old path ≡ new
-led_behind {old} {new} {path} leads = with_path-is (Some paths_most) old new path leads.added
-
--- so there are no fewer paths
-pub led_longer : {old new : List Path} {path : Path} {next : ℕ} (before : ℕ) → Leads old new path next
-    → before ≡ length old → before ≤ length new
-led_longer {old} {new} {path} before leads counted =
-    let long = ap (λ (all : List Path). length all) (led_behind leads) in
-    omega (arith, counted, length-append old (missing old path), long)
-
--- and the first ones are those that were there
-led_first : {old new : List Path} {path : Path} {next : ℕ} (before : ℕ) → Leads old new path next → before ≡ length old
-    → take before new ≡ old
-led_first {old} {new} {path} before leads counted =
-    ap (λ n. take n new) counted ∙ ap (take (length old)) (sym (led_behind leads))
-    ∙ take-append_seam old (missing old path)
-
--- where a path was added and no other part has changed, the layout words are those of the paths that were there
-pub led_layouts : {old mid : Mutator} {path : Path} {next : ℕ} (before : ℕ) → HasSizes (heap_of old)
-    → Leads old.paths mid.paths path next → mid ≡ record old { paths = mid.paths } → before ≡ length old.paths
-    → (shape : ℕ) → shape < shapes_most → slice_get (heap_words mid.seat) (layouts_start mid.seat.space + shape)
-    ≡ Some (layout_word (take before mid.paths) shape)
-led_layouts before sized leads rest counted shape few =
-    ap (λ (main : Mutator). slice_get (heap_words main.seat) (layouts_start main.seat.space + shape)) rest
-    ∙ sized.layouts shape few
-    ∙ ap (λ (all : List Path). Some (layout_word all shape)) (sym (led_first before leads counted))
-
 -- where the layout words were put then, all words before them are as they were, and all else but the paths
 pub led_paths : {old mid new : Mutator} → mid ≡ record old { paths = mid.paths }
     → ChangesWithin mid new (layouts_start mid.seat.space) (marks_start mid.seat.space) → AddsPaths old new
@@ -97,18 +62,4 @@ led_paths {old = old} {mid = mid} {new = new} rest changes =
       same = λ at below.
           changes.beside at (inl (subst (λ (one : Seat). at < layouts_start one.space) (sym seat) below))
           ∙ ap (λ (one : Seat). slice_get (heap_words one) at) seat;
-    }
-
--- so the path was added with its layout words
-pub path_led : {old mid new : Mutator} {path : Path} {next : ℕ} → Leads old.paths mid.paths path next
-    → mid ≡ record old { paths = mid.paths } → HasSizes (heap_of new)
-    → ChangesWithin mid new (layouts_start mid.seat.space) (marks_start mid.seat.space) → AddsPath old new path next
-path_led {old} {mid} {new} {path} {next} leads rest sized changes =
-    let adds : AddsPaths old new = led_paths {old = old} {mid = mid} {new = new} rest changes in
-    record {
-      beside = adds.beside;
-      young = adds.young;
-      leads = subst (λ (all : List Path). Leads old.paths all path next) (sym changes.paths) leads;
-      sized = sized;
-      stay = adds.same;
     }

@@ -5,8 +5,6 @@ use Rattle.tagged_word.specs.Cells.{store_head}
 use Rattle.heap_model.specs.Types.{Held}
 use Rattle.heap_model.specs.Needs.{store_need, box_need, grown}
 use Rattle.heap_model.specs.Rooms.{new_field_need, new_field_capacity}
-use Rattle.object_cells.specs.declared.content.SlotContent.{SlotContent}
-use Rattle.object_cells.specs.declared.content.SlotContent.TheVariants as content
 use Rattle.object_cells.proofs.HeldNeeds.{content_need_is}
 use Rattle.object_cells.specs.Made.{is_wide_held, content_need, store_content}
 
@@ -66,9 +64,3 @@ capacity_to_new_store capacity cap fields behind full =
     let has_none : nat_lt (fields - cap) capacity ≡ false = grind (arith, nat_tests) in
     ap (λ t. cond t capacity (cond (nat_lt (fields - cap) capacity) capacity (grown capacity))) test
     ∙ ap (λ t. cond t capacity (grown capacity)) has_none
-
--- a box has two words
-pub content_need_few : (holds : SlotContent) → content_need holds ≤ 2
-content_need_few (content.Tagged word) = omega arith
-content_need_few (content.Raw word) = omega arith
-content_need_few (content.Boxed v) = omega arith

@@ -8,7 +8,6 @@ use Rattle.object_graph.specs.declared.value.Rep.TheVariants as rep
 use Rattle.object_graph.specs.Values.{rep_of}
 use Rattle.object_graph.specs.Objects.{with_field}
 use Rattle.object_graph.specs.Graphs.{Graph, PlainObject}
-use Rattle.page_space.specs.Extents.{Space}
 use Rattle.shape_tree.specs.Shapes.{shape_path, stepped}
 use Rattle.heap_table.specs.Seats.{heap_words}
 use Rattle.heap_model.specs.Heaps.{words_of_cell}
@@ -36,25 +35,20 @@ use Rattle.shape_tree.specs.ShapeLayouts.{layout_of}
 use Rattle.object_graph.specs.Paths.{path_of}
 use Rattle.shape_change.proofs.OneAdded.{one_adds}
 use Rattle.object_cells.proofs.MadeBoxes.{row_of_none}
-use Rattle.nursery.specs.Young.{HasRoom}
 use Rattle.shape_change.proofs.FullStores.{length-slots}
 use Rattle.object_cells.proofs.NumberedSlots.{IsNumbered}
 use Rattle.object_cells.proofs.OwnCells.{cell_below_layouts}
 use Rattle.object_cells.proofs.SlotsNow.{plain_cell_size}
 use Rattle.shape_change.proofs.AddedFields.{new_field, path_of-push}
-use Rattle.shape_change.proofs.AddedWords.{PutsOver, over_last, reserved_none}
+use Rattle.shape_change.proofs.AddedWords.{PutsOver, over_last}
+use Rattle.object_cells.proofs.FilledSlots.{reserved_none}
+use Rattle.object_cells.proofs.NothingUsed.{room_for_none}
 use Rattle.shape_change.proofs.AddedShown.{Adding, added_shows}
 use Rattle.shape_change.proofs.OneAdding.{OneAdding, one_adding, path_after}
 
 -- the address of the slot behind those of the fields, in the object
 abbrev own_place : Mutator → ℕ → Header → ℕ
 own_place old object header = object + (plain_head + count_of old.paths header.shape)
-
--- there is room for no word
-room_for_none : {old : Mutator} {graph : Graph} {plain : PlainObject} {object : ℕ} {header : Header} {name : ℕ}
-    {value : Held} {what : Value} → Adding old graph plain object header name value what → HasRoom old.young 0
-room_for_none {old} known =
-    omega (arith, known.shows.shows.whole.rows.few, ap (λ (s : Space). s.sizes.young) known.shows.tied)
 
 module _ {old : Mutator} {graph : Graph} {plain : PlainObject} {object : ℕ} {header : Header} {name : ℕ} {value : Held}
     {what : Value} (known : Adding old graph plain object header name value what)
@@ -81,10 +75,11 @@ module _ {old : Mutator} {graph : Graph} {plain : PlainObject} {object : ℕ} {h
   own_over adds =
       let whole = known.shows.shows.whole in
       let path = subst (λ main. AddsPath main adds.mid (added_path old.paths header.shape name value) adds.next)
-      (sym (reserved_none old)) adds.path in
+      (reserved_none old) adds.path in
       over_last adds.next (own_place old object header) (content_word (own_content value) 0) 0 object
       (heap_words adds.mid.seat)
-      known.can.tied (room_for_none known) path adds.words refl (λ a not_new. refl) known.stands known.headed
+      known.can.tied (room_for_none old known.can.tied whole) path adds.words refl (λ a not_new. refl)
+      known.stands known.headed
       (λ same. omega (arith, same, known.stands)) (cell_below_layouts whole known.has (first_of_cell known.has))
       (cell_below_layouts whole known.has own_of_cell)
 

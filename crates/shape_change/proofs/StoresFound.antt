@@ -17,7 +17,7 @@ use Rattle.heap_model.proofs.WordClasses.{same_reference}
 use Rattle.heap_model.proofs.CellsApart.{one_at, one_words}
 use Rattle.heap_model.proofs.CellWords.{slice_get-drop}
 use Rattle.object_cells.specs.CellsAt.{HasField}
-use Rattle.shape_change.specs.Deletions.{HasStoreAt, HasFirstBeside, IsDrawnIn, DrawsInFirst}
+use Rattle.shape_change.specs.Deletions.{HasStoreAt, HasFirstBeside}
 use Rattle.object_cells.proofs.CellsRead.{word_stands}
 use Rattle.object_cells.proofs.PlainFields.{plain_sound, cap_there}
 use Rattle.object_cells.proofs.SlotPlaces.{behind_cap}
@@ -185,18 +185,3 @@ fields_stand {heap} {at} {shape} store whole there stored =
         | inr behind ↦ inr (omega (arith, behind, same some, stands, counted.cap, counted.room))
       ];
     }
-
--- the shape of a cell that has a field is that of a path
-pub field_shape : {heap : Heap} {object shape slot : ℕ} → Whole heap → HasField heap object shape slot
-    → IsPathShape heap.paths shape
-field_shape {heap} whole there =
-    subst (IsPathShape heap.paths) there.of_shape (plain_sound whole there.has there.plain).shape
-
--- what comes of the word that the first slot of a store has is what is drawn in
-pub draws_first : (heap : Heap) (store shape word drawn : ℕ) (field : PathField)
-    → slice_get (shape_path heap.paths shape).fields (shape_path heap.paths shape).cap ≡ Some field
-    → slice_get heap.words (store + store_head) ≡ Some word → IsDrawnIn heap field.rep word drawn
-    → DrawsInFirst heap store shape drawn
-draws_first heap store shape word drawn field among stands is other read of_other reads =
-    subst (λ (f : PathField). IsDrawnIn heap f.rep read drawn) (same_Some field other (sym among ∙ of_other))
-    (subst (λ w. IsDrawnIn heap field.rep w drawn) (same_Some word read (sym stands ∙ reads)) is)

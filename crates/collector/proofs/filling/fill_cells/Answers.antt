@@ -1,35 +1,37 @@
 use Rattle.std.proofs.Common.{◌≡◌, ◌≤◌, ℕ, refl, sym, ◌∙◌, subst, arith}
-use Rattle.page_space.specs.Extents.{Space, roots_start}
+use Rattle.page_space.specs.Extents.{Space, CellsEndAt, roots_start}
 use Rattle.write_barrier.specs.MutatorState.{Mutator, heap_of}
-use Rattle.collector.specs.Filling.{StandsBetween, FillsWithin}
-use Rattle.collector.proofs.CellRegions.{begins_first, begins_behind, begins_roots, told_stands}
+use Rattle.heap_model.specs.RegionRows.{StandsBetween}
+use Rattle.heap_model.proofs.RegionSeams.{first_seam, next_seam, seam_stands, seam_at_roots}
+use Rattle.collector.specs.Filling.{FillsWithin}
 use Rattle.collector.proofs.FilledWords.{fills_none, fills_more}
 use Rattle.collector.proofs.filling.fill_cells.Goals as goal
 
 pub loop-end-init : goal.loop-end-init
 loop-end-init c = record {
-  begins = begins_first c.args.main.now.seat.space;
+  seam = first_seam c.args.main.now.seat.space;
   fills = fills_none (heap_of c.args.main.now) c.args.words.now 0;
   same = refl;
 }
 
 pub fill_region-requires-clause-stands : goal.fill_region-requires-clause-stands
 fill_region-requires-clause-stands c =
-    let stands = told_stands c.args.main.now.seat.space c.regions-regions.result c.loop-end.at c.in-Some.end
-    c.regions-regions.ensures.within c.regions-regions.ensures.regions c.loop-end.invariant.begins
-    c.in-Some.ensures.cells in
+    let space = c.args.main.now.seat.space in
+    let Ends : Space → Type 0 = λ space. CellsEndAt space c.loop-end.at c.in-Some.end in
     let Stands : Mutator → Type 0 = λ main. StandsBetween main.seat.space c.loop-end.at c.in-Some.end in
-    subst Stands (sym c.loop-end.invariant.same) stands
+    subst Stands (sym c.loop-end.invariant.same)
+    (seam_stands space c.loop-end.at c.in-Some.end c.loop-end.invariant.seam c.regions-regions.ensures.within
+    (subst Ends c.regions-regions.ensures.regions c.in-Some.ensures.cells))
 
 pub loop-end-preserved : goal.loop-end-preserved
 loop-end-preserved c =
     let space = c.args.main.now.seat.space in
-    let stands = told_stands space c.regions-regions.result c.loop-end.at c.in-Some.end c.regions-regions.ensures.within
-    c.regions-regions.ensures.regions c.loop-end.invariant.begins c.in-Some.ensures.cells in
+    let Ends : Space → Type 0 = λ space. CellsEndAt space c.loop-end.at c.in-Some.end in
     let Fills : Mutator → Type 0 = λ main.
     FillsWithin (heap_of main) c.loop-end.words c.fill_region.new.words c.loop-end.at c.in-Some.end in
     record {
-      begins = begins_behind space c.loop-end.at c.in-Some.end stands;
+      seam = (next_seam space c.loop-end.at c.in-Some.end c.loop-end.invariant.seam c.regions-regions.ensures.within
+          (subst Ends c.regions-regions.ensures.regions c.in-Some.ensures.cells)).next;
       fills = fills_more (heap_of c.args.main.now) c.args.words.now c.loop-end.words c.fill_region.new.words 0
           c.loop-end.at c.in-Some.end (omega arith) (omega (arith, c.in-Some.ensures.ahead)) c.loop-end.invariant.fills
           (subst Fills c.loop-end.invariant.same c.fill_region.ensures.filled);
@@ -40,7 +42,7 @@ loop-end-preserved c =
 roots_begin : (c : goal.In_default) → c.loop-end.at ≡ roots_start c.args.main.now.seat.space
 roots_begin c =
     let past : roots_start c.regions-regions.result ≤ c.loop-end.at = c.in_default.ensures.behind.0 refl in
-    begins_roots c.args.main.now.seat.space c.loop-end.at c.loop-end.invariant.begins
+    seam_at_roots c.args.main.now.seat.space c.loop-end.at c.loop-end.invariant.seam c.regions-regions.ensures.within
     (subst (λ (space : Space). roots_start space ≤ c.loop-end.at) c.regions-regions.ensures.regions past)
 
 pub returns-clause-roots : goal.returns-clause-roots

@@ -24,6 +24,6 @@ returns-in_err-put_in_table c graph weak number what shows is is_key held is_tab
     let ends = ends_free shows is is_key held (held_is_value c.args.value what shows fits held.shows)
     c.addresses_fit.ensures.within is_table (comes, free) counted c.requires.few c.requires.half in
     let room = c.in_err-put_in_table.field-0.0 in
-    let refused = free_key_refused room ends c.in_err-put_in_table.ensures.refused in
+    let refused = free_key_refused ends room c.in_err-put_in_table.ensures.refused in
     let known = shown_known shows is c.addresses_fit.ensures.within is_table in
     both_refused known shows is is_key c.from_residual.result room c.from_residual.ensures.1 held refused

@@ -4,8 +4,7 @@ use Rattle.handle_roots.specs.Roots.{FitsHeld}
 use Rattle.ephemeron_table.specs.Rehashing.{PutsInNewTable}
 use Rattle.ephemeron_table.proofs.FullTables.{put_known}
 use Rattle.ephemeron_table.proofs.GrowableMaps.{can_grow}
-use Rattle.ephemeron_table.proofs.GrownEntries.{IsGrowing}
-use Rattle.ephemeron_table.proofs.NewTableEntries.{growing_refused, grown_entry, grown_pair}
+use Rattle.ephemeron_table.proofs.NewTableEntries.{IsGrowing, growing_refused, grown_entry, grown_pair}
 use Rattle.ephemeron_table.proofs.KnownTables.{shown_known}
 use Rattle.ephemeron_table.proofs.PutRefusals.{both_refused}
 use Rattle.ephemeron_table.proofs.PutShown.{has_put_pair}
@@ -22,12 +21,14 @@ put_in_new_table-requires c =
 pub returns : goal.returns
 returns c graph weak number what shows is is_key held fresh =
     let growing : IsGrowing c.args.main.now graph c.args.map c.args.key weak number c.args.table = record {
-      shows = shows;
-      is = is;
-      is_key = is_key;
-      sizes = c.addresses_fit.ensures.within;
-      is_table = c.requires.table;
-      fresh = fresh;
+      lacks = record {
+        shows = shows;
+        is = is;
+        is_key = is_key;
+        sizes = c.addresses_fit.ensures.within;
+        is_table = c.requires.table;
+        fresh = fresh;
+      };
       few = omega (arith, c.requires.counted, c.requires.few);
       over = omega (arith, c.requires.counted, c.requires.over);
     } in
@@ -42,12 +43,14 @@ returns c graph weak number what shows is is_key held fresh =
 pub returns-in_err-put_in_new_table : goal.returns-in_err-put_in_new_table
 returns-in_err-put_in_new_table c graph weak number what shows is is_key held fresh =
     let growing : IsGrowing c.args.main.now graph c.args.map c.args.key weak number c.args.table = record {
-      shows = shows;
-      is = is;
-      is_key = is_key;
-      sizes = c.addresses_fit.ensures.within;
-      is_table = c.requires.table;
-      fresh = fresh;
+      lacks = record {
+        shows = shows;
+        is = is;
+        is_key = is_key;
+        sizes = c.addresses_fit.ensures.within;
+        is_table = c.requires.table;
+        fresh = fresh;
+      };
       few = omega (arith, c.requires.counted, c.requires.few);
       over = omega (arith, c.requires.counted, c.requires.over);
     } in

@@ -11,10 +11,6 @@ use Rattle.ephemeron_table.proofs.GrowingTables.{begun_within, boxed_free, grown
 use Rattle.ephemeron_table.proofs.GrowingTables.{grown_keys, grown_more, grown_nothing}
 use Rattle.ephemeron_table.proofs.growing.put_in_new_table.Goals as goal
 
--- some words are asked for
-some_words : (capacity box : ℕ) → 0 < store_head + 2 * capacity + box
-some_words capacity box = omega arith
-
 -- a table begins before it ends, and a map's slot stands before its count
 begins_before : (at more marks : ℕ) → at + (store_head + more) ≤ marks → at < marks
 begins_before at more marks within = omega arith
@@ -24,20 +20,16 @@ slot_before map marks within = omega arith
 
 pub begin_table-requires-clause-within : goal.begin_table-requires-clause-within
 begin_table-requires-clause-within c =
-    let counted = c.addresses_fit.ensures.heap_counted in
     let space = ap (λ (main : Mutator). marks_start main.seat.space) c.in_ok-at.ensures.reserved in
-    let before = grown_before_marks c.requires.can counted c.in_ok-at.at c.grown-capacity.result c.need_of.result
+    let before = grown_before_marks c.requires.can c.addresses_fit.ensures.heap_counted c.need_of.result
     c.in_ok-at.ensures.room
-    (c.in_ok-at.ensures.at (some_words c.grown-capacity.result c.need_of.result))
-    c.grown-capacity.ensures in
+    c.in_ok-at.ensures.at c.grown-capacity.ensures in
     omega (arith, before, space)
 
 pub rehash-requires-clause-to : goal.rehash-requires-clause-to
 rehash-requires-clause-to c =
-    let counted = c.addresses_fit.ensures.heap_counted in
-    begun_within c.requires.can counted c.in_ok-at.at c.grown-capacity.result c.need_of.result c.in_ok-at.ensures.room
-    (c.in_ok-at.ensures.at (some_words c.grown-capacity.result c.need_of.result))
-    c.grown-capacity.ensures c.in_ok-at.ensures.reserved
+    begun_within c.requires.can c.addresses_fit.ensures.heap_counted c.need_of.result c.in_ok-at.ensures.room
+    c.in_ok-at.ensures.at c.grown-capacity.ensures c.in_ok-at.ensures.reserved
     c.begin_table.ensures
 
 pub begin_table-requires-clause-quiet : goal.begin_table-requires-clause-quiet
@@ -58,44 +50,34 @@ rehash-requires-clause-from c =
 
 pub rehash-requires-clause-more : goal.rehash-requires-clause-more
 rehash-requires-clause-more c =
-    let counted = c.addresses_fit.ensures.heap_counted in
-    grown_more c.requires.can counted c.in_ok-at.at c.grown-capacity.result c.need_of.result c.in_ok-at.ensures.room
-    (c.in_ok-at.ensures.at (some_words c.grown-capacity.result c.need_of.result))
-    c.grown-capacity.ensures
+    grown_more c.requires.can c.addresses_fit.ensures.heap_counted c.need_of.result c.in_ok-at.ensures.room
+    c.in_ok-at.ensures.at c.grown-capacity.ensures
 
 pub rehash-requires-clause-apart : goal.rehash-requires-clause-apart
 rehash-requires-clause-apart c =
-    let counted = c.addresses_fit.ensures.heap_counted in
-    grown_apart c.requires.can counted c.in_ok-at.at c.grown-capacity.result c.need_of.result c.in_ok-at.ensures.room
-    (c.in_ok-at.ensures.at (some_words c.grown-capacity.result c.need_of.result))
-    c.grown-capacity.ensures
+    grown_apart c.requires.can c.addresses_fit.ensures.heap_counted c.need_of.result c.in_ok-at.ensures.room
+    c.in_ok-at.ensures.at c.grown-capacity.ensures
 
 pub rehash-requires-clause-keys : goal.rehash-requires-clause-keys
 rehash-requires-clause-keys c =
-    let counted = c.addresses_fit.ensures.heap_counted in
-    grown_keys c.requires.can counted c.in_ok-at.at c.grown-capacity.result c.need_of.result c.in_ok-at.ensures.room
-    (c.in_ok-at.ensures.at (some_words c.grown-capacity.result c.need_of.result))
-    c.grown-capacity.ensures c.in_ok-at.ensures.reserved
+    grown_keys c.requires.can c.addresses_fit.ensures.heap_counted c.need_of.result c.in_ok-at.ensures.room
+    c.in_ok-at.ensures.at c.grown-capacity.ensures c.in_ok-at.ensures.reserved
     c.begin_table.ensures
 
 pub rehash-requires-clause-empty : goal.rehash-requires-clause-empty
 rehash-requires-clause-empty c =
-    let counted = c.addresses_fit.ensures.heap_counted in
-    grown_nothing c.requires.can counted c.in_ok-at.at c.grown-capacity.result c.need_of.result c.in_ok-at.ensures.room
-    (c.in_ok-at.ensures.at (some_words c.grown-capacity.result c.need_of.result))
-    c.grown-capacity.ensures c.in_ok-at.ensures.reserved
+    grown_nothing c.requires.can c.addresses_fit.ensures.heap_counted c.need_of.result c.in_ok-at.ensures.room
+    c.in_ok-at.ensures.at c.grown-capacity.ensures c.in_ok-at.ensures.reserved
     c.begin_table.ensures
 
 pub boxed_word-word-requires-clause-within : goal.boxed_word-word-requires-clause-within
 boxed_word-word-requires-clause-within c v boxed =
-    let counted = c.addresses_fit.ensures.heap_counted in
     let two : c.need_of.result ≡ 2 = c.need_of.ensures ∙ ap content_need boxed in
     let space = c.rehash.ensures.changes.rest.space ∙ c.begin_table.ensures.beside.space
     ∙ ap (λ (main : Mutator). main.seat.space) c.in_ok-at.ensures.reserved in
-    let before = grown_before_marks c.requires.can counted c.in_ok-at.at c.grown-capacity.result c.need_of.result
+    let before = grown_before_marks c.requires.can c.addresses_fit.ensures.heap_counted c.need_of.result
     c.in_ok-at.ensures.room
-    (c.in_ok-at.ensures.at (some_words c.grown-capacity.result c.need_of.result))
-    c.grown-capacity.ensures in
+    c.in_ok-at.ensures.at c.grown-capacity.ensures in
     omega (arith, before, two, ap (λ (s : Space). marks_start s) space)
 
 pub boxed_word-word-requires-clause-quiet : goal.boxed_word-word-requires-clause-quiet
@@ -111,11 +93,9 @@ insert_rehashed-requires-clause-quiet c =
 
 pub insert_rehashed-requires-clause-within : goal.insert_rehashed-requires-clause-within
 insert_rehashed-requires-clause-within c =
-    let counted = c.addresses_fit.ensures.heap_counted in
-    let within = begun_within c.requires.can counted c.in_ok-at.at c.grown-capacity.result c.need_of.result
+    let within = begun_within c.requires.can c.addresses_fit.ensures.heap_counted c.need_of.result
     c.in_ok-at.ensures.room
-    (c.in_ok-at.ensures.at (some_words c.grown-capacity.result c.need_of.result))
-    c.grown-capacity.ensures c.in_ok-at.ensures.reserved
+    c.in_ok-at.ensures.at c.grown-capacity.ensures c.in_ok-at.ensures.reserved
     c.begin_table.ensures in
     subst (λ (s : Space). c.in_ok-at.at + (store_head + 2 * c.grown-capacity.result) ≤ marks_start s)
     (sym (c.boxed_word-word.ensures.made.beside.space ∙ c.rehash.ensures.changes.rest.space)) within
@@ -134,11 +114,9 @@ made-requires-clause-quiet c =
 
 pub made-requires-clause-within : goal.made-requires-clause-within
 made-requires-clause-within c =
-    let counted = c.addresses_fit.ensures.heap_counted in
-    let within = begun_within c.requires.can counted c.in_ok-at.at c.grown-capacity.result c.need_of.result
+    let within = begun_within c.requires.can c.addresses_fit.ensures.heap_counted c.need_of.result
     c.in_ok-at.ensures.room
-    (c.in_ok-at.ensures.at (some_words c.grown-capacity.result c.need_of.result))
-    c.grown-capacity.ensures c.in_ok-at.ensures.reserved
+    c.in_ok-at.ensures.at c.grown-capacity.ensures c.in_ok-at.ensures.reserved
     c.begin_table.ensures in
     let space = c.insert_rehashed.ensures.words.beside.space ∙ c.boxed_word-word.ensures.made.beside.space
     ∙ c.rehash.ensures.changes.rest.space in
@@ -177,10 +155,8 @@ write_slot-requires-clause-within c =
 
 pub insert_rehashed-requires-clause-free : goal.insert_rehashed-requires-clause-free
 insert_rehashed-requires-clause-free c =
-    let counted = c.addresses_fit.ensures.heap_counted in
-    boxed_free c.requires.can counted c.in_ok-at.at c.grown-capacity.result c.need_of.result c.in_ok-at.ensures.room
-    (c.in_ok-at.ensures.at (some_words c.grown-capacity.result c.need_of.result))
-    c.grown-capacity.ensures c.in_ok-at.ensures.reserved
+    boxed_free c.requires.can c.addresses_fit.ensures.heap_counted c.need_of.result c.in_ok-at.ensures.room
+    c.in_ok-at.ensures.at c.grown-capacity.ensures c.in_ok-at.ensures.reserved
     c.begin_table.ensures c.content_for-content.result
     c.rehash.ensures c.boxed_word-word.ensures.made
 

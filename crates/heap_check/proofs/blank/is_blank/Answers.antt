@@ -1,7 +1,7 @@
 use Rattle.std.proofs.Common.{refl, sym, ◌∙◌}
 use Rattle.std.proofs.lemmas.Bool.{false≢true}
 use Rattle.heap_model.specs.Images.{image_heap}
-use Rattle.heap_check.proofs.Seams.{seam_stands}
+use Rattle.heap_model.proofs.RegionSeams.{seam_stands}
 use Rattle.heap_check.proofs.BlankWords.{blank_none, blank_more, blank_all, blank_of}
 use Rattle.heap_check.proofs.blank.is_blank.Goals as goal
 

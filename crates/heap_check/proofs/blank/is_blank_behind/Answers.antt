@@ -1,5 +1,5 @@
 use Rattle.heap_model.specs.Images.{image_heap}
-use Rattle.heap_check.proofs.FirstCells.{row_between}
+use Rattle.heap_model.proofs.RegionRows.{row_between}
 use Rattle.heap_check.proofs.BlankWords.{zero_from, from_zero}
 use Rattle.heap_check.proofs.blank.is_blank_behind.Goals as goal
 
@@ -15,5 +15,5 @@ returns-in-Some c =
 -- the rows are whole
 pub returns-in-None : goal.returns-in-None
 returns-in-None c =
-    let row = row_between (image_heap c.args.image.now) c.args.start c.args.end c.requires.rows c.requires.stands in
-    absurd (c.in-None.ensures row.0 row.1)
+    let own = row_between c.requires.rows.are c.requires.stands in
+    absurd (c.in-None.ensures own.row own.is)

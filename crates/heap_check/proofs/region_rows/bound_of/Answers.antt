@@ -2,7 +2,8 @@ use Rattle.std.proofs.Common.{sym, subst}
 use Rattle.heap_model.specs.Images.{image_heap}
 use Rattle.heap_check.specs.declared.row.Bound.{Bound}
 use Rattle.heap_check.specs.RegionRows.{BoundsFrom}
-use Rattle.heap_check.proofs.UsedRows.{used_within, start_inside, bounds_from}
+use Rattle.heap_model.proofs.RegionRows.{start_inside}
+use Rattle.heap_check.proofs.UsedRows.{used_within, bounds_from}
 use Rattle.heap_check.proofs.region_rows.bound_of.Goals as goal
 
 pub bound_by-requires : goal.bound_by-requires

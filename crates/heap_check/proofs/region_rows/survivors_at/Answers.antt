@@ -1,13 +1,13 @@
 use Rattle.std.proofs.Common.{ℕ, ◌-◌, sym, subst, arith}
 use Rattle.heap_model.specs.Images.{image_heap}
 use Rattle.heap_check.specs.RegionRows.{CountsRowAt}
-use Rattle.heap_check.proofs.UsedRows.{start_inside, row_within, counts_row, few_survivors}
+use Rattle.heap_model.proofs.RegionRows.{start_inside}
+use Rattle.heap_check.proofs.UsedRows.{row_within, counts_row, few_survivors}
 use Rattle.heap_check.proofs.region_rows.survivors_at.Goals as goal
 
 pub overflow_sub-row_end : goal.overflow_sub-row_end
 overflow_sub-row_end c =
-    (row_within (image_heap c.args.image.now) c.args.start c.args.end c.args.row_end c.count-words_count.ensures.within
-    c.requires.few c.requires.stands c.requires.ends).0
+    (row_within c.count-words_count.ensures.within c.requires.few c.requires.stands c.requires.ends).from
 
 pub returns-clause-counted : goal.returns-clause-counted
 returns-clause-counted c =
@@ -20,12 +20,11 @@ returns-clause-counted c =
 
 pub returns-clause-within : goal.returns-clause-within
 returns-clause-within c =
-    let within = row_within (image_heap c.args.image.now) c.args.start c.args.end c.args.row_end
-    c.count-words_count.ensures.within c.requires.few c.requires.stands c.requires.ends in
+    let lies = row_within c.count-words_count.ensures.within c.requires.few c.requires.stands c.requires.ends in
     omega (
       arith,
       c.survivors_of_region.ensures,
       few_survivors c.region.result (c.args.row_end - c.args.start),
-      within.0,
-      within.1,
+      lies.from,
+      lies.within,
     )

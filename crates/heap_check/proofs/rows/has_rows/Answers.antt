@@ -1,8 +1,9 @@
 use Rattle.std.proofs.Common.{◌∙◌, ap, sym, arith, eq-eqb}
 use Rattle.std.proofs.lemmas.Bool.{eqb-true}
 use Rattle.heap_model.specs.Types.{Sizes}
+use Rattle.heap_model.specs.Heaps.{survivors_of}
 use Rattle.heap_model.specs.Images.{image_heap}
-use Rattle.heap_check.proofs.CountedRows.{one_count}
+use Rattle.heap_check.proofs.CountedRows.{one_rows}
 use Rattle.heap_check.proofs.rows.has_rows.Goals as goal
 
 -- the rows are one, and so their survivors are those of the image or not
@@ -18,7 +19,7 @@ returns-in-Some c =
       },
       λ rows. eq-eqb c.in-Some.survivors c.args.image.now.survivors
           (sym found.counted
-          ∙ one_count heap found.rows rows.rows (found.are.everywhere ∙ sym rows.are.everywhere)
-          found.are.each rows.are.each
+          ∙ ap survivors_of (one_rows heap found.rows rows.rows (found.are.everywhere ∙ sym rows.are.everywhere)
+          found.are.each rows.are.each)
           ∙ rows.counted),
     )

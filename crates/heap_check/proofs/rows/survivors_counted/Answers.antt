@@ -1,6 +1,6 @@
 use Rattle.std.proofs.Common.{refl, arith}
 use Rattle.heap_model.specs.Images.{image_heap}
-use Rattle.heap_check.proofs.Seams.{seam_stands}
+use Rattle.heap_model.proofs.RegionSeams.{seam_stands}
 use Rattle.heap_check.proofs.CountedRows.{rows_none, rows_more, rows_all, no_rows}
 use Rattle.heap_check.proofs.rows.survivors_counted.Goals as goal
 

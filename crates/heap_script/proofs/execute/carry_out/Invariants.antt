@@ -4,7 +4,7 @@ use Rattle.heap_script.proofs.execute.carry_out.Given as goal
 
 abbrev pub invariant-tries : goal.invariant-tries
 invariant-tries l = record {
-  ready : IsReady l.initial.heap l.heap l.initial.objects l.command;
+  ready : IsReady l.script.fields l.initial.heap l.heap l.initial.objects l.command;
   objects : l.objects ≡ l.initial.objects;
   out : l.out ≡ l.initial.out;
 }

@@ -1,11 +1,18 @@
 -- The box that is made stands in the words that were reserved.
-use Rattle.std.proofs.Common.{◌≡◌, ◌+◌, ◌-◌, ◌<◌, ap, ◌∙◌, arith, rules}
+use Rattle.std.proofs.Common.{◌≡◌, ◌+◌, ◌-◌, ◌<◌, ap, sym, subst, ◌∙◌, arith, rules}
 use Rattle.page_space.specs.Extents.{Space, marks_start}
-use Rattle.write_barrier.specs.MutatorState.{Mutator}
+use Rattle.heap_model.specs.Wholeness.{HasSizes}
+use Rattle.write_barrier.specs.MutatorState.{Mutator, heap_of}
 use Rattle.object_cells.specs.Made.{content_need}
 use Rattle.object_cells.proofs.UnusedWords.{run_before_marks}
 use Rattle.object_cells.proofs.RestOfWords.{put_rest}
 use Rattle.shape_change.proofs.add_field.add_to_store.Goals as goal
+
+pub step_to-next-requires-clause-sized : goal.step_to-next-requires-clause-sized
+step_to-next-requires-clause-sized c =
+    let sized = c.requires.can.whole.whole.sized in
+    subst (λ (main : Mutator). HasSizes (heap_of main)) (sym c.in_ok-at.ensures.reserved)
+    (record { words = sized.words; shapes = sized.shapes; layouts = sized.layouts })
 
 pub boxed_word-word-requires-clause-within : goal.boxed_word-word-requires-clause-within
 boxed_word-word-requires-clause-within c v boxed =

@@ -49,7 +49,8 @@ returns c cell words slots field word value has stands are there slot shows =
     let one : field ≡ c.field-rep.result = same_Some field c.field-rep.result
     (sym there ∙ ap (λ s. slice_get (shape_path c.args.main.now.paths s).fields c.args.slot) shape ∙ found) in
     let read : word ≡ c.word_of_place-word.result = same_Some word c.word_of_place-word.result
-    (sym slot ∙ sym (c.slot_place-place.ensures.stands cell words slots has stands are) ∙ c.word_of_place-word.ensures) in
+    (sym slot ∙ sym (c.slot_place-place.ensures.stands cell words slots has stands are)
+    ∙ c.word_of_place-word.ensures) in
     let heap = heap_of c.args.main.now in
     let P : Bool → Type 0 = λ o. ShowsField heap o word field.rep value in
     let Q : ℕ → Type 0 = λ w. ShowsField heap c.is_own.result w field.rep value in

@@ -30,12 +30,14 @@ returns c =
     c.requires.there c.shapes-shapes.ensures c.cap.ensures.cap c.slot_place-place.ensures.place
     (c.is_own.ensures ∙ c.slot_place-place.ensures.own) c.field-was.ensures in
     let joins = c.join-rep.ensures ∙ ap (join c.field-was.result.rep) c.rep_of.ensures in
-    let fills = fills_at s place c.is_own.result c.field-was.result.rep c.join-rep.result c.args.value c.content_of.result read c.requires.shown.is_held.shows joins c.content_of.ensures in
+    let fills = fills_at s place c.is_own.result c.field-was.result.rep c.join-rep.result c.args.value
+    c.content_of.result read c.requires.shown.is_held.shows joins c.content_of.ensures in
     let cap : c.cap.result ≡ (shape_path old.paths c.args.shape).cap =
     c.cap.ensures.cap ∙ ap (λ (paths : List Path). (shape_path paths c.args.shape).cap) c.shapes-shapes.ensures in
     let own = c.is_own.ensures ∙ c.slot_place-place.ensures.own ∙ ap (nat_lt c.args.slot) cap in
     record {
-      place = subst (λ n. IsPlaceOf (heap_of old) c.args.object n c.args.slot place) cap c.slot_place-place.ensures.place;
+      place = subst (λ n. IsPlaceOf (heap_of old) c.args.object n c.args.slot place) cap
+          c.slot_place-place.ensures.place;
       within = c.slot_place-place.ensures.within;
       was = ap (option_map (λ (field : PathField). field.rep))
           (ap (λ (paths : List Path). slice_get (shape_path paths c.args.shape).fields c.args.slot)

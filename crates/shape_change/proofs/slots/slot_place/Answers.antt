@@ -10,7 +10,8 @@ use Rattle.heap_model.proofs.CellsApart.{one_at, one_words}
 use Rattle.write_barrier.specs.MutatorState.{heap_of}
 use Rattle.object_cells.proofs.CellsRead.{word_is, fits_address}
 use Rattle.object_cells.proofs.SlotPlaces.{own_slot, own_slot_within, store_within, StandsAt, beside_word}
-use Rattle.object_cells.proofs.SlotPlaces.{beside_refers, behind_cap, behind_cap_below, one_slots}
+use Rattle.heap_model.proofs.OneBeside.{one_slots}
+use Rattle.object_cells.proofs.SlotPlaces.{beside_refers, behind_cap, behind_cap_below}
 use Rattle.shape_change.proofs.slots.slot_place.Goals as goal
 
 -- a slot below the cap ends before the marks

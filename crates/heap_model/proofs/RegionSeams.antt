@@ -10,9 +10,9 @@ use Rattle.page_space.proofs.Stretches.{words_in-append, words_in-cons, stands_t
 use Rattle.page_space.proofs.Covering.{disjoint}
 use Rattle.page_space.proofs.CellEnds.{before_end, end_before_roots}
 use Rattle.heap_model.specs.Heaps.{cell_extents}
+use Rattle.heap_model.specs.RegionRows.{StandsBetween}
 use Rattle.heap_model.proofs.CellsApart.{cell_extent_stands}
-use Rattle.heap_check.specs.RegionRows.{StandsFrom}
-use Rattle.heap_check.proofs.Extents.{holds_first}
+use Rattle.heap_model.proofs.RegionStarts.{holds_first}
 
 -- the regions before the address, and those behind it
 pub record IsSeam (space : Space) (at : ℕ) : Type 0 where
@@ -61,7 +61,7 @@ next_of space at end seam stretch more limits cells is =
     let there = first_behind space at seam stretch more is in
     let stands = cell_extent_stands space extent there in
     let same : cells.extent ≡ extent =
-    disjoint space cells.extent extent at cells.stands stands cells.holds (holds_first space extent limits stands) in
+    disjoint space cells.extent extent at cells.stands stands cells.holds (holds_first space extent limits there) in
     let ends : at + stretch.words ≡ end = ap (λ (e : Extent). e.start + e.words) (sym same) ∙ cells.ends in
     record {
       stretch = stretch;
@@ -102,7 +102,7 @@ next_seam space at end seam limits cells = next_by space at end seam seam.rest l
 
 -- that region stands from the one address to the other
 pub seam_stands : (space : Space) (at end : ℕ) → IsSeam space at → IsSpace space → CellsEndAt space at end
-    → StandsFrom space at end
+    → StandsBetween space at end
 seam_stands space at end seam limits cells =
     let next = next_seam space at end seam limits cells in
     record {
@@ -119,8 +119,14 @@ none_by space at seam [] limits past is = is
 none_by space at seam (stretch ∷ more) limits past is =
     let extent : Extent = record { region = stretch.region; start = at; words = stretch.words } in
     let there = first_behind space at seam stretch more is in
-    let some = (holds_first space extent limits (cell_extent_stands space extent there)).below in
+    let some = (holds_first space extent limits there).below in
     absurd (omega (arith, words_are space at seam, ap words_in is, words_in-cons stretch more, some, past))
+
+-- where the roots begin no region is passed by
+pub seam_at_roots : (space : Space) (at : ℕ) (seam : IsSeam space at) → IsSpace space → roots_start space ≤ at
+    → at ≡ roots_start space
+seam_at_roots space at seam limits past =
+    omega (arith, words_are space at seam, ap words_in (none_by space at seam seam.rest limits past refl))
 
 -- at the roots all regions are passed
 pub all_done : (space : Space) (at : ℕ) (seam : IsSeam space at) → IsSpace space → roots_start space ≤ at
