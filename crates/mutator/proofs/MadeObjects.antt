@@ -252,11 +252,11 @@ pub binds_made : {old mid filled new : Mutator} {n : ℕ} (x at : ℕ) (words : 
     → at ≡ eden_start old.young.space + old.young.used → length words ≡ n → mid ≡ reserved old n
     → filled ≡ with_table mid (with_range mid.seat.table at words) → new ≡ with_variable filled x (held.Ref at)
     → BindsMade old new x
-binds_made {old} x at words next long taken put held = record {
+binds_made {old} x at words next long taken put binds = record {
   at = at;
   words = words;
   next = next;
-  is = held
+  is = binds
       ∙ ap (λ (main : Mutator). with_variable main x (held.Ref at))
       (put
       ∙ ap (λ (main : Mutator). with_table main (with_range main.seat.table at words))
