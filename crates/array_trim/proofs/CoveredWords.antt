@@ -30,10 +30,9 @@ puts_then a word first same heap below = record {
   heap = heap ∙ ap (λ all. slice_set all a word) first.heap;
 }
 
--- where words were put, the marks begin where they began
-pub marks_still : {old new : Mutator} {words : List ℕ} → PutsWords old new words
-    → marks_start new.seat.space ≡ marks_start old.seat.space
-marks_still puts = ap (λ (space : Space). marks_start space) puts.beside.space
+-- the address at which the marks begin
+abbrev pub marks : Mutator → ℕ
+marks main = marks_start main.seat.space
 
 -- where words were put, and then so many at an address made free, both were put
 pub covers_then : {old mid new : Mutator} {words : List ℕ} (at count : ℕ) → PutsWords old mid words

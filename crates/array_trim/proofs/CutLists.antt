@@ -1,26 +1,35 @@
 -- With the words of a trim a list has the elements that stay, where a store stands that holds them, and free cells.
 use Rattle.std.proofs.Common.{◌≡◌, ℕ, ◌+◌, ◌<◌, ◌≤◌, ◌⊎◌, List, length, Contains, Some, slice_get, sym, ◌∙◌, ap}
-use Rattle.std.proofs.Common.{arith}
+use Rattle.std.proofs.Common.{subst, arith}
 use Rattle.tagged_word.specs.declared.layout.Kind.TheVariants as kind
-use Rattle.tagged_word.specs.Cells.{store_slot, store_head}
+use Rattle.tagged_word.specs.Cells.{store_slot, store_head, cell_words_most}
 use Rattle.heap_model.specs.Types.{Value, Cell}
 use Rattle.object_graph.specs.Graphs.{Graph, ListObject}
+use Rattle.page_space.specs.Extents.{Space, layouts_start, marks_start}
 use Rattle.page_space.specs.Sizes.{AreWithin}
+use Rattle.shape_tree.specs.Shapes.{AreShapes}
+use Rattle.shape_tree.specs.ShapeLayouts.{layout_word}
 use Rattle.cell_layout.specs.Cells.{IsRow}
+use Rattle.cell_layout.proofs.OneCell.{cells_have_words}
 use Rattle.heap_table.specs.Seats.{heap_words}
 use Rattle.heap_model.specs.Heaps.{Heap}
 use Rattle.heap_model.specs.Kinds.{HasNoNumber, count_offset}
 use Rattle.heap_model.specs.Slots.{reference_word}
+use Rattle.heap_model.specs.Wholeness.{HasSizes}
+use Rattle.heap_model.proofs.CellsApart.{has_is_cell}
+use Rattle.nursery.specs.Young.{Young}
 use Rattle.write_barrier.specs.MutatorState.{Mutator, heap_of, MainShows}
+use Rattle.object_cells.specs.CellWrites.{IsInCell}
 use Rattle.object_cells.specs.ElementChanges.{AreNewElements}
 use Rattle.object_cells.specs.Made.{PutsWords}
 use Rattle.array_trim.specs.Trims.{HasTrimmed}
-use Rattle.array_trim.proofs.CutWords.{IsCut, cut_words, long_cut, cut_header, cut_slot, cut_count, cut_slots, cut_stays}
-use Rattle.array_trim.proofs.ListStores.{ListStored}
+use Rattle.array_trim.proofs.Covers.{IsCovered, covering}
+use Rattle.array_trim.proofs.CutWords.{IsCut, counted, long_counted, cut_words, long_cut, cut_stays}
+use Rattle.array_trim.proofs.CutWords.{cut_header, cut_slot, cut_count, cut_slots}
+use Rattle.array_trim.proofs.ListStores.{ListStored, of_list, of_store, list_before_layouts, store_before_layouts}
 use Rattle.array_trim.proofs.StorePieces.{HadCell}
 use Rattle.array_trim.proofs.TrimmedCells.{IsFreeCell, Trimming}
 use Rattle.array_trim.proofs.TrimmedGraphs.{Trimmed, has_trimmed}
-use Rattle.array_trim.proofs.TrimsPut.{put_reads, put_sized, put_had, put_stays, put_used, put_survivors, store_row}
 
 -- In the words of a store that went stand free cells, and a store of so many slots at an address.
 pub record IsCutInto (new : Heap) (store end start kept : ℕ) (came : Cell) (pieces : List Cell) : Type 0 where
@@ -37,6 +46,13 @@ pub record AreKept (before after : List Value) (from kept : ℕ) : Type 0 where
   pub elements : (k : ℕ) (value : Value) → slice_get after k ≡ Some value → slice_get before (from + k) ≡ Some value
   pub enough : length after ≤ kept
   pub rest : (k : ℕ) → length after ≤ k → k < kept → length before ≤ from + k
+
+-- a list's store has at most as many words as a cell may
+pub small_store : {main : Mutator} {at store : ℕ} {list : ListObject} (stored : ListStored main at list store)
+    → store_head + stored.cell.length ≤ cell_words_most
+small_store {main} stored =
+    let most = cells_have_words main.seat.space (heap_words main.seat) stored.cell (has_is_cell stored.refers.has) in
+    omega (arith, most.1, stored.size)
 
 module _ {old new : Mutator} {at store : ℕ} {list : ListObject} (stored : ListStored old at list store) (header : ℕ)
     {start from kept free many : ℕ} (cut : IsCut store stored.cell.length start from kept free many)
@@ -57,11 +73,73 @@ module _ {old new : Mutator} {at store : ℕ} {list : ListObject} (stored : List
 
   -- a word is what was put
   pub cut_reads : (a : ℕ) → slice_get (heap_words new.seat) a ≡ slice_get words a
-  cut_reads a = put_reads stored words puts long stays a
+  cut_reads a = ap (λ all. slice_get all a) puts.heap
 
-  -- the store stood where its words are
+  -- a layout word stays
+  layout_stays : (a : ℕ) → layouts_start old.seat.space ≤ a → slice_get words a ≡ slice_get (heap_words old.seat) a
+  layout_stays a from =
+      stays a (λ behind below. omega (arith, below, from, list_before_layouts stored))
+      (λ behind below. omega (arith, below, from, store_before_layouts stored))
+
+  -- so the sizes are there
+  put_sized : HasSizes (heap_of new)
+  put_sized =
+      let sized = stored.whole.sized in
+      record {
+        words = ap length puts.heap ∙ long ∙ sized.words ∙ ap marks_start (sym puts.beside.space);
+        shapes = subst AreShapes (sym puts.paths) sized.shapes;
+        layouts = λ shape below.
+            let a : ℕ = layouts_start old.seat.space + shape in
+            ap (λ (s : Space). slice_get (heap_words new.seat) (layouts_start s + shape)) puts.beside.space
+            ∙ cut_reads a ∙ layout_stays a (omega arith) ∙ sized.layouts shape below
+            ∙ ap (λ paths. Some (layout_word paths shape)) (sym puts.paths);
+      }
+
+  -- the store stood there
   pub cut_had : HadCell (heap_of old) (heap_of new) stored.cell
-  cut_had = put_had stored words puts long stays
+  cut_had = record {
+    words = _;
+    has = stored.refers.has;
+    same_space = puts.beside.space;
+    long = ap length puts.heap ∙ long;
+    sized = put_sized;
+  }
+
+  -- the words that are free then are covered by free cells
+  pub cut_free : IsCovered (heap_of new) free (free + many)
+  cut_free =
+      covering (counted stored header (length after) cut) free many cut_had puts.heap
+      (long_counted stored header (length after) cut) (omega (arith, stored.stands, cut.behind))
+      (omega (arith, stored.stands, stored.size, cut.ends))
+
+  -- words of no cell of the list stay
+  put_stays : (a : ℕ) → a < layouts_start old.seat.space → (IsInCell a stored.shown.cell → ⊥)
+      → (IsInCell a stored.cell → ⊥) → slice_get (heap_words new.seat) a ≡ slice_get (heap_words old.seat) a
+  put_stays a below not_list not_store =
+      cut_reads a ∙ stays a
+      (λ from before. let inside = of_list stored a from before in
+      not_list (record { from = inside.from; below = inside.below }))
+      (λ from before. let inside = of_store stored a from before in
+      not_store (record { from = inside.from; below = inside.below }))
+
+  -- as many words are used
+  put_used : new.young.used ≡ old.young.used
+  put_used = ap (λ (young : Young). young.used) puts.young
+
+  -- and as many survive
+  put_survivors : new.young.survivors ≡ old.young.survivors
+  put_survivors = ap (λ (young : Young). young.survivors) puts.young
+
+  -- a row over its words
+  store_row : (pieces : List Cell)
+      → IsRow new.seat.space (heap_words new.seat) store (store + (store_head + stored.cell.length)) pieces
+      → IsRow new.seat.space (heap_words new.seat) stored.cell.at (stored.cell.at + stored.cell.size) pieces
+  store_row pieces row =
+      let ends : store + (store_head + stored.cell.length) ≡ stored.cell.at + stored.cell.size =
+      omega (arith, stored.stands, stored.size) in
+      subst (λ n. IsRow new.seat.space (heap_words new.seat) n (stored.cell.at + stored.cell.size) pieces)
+      (sym stored.stands)
+      (subst (λ n. IsRow new.seat.space (heap_words new.seat) store n pieces) ends row)
 
   -- a word of the list's cell, by the address at which it stands
   list_word : (k : ℕ) → slice_get (heap_words new.seat) (stored.shown.cell.at + k) ≡ slice_get words (at + k)
@@ -80,18 +158,18 @@ module _ {old new : Mutator} {at store : ℕ} {list : ListObject} (stored : List
       refers = stored.refers;
       of_kind = stored.of_kind;
       same_space = puts.beside.space;
-      same_survivors = put_survivors stored words puts long stays;
-      same_used = put_used stored words puts long stays;
+      same_survivors = put_survivors;
+      same_used = put_used;
       paths = puts.paths;
-      sized = put_sized stored words puts long stays;
-      stay = put_stays stored words puts long stays;
+      sized = put_sized;
+      stay = put_stays;
       header = ap (λ n. slice_get (heap_words new.seat) n) stored.shown.stands ∙ cut_reads at
           ∙ cut_header stored header (length after) cut
           ∙ ap (λ n. slice_get (heap_words old.seat) n) (sym stored.shown.stands);
       slot = list_word store_slot ∙ cut_slot stored header (length after) cut
           ∙ ap (λ n. Some (reference_word n)) (sym into.place);
       counted = list_word count_offset ∙ cut_count stored header (length after) cut;
-      row = store_row stored words puts long stays pieces into.row;
+      row = store_row pieces into.row;
       among = into.among;
       each = into.each;
       still_store = into.of_kind;

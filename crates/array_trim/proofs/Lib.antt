@@ -12,7 +12,6 @@ mod StorePieces
 mod Covers
 mod ListStores
 mod CutWords
-mod TrimsPut
 mod CutLists
 mod ShiftedLists
 mod TruncatedLists

@@ -22,13 +22,12 @@ use Rattle.array_trim.specs.TrimWords.{PutsShifted, shifted_words}
 use Rattle.array_trim.specs.TrimLaws.{ShiftedListShows}
 use Rattle.heap_model.specs.Needs.{capacity_at}
 use Rattle.array_trim.specs.Trims.{HasTrimmed}
-use Rattle.array_trim.proofs.Covers.{IsCovered, covering}
-use Rattle.array_trim.proofs.CutLists.{IsCutInto, cut_reads, cut_had, cut_has_trimmed}
-use Rattle.array_trim.proofs.CutWords.{IsCut, cut_words, counted, long_counted, cut_store, cut_capacity}
+use Rattle.array_trim.proofs.Covers.{IsCovered}
+use Rattle.array_trim.proofs.CutLists.{IsCutInto, small_store, cut_reads, cut_had, cut_free, cut_has_trimmed}
+use Rattle.array_trim.proofs.CutWords.{IsCut, cut_words, cut_store, cut_capacity}
 use Rattle.array_trim.proofs.ListStores.{ListStored, list_stored}
-use Rattle.array_trim.proofs.StorePieces.{HadCell, store_read, stands_inside}
+use Rattle.array_trim.proofs.StorePieces.{store_read, stands_inside}
 use Rattle.array_trim.proofs.TrimmedGraphs.{dropped_are_new, list_are_new}
-use Rattle.array_trim.proofs.TrimsPut.{small_store}
 
 -- an element of the later ones is that so many places on
 later_element : (n : ℕ) (xs : List Value) (k : ℕ) → slice_get (drop n xs) k ≡ slice_get xs (n + k)
@@ -83,15 +82,6 @@ module _ {old new : Mutator} {graph : Graph} {at : ℕ} {list : ListObject} {gon
       (subst (λ n. PutsWords old new (shifted_words (heap_words old.seat) at puts.store n (length list.elements) gone))
       stored.capacity puts.puts)
 
-  -- a word is what was put
-  reads : (a : ℕ) → slice_get (heap_words new.seat) a
-      ≡ slice_get (cut_words stored (header_bits store_header) (length after) cut) a
-  reads a = cut_reads stored (header_bits store_header) cut after words_put a
-
-  -- the store stood where its words are
-  had : HadCell (heap_of old) (heap_of new) stored.cell
-  had = cut_had stored (header_bits store_header) cut after words_put
-
   -- the store that came
   abbrev came : Cell
   came = store_cell start (capacity - gone)
@@ -99,19 +89,18 @@ module _ {old new : Mutator} {graph : Graph} {at : ℕ} {list : ListObject} {gon
   -- it stands there
   came_stands : IsCell new.seat.space (heap_words new.seat) came
   came_stands =
-      stands_inside came had
+      stands_inside came (cut_had stored (header_bits store_header) cut after words_put)
       (store_read start (capacity - gone)
-      (reads start ∙ cut_store stored (header_bits store_header) (length after) cut)
-      (reads (start + 1) ∙ cut_capacity stored (header_bits store_header) (length after) cut)
+      (cut_reads stored (header_bits store_header) cut after words_put start
+      ∙ cut_store stored (header_bits store_header) (length after) cut)
+      (cut_reads stored (header_bits store_header) cut after words_put (start + 1)
+      ∙ cut_capacity stored (header_bits store_header) (length after) cut)
       (omega (arith, small_store stored)))
       (omega (arith, stored.stands)) (omega (arith, stored.stands, stored.size, enough))
 
   -- the words before it are free
   front : IsCovered (heap_of new) puts.store start
-  front =
-      covering (counted stored (header_bits store_header) (length after) cut) puts.store gone had words_put.heap
-      (long_counted stored (header_bits store_header) (length after) cut) (omega (arith, stored.stands))
-      (omega (arith, stored.stands, stored.size, enough))
+  front = cut_free stored (header_bits store_header) cut after words_put
 
   -- both stand in the words of the old store
   into : IsCutInto (heap_of new) puts.store (puts.store + (store_head + capacity)) start (capacity - gone) came

@@ -90,7 +90,8 @@ module _ {old new : Mutator} {graph : Graph} {at : ℕ} {list : ListObject} {aft
     cells = (trimmed_cells trimmed.trim).1;
     own = trimmed_own trimmed.trim;
     only = λ one among object.
-        ap (λ (c : Cell). c.header.object) (sym (went_object (trim_step trimmed.trim) one among object)) ∙ trimmed.shown.carries;
+        ap (λ (c : Cell). c.header.object) (sym (went_object (trim_step trimmed.trim) one among object))
+        ∙ trimmed.shown.carries;
     no_object = λ one among. absurd (none_in one among);
     cell = trimmed.shown.cell;
     among = first_in trimmed.shown.cell trimmed.pieces;

@@ -31,13 +31,12 @@ use Rattle.object_cells.proofs.CellsRead.{layout_stands, word_stands}
 use Rattle.array_trim.specs.TrimWords.{PutsTruncated, truncated_words}
 use Rattle.array_trim.specs.TrimLaws.{TruncatedListShows}
 use Rattle.array_trim.specs.Trims.{HasTrimmed}
-use Rattle.array_trim.proofs.Covers.{IsCovered, covering}
-use Rattle.array_trim.proofs.CutLists.{IsCutInto, cut_reads, cut_had, cut_has_trimmed}
-use Rattle.array_trim.proofs.CutWords.{IsCut, cut_words, counted, long_counted, cut_store, cut_capacity}
+use Rattle.array_trim.proofs.Covers.{IsCovered}
+use Rattle.array_trim.proofs.CutLists.{IsCutInto, small_store, cut_reads, cut_had, cut_free, cut_has_trimmed}
+use Rattle.array_trim.proofs.CutWords.{IsCut, cut_words, cut_store, cut_capacity}
 use Rattle.array_trim.proofs.ListStores.{ListStored, list_stored, words_apart}
-use Rattle.array_trim.proofs.StorePieces.{HadCell, shrunk_read, stands_inside}
+use Rattle.array_trim.proofs.StorePieces.{shrunk_read, stands_inside}
 use Rattle.array_trim.proofs.TrimmedGraphs.{taken_are_new, list_are_new}
-use Rattle.array_trim.proofs.TrimsPut.{small_store}
 
 -- an element of the first ones is that of all
 first_element : (n : ℕ) (xs : List Value) (k : ℕ) (value : Value) → slice_get (take n xs) k ≡ Some value
@@ -130,10 +129,6 @@ module _ {old new : Mutator} {graph : Graph} {at : ℕ} {list : ListObject} {kep
       ap (λ n. slice_get (heap_words new.seat) (n + k)) stored.stands
       ∙ cut_reads stored header cut after words_put (puts.store + k)
 
-  -- the store stood where its words are
-  had : HadCell (heap_of old) (heap_of new) stored.cell
-  had = cut_had stored header cut after words_put
-
   -- the store that came, where the old one stood
   abbrev came : Cell
   came = record stored.cell { length = kept; size = store_head + kept }
@@ -147,6 +142,7 @@ module _ {old new : Mutator} {graph : Graph} {at : ℕ} {list : ListObject} {kep
   -- it stands there
   came_stands : IsCell new.seat.space (heap_words new.seat) came
   came_stands =
+      let had = cut_had stored header cut after words_put in
       let first : slice_get (heap_words new.seat) stored.cell.at ≡ slice_get (heap_words old.seat) stored.cell.at =
       ap (λ n. slice_get (heap_words new.seat) n) stored.stands
       ∙ cut_reads stored header cut after words_put puts.store ∙ cut_store stored header (length after) cut
@@ -158,10 +154,7 @@ module _ {old new : Mutator} {graph : Graph} {at : ℕ} {list : ListObject} {kep
 
   -- the words behind it are free
   back : IsCovered (heap_of new) end (end + (capacity - kept))
-  back =
-      covering (counted stored header (length after) cut) end (capacity - kept) had words_put.heap
-      (long_counted stored header (length after) cut) (omega (arith, stored.stands))
-      (omega (arith, stored.stands, stored.size, enough))
+  back = cut_free stored header cut after words_put
 
   -- a store has no number
   no_number : HasNoNumber stored.cell

@@ -28,8 +28,7 @@ use Rattle.mutator.proofs.IndexedLists.{IsIndexedList}
 use Rattle.mutator.proofs.KnownObjects.{IsKnown, known_found, change_carried}
 use Rattle.mutator.proofs.ListMeanings.{push_done, push_full, put_done, put_outside}
 use Rattle.mutator.proofs.ListMeanings.{shift_done, shift_outside, trunc_done, trunc_outside}
-use Rattle.mutator.proofs.CommandNeeds.{push_need_is, put_need_is}
-use Rattle.mutator.proofs.CommandRooms.{keeps_object, keeps_push, keeps_shift, keeps_trunc}
+use Rattle.mutator.proofs.CommandRooms.{push_need_is, put_need_is, keeps_object, keeps_push, keeps_shift, keeps_trunc}
 use Rattle.mutator.proofs.Rebinding.{room_for_none}
 use Rattle.mutator.proofs.StillShown.{shows_still, stands_still}
 
@@ -131,7 +130,8 @@ module _ {main : Mutator} {graph : Graph} {x at : ℕ} {i : Operand} {n told : �
       (put_outside names indexed.known indexed.index v given.is outside, same)
   put_stopped {v} new (put.Full room) given puts =
       let (place, is, need, lacks, same) =
-      subst (λ (k : ℤ). PutsElement main new graph at indexed.list k given.value (Err (put.Full room))) integer puts in (
+      subst (λ (k : ℤ). PutsElement main new graph at indexed.list k given.value (Err (put.Full room)))
+      integer puts in (
         relist graph indexed.list (slice_set indexed.list.elements place given.value),
         [],
         put_done names indexed.known indexed.index v given.is is,
@@ -173,7 +173,8 @@ module _ {main : Mutator} {graph : Graph} {x at : ℕ} {i : Operand} {n told : �
       cut.trims.changes)
 
   -- and all that do
-  pub trunc_stopped : {new : Mutator} (range : Range) → TruncatesElements main new graph at indexed.list told (Err range)
+  pub trunc_stopped : {new : Mutator} (range : Range)
+      → TruncatesElements main new graph at indexed.list told (Err range)
       → Carries names main new graph (Trunc x i) [] (Err (Fault word.Range))
   trunc_stopped {new} range truncates =
       let (outside, same) =

@@ -20,7 +20,7 @@ use Rattle.mutator.proofs.KnownObjects.{IsKnown, known_found, change_carried}
 use Rattle.mutator.proofs.Rebinding.{room_for_none}
 use Rattle.mutator.proofs.StillShown.{shows_still, stands_still}
 use Rattle.mutator.proofs.WeakMeanings.{wput_done, wput_full, wdel_done}
-use Rattle.mutator.proofs.CommandNeeds.{wput_need_is}
+use Rattle.mutator.proofs.CommandRooms.{wput_need_is}
 use Rattle.mutator.proofs.EntryRooms.{keeps_wput, keeps_wdel}
 
 -- what is known once the weak map of a command and the key were found

@@ -55,7 +55,8 @@ module _ {old new : Mutator} {graph after : Graph} {rooms : ℕ → Room} (one :
 
   -- which room a command gives the weak map by the entry of its key
   entry_gives : {m at number : ℕ} {weak : WeakObject} (k : Operand) (after_it : Room → Option Value → Room)
-      → IsKnown as_weak graph m (Ref weak.number) weak → value_of graph k ≡ Some (Ref number) → IsWeakAt old graph at weak
+      → IsKnown as_weak graph m (Ref weak.number) weak → value_of graph k ≡ Some (Ref number)
+      → IsWeakAt old graph at weak
       → changed rooms (weak_of graph m) (λ (one : WeakObject). changed rooms (key_of graph k) (λ key.
       with_room rooms one.number (after_it (rooms one.number) (entry_value one.entries key))))
       ≡ with_room rooms weak.number (after_it (map_room old at weak) (entry_value weak.entries number))
@@ -69,7 +70,8 @@ module _ {old new : Mutator} {graph after : Graph} {rooms : ℕ → Room} (one :
 
   -- `wput`
   pub keeps_wput : {m at number : ℕ} {weak : WeakObject} (k v : Operand) (value : Value)
-      → IsKnown as_weak graph m (Ref weak.number) weak → value_of graph k ≡ Some (Ref number) → IsWeakAt old graph at weak
+      → IsKnown as_weak graph m (Ref weak.number) weak → value_of graph k ≡ Some (Ref number)
+      → IsWeakAt old graph at weak
       → after.objects ≡ slice_set graph.objects weak.number (Weak (with_entry weak.entries number value))
       → ChangesObject (heap_of old) (heap_of new) at
       (room_put (map_room old at weak) (entry_value weak.entries number)).capacity
@@ -96,7 +98,8 @@ module _ {old new : Mutator} {graph after : Graph} {rooms : ℕ → Room} (one :
 
   -- `wdel`
   pub keeps_wdel : {m at number : ℕ} {weak : WeakObject} (k : Operand)
-      → IsKnown as_weak graph m (Ref weak.number) weak → value_of graph k ≡ Some (Ref number) → IsWeakAt old graph at weak
+      → IsKnown as_weak graph m (Ref weak.number) weak → value_of graph k ≡ Some (Ref number)
+      → IsWeakAt old graph at weak
       → after.objects ≡ slice_set graph.objects weak.number (Weak (without_entry weak.entries number))
       → ChangesObject (heap_of old) (heap_of new) at (capacity_at (heap_of old) at)
       → KeepsStores (heap_of old) (heap_of new) graph after (command.WDel m k) rooms

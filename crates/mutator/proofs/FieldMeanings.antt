@@ -1,15 +1,16 @@
--- What `set` and `del` mean, where their variables and their object are known.
+-- What `set`, `get` and `del` mean, where their variables and their object are known.
 use Rattle.std.proofs.Common.{◌≡◌, ℕ, ◌≤◌, true, false, ◌&&◌, List, [], length, Option, Some, None, refl, ◌∙◌, ap}
 use Rattle.std.proofs.Common.{arith, inl, inr, nat_le}
-use Rattle.std.specs.Prelude.{is_none}
+use Rattle.std.specs.Prelude.{is_none, unwrap_or}
 use Rattle.std.proofs.lemmas.Bool.{cases_lt}
 use Rattle.std.proofs.lemmas.Bool.Decides.{nat_tests}
 use Rattle.heap_model.specs.Types.{Operand, Value, Field, Path}
-use Rattle.heap_command.specs.declared.command.Command.TheVariants.{Set, Del}
+use Rattle.heap_command.specs.declared.command.Command.TheVariants.{Set, Get, Del}
 use Rattle.heap_command.specs.declared.command.FaultWord.TheVariants.{FieldsFull, ShapesFull}
+use Rattle.object_graph.specs.declared.value.Value.TheVariants.{Undefined}
 use Rattle.object_graph.specs.Objects.{field_value, with_field, without_field}
 use Rattle.object_graph.specs.Paths.{path_of, with_path}
-use Rattle.object_graph.specs.Graphs.{Graph, PlainObject, value_of, as_plain}
+use Rattle.object_graph.specs.Graphs.{Graph, PlainObject, bind, value_of, as_plain}
 use Rattle.object_graph.specs.Meaning.{done, fault, given, unless, no_room_for, refill, reshape, reshape_if, does}
 use Rattle.object_graph.specs.Invariants.{fields_most}
 use Rattle.object_graph.specs.Limits.{ideal_limits, paths_most}
@@ -63,14 +64,16 @@ module _ {graph : Graph} {x : ℕ} {target value : Value} {plain : PlainObject} 
   pub set_room : (LacksFields plain f → ⊥)
       → does ideal_limits names graph (Set x f v) ≡ reshape ideal_limits graph plain (with_field plain.fields f value)
   set_room few =
-      set_known ∙ ap (λ test. unless FieldsFull test (reshape ideal_limits graph plain (with_field plain.fields f value)))
+      set_known
+      ∙ ap (λ test. unless FieldsFull test (reshape ideal_limits graph plain (with_field plain.fields f value)))
       (room_by fields_most (field_value plain.fields f) (length plain.fields)
       (λ fresh full. few (record { fresh = fresh; full = full })))
 
   -- where there is none, that is the fault
   pub set_full : LacksFields plain f → does ideal_limits names graph (Set x f v) ≡ fault FieldsFull
   set_full lacks =
-      set_known ∙ ap (λ test. unless FieldsFull test (reshape ideal_limits graph plain (with_field plain.fields f value)))
+      set_known
+      ∙ ap (λ test. unless FieldsFull test (reshape ideal_limits graph plain (with_field plain.fields f value)))
       (no_room_by fields_most (field_value plain.fields f) (length plain.fields) lacks.fresh lacks.full)
 
 -- a `del` whose variable and object are known
@@ -79,3 +82,10 @@ pub del_known : {graph : Graph} {x : ℕ} {target : Value} {plain : PlainObject}
     → does ideal_limits names graph (Del x f)
     ≡ reshape_if ideal_limits graph plain (field_value plain.fields f) (without_field plain.fields f)
 del_known names f known = rw (known.bound, known.refers)
+
+-- a field that is read
+pub get_done : {graph : Graph} {x : ℕ} {target : Value} {plain : PlainObject} (names : List (List ℕ)) (y f : ℕ)
+    → IsKnown as_plain graph x target plain
+    → does ideal_limits names graph (Get y x f) ≡ done (bind graph y (unwrap_or (field_value plain.fields f) Undefined))
+    []
+get_done names y f known = rw (known.bound, known.refers)

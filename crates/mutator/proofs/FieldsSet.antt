@@ -21,8 +21,7 @@ use Rattle.mutator.specs.CarriesOut.{Carries}
 use Rattle.mutator.specs.Reading.{StandForBoth, IsFound}
 use Rattle.mutator.proofs.KnownObjects.{IsKnown, known_found, change_carried}
 use Rattle.mutator.proofs.FieldMeanings.{reshape_done, reshape_full, paths_there, set_room, set_full}
-use Rattle.mutator.proofs.CommandNeeds.{set_need_is}
-use Rattle.mutator.proofs.CommandRooms.{keeps_set}
+use Rattle.mutator.proofs.CommandRooms.{set_need_is, keeps_set}
 use Rattle.mutator.proofs.StillShown.{shows_still, stands_still}
 
 -- what is known once the variables of a `set` and its object were found

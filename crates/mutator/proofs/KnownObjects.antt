@@ -35,7 +35,8 @@ known_found {as_kind = as_kind} {graph} {x} {one = one} bound is refers =
 pub known_is : {Kind : Type 0} {as_kind : ℕ → Object → Option Kind} {graph : Graph} {x : ℕ} {target : Value}
     {one : Kind} → IsKnown as_kind graph x target one
     → option_and_then (found_at as_kind graph.objects) (get graph.bindings x) ≡ Some one
-known_is {as_kind = as_kind} {graph} known = ap (option_and_then (found_at as_kind graph.objects)) known.bound ∙ known.refers
+known_is {as_kind = as_kind} {graph} known =
+    ap (option_and_then (found_at as_kind graph.objects)) known.bound ∙ known.refers
 
 -- A command that makes nothing is carried out where its call changes one object so that the heap shows what the command
 -- means, and takes the words that the command needs.

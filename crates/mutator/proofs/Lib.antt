@@ -4,7 +4,6 @@ pub mod CellKinds
 pub mod ObjectsAt
 pub mod Rebinding
 pub mod Unbinding
-pub mod Meanings
 pub mod ValueTexts
 pub mod Writings
 pub mod SameHeld
@@ -15,7 +14,6 @@ pub mod EmptyCounted
 pub mod PutCells
 pub mod MadeObjects
 pub mod MadeCells
-pub mod OnlyMade
 pub mod FieldMeanings
 pub mod FieldsSet
 pub mod StoppedBy
@@ -32,6 +30,5 @@ pub mod EntriesSet
 mod KeptStores
 mod KnownObjects
 mod MadeRooms
-mod CommandNeeds
 mod CommandRooms
 mod EntryRooms

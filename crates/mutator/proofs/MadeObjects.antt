@@ -36,6 +36,7 @@ use Rattle.write_barrier.specs.Values.{with_range}
 use Rattle.object_cells.specs.Uses.{UsesMore}
 use Rattle.object_cells.proofs.UnusedWords.{run_before_marks}
 use Rattle.object_cells.proofs.RestOfWords.{range_beside, variable_beside}
+use Rattle.mutator.specs.Binding.{BindsMade}
 use Rattle.mutator.specs.CarriesOut.{Carries}
 use Rattle.mutator.proofs.NewCells.{NewCell, cell_of}
 use Rattle.mutator.proofs.MadeRooms.{HasNoEntry, MakesOne, makes_one, keeps_made}
@@ -245,3 +246,19 @@ making_stopped {main} {graph = graph} {x = x} {what = what} names need making is
   λ room. none (subst (HasRoom main.young) is room),
   same,
 )
+
+-- words were taken from eden and filled, and then a variable was made to hold their address
+pub binds_made : {old mid filled new : Mutator} {n : ℕ} (x at : ℕ) (words : List ℕ)
+    → at ≡ eden_start old.young.space + old.young.used → length words ≡ n → mid ≡ reserved old n
+    → filled ≡ with_table mid (with_range mid.seat.table at words) → new ≡ with_variable filled x (held.Ref at)
+    → BindsMade old new x
+binds_made {old} x at words next long taken put binds = record {
+  at = at;
+  words = words;
+  next = next;
+  is = binds
+      ∙ ap (λ (main : Mutator). with_variable main x (held.Ref at))
+      (put
+      ∙ ap (λ (main : Mutator). with_table main (with_range main.seat.table at words))
+      (taken ∙ ap (reserved old) (sym long)));
+}

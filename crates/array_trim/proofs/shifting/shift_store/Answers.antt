@@ -1,5 +1,5 @@
 -- The store that begins later ends where the old one ends, and its words are put one after another.
-use Rattle.std.proofs.Common.{ℕ, ◌+◌, ◌<◌, ◌∙◌, sym, subst, arith}
+use Rattle.std.proofs.Common.{ℕ, ◌+◌, ◌<◌, ◌∙◌, ap, sym, subst, arith}
 use Rattle.tagged_word.specs.Headers.{header_bits}
 use Rattle.heap_table.specs.Seats.{heap_words}
 use Rattle.heap_model.specs.Slots.{reference_word}
@@ -7,7 +7,7 @@ use Rattle.object_cells.specs.Formats.{store_header}
 use Rattle.object_cells.specs.Made.{PutsWords}
 use Rattle.object_cells.proofs.ListCells.{list_beside, slot_within, count_within, store_has_room}
 use Rattle.array_trim.specs.TrimWords.{shifted_words}
-use Rattle.array_trim.proofs.CoveredWords.{puts_none, puts_then, covers_then, marks_still}
+use Rattle.array_trim.proofs.CoveredWords.{puts_none, puts_then, covers_then, marks}
 use Rattle.array_trim.proofs.OwnStores.{store_named, head_within}
 use Rattle.array_trim.proofs.shifting.shift_store.Goals as goal
 
@@ -16,21 +16,27 @@ store_of-store-requires-clause-there c = list_beside c.requires.ready.whole.whol
 
 pub overflow_add-start : goal.overflow_add-start
 overflow_add-start c =
-    let is = c.store_of-store.ensures in
-    let within = head_within c.store_of-store.result c.args.gone c.requires.ready is c.requires.few in
-    omega (arith, within, c.addresses_fit.ensures.fit)
+    omega (
+      arith,
+      head_within c.store_of-store.result c.args.gone c.requires.ready c.store_of-store.ensures c.requires.few,
+      c.addresses_fit.ensures.fit,
+    )
 
 pub made-requires-clause-within : goal.made-requires-clause-within
 made-requires-clause-within c =
-    let is = c.store_of-store.ensures in
-    let within = head_within c.store_of-store.result c.args.gone c.requires.ready is c.requires.few in
-    omega (arith, within, marks_still (puts_none c.blacken.ensures.same))
+    omega (
+      arith,
+      head_within c.store_of-store.result c.args.gone c.requires.ready c.store_of-store.ensures c.requires.few,
+      ap marks c.blacken.ensures.same,
+    )
 
 pub set_header-requires-clause-within : goal.set_header-requires-clause-within
 set_header-requires-clause-within c =
-    let is = c.store_of-store.ensures in
-    let within = head_within c.store_of-store.result c.args.gone c.requires.ready is c.requires.few in
-    omega (arith, within, marks_still (puts_none (c.made.ensures.same ∙ c.blacken.ensures.same)))
+    omega (
+      arith,
+      head_within c.store_of-store.result c.args.gone c.requires.ready c.store_of-store.ensures c.requires.few,
+      ap marks (c.made.ensures.same ∙ c.blacken.ensures.same),
+    )
 
 pub overflow_sub-store : goal.overflow_sub-store
 overflow_sub-store c =
@@ -38,75 +44,45 @@ overflow_sub-store c =
 
 pub write_slot-requires-clause-within : goal.write_slot-requires-clause-within
 write_slot-requires-clause-within c =
-    let is = c.store_of-store.ensures in
-    let within = head_within c.store_of-store.result c.args.gone c.requires.ready is c.requires.few in
-    let none = puts_none (c.made.ensures.same ∙ c.blacken.ensures.same) in
-    let headed = puts_then _ _ none c.set_header.ensures.written c.set_header.ensures.heap
-    (omega (
+    omega (
       arith,
-      head_within c.store_of-store.result c.args.gone c.requires.ready c.store_of-store.ensures
-          c.requires.few,
-    )) in
-    omega (arith, within, marks_still headed)
+      head_within c.store_of-store.result c.args.gone c.requires.ready c.store_of-store.ensures c.requires.few,
+      ap marks (c.made.ensures.same ∙ c.blacken.ensures.same),
+      ap marks c.set_header.ensures.written,
+    )
 
 pub store-requires-clause-within : goal.store-requires-clause-within
 store-requires-clause-within c =
-    let none = puts_none (c.made.ensures.same ∙ c.blacken.ensures.same) in
-    let headed = puts_then _ _ none c.set_header.ensures.written c.set_header.ensures.heap
-    (omega (
+    omega (
       arith,
-      head_within c.store_of-store.result c.args.gone c.requires.ready c.store_of-store.ensures
-          c.requires.few,
-    )) in
-    let moved = puts_then _ _ headed c.write_slot.ensures.written c.write_slot.ensures.heap
-    (omega (
-      arith,
-      head_within c.store_of-store.result c.args.gone c.requires.ready c.store_of-store.ensures
-          c.requires.few,
-    )) in
-    omega (arith, slot_within c.requires.ready.whole.whole c.requires.ready.there, marks_still moved)
+      slot_within c.requires.ready.whole.whole c.requires.ready.there,
+      ap marks (c.made.ensures.same ∙ c.blacken.ensures.same),
+      ap marks c.set_header.ensures.written,
+      ap marks c.write_slot.ensures.written,
+    )
 
 pub write_slot-requires-2-clause-within : goal.write_slot-requires-2-clause-within
 write_slot-requires-2-clause-within c =
-    let none = puts_none (c.made.ensures.same ∙ c.blacken.ensures.same) in
-    let headed = puts_then _ _ none c.set_header.ensures.written c.set_header.ensures.heap
-    (omega (
+    omega (
       arith,
-      head_within c.store_of-store.result c.args.gone c.requires.ready c.store_of-store.ensures
-          c.requires.few,
-    )) in
-    let moved = puts_then _ _ headed c.write_slot.ensures.written c.write_slot.ensures.heap
-    (omega (
-      arith,
-      head_within c.store_of-store.result c.args.gone c.requires.ready c.store_of-store.ensures
-          c.requires.few,
-    )) in
-    let linked = puts_then _ _ moved c.store.ensures.stored c.store.ensures.heap
-    (omega (arith, slot_within c.requires.ready.whole.whole c.requires.ready.there)) in
-    omega (arith, count_within c.requires.ready.whole.whole c.requires.ready.there, marks_still linked)
+      count_within c.requires.ready.whole.whole c.requires.ready.there,
+      ap marks (c.made.ensures.same ∙ c.blacken.ensures.same),
+      ap marks c.set_header.ensures.written,
+      ap marks c.write_slot.ensures.written,
+      ap marks c.store.ensures.stored,
+    )
 
 pub put_filler-requires-clause-within : goal.put_filler-requires-clause-within
 put_filler-requires-clause-within c =
-    let is = c.store_of-store.ensures in
-    let within = head_within c.store_of-store.result c.args.gone c.requires.ready is c.requires.few in
-    let none = puts_none (c.made.ensures.same ∙ c.blacken.ensures.same) in
-    let headed = puts_then _ _ none c.set_header.ensures.written c.set_header.ensures.heap
-    (omega (
+    omega (
       arith,
-      head_within c.store_of-store.result c.args.gone c.requires.ready c.store_of-store.ensures
-          c.requires.few,
-    )) in
-    let moved = puts_then _ _ headed c.write_slot.ensures.written c.write_slot.ensures.heap
-    (omega (
-      arith,
-      head_within c.store_of-store.result c.args.gone c.requires.ready c.store_of-store.ensures
-          c.requires.few,
-    )) in
-    let linked = puts_then _ _ moved c.store.ensures.stored c.store.ensures.heap
-    (omega (arith, slot_within c.requires.ready.whole.whole c.requires.ready.there)) in
-    let counted = puts_then _ _ linked c.write_slot-2.ensures.written c.write_slot-2.ensures.heap
-    (omega (arith, count_within c.requires.ready.whole.whole c.requires.ready.there)) in
-    omega (arith, within, marks_still counted)
+      head_within c.store_of-store.result c.args.gone c.requires.ready c.store_of-store.ensures c.requires.few,
+      ap marks (c.made.ensures.same ∙ c.blacken.ensures.same),
+      ap marks c.set_header.ensures.written,
+      ap marks c.write_slot.ensures.written,
+      ap marks c.store.ensures.stored,
+      ap marks c.write_slot-2.ensures.written,
+    )
 
 pub returns : goal.returns
 returns c =

@@ -1,6 +1,6 @@
 -- The variable is bound to the field.
 use Rattle.std.proofs.Common.{refl}
-use Rattle.mutator.proofs.Meanings.{get_done}
+use Rattle.mutator.proofs.FieldMeanings.{get_done}
 use Rattle.mutator.proofs.Rebinding.{binds_after, value_carried}
 use Rattle.mutator.proofs.StillShown.{shows_still, stands_still, value_still}
 use Rattle.mutator.proofs.fields.get.Goals as goal
@@ -27,7 +27,7 @@ returns c = record {
       let shown = shows_still same shows in
       let found = c.in_ok-found.ensures graph target shown (stands_still same stands) in
       value_carried names c.args.y c.get-value.result same shown
-      (get_done names graph c.args.y c.args.x c.args.f target found.plain is found.refers) refl tt c.requires.within.0
+      (get_done names c.args.y c.args.f (record { bound = is; refers = found.refers })) refl tt c.requires.within.0
       c.hold.ensures.holds.fits (c.get-value.ensures graph found.plain shown found.stands)
       (record { held = c.hold.ensures.held; heap = c.hold.ensures.heap }) (λ rooms. (refl, λ number. refl));
   binds = binds_after c.args.y c.get-value.result c.bound.ensures.same c.hold.ensures.held;

@@ -5,8 +5,7 @@ use Rattle.mutator.specs.Making.{empty_counted}
 use Rattle.mutator.specs.declared.stop.Stop.TheVariants.{NoRoom}
 use Rattle.mutator.proofs.EmptyCounted.{list_is_counted}
 use Rattle.mutator.proofs.MadeCells.{list_making, counted_made}
-use Rattle.mutator.proofs.MadeObjects.{making_carried, making_stopped}
-use Rattle.mutator.proofs.OnlyMade.{binds_made}
+use Rattle.mutator.proofs.MadeObjects.{making_carried, making_stopped, binds_made}
 use Rattle.mutator.proofs.StoppedBy.{stopped_with}
 use Rattle.mutator.proofs.lists.new_list.Goals as goal
 

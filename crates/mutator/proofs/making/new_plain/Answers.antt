@@ -8,8 +8,7 @@ use Rattle.mutator.specs.Making.{empty_plain}
 use Rattle.mutator.specs.declared.stop.Stop.TheVariants.{NoRoom}
 use Rattle.mutator.proofs.EmptyCells.{length-empty_plain}
 use Rattle.mutator.proofs.MadeCells.{plain_making, plain_made}
-use Rattle.mutator.proofs.MadeObjects.{making_carried, making_stopped}
-use Rattle.mutator.proofs.OnlyMade.{binds_made}
+use Rattle.mutator.proofs.MadeObjects.{making_carried, making_stopped, binds_made}
 use Rattle.mutator.proofs.StoppedBy.{stopped_with}
 use Rattle.mutator.proofs.making.new_plain.Goals as goal
 
