@@ -38,7 +38,8 @@ abbrev pub IsTied : Mutator → Type 0
 IsTied main = main.young.space ≡ main.seat.space
 
 -- The parts agree, only the mutator runs, and the heap shows the graph, which is one that a script makes. No entry of a
--- weak map was cleared. A scavenge may come: the half that the survivors are not in is empty.
+-- weak map was cleared. A scavenge may come: the half that the survivors are not in is empty, and what stands in pages
+-- is free.
 pub record MainShows (main : Mutator) (graph : Graph) : Type 0 where
   pub tied : IsTied main
   pub is_graph : IsGraph graph
