@@ -43,9 +43,9 @@ raw_run layout slot has =
       ends = ap (λ n. n == 1) (bit (trailing_ones w32 mask) ∙ run.1);
       all = record {
         raw = λ one from below.
-          let place : slot + (one - slot) ≡ one = omega arith in
-          let is = ap (λ n. n == 1) (bit (one - slot) ∙ run.2 (one - slot) (omega arith)) in
-          rw place at is;
+            let place : slot + (one - slot) ≡ one = omega arith in
+            let is = ap (λ n. n == 1) (bit (one - slot) ∙ run.2 (one - slot) (omega arith)) in
+            rw place at is;
       };
     }
 
@@ -76,9 +76,9 @@ first_is_store layout from before = record {
   among = first_in store_slot (in_object_offsets layout);
   reached = before;
   least = λ other has at.
-    ⊎_elim (λ store. omega (arith, store))
-    (λ slot. omega (arith, (in_object_is layout other slot).behind))
-    (in_cases store_slot (in_object_offsets layout) other has);
+      ⊎_elim (λ store. omega (arith, store))
+      (λ slot. omega (arith, (in_object_is layout other slot).behind))
+      (in_cases store_slot (in_object_offsets layout) other has);
 }
 
 -- behind it the first is the slot that a run of raw ones ends at
@@ -92,10 +92,10 @@ first_of_plain layout from many next past run is used =
     record { behind = omega arith; used = omega arith; tagged = rw place at ends } in
     record {
       among = rest_in store_slot (in_object_offsets layout) (plain_head + next)
-        (in_object_in layout (plain_head + next) slot);
+          (in_object_in layout (plain_head + next) slot);
       reached = omega (arith, is);
       least = λ other has at.
-        omega (arith, is, (past_raw layout from ((from - plain_head) + many) other past run.all has at).0);
+          omega (arith, is, (past_raw layout from ((from - plain_head) + many) other past run.all has at).0);
     }
 
 -- where all that are used are raw, none is left

@@ -138,7 +138,7 @@ scavenged_for {old} {mid} {new} {need = need} same told scavenges shows keeps sp
 -- a heap that was scavenged for a command, where there is room then
 pub made_room : {names : List (List ℕ)} {old new : HeapState} {mid : Mutator} {objects need : ℕ} {command : Command}
     → IsScavenged old new → command ≢ Scavenge
-    → ((graph : Graph) → HeapShows old graph → objects ≡ length graph.objects 
+    → ((graph : Graph) → HeapShows old graph → objects ≡ length graph.objects
     → IsRefused names old.main mid graph command need)
     → HasRoom new.main.young need → MadeRoom names old new objects command
 made_room {old} {new} scavenged apart told room = record {

@@ -178,7 +178,8 @@ impl MainSeat {
             self.new ≡ record self.old { table = table } }
     {
         let start = from as usize;
-        self.table.copy_within(start..start + count as usize, to as usize);
+        self.table
+            .copy_within(start..start + count as usize, to as usize);
     }
 
     /// Puts one word at so many addresses of the table.

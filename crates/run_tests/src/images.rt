@@ -69,7 +69,11 @@ fn a_scavenge_leaves_the_words_of_what_lives(rt: HostRuntime) -> Result<(), Fail
         let given = "run --pages 1 --young 64 --helpers 0";
         let seen = came(&rt, given, fields.next().unwrap_or(""), SURE)?;
         let root = text_of(rt.alloc(), seen.words.get(2_240..2_241).unwrap_or(&[]))?;
-        assert_eq!(rt; root.as_str().trim_start(), fields.next().unwrap_or(""), "{row}");
+        assert_eq!(rt;
+            root.as_str().trim_start(),
+            fields.next().unwrap_or(""),
+            "{row}"
+        );
         let half = fields.next().unwrap_or("");
         let (from, wanted) = match half.strip_prefix("64 ") {
             Some(wanted) => (2_176, wanted),
