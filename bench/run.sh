@@ -28,7 +28,8 @@ printf 'repeat 30\nlist l\nrepeat 1000\npush l 1\nend\nend\n' | script pushes 60
 # A queue and a stack, whose stores are made anew where they were trimmed to their end.
 printf 'list l\nrepeat 40000\npush l 1\nshift l 1\nend\n' | script queue 120002 --young 65536
 printf 'list l\nrepeat 10000\npush l 1\ntrunc l 0\nend\n' | script stack 30002 --young 65536
-# Scavenges: objects that are dead when the next one is made, and 500 that live on beside them.
+# Scavenges: objects that are dead when the next one is made, and 500 that live on beside them, in pages behind their
+# second scavenge.
 printf 'repeat 1000000\nnew x 2\nset x a 5\nend\n' | script churn 4000001
 printf 'list l\nrepeat 500\nnew x 2\nset x a x\npush l x\nend\nrepeat 1000000\nnew y 2\nend\n' | script churn_beside 3002503
 printf 'list l\nrepeat 500\nnew x 2\nset x a x\npush l x\nend\nrepeat 2000\nscavenge\nend\n' | script scavenges 6003

@@ -1,10 +1,9 @@
 -- Words over which a free cell was put: a row of a filler or a gap, or of no cell where they are none.
 use Rattle.std.proofs.Common.{◌≡◌, ℕ, ◌+◌, ◌<◌, ◌≤◌, List, []}
-use Rattle.std.proofs.Common.{◌∷◌, length, Contains, Some, false, cond, slice_get}
-use Rattle.std.proofs.Common.{◌==◌, inl, inr, refl, sym, ◌∙◌, ap, subst, arith, length-set}
+use Rattle.std.proofs.Common.{◌∷◌, length, Contains, Some, slice_get}
+use Rattle.std.proofs.Common.{inl, inr, refl, ◌∙◌, ap, subst, arith, length-set}
 use Rattle.std.specs.Prelude.{slice_set}
-use Rattle.std.proofs.lemmas.Bool.{cases_eq}
-use Rattle.std.proofs.lemmas.Bool.Decides.{nat_tests}
+use Rattle.std.proofs.lemmas.Bool.{cases_lt}
 use Rattle.tagged_word.specs.Headers.{header_bits}
 use Rattle.tagged_word.specs.Cells.{length_offset}
 use Rattle.tagged_word.proofs.Members.{one_in}
@@ -17,70 +16,21 @@ use Rattle.heap_model.proofs.BoundHeaps.{none_in}
 use Rattle.heap_model.proofs.CellsApart.{has_is_cell}
 use Rattle.heap_model.proofs.Rewrites.{row_of_one}
 use Rattle.write_barrier.specs.MutatorState.{gap_header}
-use Rattle.object_cells.specs.Formats.{filler_header, with_filler}
+use Rattle.write_barrier.specs.FreeCells.{filler_header, with_free_cell}
+use Rattle.write_barrier.proofs.FreeCells.{PutAs, put_as, beside_free_cell}
 use Rattle.array_trim.proofs.StorePieces.{HadCell, filler_cell, gap_cell, filler_read, gap_read, stands_inside}
 use Rattle.array_trim.proofs.TrimmedCells.{IsFreeCell}
 
--- Nothing was put over no words, a filler over one, and a gap over more.
-data CoveredAs (words : List ℕ) (at count : ℕ) : Type 0 where
-  none : count ≡ 0 → with_filler words at count ≡ words → CoveredAs words at count
-  filler : count ≡ 1 → with_filler words at count ≡ slice_set words at (header_bits filler_header)
-      → CoveredAs words at count
-  gap : 2 ≤ count
-      → with_filler words at count ≡ slice_set (slice_set words at (header_bits gap_header)) (at + length_offset) count
-      → CoveredAs words at count
-
--- over more than one word a gap was put
-covered_by_gap : (words : List ℕ) (at count : ℕ) → 2 ≤ count
-    → with_filler words at count ≡ slice_set (slice_set words at (header_bits gap_header)) (at + length_offset) count
-covered_by_gap words at count some =
-    let filler : List ℕ = slice_set words at (header_bits filler_header) in
-    let gap : List ℕ = slice_set (slice_set words at (header_bits gap_header)) (at + length_offset) count in
-    let not_none : (count == 0) ≡ false = grind (arith, nat_tests) in
-    let not_one : (count == 1) ≡ false = grind (arith, nat_tests) in
-    ap (λ t. cond t words (cond (count == 1) filler gap)) not_none ∙ ap (λ t. cond t filler gap) not_one
-
--- each number of words is one of these
-covered_as : (words : List ℕ) (at count : ℕ) → CoveredAs words at count
-covered_as words at count = elim (cases_eq count 0) [
-  | inl is ↦ CoveredAs.none is (subst (λ n. with_filler words at n ≡ words) (sym is) refl)
-  | inr some ↦ elim (cases_eq count 1) [
-    | inl is ↦
-        CoveredAs.filler is
-        (subst (λ n. with_filler words at n ≡ slice_set words at (header_bits filler_header)) (sym is) refl)
-    | inr more ↦
-        let two : 2 ≤ count = omega (arith, some, more) in
-        CoveredAs.gap two (covered_by_gap words at count two)
-  ]
-]
-
--- there are as many words
-pub length-covered : (words : List ℕ) (at count : ℕ) → length (with_filler words at count) ≡ length words
-length-covered words at count = elim (covered_as words at count) [
-  | CoveredAs.none is same ↦ ap length same
-  | CoveredAs.filler is same ↦ ap length same ∙ length-set words at (header_bits filler_header)
-  | CoveredAs.gap some same ↦
-      ap length same ∙ length-set (slice_set words at (header_bits gap_header)) (at + length_offset) count
-      ∙ length-set words at (header_bits gap_header)
-]
-
 -- a word elsewhere stays
 pub covered_stays : (words : List ℕ) (at count a : ℕ) → (at ≤ a → a < at + count → ⊥)
-    → slice_get (with_filler words at count) a ≡ slice_get words a
-covered_stays words at count a outside = elim (covered_as words at count) [
-  | CoveredAs.none is same ↦ ap (λ all. slice_get all a) same
-  | CoveredAs.filler is same ↦
-      ap (λ all. slice_get all a) same
-      ∙ slice_get-set_other words at a (header_bits filler_header)
-      (λ there. outside (omega (arith, there)) (omega (arith, there, is)))
-  | CoveredAs.gap some same ↦
-      let first : List ℕ = slice_set words at (header_bits gap_header) in
-      ap (λ all. slice_get all a) same
-      ∙ slice_get-set_other first (at + length_offset) a count
-      (λ there. outside (omega (arith, there)) (omega (arith, there, some)))
-      ∙ slice_get-set_other words at a (header_bits gap_header)
-      (λ there. outside (omega (arith, there)) (omega (arith, there, some)))
-]
+    → slice_get (with_free_cell words at count) a ≡ slice_get words a
+covered_stays words at count a outside = beside_free_cell words at count a (elim (cases_lt a at) [
+  | inl before ↦ inl before
+  | inr behind ↦ elim (cases_lt a (at + count)) [
+    | inl inside ↦ absurd (outside behind inside)
+    | inr beyond ↦ inr beyond
+  ]
+])
 
 -- free cells stand in a row from an address to another
 pub record IsCovered (heap : Heap) (from to : ℕ) : Type 0 where
@@ -99,26 +49,26 @@ covered_by_one cell from to is_cell free at ends = record {
 
 -- so they do where they were put in the words of an old cell
 pub covering : {old new : Heap} {stood : Cell} (words : List ℕ) (at count : ℕ) → HadCell old new stood
-    → new.words ≡ with_filler words at count → length words ≡ length old.words → stood.at ≤ at
+    → new.words ≡ with_free_cell words at count → length words ≡ length old.words → stood.at ≤ at
     → at + count ≤ stood.at + stood.size → IsCovered new at (at + count)
 covering {old} {new} {stood} words at count had are long from below =
     let was = has_is_cell had.has in
     let few = (cells_have_words old.space old.words stood was).1 in
     let there = was.reads.there in
-    elim (covered_as words at count) [
-      | CoveredAs.none is same ↦ let none_more : at ≡ at + count = omega (arith, is) in record {
+    elim (put_as words at count) [
+      | PutAs.none is same ↦ let none_more : at ≡ at + count = omega (arith, is) in record {
         cells = [];
         row = subst (λ end. IsRow new.space new.words at end []) none_more (IsRow.none at);
         free = λ one among. absurd (none_in one among);
       }
-      | CoveredAs.filler is same ↦
+      | PutAs.filler is same ↦
           let header : slice_get new.words at ≡ Some (header_bits filler_header) =
           ap (λ all. slice_get all at) (are ∙ same)
           ∙ slice_get-set_same words at (header_bits filler_header) (omega (arith, there, long, below, is)) in
           let is_cell = stands_inside (filler_cell at) had (filler_read at header) from (omega (arith, below, is)) in
           covered_by_one (filler_cell at) at (at + count) is_cell (record { of_kind = inl refl; no_number = refl }) refl
           (omega (arith, is))
-      | CoveredAs.gap some same ↦
+      | PutAs.gap some same ↦
           let first : List ℕ = slice_set words at (header_bits gap_header) in
           let first_long : length first ≡ length words = length-set words at (header_bits gap_header) in
           let header : slice_get new.words at ≡ Some (header_bits gap_header) =

@@ -14,20 +14,24 @@ use Rattle.cell_layout.proofs.OneCell.{cells_have_words}
 use Rattle.heap_table.specs.Seats.{heap_words}
 use Rattle.heap_model.specs.Heaps.{Heap}
 use Rattle.heap_model.specs.Kinds.{HasNoNumber, count_offset}
+use Rattle.heap_model.specs.Remembered.{Touch}
 use Rattle.heap_model.specs.Slots.{reference_word}
 use Rattle.heap_model.specs.Wholeness.{HasSizes}
 use Rattle.heap_model.proofs.CellsApart.{has_is_cell}
 use Rattle.nursery.specs.Young.{Young}
 use Rattle.write_barrier.specs.MutatorState.{Mutator, heap_of, MainShows}
+use Rattle.write_barrier.specs.Recording.{Touches}
 use Rattle.object_cells.specs.CellWrites.{IsInCell}
 use Rattle.object_cells.specs.ElementChanges.{AreNewElements}
 use Rattle.object_cells.specs.Made.{PutsWords}
+use Rattle.object_cells.proofs.TouchedCells.{remembers}
 use Rattle.array_trim.specs.Trims.{HasTrimmed}
 use Rattle.array_trim.proofs.Covers.{IsCovered, covering}
 use Rattle.array_trim.proofs.CutWords.{IsCut, counted, long_counted, cut_words, long_cut, cut_stays}
 use Rattle.array_trim.proofs.CutWords.{cut_header, cut_slot, cut_count, cut_slots}
 use Rattle.array_trim.proofs.ListStores.{ListStored, of_list, of_store, list_before_layouts, store_before_layouts}
 use Rattle.array_trim.proofs.StorePieces.{HadCell}
+use Rattle.array_trim.proofs.TouchedCuts.{CutTouch, trim_touches}
 use Rattle.array_trim.proofs.TrimmedCells.{IsFreeCell, Trimming}
 use Rattle.array_trim.proofs.TrimmedGraphs.{Trimmed, has_trimmed}
 
@@ -148,7 +152,8 @@ module _ {old new : Mutator} {at store : ℕ} {list : ListObject} (stored : List
   module _ {graph : Graph} {came : Cell} {pieces : List Cell} (shows : MainShows old graph)
       (within : AreWithin old.seat.space.sizes old.seat.space.variables) (are : AreNewElements graph after)
       (into : IsCutInto (heap_of new) store (store + (store_head + stored.cell.length)) start kept came pieces)
-      (stay : AreKept list.elements after from kept) where
+      (stay : AreKept list.elements after from kept) (touch : ℕ → Touch) (touches : Touches old new touch)
+      (each : (a : ℕ) → CutTouch stored.shown.cell stored.cell came touch a) where
     -- so the list was trimmed
     trim : Trimming (heap_of old) (heap_of new) stored.shown.cell stored.cell came pieces list.elements after from
     trim = record {
@@ -200,6 +205,7 @@ module _ {old new : Mutator} {at store : ℕ} {list : ListObject} (stored : List
       pieces = pieces;
       from = from;
       trim = trim;
+      remembers = remembers touch touches (trim_touches trim touch each);
     }
 
     pub cut_has_trimmed : HasTrimmed old new graph at list after came.length

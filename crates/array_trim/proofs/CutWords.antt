@@ -10,8 +10,9 @@ use Rattle.heap_table.specs.Seats.{heap_words}
 use Rattle.heap_model.specs.Kinds.{count_offset}
 use Rattle.heap_model.specs.Slots.{reference_word}
 use Rattle.write_barrier.specs.MutatorState.{Mutator}
-use Rattle.object_cells.specs.Formats.{with_filler}
-use Rattle.array_trim.proofs.Covers.{length-covered, covered_stays}
+use Rattle.write_barrier.specs.FreeCells.{with_free_cell}
+use Rattle.write_barrier.proofs.FreeCells.{length-free_cell}
+use Rattle.array_trim.proofs.Covers.{covered_stays}
 use Rattle.array_trim.proofs.ListStores.{ListStored, words_apart, list_in_words, store_in_words}
 
 -- Of a store of so many slots so many are kept, from a number on. It begins at another address then, and words of it
@@ -51,7 +52,7 @@ module _ {main : Mutator} {at store : ℕ} {list : ListObject} (stored : ListSto
 
   -- and with the words that are free: all that the trim puts
   abbrev pub cut_words : List ℕ
-  cut_words = with_filler counted free many
+  cut_words = with_free_cell counted free many
 
   -- there are as many words with the store's head
   long_moved : length moved ≡ length words
@@ -65,7 +66,7 @@ module _ {main : Mutator} {at store : ℕ} {list : ListObject} (stored : ListSto
 
   -- and once all are put
   pub long_cut : length cut_words ≡ length words
-  long_cut = length-covered counted free many ∙ long_counted
+  long_cut = length-free_cell counted free many ∙ long_counted
 
   -- no word of the list's cell is one of its store
   apart : (a b : ℕ) → at ≤ a → a < at + 3 → store ≤ b → b < store + (store_head + capacity) → a ≡ b → ⊥

@@ -7,6 +7,7 @@ mod TrimmedSlots
 mod TrimmedNames
 mod TrimmedLists
 mod TrimmedCapacities
+mod TouchedCuts
 mod TrimmedGraphs
 mod StorePieces
 mod Covers

@@ -21,7 +21,7 @@ use Rattle.heap_model.proofs.CellsApart.{has_is_cell}
 use Rattle.write_barrier.specs.MutatorState.{gap_header}
 use Rattle.object_cells.proofs.NewStores.{store_cell}
 use Rattle.object_cells.specs.Formats.{store_header}
-use Rattle.object_cells.specs.Formats.{filler_header}
+use Rattle.write_barrier.specs.FreeCells.{filler_header}
 
 -- the cell of a filler
 abbrev pub filler_cell : ℕ → Cell

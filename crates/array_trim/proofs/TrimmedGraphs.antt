@@ -12,6 +12,7 @@ use Rattle.graph_laws.proofs.MadeGraphs.{relists}
 use Rattle.page_space.specs.Sizes.{AreWithin}
 use Rattle.heap_model.proofs.BoundHeaps.{none_in}
 use Rattle.write_barrier.specs.MutatorState.{Mutator, heap_of, MainShows}
+use Rattle.write_barrier.specs.Recording.{Remembers}
 use Rattle.object_cells.specs.HeldValues.{IsReachedValue}
 use Rattle.object_cells.specs.Refills.{RestsAgain}
 use Rattle.object_cells.specs.Capacities.{ChangesObject}
@@ -23,7 +24,7 @@ use Rattle.object_cells.proofs.NothingUsed.{uses_none}
 use Rattle.object_cells.proofs.RestOfWords.{keeps_regions}
 use Rattle.object_cells.proofs.NewElements.{elements_are_new}
 use Rattle.object_cells.proofs.RefilledLists.{links_reached}
-use Rattle.object_cells.proofs.ReplacedObjects.{ReplacesCells, replaced_shows}
+use Rattle.object_cells.proofs.ReplacedObjects.{ReplacesCells, replaced_shows, rests_again}
 use Rattle.object_cells.proofs.ListCells.{ListShown}
 use Rattle.array_trim.specs.Trims.{HasTrimmed}
 use Rattle.array_trim.proofs.TrimmedCells.{Trimming, trimmed_cells}
@@ -72,16 +73,16 @@ pub record Trimmed (old new : Mutator) (graph : Graph) (at : ℕ) (list : ListOb
   pub pieces : List Cell
   pub from : ℕ
   pub trim : Trimming (heap_of old) (heap_of new) shown.cell store came pieces list.elements after from
+  pub remembers : Remembers old new (shown.cell ∷ store ∷ []) (shown.cell ∷ pieces)
 
 module _ {old new : Mutator} {graph : Graph} {at : ℕ} {list : ListObject} {after : List Value}
     (trimmed : Trimmed old new graph at list after) where
   -- the mutator rests again
   rests : RestsAgain old new
-  rests = record {
-    regions = keeps_regions trimmed.puts.beside trimmed.puts.young;
-    sized = trimmed.trim.sized;
-    rows = (trimmed_cells trimmed.trim).0;
-  }
+  rests =
+      let cells = trimmed_cells trimmed.trim in
+      rests_again (trimmed.shown.cell ∷ trimmed.store ∷ []) (trimmed.shown.cell ∷ trimmed.pieces) [] trimmed.shows
+      (keeps_regions trimmed.puts.beside trimmed.puts.young) trimmed.trim.sized cells.0 cells.1 trimmed.remembers
 
   -- the list's cell shows the elements that stay, and no other object's went
   replaces : ReplacesCells (heap_of old) (heap_of new) graph list.number (ListOf after)
@@ -109,7 +110,7 @@ module _ {old new : Mutator} {graph : Graph} {at : ℕ} {list : ListObject} {aft
 
   -- no word more is used
   none_used : UsesMore old new 0
-  none_used = uses_none trimmed.puts.beside trimmed.puts.young
+  none_used = uses_none trimmed.puts.beside trimmed.puts.young trimmed.remembers.touches.free
 
   -- the list was trimmed
   pub has_trimmed : HasTrimmed old new graph at list after trimmed.came.length

@@ -15,20 +15,24 @@ use Rattle.cell_layout.specs.Cells.{IsCell, IsRow}
 use Rattle.cell_layout.proofs.Rows.{rows_join}
 use Rattle.heap_table.specs.Seats.{heap_words}
 use Rattle.heap_model.specs.Heaps.{words_of_cell}
+use Rattle.heap_model.specs.Remembered.{Touch}
 use Rattle.heap_model.specs.Slots.{reference_word}
 use Rattle.heap_model.specs.Kinds.{HasNoNumber, IsSoundOf, count_offset}
 use Rattle.heap_model.proofs.CellWords.{slice_get-take}
 use Rattle.heap_model.proofs.Rewrites.{row_of_one}
 use Rattle.write_barrier.specs.MutatorState.{Mutator, heap_of, MainShows}
+use Rattle.write_barrier.specs.Recording.{Touches, touched_one, touched_then}
 use Rattle.object_cells.specs.ListObjects.{IsListAt}
-use Rattle.object_cells.specs.Formats.{with_filler}
+use Rattle.write_barrier.specs.FreeCells.{with_free_cell}
 use Rattle.object_cells.specs.Made.{PutsWords}
 use Rattle.object_cells.proofs.FilledSlots.{set_there}
 use Rattle.heap_model.proofs.CellsApart.{has_is_cell}
 use Rattle.object_graph.proofs.Lists.{slice_get-set_other}
 use Rattle.std.specs.Prelude.{slice_set}
 use Rattle.object_cells.proofs.CellsRead.{layout_stands, word_stands}
-use Rattle.array_trim.specs.TrimWords.{PutsTruncated, truncated_words}
+use Rattle.object_cells.proofs.TouchedCells.{touched_cases}
+use Rattle.object_cells.proofs.TouchedWords.{last_touch}
+use Rattle.array_trim.specs.TrimWords.{PutsTruncated, truncated_touch, truncated_words}
 use Rattle.array_trim.specs.TrimLaws.{TruncatedListShows}
 use Rattle.array_trim.specs.Trims.{HasTrimmed}
 use Rattle.array_trim.proofs.Covers.{IsCovered}
@@ -36,6 +40,7 @@ use Rattle.array_trim.proofs.CutLists.{IsCutInto, small_store, cut_reads, cut_ha
 use Rattle.array_trim.proofs.CutWords.{IsCut, cut_words, cut_store, cut_capacity}
 use Rattle.array_trim.proofs.ListStores.{ListStored, list_stored, words_apart}
 use Rattle.array_trim.proofs.StorePieces.{shrunk_read, stands_inside}
+use Rattle.array_trim.proofs.TouchedCuts.{CutTouch}
 use Rattle.array_trim.proofs.TrimmedGraphs.{taken_are_new, list_are_new}
 
 -- an element of the first ones is that of all
@@ -112,7 +117,7 @@ module _ {old new : Mutator} {graph : Graph} {at : ℕ} {list : ListObject} {kep
       (omega arith)) ∙ slot_stood in
       let linked = set_there moved (at + store_slot) (reference_word puts.store)
       (ap (λ all. slice_get all (at + store_slot)) same ∙ slot) in
-      ap (λ all. with_filler (slice_set all (at + count_offset) kept) end (capacity - kept)) (linked ∙ same)
+      ap (λ all. with_free_cell (slice_set all (at + count_offset) kept) end (capacity - kept)) (linked ∙ same)
 
   -- nothing else was put
   words_put : PutsWords old new (cut_words stored header (length after) cut)
@@ -183,6 +188,43 @@ module _ {old new : Mutator} {graph : Graph} {at : ℕ} {list : ListObject} {kep
         ];
       }
 
+  -- so each address was touched: the length of the store and the words behind its slots were given up
+  each_touched : (a : ℕ)
+      → CutTouch stored.shown.cell stored.cell came (truncated_touch at puts.store capacity kept) a
+  each_touched a =
+      let shrunk : ℕ → Touch = touched_one Touch.Wiped (puts.store + length_offset) in
+      let counted : ℕ → Touch = touched_then shrunk (touched_one Touch.Wiped (at + count_offset)) in
+      elim (last_touch counted Touch.Wiped end (end + (capacity - kept)) a) [
+        | inl free ↦
+            CutTouch.given_up (omega (arith, free.0, stored.stands)) (omega (arith, free.1, stored.stands, enough))
+            (λ now. omega (arith, now.below, free.0, stored.stands)) free.2
+        | inr beside ↦ elim (last_touch shrunk Touch.Wiped (at + count_offset) (at + count_offset + 1) a) [
+          | inl own ↦ CutTouch.count (omega (arith, own.0, own.1, stored.shown.stands)) (beside.1 ∙ own.2)
+          | inr not_count ↦
+              elim (touched_cases Touch.Wiped (puts.store + length_offset) (puts.store + length_offset + 1) a) [
+                | inl inside ↦
+                    CutTouch.given_up (omega (arith, inside.0, stored.stands)) (omega (arith, inside.1, stored.stands))
+                    (λ now. omega (arith, now.from, inside.1, stored.stands))
+                    (beside.1 ∙ not_count.1 ∙ inside.2)
+                | inr past ↦
+                    CutTouch.stays
+                    (λ was. record {
+                      from = was.from;
+                      below = elim beside.0 [
+                        | inl before ↦ omega (arith, before, stored.stands)
+                        | inr over ↦ absurd (omega (arith, over, was.below, stored.stands, enough))
+                      ];
+                    })
+                    (beside.1 ∙ not_count.1 ∙ past.1)
+              ]
+        ]
+      ]
+
+  -- and this is recorded
+  all_touched : Touches old new (truncated_touch at puts.store capacity kept)
+  all_touched =
+      subst (λ n. Touches old new (truncated_touch at puts.store n kept)) stored.capacity puts.touches
+
   -- so the heap shows the list with these elements, and its store has as many slots
   pub truncated_has_trimmed : HasTrimmed old new graph at list (take kept list.elements) kept
   truncated_has_trimmed =
@@ -195,6 +237,7 @@ module _ {old new : Mutator} {graph : Graph} {at : ℕ} {list : ListObject} {kep
         enough = omega (arith, left);
         rest = λ k past below. absurd (omega (arith, past, below, left));
       })
+      (truncated_touch at puts.store capacity kept) all_touched each_touched
 
 -- so it is with each such trim
 pub truncated_list_shows : TruncatedListShows

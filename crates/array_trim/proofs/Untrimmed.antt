@@ -32,7 +32,7 @@ pub nothing_trimmed : {main : Mutator} {graph : Graph} {at : ℕ} (list : ListOb
     (capacity : ℕ) → MainShows main graph → IsListAt main graph at list → elements ≡ list.elements
     → capacity ≡ capacity_at (heap_of main) at → HasTrimmed main main graph at list elements capacity
 nothing_trimmed {main} {at = at} list elements capacity shows is all same = record {
-  uses = uses_none (rest_stays_itself main.seat) refl;
+  uses = uses_none (rest_stays_itself main.seat) refl refl;
   changes = nothing_changes (heap_of main) at capacity (sym same);
   shows = relisted_alike list elements shows is all;
 }

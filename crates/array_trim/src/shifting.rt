@@ -8,7 +8,7 @@ ghost use Rattle.array_trim.specs.Trims.{ShiftsElements};
 
 use crate::laws::laws_of_trims;
 use heap_model::cells::COUNT;
-use object_cells::{Range, STORE, checked_index, count_of, put_filler, store_of};
+use object_cells::{Range, STORE, checked_index, count_of, store_of};
 use tagged_word::Word;
 use tagged_word::cell::{LENGTH, STORE_SLOT};
 use write_barrier::Main;
@@ -30,7 +30,7 @@ fn shift_store(main: &mut Main, list: u32, count: u32, gone: u32)
     main.write_slot(start, LENGTH, (store.capacity - gone) as u64);
     main.store(list, STORE_SLOT, Word::reference(start));
     main.write_slot(list, COUNT, (count - gone) as u64);
-    put_filler(main, store.at, gone);
+    main.put_free_cell(store.at, gone);
 }
 
 /// Takes the first `n` elements out of the list at an address. Its store begins `n` words later; no

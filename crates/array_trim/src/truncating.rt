@@ -8,7 +8,7 @@ ghost use Rattle.array_trim.specs.Trims.{TruncatesElements};
 
 use crate::laws::laws_of_trims;
 use heap_model::cells::COUNT;
-use object_cells::{Range, checked_index, count_of, put_filler, store_of};
+use object_cells::{Range, checked_index, count_of, store_of};
 use tagged_word::cell::{LENGTH, STORE_HEAD};
 use write_barrier::Main;
 
@@ -24,7 +24,7 @@ fn truncate_store(main: &mut Main, list: u32, count: u32, kept: u32)
     main.blacken(store.at);
     main.write_slot(store.at, LENGTH, kept as u64);
     main.write_slot(list, COUNT, kept as u64);
-    put_filler(main, store.at + STORE_HEAD + kept, store.capacity - kept);
+    main.put_free_cell(store.at + STORE_HEAD + kept, store.capacity - kept);
 }
 
 /// Keeps the first `n` elements of the list at an address. Its store has `n` slots then, also where

@@ -1,9 +1,11 @@
 -- What stays of a heap whose mutator's side became another one.
-use Rattle.std.proofs.Common.{◌≡◌, ◌∙◌, ap, sym, subst}
+use Rattle.std.proofs.Common.{◌≡◌, ◌∙◌, inl, ap, sym, subst}
 use Rattle.object_graph.specs.Graphs.{Graph}
 use Rattle.page_space.specs.Extents.{Space, marks_start}
-use Rattle.write_barrier.specs.MutatorState.{Mutator, MainShows}
+use Rattle.heap_model.specs.Images.{image_heap}
+use Rattle.write_barrier.specs.MutatorState.{Mutator, heap_of, MainShows}
 use Rattle.scavenger.specs.Laws.{KeepsGraphs}
+use Rattle.collector.specs.Images.{IsImageOf}
 use Rattle.collector.specs.States.{HeapState, HeapShows, Spare, IsReady}
 
 -- a heap with the same parts is the same
@@ -21,7 +23,21 @@ still_shows heap after graph shown spare space shows = record {
   regions = ap (λ (s : Spare). s.image.regions) spare ∙ shown.regions ∙ sym space;
   ready = subst (λ (s : Spare). IsReady s (marks_start after.main.seat.space)) (sym spare)
       (subst (λ (regions : Space). IsReady heap.spare (marks_start regions)) (sym space) shown.ready);
+  listed = rw (spare, space) shown.listed;
 }
+
+-- where only the image was made, of the heap, each graph that was shown is shown
+pub imaged_shows : (heap after : HeapState) (graph : Graph) → HeapShows heap graph → after.main ≡ heap.main
+    → IsImageOf (heap_of heap.main) (image_heap after.spare.image) → after.spare.places ≡ heap.spare.places
+    → HeapShows after graph
+imaged_shows heap after graph shown main image places =
+    let space : after.main.seat.space ≡ heap.main.seat.space = ap (λ (one : Mutator). one.seat.space) main in
+    record {
+      main = subst (λ (one : Mutator). MainShows one graph) (sym main) shown.main;
+      regions = image.space ∙ sym space;
+      ready = inl (image.words.count ∙ ap marks_start (sym space));
+      listed = rw (places, space) shown.listed;
+    }
 
 -- where nothing changes, each graph that was shown is shown, with the same rooms
 pub keeps_itself : (main : Mutator) → KeepsGraphs main main

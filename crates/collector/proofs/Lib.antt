@@ -7,3 +7,4 @@ mod FilledWords
 pub mod ImageStores
 pub mod ImagesTight
 pub mod Keeping
+pub mod MadeRoom

@@ -31,6 +31,6 @@ ImagesHaveRooms =
     (heap image : Heap) (graph : Graph) (rooms : ℕ → Room) → Shows heap graph → IsImageOf heap image
     → HasRooms heap graph rooms ↔ HasRooms image graph rooms
 
--- An image of a whole heap in which only what is reached is kept is such a heap too.
+-- An image of a whole heap in which of young cells only those are kept that are reached is such a heap too.
 abbrev pub ImagesAreTight : Type 0
 ImagesAreTight = (heap image : Heap) → Whole heap → IsTight heap → IsImageOf heap image → IsTight image

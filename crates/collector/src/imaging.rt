@@ -62,6 +62,7 @@ impl Heap {
         requires { (graph : Graph) × HeapShows self.old graph }
         ensures image { IsImageOf (heap_of self.old.main) (image_heap self.new.spare.image) }
         ensures main { self.new.main ≡ self.old.main }
+        ensures places { self.new.spare.places ≡ self.old.spare.places }
     {
         self.spare.used = self.main.used();
         self.spare.survivors = self.main.nursery_mut().survivors();
@@ -95,6 +96,7 @@ impl Heap {
             main: _,
             spare,
             memory: _,
+            list: _,
             alloc: _,
         } = self;
         spare

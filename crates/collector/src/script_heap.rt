@@ -15,8 +15,8 @@ use tagged_word::NoMemory;
 use word_store::Reads;
 use write_barrier::Main;
 
-/// The heap that a script runs on: the mutator's side, and memory for an image of it, which is
-/// taken when the heap is opened.
+/// The heap that a script runs on: the mutator's side, and memory for an image of it and for the list of
+/// a scavenge, which is taken when the heap is opened.
 #[derive(Drop)]
 pub struct Heap {
     pub(crate) main: Main,
@@ -24,6 +24,8 @@ pub struct Heap {
     pub(crate) spare: HeapImage,
     // The memory for the words of the first image. None of it is touched before.
     pub(crate) memory: Vec<u64>,
+    // The list of a scavenge: which copies are to be looked at.
+    pub(crate) list: Vec<u32>,
     // What an empty list of words is made with. It gives no memory after the heap is opened.
     pub(crate) alloc: Global,
 }
@@ -56,8 +58,9 @@ impl Heap {
     ghost use Rattle.collector.specs.States.{HeapShows};
     ghost use Rattle.collector.specs.Lending.{LendsMain};
 
-    /// Opens a heap over words of 0: no object, each page one gap, each variable bound to nothing.
-    /// It takes the memory for the shapes and for an image; later calls need none.
+    /// Opens a heap over words of 0: no object, each page one gap and one free run, each variable bound
+    /// to nothing. It takes the memory for the shapes, for an image and for the list of a scavenge; later calls need
+    /// none.
     ///
     /// # Errors
     /// Memory was refused.
@@ -69,10 +72,12 @@ impl Heap {
         let main = Main::open(alloc, seat, regions)?;
         let spare = spare_image(alloc, main.regions())?;
         let memory = Vec::with_capacity(alloc, main.count() as usize)?;
+        let list = Vec::with_capacity(alloc, regions.sizes().young as usize)?;
         Ok(Heap {
             main,
             spare,
             memory,
+            list,
             alloc,
         })
     }

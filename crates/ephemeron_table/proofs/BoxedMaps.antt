@@ -26,6 +26,7 @@ use Rattle.object_cells.proofs.ContentValues.{box_shows}
 use Rattle.object_cells.proofs.FieldWords.{value_word}
 use Rattle.object_cells.proofs.FilledSlots.{set_there}
 use Rattle.object_cells.proofs.HeldContents.{HoldsValue}
+use Rattle.object_cells.proofs.IntegerTouches.{integer_remembers}
 use Rattle.object_cells.proofs.MadeBoxes.{boxed_integer}
 use Rattle.object_cells.proofs.NothingUsed.{room_for_none}
 use Rattle.object_cells.proofs.OwnIntegers as integer
@@ -177,6 +178,7 @@ module _ {old new : Mutator} {graph : Graph} {map key : ℕ} {weak : WeakObject}
       paths = ap (λ (m : Mutator). m.paths) puts_it;
       pairs = refills;
     };
+    remembers = integer_remembers put_it;
     now = has.told.pair;
     before_is = refl;
     now_is = sym (set_there pairs place has.told.pair (entry_filled has).stands);

@@ -1,14 +1,18 @@
 -- How far the taking of a pair has come, as the pairs are read.
-use Rattle.std.proofs.Common.{ℕ, ◌<◌, length, slice_get, refl, ◌∙◌, ap}
+use Rattle.std.proofs.Common.{ℕ, ◌<◌, inl, length, slice_get, refl, ◌∙◌, ap}
 use Rattle.heap_table.specs.Seats.{heap_words}
 use Rattle.heap_table.specs.Staying.{rest_stays_itself, rest_stays_again}
 use Rattle.heap_model.specs.Kinds.{Pair}
 use Rattle.write_barrier.specs.MutatorState.{Mutator}
+use Rattle.write_barrier.specs.Recording.{Touches, untouched, touched_then}
+use Rattle.write_barrier.proofs.Recording.{no_touch, then_touch}
 use Rattle.object_cells.specs.Made.{PutsWords}
 use Rattle.weak_pairs.specs.Tables.{with_pair}
+use Rattle.ephemeron_table.specs.Puttings.{pair_touch}
 use Rattle.ephemeron_table.specs.Removals.{ChangesPairs}
 use Rattle.weak_pairs.specs.declared.table.Table.{Table}
 use Rattle.weak_pairs.proofs.PairsPut.{beside_put, length-with_pair}
+use Rattle.ephemeron_table.proofs.PairTouches.{KeptOrPair, of_both, pair_alone}
 
 -- nothing has changed
 pub nothing_changed : (main : Mutator) (table : Table) → ChangesPairs main main table
@@ -18,17 +22,24 @@ nothing_changed main table = record {
   young = refl;
   long = refl;
   beside = λ at beside. refl;
+  touch = untouched;
+  touches = no_touch main;
+  touched = λ at. inl refl;
 }
 
 -- a pair was put after words of pairs had changed
 pub pair_changed : {old mid new : Mutator} (table : Table) (place : ℕ) (pair : Pair) → ChangesPairs old mid table
     → place < table.capacity → PutsWords mid new (with_pair (heap_words mid.seat) table.at place pair)
-    → ChangesPairs old new table
-pair_changed {old} {mid} {new} table place pair changes below puts = record {
+    → Touches mid new (pair_touch table.at place) → ChangesPairs old new table
+pair_changed {old} {mid} {new} table place pair changes below puts touches = record {
   rest = rest_stays_again old.seat mid.seat new.seat changes.rest puts.beside;
   paths = puts.paths ∙ changes.paths;
   young = puts.young ∙ changes.young;
   long = ap length puts.heap ∙ length-with_pair (heap_words mid.seat) table.at place pair ∙ changes.long;
   beside = λ at beside. ap (λ all. slice_get all at) puts.heap
       ∙ beside_put (heap_words mid.seat) table place at pair below beside ∙ changes.beside at beside;
+  touch = touched_then changes.touch (pair_touch table.at place);
+  touches = then_touch changes.touches touches;
+  touched = λ at. of_both (KeptOrPair table at) changes.touch (pair_touch table.at place) at (changes.touched at)
+      (pair_alone table place at below);
 }

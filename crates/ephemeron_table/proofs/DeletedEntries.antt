@@ -31,6 +31,7 @@ use Rattle.weak_pairs.proofs.CountedPairs.{count_filled}
 use Rattle.ephemeron_table.proofs.EntryPairs.{HasEntryPair, shown, known, some, entry_filled, entry_refers}
 use Rattle.ephemeron_table.proofs.EntryPairs.{entry_only}
 use Rattle.ephemeron_table.proofs.KnownTables.{KnownMap, count_is}
+use Rattle.ephemeron_table.proofs.MapTouches.{removed_remembers}
 use Rattle.ephemeron_table.proofs.MapsWithout.{refills_weak, refers_back, slot_stays, count_after}
 use Rattle.weak_pairs.proofs.FilledPairs.{free_not_filled, same_filled}
 
@@ -83,7 +84,7 @@ deletes_none main graph map weak number shows is none =
     ap (reweave graph weak) (without_none weak.entries number none) ∙ reweave_same graph weak is.object in
     record {
       none = λ no_entry. refl;
-      uses = uses_none (rest_stays_itself main.seat) refl;
+      uses = uses_none (rest_stays_itself main.seat) refl refl;
       changes = nothing_changes (heap_of main) map (capacity_at (heap_of main) map) refl;
       shows = subst (MainShows main) (sym same) shows;
     }
@@ -157,11 +158,12 @@ module _ {old new : Mutator} {graph : Graph} {map key : ℕ} {weak : WeakObject}
       let refills = refills_weak is_known (some its) removes one (entry_filled its) in
       record {
         none = λ no_entry. absurd (none-some its.told.value (sym no_entry ∙ its.told.is_entry));
-        uses = uses_none removes.rest removes.young;
+        uses = uses_none removes.rest removes.young removes.touches.free;
         changes = subst (λ at. ChangesObject (heap_of old) (heap_of new) at (capacity_at (heap_of old) at))
             (shown its).stands (tables_stay refills
             (slot_stays is_known (some its) removes one (entry_filled its)));
         shows = entries_show old new graph weak (shown its).cell _ [] number None its.shows its.is.object its.is.reached
             its.is_key.reached (shown its).carries (shown its).shows (λ what is. absurd (none-some what is))
-            (keeps_regions removes.rest removes.young) refills puts_one counted;
+            (keeps_regions removes.rest removes.young) refills puts_one counted
+            (removed_remembers is_known (some its) removes);
       }

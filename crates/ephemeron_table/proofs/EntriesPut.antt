@@ -51,7 +51,8 @@ entry_put {old} {new} {graph} {map} {key} {weak} {number} {what = what} puts ent
     record {
       few = puts.few;
       room = subst (HasRoom old.young) need_is room;
-      uses = subst (UsesMore old new) need_is (record { beside = beside; young = young });
+      uses = subst (UsesMore old new) need_is
+          (record { beside = beside; young = young; free = puts.remembers.touches.free });
       changes = subst (ChangesObject (heap_of old) (heap_of new) map) capacity_is puts.changes;
       shows = entries_show old new graph weak puts.cell puts.others puts.made number (Some what) puts.shows
           puts.is.object puts.is.reached puts.is_key.reached
@@ -62,5 +63,6 @@ entry_put {old} {new} {graph} {map} {key} {weak} {number} {what = what} puts ent
           (record { is = fits; reached = puts.is_held.reached }))
           (keeps_regions beside young) puts.refills puts.one
           (subst (HasWord (words_of_cell (heap_of new) puts.cell) count_offset) (counts_entries what all puts.counted)
-          puts.refills.pairs.counted);
+          puts.refills.pairs.counted)
+          puts.remembers;
     }

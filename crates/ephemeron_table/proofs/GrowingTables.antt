@@ -5,21 +5,25 @@ use Rattle.page_space.specs.Extents.{Space, segments_start, marks_start}
 use Rattle.nursery.specs.Young.{HasRoom}
 use Rattle.heap_table.specs.Seats.{heap_words}
 use Rattle.heap_model.specs.Needs.{grown_table}
+use Rattle.heap_model.specs.Slots.{reference_word}
 use Rattle.write_barrier.specs.MutatorState.{Mutator, heap_of, reserved}
+use Rattle.write_barrier.specs.Recording.{Touches}
 use Rattle.object_cells.specs.declared.content.SlotContent.{SlotContent}
 use Rattle.object_cells.specs.Contents.{next_at}
 use Rattle.object_cells.specs.Made.{PutsWords, with_content}
+use Rattle.object_cells.proofs.FilledTouches.{reserved_touch}
 use Rattle.object_cells.proofs.MadeBoxes.{length-with_content, with_content_stays}
 use Rattle.object_cells.proofs.UnusedWords.{next_before_segments, next_before_marks}
-use Rattle.ephemeron_table.specs.Rehashing.{CanGrow, RehashesPairs}
+use Rattle.ephemeron_table.specs.Rehashing.{CanGrow, RehashesPairs, new_table}
 use Rattle.weak_pairs.specs.Pairs.{HoldNothing, IsFilledAt}
-use Rattle.weak_pairs.specs.Tables.{TablesDisjoint, KeysMovable, pairs_of}
+use Rattle.weak_pairs.specs.Tables.{TablesDisjoint, KeysMovable, made_pair, pairs_of}
 use Rattle.weak_pairs.specs.Probes.{HasFree}
-use Rattle.ephemeron_table.specs.Puttings.{begun_table}
+use Rattle.ephemeron_table.specs.Puttings.{InsertsRehashed, begun_table, table_touch}
 use Rattle.weak_pairs.specs.declared.table.Table.{Table}
 use Rattle.ephemeron_table.proofs.BegunTables.{begun_beside, begun_long, begun_nothing}
 use Rattle.weak_pairs.proofs.CountedPairs.{count_filled}
 use Rattle.weak_pairs.proofs.PairLists.{pairs_stay}
+use Rattle.weak_pairs.proofs.PairsPut.{length-with_pair}
 use Rattle.weak_pairs.proofs.KeyedPairs.{HaveKeys}
 use Rattle.weak_pairs.proofs.InsertedPairs.{has_free}
 
@@ -34,6 +38,12 @@ module _ {old : Mutator} {map key count : ℕ} {table : Table} (can : CanGrow ol
   -- the table that is made
   abbrev made : Table
   made = record { at = at; capacity = capacity }
+
+  -- which stands where the next words of eden are
+  made_is : made ≡ new_table old table
+  made_is =
+      ap (λ n. let one : Table = record { at = n; capacity = capacity } in one) at_is
+      ∙ ap (λ n. let one : Table = record { at = next_at old; capacity = n } in one) capacity_is
 
   -- it and the box behind it end before the segments, and before the marks
   pub grown_before_segments : at + (store_head + 2 * capacity + box) ≤ segments_start old.seat.space
@@ -59,6 +69,13 @@ module _ {old : Mutator} {map key count : ℕ} {table : Table} (can : CanGrow ol
 
   module _ {between begun : Mutator} (is : between ≡ reserved old (store_head + 2 * capacity + box))
       (begins : PutsWords between begun (begun_table (heap_words between.seat) made)) where
+    -- of what is recorded only the words of the table were touched
+    pub begun_touch : Touches between begun (table_touch made) → Touches old begun (table_touch (new_table old table))
+    begun_touch touches =
+        reserved_touch (store_head + 2 * capacity + box)
+        (subst (λ (main : Mutator). Touches main begun (table_touch (new_table old table))) is
+        (subst (λ (one : Table). Touches between begun (table_touch one)) made_is touches))
+
     -- the regions stay, and the words are those with the table
     pub begun_space : begun.seat.space ≡ old.seat.space
     begun_space = begins.beside.space ∙ ap (λ (main : Mutator). main.seat.space) is
@@ -111,10 +128,19 @@ module _ {old : Mutator} {map key count : ℕ} {table : Table} (can : CanGrow ol
     module _ {moved boxed : Mutator} (holds : SlotContent) (moves : RehashesPairs begun moved table made table.capacity)
         (boxes : PutsWords moved boxed
         (with_content (heap_words moved.seat) holds (at + (store_head + 2 * capacity)))) where
+      -- there are as many words as before
       boxed_long : length (heap_words boxed.seat) ≡ length (heap_words old.seat)
       boxed_long =
           ap length boxes.heap ∙ length-with_content (heap_words moved.seat) holds (at + (store_head + 2 * capacity))
           ∙ moves.changes.long ∙ begun_words_long
+
+      -- so there are once a pair is inserted
+      pub inserted_long : {inserted : Mutator} {key value : ℕ} → InsertsRehashed boxed inserted made key value
+          → length (heap_words inserted.seat) ≡ length (heap_words old.seat)
+      inserted_long {key = key} {value} inserts =
+          ap length inserts.words.heap
+          ∙ length-with_pair (heap_words boxed.seat) at inserts.place (made_pair (reference_word key) value)
+          ∙ boxed_long
 
       pub boxed_within : at + (store_head + 2 * capacity) ≤ length (heap_words boxed.seat)
       boxed_within = omega (arith, grown_within, boxed_long)

@@ -20,16 +20,17 @@ use Rattle.object_cells.specs.FilledRuns.{FillsRun}
 use Rattle.object_cells.specs.Made.{store_content, content_need, content_word}
 use Rattle.object_cells.proofs.EdenCells.{bare_layout, size_is}
 use Rattle.object_cells.proofs.FilledRuns.{IsUnusedRun, next_run, run_beside, FillsOwn}
-use Rattle.object_cells.proofs.MadeBoxes.{with_content_box, with_content_stays, length-with_content}
+use Rattle.object_cells.proofs.MadeBoxes.{with_content_box, with_content_stays}
 use Rattle.object_cells.proofs.NewStores.{IsLongCell}
 use Rattle.ephemeron_table.specs.Rehashing.{CanGrow, PutsInNewTable, new_table, new_table_need, box_behind}
 use Rattle.ephemeron_table.specs.Puttings.{begun_table, table_header}
 use Rattle.weak_pairs.specs.Tables.{IsOutsidePairs, made_pair, pairs_of}
 use Rattle.weak_pairs.specs.declared.table.Table.{Table}
 use Rattle.ephemeron_table.proofs.BegunTables.{begun_beside, begun_capacity, begun_header}
+use Rattle.ephemeron_table.proofs.GrowingTables as growing
 use Rattle.ephemeron_table.proofs.GrowingTables.{begun_words, begun_words_long, boxed_keys, boxed_within}
 use Rattle.ephemeron_table.proofs.KnownTables.{KnownMap, cell, cell_has, of_map}
-use Rattle.weak_pairs.proofs.PairsPut.{beside_put, length-with_pair}
+use Rattle.weak_pairs.proofs.PairsPut.{beside_put}
 use Rattle.weak_pairs.proofs.PairLists.{beside_run as pairs_beside_run}
 use Rattle.weak_pairs.proofs.KeyedPairs.{HaveKeys}
 use Rattle.weak_pairs.proofs.InsertedPairs.{inserted_below}
@@ -121,10 +122,8 @@ module _ {old new : Mutator} {map key count earlier : ℕ} {table : Table} {valu
 
   inserted_long : length (heap_words grows.puts.inserted.seat) ≡ length (heap_words old.seat)
   inserted_long =
-      ap length grows.puts.inserts.words.heap
-      ∙ length-with_pair (heap_words grows.puts.boxed.seat) (next_at old) grows.puts.inserts.place pair
-      ∙ ap length grows.puts.boxes.heap
-      ∙ length-with_content (heap_words grows.puts.moved.seat) (store_content value) box ∙ moved_long
+      growing.inserted_long grows.can counted (content_need (store_content value)) grows.puts.room (λ some. refl) refl
+      refl grows.puts.begins (store_content value) grows.puts.moves grows.puts.boxes grows.puts.inserts
 
   -- the words with the reference to it
   abbrev linked : List ℕ

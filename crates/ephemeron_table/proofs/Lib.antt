@@ -1,12 +1,14 @@
 pub mod TablesRead
 pub mod KeysFound
 pub mod KeysProbed
+pub mod PairTouches
 pub mod ChangedPairs
 pub mod KeptTables
 pub mod ReplacedPairs
 pub mod PairNames
 pub mod RemovalEnds
 pub mod KnownTables
+pub mod MapTouches
 pub mod StayingTables
 pub mod MapsWithout
 pub mod DeletedEntries
@@ -28,6 +30,7 @@ pub mod FreeKeys
 pub mod NewEntries
 pub mod FullTables
 pub mod GrownWords
+pub mod GrownTouches
 pub mod GrownPairs
 pub mod GrownMaps
 pub mod SlotValues

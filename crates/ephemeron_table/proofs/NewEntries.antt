@@ -39,11 +39,12 @@ use Rattle.weak_pairs.proofs.CountedPairs.{count_filled}
 use Rattle.ephemeron_table.proofs.EntriesPut.{entry_put}
 use Rattle.ephemeron_table.proofs.FreeKeys.{ComesToFree, below, finds_put, counted_put, not_filled}
 use Rattle.ephemeron_table.proofs.KnownTables.{KnownMap, cell}
+use Rattle.ephemeron_table.proofs.MapTouches.{put_remembers}
 use Rattle.ephemeron_table.proofs.NewKeys.{LacksKey, shown, known, no_pair_refers, entries_counted}
 use Rattle.ephemeron_table.proofs.NewKeys.{not_full_for, is_full_for, lacks_where_free}
 use Rattle.ephemeron_table.proofs.PairsByKey.{lacks_pair, pairs_shown}
 use Rattle.ephemeron_table.proofs.PutMaps.{ComesToPlace, puts_one, refills_weak, slot_stays}
-use Rattle.ephemeron_table.proofs.PutPairs.{pair, pairs_are_now}
+use Rattle.ephemeron_table.proofs.PutPairs.{put_words, pair, pairs_are_now, some}
 use Rattle.ephemeron_table.proofs.PutPlaces.{puts_to_table}
 use Rattle.ephemeron_table.proofs.PutShown.{CountsPut, PutsShown}
 
@@ -159,7 +160,7 @@ module _ {old : Mutator} {graph : Graph} {map key : ℕ} {weak : WeakObject} {nu
     map_known = known ends.lacks
 
     abbrev put : Pair
-    put = pair map_known (below ends) puts
+    put = pair map_known (below ends) (put_words puts)
 
     counted : count + 1 ≡ count_filled (slice_set (pairs_of (heap_words old.seat) table) place put)
     counted = ap (λ n. n + 1) (sym free.counted) ∙ counted_put ends put refl
@@ -168,7 +169,7 @@ module _ {old : Mutator} {graph : Graph} {map key : ℕ} {weak : WeakObject} {nu
     comes_there = record {
       known = map_known;
       below = below ends;
-      puts = puts;
+      puts = put_words puts;
       objects = length graph.objects;
       key_place = ends.lacks.is_key.place;
       holds = new_value_held false value what free.held.shows;
@@ -185,7 +186,7 @@ module _ {old : Mutator} {graph : Graph} {map key : ℕ} {weak : WeakObject} {nu
     -- one more pair holds something
     filled_more : count_filled (pairs_of (heap_words new.seat) table) ≡ count_at (heap_of old) map + 1
     filled_more =
-        omega (arith, ap count_filled (pairs_are_now map_known (below ends) puts), counted, free.counted)
+        omega (arith, ap count_filled (pairs_are_now map_known (below ends) (put_words puts)), counted, free.counted)
 
     -- only words of the map have changed, and its table stays
     changes : ChangesObject (heap_of old) (heap_of new) map (capacity_at (heap_of old) map)
@@ -211,6 +212,7 @@ module _ {old : Mutator} {graph : Graph} {map key : ℕ} {weak : WeakObject} {nu
       made = _;
       stands = (shown ends.lacks).stands;
       refills = refills_weak comes_there;
+      remembers = put_remembers map_known (some map_known (below ends) (put_words puts)) (below ends) puts;
       one = one;
       capacity = _;
       changes = changes;

@@ -28,6 +28,7 @@ use Rattle.weak_pairs.specs.declared.table.Table.{Table}
 use Rattle.ephemeron_table.proofs.EntriesPut.{entry_put}
 use Rattle.ephemeron_table.proofs.GrownMaps.{GrowsEntry, puts_one, all_made, boxes_made, refills_weak, table_made}
 use Rattle.ephemeron_table.proofs.GrownPairs.{one_more}
+use Rattle.ephemeron_table.proofs.GrownTouches.{grown_remembers}
 use Rattle.ephemeron_table.proofs.GrownWords.{GrowsTable, filled, run}
 use Rattle.ephemeron_table.proofs.KnownTables.{cell, count_is}
 use Rattle.ephemeron_table.proofs.PutPlaces.{puts_to_new_table}
@@ -156,6 +157,7 @@ module _ {old : Mutator} {graph : Graph} {map key : ℕ} {weak : WeakObject} {nu
       made = all_made entry;
       stands = (known growing.lacks).there.stands;
       refills = refills_weak entry;
+      remembers = grown_remembers grows;
       one = puts_one entry (no_pair_refers growing.lacks);
       capacity = grown_table table.capacity;
       changes = changes;

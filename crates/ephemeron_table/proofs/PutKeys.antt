@@ -1,21 +1,24 @@
 -- What comes of a put where the key is there: its entry has the value, or there is no room.
-use Rattle.std.proofs.Common.{◌≡◌, ℕ, ◌+◌, Some, Err, length, sym, ◌∙◌, ap, subst, arith, false}
+use Rattle.std.proofs.Common.{◌≡◌, ℕ, ◌+◌, ◌<◌, Some, Err, length, sym, ◌∙◌, ap, subst, arith, false}
 use Rattle.std.proofs.lemmas.Option.{none-some}
 use Rattle.heap_model.specs.Types.{Value, Held}
 use Rattle.object_graph.specs.Graphs.{Graph, WeakObject}
 use Rattle.object_graph.specs.Invariants.{IsValue}
+use Rattle.page_space.specs.Extents.{marks_start}
 use Rattle.handle_roots.specs.Roots.{FitsHeld}
 use Rattle.heap_model.specs.Slots.{IsSlotWord}
 use Rattle.heap_model.specs.Needs.{word_at}
 use Rattle.heap_model.specs.Rooms.{room_put, wput_need}
 use Rattle.write_barrier.specs.MutatorState.{Mutator, heap_of}
 use Rattle.write_barrier.specs.declared.room.NoRoom.{NoRoom}
+use Rattle.write_barrier.specs.Recording.{Touches}
 use Rattle.object_cells.specs.Contents.{next_at, box_in, filling_at, filling_of, filling_need, HoldsSlotWord}
-use Rattle.object_cells.specs.Contents.{LacksRoom, FillsSlot}
+use Rattle.object_cells.specs.Contents.{LacksRoom, FillsSlot, filled_touch}
 use Rattle.object_cells.specs.HeldValues.{IsValueHeld}
 use Rattle.object_cells.specs.Made.{store_content}
 use Rattle.object_cells.proofs.NothingUsed.{room_for_none}
 use Rattle.object_cells.proofs.FilledSlots.{FilledBy, slot_filled, held_before, no_raw}
+use Rattle.object_cells.proofs.FilledTouches.{fills_touch}
 use Rattle.object_cells.proofs.HeldNeeds.{held_is_value, new_value_held}
 use Rattle.object_cells.proofs.SlotBoxes.{box_of_word, lacks_need}
 use Rattle.ephemeron_table.specs.EntryChanges.{map_room, HasPutEntry, IsMapFull, PutsEntry}
@@ -59,12 +62,19 @@ replaces_by : {old new : Mutator} {graph : Graph} {map key : ℕ} {weak : WeakOb
     → IsValue (length graph.objects) what → IsValueHeld old graph value what
     → FilledBy old new (table.at + value_offset place) (word_at (heap_of old) (table.at + value_offset place))
     (store_content value)
+    → Touches old new (filled_touch (filling_at old (table.at + value_offset place) (store_content value))
+    (table.at + value_offset place))
     → (need : ℕ) × ReplacesValue old new (known has) place key what need
     × (need ≡ wput_need (map_room old map weak) weak what number)
-replaces_by {old} value what has is_value held (FilledBy.slot room words needs) =
-    let holds = new_value_held false value what held.shows in
-    (_, slot_replaces value has holds is_value room words, sym needs ∙ entry_need has value what held.shows)
-replaces_by {old} {place = place} {table} value what has is_value held (FilledBy.of_box box v boxed found same) =
+replaces_by value what has is_value held (FilledBy.slot room words needs) touches =
+    let holds = new_value_held false value what held.shows in (
+      _,
+      slot_replaces value has holds is_value room words needs touches,
+      sym needs
+          ∙ entry_need has value what held.shows,
+    )
+replaces_by {old} {place = place} {table} value what has is_value held (FilledBy.of_box box v boxed found same) touches
+    =
     let heap = heap_of old in
     let holds = new_value_held false value what held.shows in
     let word : ℕ = word_at heap (table.at + value_offset place) in
@@ -84,9 +94,11 @@ replaces_value : {old new : Mutator} {graph : Graph} {map key : ℕ} {weak : Wea
     × (need ≡ wput_need (map_room old map weak) weak what number)
 replaces_value {old} {new} {place = place} {table} value what has is_value held fills =
     let room = room_for_none old has.shows.tied has.shows.shows.whole in
+    let below : table.at + value_offset place < marks_start old.seat.space =
+    omega (arith, has.is_table.within, has.below) in
     replaces_by value what has is_value held
-    (slot_filled fills has.shows.tied (omega (arith, has.is_table.within, has.below)) room
-    (λ w. no_raw w (new_value_held false value what held.shows)))
+    (slot_filled fills has.shows.tied below room (λ w. no_raw w (new_value_held false value what held.shows)))
+    (fills_touch fills has.shows.tied has.shows.shows.whole below (value_before has value))
 
 -- and so its pair was put
 pub puts_value_pair : {old new : Mutator} {graph : Graph} {map key : ℕ} {weak : WeakObject} {number place : ℕ}
@@ -113,6 +125,7 @@ puts_value_pair {old} {new} {table = table} value what has fits held fills =
       made = replaces.made;
       stands = (known has).there.stands;
       refills = replaces.refills;
+      remembers = replaces.remembers;
       one = puts_one has replaces;
       capacity = _;
       changes = changes has replaces;

@@ -39,11 +39,10 @@ use Rattle.weak_pairs.proofs.PairsPut.{at_place, length-with_pair}
 use Rattle.weak_pairs.proofs.FilledPairs.{filled_elsewhere, still_filled}
 use Rattle.ephemeron_table.specs.PairWrites.{RefillsPairs, HasValue}
 use Rattle.ephemeron_table.specs.PairLaws.{RefillsWeak, PutsOne}
-use Rattle.ephemeron_table.specs.Puttings.{PutsInTable}
 use Rattle.ephemeron_table.proofs.PairComes.{PairComes, value_comes, pair_shows}
 use Rattle.ephemeron_table.proofs.KnownTables.{table_is_no_box, are_before, KnownMap, cell, cell_has, sound, slot_there}
 use Rattle.ephemeron_table.proofs.KnownTables.{of_map, other, pairs_long}
-use Rattle.ephemeron_table.proofs.PutPairs.{pair, pairs_are_now, some, putting}
+use Rattle.ephemeron_table.proofs.PutPairs.{PutsPairWords, pair, pairs_are_now, some, putting}
 use Rattle.ephemeron_table.proofs.StayingTables as staying
 use Rattle.ephemeron_table.proofs.StayingTables.{WritesMap, StaysTable}
 use Rattle.ephemeron_table.proofs.KeysFound.{key_filled}
@@ -53,7 +52,7 @@ pub record ComesToPlace (old new : Mutator) (map place key count number : ℕ) (
     (what : Value) : Type 0 where
   pub known : KnownMap old map table
   pub below : place < table.capacity
-  pub puts : PutsInTable old new map table place key count value
+  pub puts : PutsPairWords old new map table place key count value
   pub objects : ℕ
   pub key_place : IsPlace (heap_of old) number key
   pub holds : HoldsValue (heap_of old) false rep.Small (rep_of what) what (store_content value)
@@ -70,7 +69,7 @@ module _ {old new : Mutator} {map place key count number : ℕ} {table : Table} 
   abbrev below : place < table.capacity
   below = comes.below
 
-  abbrev puts : PutsInTable old new map table place key count value
+  abbrev puts : PutsPairWords old new map table place key count value
   puts = comes.puts
 
   -- the pair that was put

@@ -4,13 +4,14 @@ use Rattle.std.proofs.Common.{◌≡◌, ℕ, ◌+◌, ◌*◌, ◌≤◌, ◌<�
 use Rattle.tagged_word.specs.declared.layout.Kind.TheVariants as kind
 use Rattle.tagged_word.specs.Cells.{store_head}
 use Rattle.object_graph.proofs.Lists.{slice_get-set_other}
+use Rattle.nursery.specs.Young.{HasRoom}
 use Rattle.heap_table.specs.Seats.{heap_words}
 use Rattle.heap_model.specs.Types.{Cell, Held}
 use Rattle.heap_model.specs.Slots.{reference_word}
 use Rattle.heap_model.specs.Kinds.{Pair, count_offset}
-use Rattle.write_barrier.specs.MutatorState.{Mutator}
+use Rattle.write_barrier.specs.MutatorState.{Mutator, reserved}
 use Rattle.object_cells.specs.Contents.{next_at}
-use Rattle.object_cells.specs.Made.{with_content, content_need, content_word, store_content}
+use Rattle.object_cells.specs.Made.{PutsWords, with_content, content_need, content_word, store_content}
 use Rattle.object_cells.proofs.MadeBoxes.{made_boxes, length-with_content, with_content_stays}
 use Rattle.object_cells.proofs.OwnContents.{PutsBeside, not_made}
 use Rattle.weak_pairs.specs.Tables.{pairs_of, with_pair, made_pair}
@@ -21,8 +22,22 @@ use Rattle.ephemeron_table.specs.Puttings.{PutsInTable}
 use Rattle.ephemeron_table.proofs.KnownTables.{KnownMap, cell, within_words, found, other, sound, puts_beside}
 use Rattle.ephemeron_table.proofs.KnownTables.{other_has, other_long, map_beside}
 
+-- The words with a pair that comes to a place of the map's table, and with a count and a box that the value needs.
+pub record PutsPairWords (old new : Mutator) (map : ℕ) (table : Table) (place key count : ℕ) (value : Held)
+    : Type 0 where
+  pub room : HasRoom old.young (content_need (store_content value))
+  pub words : let boxed = with_content (heap_words old.seat) (store_content value) (next_at old) in
+      let pair = made_pair (reference_word key) (content_word (store_content value) (next_at old)) in
+      PutsWords (reserved old (content_need (store_content value))) new
+      (slice_set (with_pair boxed table.at place pair) (map + count_offset) count)
+
+-- putting the pair in the table puts these
+abbrev pub put_words : {old new : Mutator} {map place key count : ℕ} {table : Table} {value : Held}
+    → PutsInTable old new map table place key count value → PutsPairWords old new map table place key count value
+put_words puts = record { room = puts.room; words = puts.words }
+
 module _ {old new : Mutator} {map place key count : ℕ} {table : Table} {value : Held} (known : KnownMap old map table)
-    (below : place < table.capacity) (puts : PutsInTable old new map table place key count value) where
+    (below : place < table.capacity) (puts : PutsPairWords old new map table place key count value) where
   abbrev pub some : 0 < table.capacity
   some = omega (arith, below)
 

@@ -1,5 +1,5 @@
 -- Where an entry of a weak map was put, a pair of its key was put among the map's pairs.
-use Rattle.std.proofs.Common.{◌≡◌, ◌≢◌, ℕ, ◌+◌, List, ◌++◌, None, Some, refl, sym, ◌∙◌, ap, subst, unwrap_or}
+use Rattle.std.proofs.Common.{◌≡◌, ◌≢◌, ℕ, ◌+◌, List, ◌∷◌, ◌++◌, None, Some, refl, sym, ◌∙◌, ap, subst, unwrap_or}
 use Rattle.tagged_word.proofs.Members.{first_in}
 use Rattle.page_space.specs.Sizes.{AreWithin}
 use Rattle.page_space.specs.Extents.{Space}
@@ -14,6 +14,7 @@ use Rattle.heap_model.specs.Kinds.{Pair, count_offset}
 use Rattle.heap_model.specs.Showing.{ShowsHeld}
 use Rattle.heap_model.specs.Needs.{count_at}
 use Rattle.write_barrier.specs.MutatorState.{Mutator, heap_of, MainShows}
+use Rattle.write_barrier.specs.Recording.{Remembers}
 use Rattle.write_barrier.specs.Values.{held_of_class}
 use Rattle.write_barrier.specs.ValueLaws.{ShownValuesAreHeld}
 use Rattle.object_cells.specs.Capacities.{ChangesObject}
@@ -64,7 +65,8 @@ pub data CountsPut (heap : Heap) (map : ℕ) (entries : List Entry) (number : �
   fresh : entry_value entries number ≡ None → count_filled after ≡ count_at heap map + 1
       → CountsPut heap map entries number after
 
--- The entry of a key was put: the pairs of all other keys are kept, and only words of the map changed.
+-- The entry of a key was put: the pairs of all other keys are kept, only words of the map changed, and what was
+-- recorded follows.
 pub record PutsShown (old new : Mutator) (graph : Graph) (map key : ℕ) (weak : WeakObject) (number : ℕ) (value : Held)
     (what : Value) : Type 0 where
   pub shows : MainShows old graph
@@ -81,6 +83,7 @@ pub record PutsShown (old new : Mutator) (graph : Graph) (map key : ℕ) (weak :
   pub made : List Cell
   pub stands : cell.at ≡ map
   pub refills : RefillsWeak (heap_of old) (heap_of new) cell others made
+  pub remembers : Remembers old new (cell ∷ others) (cell ∷ others)
   pub one : PutsOne (heap_of old) (heap_of new) refills.pairs number (Some what)
   pub capacity : ℕ
   pub changes : ChangesObject (heap_of old) (heap_of new) map capacity

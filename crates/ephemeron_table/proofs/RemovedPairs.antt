@@ -11,6 +11,7 @@ use Rattle.heap_model.specs.Kinds.{Pair}
 use Rattle.tagged_word.specs.Cells.{store_head, store_slot}
 use Rattle.heap_model.specs.Needs.{capacity_at, count_at, word_at}
 use Rattle.write_barrier.specs.MutatorState.{Mutator, heap_of, IsTied}
+use Rattle.write_barrier.proofs.Recording.{remembers_heap}
 use Rattle.object_cells.specs.CellsAt.{IsQuietWhole}
 use Rattle.object_cells.specs.Capacities.{ChangesObject}
 use Rattle.object_cells.proofs.NothingUsed.{uses_none}
@@ -26,6 +27,7 @@ use Rattle.weak_pairs.specs.declared.table.Table.{Table}
 use Rattle.weak_pairs.proofs.CountedPairs.{count_freed}
 use Rattle.ephemeron_table.proofs.KnownTables.{KnownMap, cell, count_is, within_words}
 use Rattle.weak_pairs.proofs.PairLists.{pairs_are}
+use Rattle.ephemeron_table.proofs.MapTouches.{removed_remembers}
 use Rattle.ephemeron_table.proofs.MapsWithout.{refills_weak, slot_stays, map_has, are_after}
 
 -- the map whose pair is to be removed is known
@@ -103,17 +105,18 @@ removes_pair {old} {new} {map} {place} {table} {pairs} {pair} known before has t
     let refills = refills_weak known some removes pair is in
     let same : pairs_of (heap_words old.seat) table ≡ before = pairs_known known has in
     let stands : (cell known).at ≡ map = known.there.stands in
+    let law = are_own (heap_of old) (heap_of new) (cell known) _ [] refills in
+    let remembers = removed_remembers known some removes in
     record {
-      whole = record {
-        quiet = removes.rest.phase ∙ quiet;
-        whole = (are_own (heap_of old) (heap_of new) (cell known) _ [] refills).3;
-      };
-      uses = uses_none removes.rest removes.young;
+      whole = record { quiet = removes.rest.phase ∙ quiet; whole = law.3 };
+      uses = uses_none removes.rest removes.young removes.touches.free;
       paths = removes.paths;
       changes = subst (λ a. ChangesObject (heap_of old) (heap_of new) a (capacity_at (heap_of old) a)) stands
           (tables_stay refills (slot_stays known some removes pair is));
       stay = λ word not_count no_pair. removes.beside word
           (beside_pairs known has some word (no_pair table.at (refers_there known has some))) not_count;
+      bound = removes.touches.bound;
+      remembered = λ bounded were. remembers_heap old new _ _ [] remembers bounded known.whole law.1 were;
       after = pairs_of (heap_words new.seat) table;
       are = record {
         cell = cell known;

@@ -1,5 +1,5 @@
 -- The pair of an entry came to have another value: so the entry is put.
-use Rattle.std.proofs.Common.{◌≡◌, ◌≢◌, ℕ, ◌+◌, inl, inr, List, Some}
+use Rattle.std.proofs.Common.{◌≡◌, ◌≢◌, ℕ, ◌+◌, inl, inr, List, ◌∷◌, Some}
 use Rattle.std.proofs.Common.{slice_get, refl, sym, ◌∙◌, ap, subst}
 use Rattle.std.specs.Prelude.{slice_set}
 use Rattle.std.proofs.lemmas.Bool.{cases_eq}
@@ -16,6 +16,7 @@ use Rattle.heap_model.specs.Showing.{ShowsValue}
 use Rattle.heap_model.specs.Needs.{capacity_at, count_at}
 use Rattle.heap_model.proofs.WordsStay.{PlacesStay}
 use Rattle.write_barrier.specs.MutatorState.{Mutator, heap_of}
+use Rattle.write_barrier.specs.Recording.{Remembers}
 use Rattle.object_cells.specs.Capacities.{ChangesObject}
 use Rattle.ephemeron_table.proofs.KeptTables.{tables_stay}
 use Rattle.weak_pairs.specs.Pairs.{IsFilledAt}
@@ -29,12 +30,13 @@ use Rattle.ephemeron_table.proofs.KnownTables.{KnownMap, cell, count_is}
 use Rattle.weak_pairs.proofs.FilledPairs.{filled_elsewhere, still_filled, same_filled}
 
 -- Words of the map's own cells were written, so that the pair at the place came to have the value; so many words were
--- reserved for it.
+-- reserved for it, and what was recorded follows.
 pub record ReplacesValue (old new : Mutator) {map : ℕ} {table : Table} (known : KnownMap old map table) (place key : ℕ)
     (what : Value) (need : ℕ) : Type 0 where
   pub others : List Cell
   pub made : List Cell
   pub refills : RefillsWeak (heap_of old) (heap_of new) (cell known) others made
+  pub remembers : Remembers old new (cell known ∷ others) (cell known ∷ others)
   pub now : Pair
   pub before_is : refills.pairs.before ≡ pairs_of (heap_words old.seat) table
   pub now_is : refills.pairs.now ≡ slice_set (pairs_of (heap_words old.seat) table) place now

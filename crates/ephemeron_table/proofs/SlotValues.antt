@@ -19,24 +19,25 @@ use Rattle.heap_model.specs.Slots.{reference_word}
 use Rattle.heap_model.specs.Kinds.{Pair, count_offset}
 use Rattle.heap_model.proofs.CellsApart.{IsOfCell}
 use Rattle.write_barrier.specs.MutatorState.{Mutator, heap_of, reserved}
-use Rattle.object_cells.specs.Contents.{next_at}
+use Rattle.write_barrier.specs.Recording.{Touches}
+use Rattle.object_cells.specs.Contents.{next_at, filling_at, filling_need, filled_touch}
 use Rattle.object_cells.specs.Made.{PutsWords, with_content, content_need, content_word, store_content}
 use Rattle.object_cells.proofs.CellsRead.{word_stands}
-use Rattle.object_cells.proofs.FilledSlots.{set_there}
+use Rattle.object_cells.proofs.FilledSlots.{set_there, no_raw}
 use Rattle.object_cells.proofs.HeldContents.{HoldsValue}
 use Rattle.object_cells.proofs.MadeBoxes.{with_content_stays}
 use Rattle.object_cells.proofs.UnusedWords.{cell_is_used, next_before_segments}
 use Rattle.weak_pairs.specs.Tables.{number_at, key_offset, value_offset, numbers, key_number, pairs_of}
-use Rattle.ephemeron_table.specs.Puttings.{PutsInTable}
 use Rattle.weak_pairs.specs.declared.table.Table.{Table}
 use Rattle.weak_pairs.proofs.CountedPairs.{count_filled, count_kept}
 use Rattle.ephemeron_table.proofs.EntryPairs.{HasEntryPair, known, some, entry_filled, key_stands}
 use Rattle.ephemeron_table.proofs.KeysFound.{key_filled}
 use Rattle.ephemeron_table.proofs.KnownTables.{cell_has, sound, pairs_same, of_map, finds_all, found, other_has}
 use Rattle.ephemeron_table.proofs.KnownTables.{other_long, map_beside}
+use Rattle.ephemeron_table.proofs.MapTouches.{value_remembers}
 use Rattle.ephemeron_table.proofs.PutMaps.{ComesToPlace, boxes_made, refills_weak, refers_back, slot_stays, takes}
 use Rattle.object_cells.proofs.TakenValues as taken
-use Rattle.ephemeron_table.proofs.PutPairs.{pair, pairs_are_now}
+use Rattle.ephemeron_table.proofs.PutPairs.{PutsPairWords, pair, pairs_are_now, some as in_table}
 use Rattle.ephemeron_table.proofs.ReplacedValues.{ReplacesValue}
 
 -- where a pair takes the place of one that has the same key, the numbers stay
@@ -54,7 +55,11 @@ module _ {old new : Mutator} {graph : Graph} {map key : ℕ} {weak : WeakObject}
     (fits : IsValue (length graph.objects) what) (room : HasRoom old.young (content_need (store_content value)))
     (words : PutsWords (reserved old (content_need (store_content value))) new
     (slice_set (with_content (heap_words old.seat) (store_content value) (next_at old)) (table.at + value_offset place)
-    (content_word (store_content value) (next_at old)))) where
+    (content_word (store_content value) (next_at old))))
+    (need : filling_need (filling_at old (table.at + value_offset place) (store_content value))
+    ≡ content_need (store_content value))
+    (touches : Touches old new (filled_touch (filling_at old (table.at + value_offset place) (store_content value))
+    (table.at + value_offset place))) where
   abbrev boxed : List ℕ
   boxed = with_content (heap_words old.seat) (store_content value) (next_at old)
 
@@ -95,7 +100,7 @@ module _ {old new : Mutator} {graph : Graph} {map key : ℕ} {weak : WeakObject}
       ∙ word_stands count_offset count (known has).there.has (sound (known has)).counted
 
   -- so the pair came to the table, which had its key before
-  puts : PutsInTable old new map table place key count value
+  puts : PutsPairWords old new map table place key count value
   puts =
       let keyed : List ℕ = slice_set boxed (table.at + key_offset place) (reference_word key) in
       let same : slice_set keyed (table.at + value_offset place) word
@@ -148,6 +153,8 @@ module _ {old new : Mutator} {graph : Graph} {map key : ℕ} {weak : WeakObject}
     others = _;
     made = boxes_made comes;
     refills = refills_weak comes;
+    remembers = value_remembers (known has) (in_table (known has) has.below puts) place (store_content value) has.below
+        (λ w. no_raw w holds) need touches;
     now = now;
     before_is = refl;
     now_is = pairs_are_now (known has) has.below puts;

@@ -20,7 +20,7 @@ use Rattle.heap_model.proofs.SlotWords.{All-slice_get}
 use Rattle.write_barrier.specs.MutatorState.{heap_of}
 use Rattle.object_cells.specs.HeldValues.{IsReachedValue}
 use Rattle.object_cells.specs.Refills.{RestsAgain}
-use Rattle.object_cells.proofs.ReplacedObjects.{HasReachedLinks, ReplacesCells, replaced_shows}
+use Rattle.object_cells.proofs.ReplacedObjects.{HasReachedLinks, ReplacesCells, rests_again, replaced_shows}
 use Rattle.object_cells.proofs.OwnSteps.{went_object, of_kind_is_no_object}
 use Rattle.object_cells.proofs.OwnerWrites.{weak_owns, written_own_keeps_cells}
 use Rattle.weak_pairs.specs.Entries.{entries_with}
@@ -87,16 +87,16 @@ links_reached graph weak number value is there marked is_new one link =
 -- so the heap shows the graph in which the map has these entries
 pub written_entries_show : WrittenEntriesShow
 written_entries_show old new graph weak cell others made number value shows there marked key_marked carries shown is_new
-    regions refills puts counted =
+    regions refills puts counted remembers =
     let before : Heap = heap_of old in
     let now : Heap = heap_of new in
     let entries : List Entry = entries_with weak.entries number value in
     let law = written_own_keeps_cells weak_owns refills.whole refills.writes in
     let are = entries_are graph weak shows.is_graph there in
-    let rest : RestsAgain old new = record { regions = regions; sized = refills.writes.sized; rows = law.0 } in
     let weaving : Reweaving before now graph cell others made weak.entries number value =
     record { refills = refills; puts = puts; shown = shown; distinct = are.distinct } in
     let all : List Cell = cell ∷ others in
+    let rest : RestsAgain old new = rests_again all all made shows regions refills.writes.sized law.0 law.1 remembers in
     let replaces : ReplacesCells before now graph weak.number (Weak entries) all all made = record {
       cells = law.1;
       own = pairs_own refills;

@@ -14,6 +14,7 @@ use Rattle.heap_model.specs.Wholeness.{Whole, HasRows}
 use Rattle.heap_model.specs.Showing.{ShowsEntry, ShowsWeak}
 use Rattle.heap_model.specs.Changes.{CellsChange, IsOwnChange}
 use Rattle.write_barrier.specs.MutatorState.{Mutator, heap_of, MainShows}
+use Rattle.write_barrier.specs.Recording.{Remembers}
 use Rattle.object_cells.specs.HeldValues.{IsReachedValue}
 use Rattle.object_cells.specs.Uses.{KeepsRegions}
 use Rattle.weak_pairs.specs.Pairs.{IsFilledAt}
@@ -66,4 +67,5 @@ WrittenEntriesShow =
     → (refills : RefillsWeak (heap_of old) (heap_of new) cell others made)
     → PutsOne (heap_of old) (heap_of new) refills.pairs number value
     → HasWord (words_of_cell (heap_of new) cell) count_offset (length (entries_with weak.entries number value))
+    → Remembers old new (cell ∷ others) (cell ∷ others)
     → MainShows new (reweave graph weak (entries_with weak.entries number value))

@@ -8,13 +8,23 @@ use Rattle.nursery.specs.Young.{HasRoom}
 use Rattle.heap_table.specs.Seats.{heap_words}
 use Rattle.heap_model.specs.Slots.{reference_word, hole_word}
 use Rattle.heap_model.specs.Kinds.{count_offset}
+use Rattle.heap_model.specs.Remembered.{Touch}
 use Rattle.write_barrier.specs.MutatorState.{Mutator, heap_of, reserved}
+use Rattle.write_barrier.specs.Recording.{Touches, touched, touched_one, touched_then}
 use Rattle.write_barrier.specs.Values.{with_range}
 use Rattle.object_cells.specs.Contents.{next_at}
-use Rattle.object_cells.specs.Made.{PutsWords, with_content, content_need, content_word, store_content}
-use Rattle.weak_pairs.specs.Tables.{number_at, with_pair, made_pair}
+use Rattle.object_cells.specs.Made.{PutsWords, with_content, content_need, content_touch, content_word, store_content}
+use Rattle.weak_pairs.specs.Tables.{number_at, key_offset, value_offset, with_pair, made_pair}
 use Rattle.weak_pairs.specs.declared.table.Table.{Table}
 use Rattle.weak_pairs.specs.Probes.{IsFirstFree}
+
+-- which addresses putting a pair at a place of the table at an address touches
+abbrev pub pair_touch : ℕ → ℕ → ℕ → Touch
+pair_touch table place = touched Touch.Stored (table + key_offset place) (table + (value_offset place + 1))
+
+-- which addresses making a table of so many pairs touches
+abbrev pub table_touch : Table → ℕ → Touch
+table_touch table = touched Touch.Wiped table.at (table.at + (store_head + 2 * table.capacity))
 
 -- The pair of a key and a value comes to a place of the map's table, and the map has so many entries; a box that the
 -- value needs is made.
@@ -24,6 +34,9 @@ pub record PutsInTable (old new : Mutator) (map : ℕ) (table : Table) (place ke
       let pair = made_pair (reference_word key) (content_word (store_content value) (next_at old)) in
       PutsWords (reserved old (content_need (store_content value))) new
       (slice_set (with_pair boxed table.at place pair) (map + count_offset) count)
+  pub touches : let boxed = content_touch (store_content value) (next_at old) in
+      let put = touched_then boxed (pair_touch table.at place) in
+      Touches old new (touched_then put (touched_one Touch.Wiped (map + count_offset)))
 
 -- the header of a table
 abbrev pub table_header : Header
@@ -41,3 +54,4 @@ pub record InsertsRehashed (old new : Mutator) (table : Table) (key value : ℕ)
   pub place : ℕ
   pub first : IsFirstFree (heap_of old) table (number_at (heap_of old) key) place
   pub words : PutsWords old new (with_pair (heap_words old.seat) table.at place (made_pair (reference_word key) value))
+  pub touches : Touches old new (pair_touch table.at place)

@@ -12,12 +12,14 @@ use Rattle.heap_table.specs.declared.phase.Phase.TheVariants.{Quiet}
 use Rattle.heap_model.specs.Slots.{reference_word}
 use Rattle.heap_model.specs.Kinds.{Pair, count_offset}
 use Rattle.heap_model.specs.Needs.{grown_table}
+use Rattle.heap_model.specs.Remembered.{Touch}
 use Rattle.write_barrier.specs.MutatorState.{Mutator, heap_of, IsTied, reserved}
+use Rattle.write_barrier.specs.Recording.{Touches, touched_one, touched_then}
 use Rattle.object_cells.specs.Contents.{next_at}
-use Rattle.object_cells.specs.Made.{PutsWords, with_content, content_need, content_word, store_content}
+use Rattle.object_cells.specs.Made.{PutsWords, with_content, content_need, content_touch, content_word, store_content}
 use Rattle.weak_pairs.specs.Pairs.{IsFilledAt}
 use Rattle.weak_pairs.specs.Tables.{TableIsWithin, numbers, pairs_of}
-use Rattle.ephemeron_table.specs.Puttings.{InsertsRehashed, begun_table}
+use Rattle.ephemeron_table.specs.Puttings.{InsertsRehashed, begun_table, table_touch}
 use Rattle.ephemeron_table.specs.Removals.{ChangesPairs}
 use Rattle.weak_pairs.specs.declared.table.Table.{Table}
 use Rattle.weak_pairs.specs.Rehashing.{AreRehashed}
@@ -72,10 +74,12 @@ pub record PutsInNewTable (old new : Mutator) (map : ℕ) (table : Table) (key c
   pub begun : Mutator
   pub begins : PutsWords (reserved old (new_table_need table value)) begun
       (begun_table (heap_words old.seat) (new_table old table))
+  pub begin_touches : Touches old begun (table_touch (new_table old table))
   pub moved : Mutator
   pub moves : RehashesPairs begun moved table (new_table old table) table.capacity
   pub boxed : Mutator
   pub boxes : PutsWords moved boxed (with_content (heap_words moved.seat) (store_content value) (box_behind old table))
+  pub box_touches : Touches moved boxed (content_touch (store_content value) (box_behind old table))
   pub inserted : Mutator
   pub inserts : InsertsRehashed boxed inserted (new_table old table) key
       (content_word (store_content value) (box_behind old table))
@@ -83,3 +87,5 @@ pub record PutsInNewTable (old new : Mutator) (map : ℕ) (table : Table) (key c
       (slice_set (slice_set (heap_words inserted.seat) (map + store_slot) (reference_word (next_at old)))
       (map + count_offset)
       count)
+  pub touches : let named = touched_one Touch.Stored (map + store_slot) in
+      Touches inserted new (touched_then named (touched_one Touch.Wiped (map + count_offset)))

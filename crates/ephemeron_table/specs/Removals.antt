@@ -1,16 +1,19 @@
 -- How a pair is removed from a table, word by word.
-use Rattle.std.specs.Prelude.{◌≡◌, ◌≢◌, ℕ, ◌+◌, ◌-◌, ◌<◌, length, Some, None, slice_get, slice_set}
+use Rattle.std.specs.Prelude.{◌≡◌, ◌≢◌, ℕ, ◌+◌, ◌-◌, ◌<◌, ◌⊎◌, length, Some, None, slice_get, slice_set}
 use Rattle.linear_probing.specs.Tables.{FindsAll}
 use Rattle.heap_table.specs.Seats.{heap_words, RestStays}
 use Rattle.heap_model.specs.Kinds.{Pair, free_pair, count_offset}
 use Rattle.heap_model.specs.Needs.{count_at}
+use Rattle.heap_model.specs.Remembered.{Touch}
 use Rattle.write_barrier.specs.MutatorState.{Mutator, heap_of}
+use Rattle.write_barrier.specs.Recording.{Touches}
 use Rattle.weak_pairs.specs.Pairs.{IsFilledAt}
 use Rattle.weak_pairs.specs.declared.table.Table.{Table}
 use Rattle.weak_pairs.specs.Tables.{IsOutsidePairs, numbers, pairs_of}
 use Rattle.weak_pairs.specs.Removals.{IsRemoved, StaysBelow}
 
--- Of all that the mutator has, only words of the table's pairs are others; so the marks and the board are as they were.
+-- Of all that the mutator has, only words of the table's pairs are others, and what is recorded of them; so the marks,
+-- the board and the free runs are as they were.
 pub record ChangesPairs (old new : Mutator) (table : Table) : Type 0 where
   pub rest : RestStays old.seat new.seat
   pub paths : new.paths ≡ old.paths
@@ -18,6 +21,10 @@ pub record ChangesPairs (old new : Mutator) (table : Table) : Type 0 where
   pub long : length (heap_words new.seat) ≡ length (heap_words old.seat)
   pub beside : (at : ℕ) → IsOutsidePairs table at
       → slice_get (heap_words new.seat) at ≡ slice_get (heap_words old.seat) at
+  pub touch : ℕ → Touch
+  pub touches : Touches old new touch
+  pub touched : (at : ℕ) → (touch at ≡ Touch.Kept)
+      ⊎ ((touch at ≡ Touch.Stored) × (IsOutsidePairs table at → ⊥))
 
 -- Once the hole is free, the pair at the place is removed, and probing finds all where it did before.
 pub record ShiftsBack (old new : Mutator) (table : Table) (place hole : ℕ) : Type 0 where
@@ -47,3 +54,8 @@ pub record RemovesAt (old new : Mutator) (map : ℕ) (table : Table) (place : �
       → (one : Pair) → IsFilledAt (pairs_of (heap_words old.seat) table) place one → StaysBelow removed
   pub found : FindsAll (numbers (heap_of old) (pairs_of (heap_words old.seat) table))
       → FindsAll (numbers (heap_of old) (pairs_of (heap_words new.seat) table))
+  pub touch : ℕ → Touch
+  pub touches : Touches old new touch
+  pub touched : (at : ℕ) → (touch at ≡ Touch.Kept)
+      ⊎ (((touch at ≡ Touch.Stored) × (IsOutsidePairs table at → ⊥))
+      ⊎ ((touch at ≡ Touch.Wiped) × (at ≡ map + count_offset)))

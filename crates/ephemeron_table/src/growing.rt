@@ -6,12 +6,13 @@ ghost use Rattle.heap_table.specs.Seats.{heap_words};
 ghost use Rattle.heap_table.specs.declared.phase.Phase.TheVariants.{Quiet};
 ghost use Rattle.heap_model.specs.Needs as needs;
 ghost use Rattle.write_barrier.specs.MutatorState.{heap_of};
+ghost use Rattle.write_barrier.specs.Recording.{Touches};
 ghost use Rattle.object_cells.specs.Made.{PutsWords, RefusesRoom};
 ghost use Rattle.weak_pairs.specs.Pairs.{HoldNothing};
 ghost use Rattle.weak_pairs.specs.Tables.{TablesDisjoint, KeysMovable, TableIsWithin, pairs_of};
 ghost use Rattle.ephemeron_table.specs.Rehashing.{RehashesPairs, CanGrow, PutsInNewTable, new_table_need};
 ghost use Rattle.weak_pairs.specs.Probes.{FreeBy, HasFree};
-ghost use Rattle.ephemeron_table.specs.Puttings.{InsertsRehashed, begun_table};
+ghost use Rattle.ephemeron_table.specs.Puttings.{InsertsRehashed, begun_table, table_touch};
 
 use crate::probing::{key_of, place};
 use crate::removing::put_pair;
@@ -37,8 +38,9 @@ pub(crate) fn grown(capacity: u32) -> u32
 pub(crate) fn begin_table(main: &mut Main, table: Table)
     requires quiet { main.old.seat.phase ≡ Quiet }
     requires within { TableIsWithin (heap_of main.old) table }
-    ensures { let words = heap_words main.old.seat in
+    ensures puts { let words = heap_words main.old.seat in
         PutsWords main.old main.new (begun_table words table) }
+    ensures touches { Touches main.old main.new (table_touch table) }
 {
     main.addresses_fit();
     let header = Header {

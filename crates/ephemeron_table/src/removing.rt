@@ -7,9 +7,11 @@ ghost use Rattle.page_space.specs.Extents.{marks_start};
 ghost use Rattle.heap_model.specs.Kinds.{Pair, count_offset};
 ghost use Rattle.heap_model.specs.Needs.{count_at};
 ghost use Rattle.write_barrier.specs.MutatorState.{heap_of};
+ghost use Rattle.write_barrier.specs.Recording.{Touches};
 ghost use Rattle.object_cells.specs.Made.{PutsWords};
 ghost use Rattle.weak_pairs.specs.Tables.{TableIsWithin, key_in, value_in, KeysOutsidePairs, IsOutsidePairs, made_pair};
 ghost use Rattle.weak_pairs.specs.Tables.{with_pair};
+ghost use Rattle.ephemeron_table.specs.Puttings.{pair_touch};
 ghost use Rattle.ephemeron_table.specs.Removals.{ShiftsBack, RemovesAt};
 
 use crate::probing::{key_of, place};
@@ -34,8 +36,9 @@ pub(crate) fn put_pair(main: &mut Main, table: Table, at: u32, key: Word, value:
     requires quiet { main.old.seat.phase ≡ Quiet }
     requires within { TableIsWithin (heap_of main.old) table }
     requires place { at < table.capacity }
-    ensures { let words = heap_words main.old.seat in
+    ensures puts { let words = heap_words main.old.seat in
         PutsWords main.old main.new (with_pair words table.at at (made_pair key.0 value.0)) }
+    ensures touches { Touches main.old main.new (pair_touch table.at at) }
 {
     main.addresses_fit();
     main.store_weak(table.at, STORE_HEAD + 2 * at, key);
@@ -48,10 +51,11 @@ fn copy_pair(main: &mut Main, table: Table, from: u32, to: u32)
     requires within { TableIsWithin (heap_of main.old) table }
     requires from { from < table.capacity }
     requires to { to < table.capacity }
-    ensures { let words = heap_words main.old.seat in
+    ensures puts { let words = heap_words main.old.seat in
         let heap = heap_of main.old in
         let pair = made_pair (key_in heap table.at from) (value_in heap table.at from) in
         PutsWords main.old main.new (with_pair words table.at to pair) }
+    ensures touches { Touches main.old main.new (pair_touch table.at to) }
 {
     main.addresses_fit();
     let key = key_of(main, table, from);

@@ -52,3 +52,7 @@ pub mod ShownRooms
 pub mod BoxShapes
 pub mod ShownBoxes
 pub mod StaysCollectable
+pub mod FreeStays
+pub mod RememberedSlots
+pub mod RememberedStays
+pub mod RememberedAlike

@@ -1,12 +1,12 @@
--- Where objects change inside their own cells, no cell comes to a page or to a half that is empty.
-use Rattle.std.proofs.Common.{◌≡◌, ℕ, ◌≤◌, ◌<◌, inl, inr, List, ◌++◌, Contains, IsTrue}
+-- Where objects change inside their own cells, no cell comes to a half that is empty; and an object's own are not free.
+use Rattle.std.proofs.Common.{◌≡◌, ℕ, ◌≤◌, ◌<◌, inl, inr, List, Contains, IsTrue}
 use Rattle.std.proofs.Common.{◌∙◌, ap, subst, arith}
-use Rattle.std.proofs.lemmas.Bool.{cases_lt, false≢true}
+use Rattle.std.proofs.lemmas.Bool.{false≢true}
 use Rattle.std.proofs.lemmas.List.Elements.{Contains-append_cases}
 use Rattle.tagged_word.specs.declared.layout.Kind.TheVariants as kind
 use Rattle.tagged_word.specs.Cells.{is_free_kind}
 use Rattle.page_space.specs.declared.region.Region.TheVariants.{Segment}
-use Rattle.page_space.specs.Extents.{Space, Extent, eden_start, segments_start}
+use Rattle.page_space.specs.Extents.{Space, Extent, segments_start}
 use Rattle.page_space.proofs.Covering.{disjoint}
 use Rattle.page_space.proofs.Standing.{start_of}
 use Rattle.page_space.proofs.Placed.{placed}
@@ -14,7 +14,7 @@ use Rattle.heap_model.specs.Types.{Kind, Cell, Held}
 use Rattle.heap_model.specs.Heaps.{Heap, HasCell, words_of_cell}
 use Rattle.heap_model.specs.Slots.{is_object_kind}
 use Rattle.heap_model.specs.Wholeness.{HasRows, Whole, IsOwnedKind}
-use Rattle.heap_model.specs.Changes.{IsNewlyUsed, CellsChange, IsOwnOf, IsOwnChange}
+use Rattle.heap_model.specs.Changes.{IsNewlyUsed, CellsChange, IsOwnOf}
 use Rattle.heap_model.specs.Laws.{bound}
 use Rattle.heap_model.specs.Collectable.{IsInHalf, IsCollectable, OwnChangesStayCollectable}
 use Rattle.heap_model.proofs.CellsApart.{IsOfCell, cell_extent_stands, first_of_cell, one_at}
@@ -65,7 +65,7 @@ owned_not_free kind.Gap owned free = owned
 owned_not_free _ owned free = false≢true free
 
 -- so what is an object's own is not free
-own_not_free : {heap : Heap} {owners : List Cell} {cell : Cell} → HasCell heap cell (words_of_cell heap cell)
+pub own_not_free : {heap : Heap} {owners : List Cell} {cell : Cell} → HasCell heap cell (words_of_cell heap cell)
     → IsOwnOf heap owners cell → IsTrue (is_free_kind cell.layout.kind) → ⊥
 own_not_free {cell = cell} has own free =
     elim own.own [
@@ -77,68 +77,38 @@ own_not_free {cell = cell} has own free =
           owned_not_free cell.layout.kind (subst (λ (c : Cell). IsOwnedKind c.layout.kind) same from.owned) free
     ]
 
--- the address is in no page, and not in this half
-record IsBeside (space : Space) (half at : ℕ) : Type 0 where
-  pub in_no_page : eden_start space ≤ at
-  pub in_no_half : IsInHalf space half at → ⊥
-
--- what came begins in a cell that is not free
+-- what came begins in a cell that went, which is not in the half
 came_beside : {old new : Heap} {gone came made : List Cell} {half : ℕ} (cell : Cell) → Whole old
-    → CellsChange old new gone came made → IsOwnChange old new gone came made → IsCollectable old half
-    → Contains came cell → IsBeside old.space half cell.at
-came_beside {old} {half = half} cell whole change own collectable came =
+    → CellsChange old new gone came made → IsCollectable old half → Contains came cell
+    → IsInHalf old.space half cell.at → ⊥
+came_beside {old} {half = half} cell whole change collectable came inside =
     let place = change.in_place cell came in
     let other : Cell = place.other in
     let has = change.went other place.among in
-    let used = own_not_free has (own.own other place.among) in
     let of_other : IsOfCell other cell.at = record { from = place.from; below = place.below } in
-    record {
-      in_no_page = elim (cases_lt other.at (eden_start old.space)) [
-        | inl below ↦ absurd (used (collectable.pages other (words_of_cell old other) has below))
-        | inr behind ↦ omega (arith, behind, place.from)
-      ];
-      in_no_half = λ inside. collectable.empty other (words_of_cell old other) has
-          (begins_in_half half cell.at whole.rows has of_other inside);
-    }
+    collectable.empty other (words_of_cell old other) has
+    (begins_in_half half cell.at whole.rows has of_other inside)
 
 -- what was made stands in eden
 made_beside : {old new : Heap} (half at : ℕ) → HasRows new → new.space ≡ old.space → IsNewlyUsed old new at
-    → IsBeside old.space half at
-made_beside {old} {new} half at rows same is_new =
+    → IsInHalf old.space half at → ⊥
+made_beside {old} {new} half at rows same is_new inside =
     let young : new.space.sizes.young ≡ old.space.sizes.young = ap (λ (s : Space). s.sizes.young) same in
-    record {
-      in_no_page = omega (arith, is_new.from);
-      in_no_half = λ inside. omega (arith, half_behind old.space half at inside, is_new.below, rows.few, young);
-    }
-
--- what came or was made is in no page, and not in the half
-new_beside : {old new : Heap} {gone came made : List Cell} {half : ℕ} (cell : Cell) → Whole old → HasRows new
-    → CellsChange old new gone came made → IsOwnChange old new gone came made → IsCollectable old half
-    → Contains (came ++ made) cell → IsBeside old.space half cell.at
-new_beside {came = came} {made} {half} cell whole rows change own collectable there =
-    elim (Contains-append_cases came made cell there) [
-      | inl first ↦ came_beside cell whole change own collectable first
-      | inr later ↦ made_beside half cell.at rows change.same_space (change.newly cell later)
-    ]
+    omega (arith, half_behind old.space half at inside, is_new.below, rows.few, young)
 
 -- a heap whose objects change inside their own cells stays so
 pub own_changes_stay_collectable : OwnChangesStayCollectable
-own_changes_stay_collectable old new gone came made half whole rows change own collectable =
-    record {
-      empty = λ cell words has inside.
-          let inside_old = subst (λ (s : Space). IsInHalf s half cell.at) change.same_space inside in
-          elim (change.back cell words has) [
-            | inl there ↦ (new_beside cell whole rows change own collectable there).in_no_half inside_old
-            | inr stood ↦ collectable.empty cell words stood.0 inside_old
-          ];
-      pages = λ cell words has below.
-          let below_old = subst (λ (s : Space). cell.at < eden_start s) change.same_space below in
-          elim (change.back cell words has) [
-            | inl there ↦
-                absurd (omega (arith, (new_beside cell whole rows change own collectable there).in_no_page, below_old))
-            | inr stood ↦ collectable.pages cell words stood.0 below_old
-          ];
-    }
+own_changes_stay_collectable old new gone came made half whole rows change own collectable = record {
+  empty = λ cell words has inside.
+      let inside_old = subst (λ (s : Space). IsInHalf s half cell.at) change.same_space inside in
+      elim (change.back cell words has) [
+        | inl there ↦ elim (Contains-append_cases came made cell there) [
+          | inl first ↦ came_beside cell whole change collectable first inside_old
+          | inr later ↦ made_beside half cell.at rows change.same_space (change.newly cell later) inside_old
+        ]
+        | inr stood ↦ collectable.empty cell words stood.0 inside_old
+      ];
+}
 
 -- and so does one in which a variable is bound anew
 pub bound_stays_collectable : (heap : Heap) (variable : ℕ) (one : Held) (half : ℕ) → variable < heap.space.variables
@@ -150,7 +120,4 @@ bound_stays_collectable heap variable one half below whole collectable =
       | inl there ↦ absurd (none_in cell there)
       | inr was ↦ was.0
     ] in
-    record {
-      empty = λ cell words has. collectable.empty cell words (stood cell words has);
-      pages = λ cell words has. collectable.pages cell words (stood cell words has);
-    }
+    record { empty = λ cell words has. collectable.empty cell words (stood cell words has) }

@@ -3,7 +3,7 @@ use Rattle.std.specs.Prelude.{◌≡◌, ℕ, ◌<◌, List, Contains, IsTrue}
 use Rattle.tagged_word.specs.Cells.{is_free_kind}
 use Rattle.page_space.specs.declared.region.Region.TheVariants.{Segment}
 use Rattle.page_space.specs.Extents.{Space, Extent, ContainsAddress, eden_start}
-use Rattle.heap_model.specs.Types.{Cell}
+use Rattle.heap_model.specs.Types.{Cell, Run}
 use Rattle.heap_model.specs.Heaps.{Heap, HasCell, cell_extents}
 use Rattle.heap_model.specs.Wholeness.{HasRows, Whole}
 use Rattle.heap_model.specs.Changes.{CellsChange, IsOwnChange}
@@ -16,12 +16,30 @@ pub record IsInHalf (space : Space) (half at : ℕ) : Type 0 where
   pub segment : extent.region ≡ Segment half worker
   pub holds : ContainsAddress extent at
 
--- No cell stands in this half, so a scavenge may copy to it. What stands in pages is free, so nothing there refers to a
--- young cell.
+-- No cell stands in this half, so a scavenge may copy to it.
 pub record IsCollectable (heap : Heap) (half : ℕ) : Type 0 where
   pub empty : (cell : Cell) (words : List ℕ) → HasCell heap cell words → IsInHalf heap.space half cell.at → ⊥
-  pub pages : (cell : Cell) (words : List ℕ) → HasCell heap cell words → cell.at < eden_start heap.space
-      → IsTrue (is_free_kind cell.layout.kind)
+
+-- the run is one free cell of a page
+pub record IsFreeCell (heap : Heap) (run : Run) : Type 0 where
+  pub cell : Cell
+  pub words : List ℕ
+  pub has : HasCell heap cell words
+  pub stands : cell.at ≡ run.at
+  pub size : cell.size ≡ run.words
+  pub of_page : cell.at < eden_start heap.space
+  pub free : IsTrue (is_free_kind cell.layout.kind)
+
+-- each of these runs, in rows by pages, is one free cell
+abbrev pub AreFreeRuns : Heap → List (List Run) → Type 0
+AreFreeRuns heap rows = (row : List Run) (run : Run) → Contains rows row → Contains row run → IsFreeCell heap run
+
+-- Free runs stay so where objects change inside their own cells.
+abbrev pub OwnChangesKeepFree : Type 0
+OwnChangesKeepFree =
+    (old new : Heap) (gone came made : List Cell) (rows : List (List Run)) → Whole old
+    → CellsChange old new gone came made → IsOwnChange old new gone came made → AreFreeRuns old rows
+    → AreFreeRuns new rows
 
 -- A heap whose objects change inside their own cells stays so.
 abbrev pub OwnChangesStayCollectable : Type 0

@@ -9,6 +9,7 @@ pub mod Showing
 pub mod Changes
 pub mod Laws
 pub mod Collectable
+pub mod Remembered
 pub mod Reaching
 pub mod Needs
 pub mod Counting

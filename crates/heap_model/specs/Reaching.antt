@@ -1,4 +1,5 @@
--- Which cells of a heap are reached from its variables, and when it keeps no others.
+-- Which cells of a heap are reached from its variables and its pages, when it keeps no young ones beside, and what may
+-- come to its pages.
 use Rattle.std.specs.Prelude.{◌≡◌, ℕ, ◌<◌, ◌≤◌, List, Contains, Some, slice_get, IsTrue}
 use Rattle.tagged_word.specs.Cells.{scavenge_offsets, is_free_kind}
 use Rattle.page_space.specs.Extents.{eden_start}
@@ -7,19 +8,33 @@ use Rattle.heap_model.specs.Types.{Cell}
 use Rattle.heap_model.specs.Heaps.{Heap, HasCell}
 use Rattle.heap_model.specs.Slots.{reference_word}
 use Rattle.heap_model.specs.Kinds.{HasWord}
+use Rattle.heap_model.specs.Remembered.{IsPageSlot}
 
--- References lead to the address: a variable holds the one to it, or a slot of a cell that is reached does. The pairs
--- of a weak table are slots like others.
+-- References lead to the address: a variable holds the one to it, or a slot of any cell of a page does, or a slot of a
+-- cell that is reached. The pairs of a weak table are slots like others.
 pub data IsReached (heap : Heap) : ℕ → Type 0 where
   by_variable : (variable at : ℕ) → variable < heap.space.variables
       → slice_get heap.words (root_at heap.space variable) ≡ Some (reference_word at) → IsReached heap at
+  by_page : (slot at : ℕ) → IsPageSlot heap slot → slice_get heap.words slot ≡ Some (reference_word at)
+      → IsReached heap at
   by_slot : (cell : Cell) (words : List ℕ) (offset at : ℕ) → IsReached heap cell.at → HasCell heap cell words
       → Contains (scavenge_offsets cell.layout cell.length) offset → HasWord words offset (reference_word at)
       → IsReached heap at
 
--- Only what is reached is kept: each young cell is reached, and pages hold free cells alone.
-pub record IsTight (heap : Heap) : Type 0 where
-  pub young : (cell : Cell) (words : List ℕ) → HasCell heap cell words → eden_start heap.space ≤ cell.at
-      → IsReached heap cell.at
-  pub pages : (cell : Cell) (words : List ℕ) → HasCell heap cell words → cell.at < eden_start heap.space
-      → IsTrue (is_free_kind cell.layout.kind)
+-- A cell stood there before, or is free, or is reached.
+pub data IsOldOrReached (old new : Heap) (cell : Cell) : Type 0 where
+  stood : (words : List ℕ) → HasCell old cell words → IsOldOrReached old new cell
+  free : IsTrue (is_free_kind cell.layout.kind) → IsOldOrReached old new cell
+  reached : IsReached new cell.at → IsOldOrReached old new cell
+
+-- What came to pages from one heap to another is free or reached.
+abbrev pub FillsPages : Heap → Heap → Type 0
+FillsPages old new =
+    (cell : Cell) (words : List ℕ) → HasCell new cell words → cell.at < eden_start new.space
+    → IsOldOrReached old new cell
+
+-- Of young cells only those are kept that are reached.
+abbrev pub IsTight : Heap → Type 0
+IsTight heap =
+    (cell : Cell) (words : List ℕ) → HasCell heap cell words → eden_start heap.space ≤ cell.at
+    → IsReached heap cell.at

@@ -101,8 +101,8 @@ abbrev pub field_need : Bool → Field → Value → ℕ
 field_need own field value =
     box_need (is_boxed own (join field.rep (rep_of value)) value && not (is_boxed own field.rep field.value))
 
--- A field that is new, behind so many of an object of this cap: nothing in the object itself, and in the property store,
--- which has so many slots, a store where that is full or absent, and a box where the value is wide.
+-- A field that is new, behind so many of an object of this cap: nothing in the object itself, and in the property
+-- store, which has so many slots, a store where that is full or absent, and a box where the value is wide.
 abbrev pub new_field_need : ℕ → ℕ → ℕ → Bool → ℕ
 new_field_need capacity cap fields wide =
     if nat_lt fields cap then 0 else store_need capacity (fields - cap) + box_need wide
@@ -125,9 +125,9 @@ push_need capacity list value = list_store_need capacity (length list.elements) 
 abbrev pub put_need : ListObject → Value → ℕ → ℕ
 put_need list value at = on_found (slice_get list.elements at) (λ before. box_need (is_wide value && not (is_wide before)))
 
--- `wput` of a key, by the value of its entry if it is there. A key that is new: a table where there is none, or one that
--- would be too full, and a box where the value is wide. A key that is there: a box where the value is wide and the one
--- before is not.
+-- `wput` of a key, by the value of its entry if it is there. A key that is new: a table where there is none, or one
+-- that would be too full, and a box where the value is wide. A key that is there: a box where the value is wide and the
+-- one before is not.
 abbrev pub wput_need_by : Room → Value → Option Value → ℕ
 wput_need_by room value None = table_need room.capacity room.entries + box_need (is_wide value)
 wput_need_by room value (Some before) = box_need (is_wide value && not (is_wide before))
@@ -203,8 +203,8 @@ room_without room (Some value) = record room { entries = room.entries - 1 }
 abbrev pub with_capacity : (ℕ → Room) → ℕ → ℕ → ℕ → Room
 with_capacity rooms number capacity = with_room rooms number (record (rooms number) { capacity = capacity })
 
--- The rooms after a command. An object that is made has no store. `set`, `push`, `shift` and `trunc` change the store of
--- their object, `wput` and `wdel` the table of their map. The four commands that collect keep each entry.
+-- The rooms after a command. An object that is made has no store. `set`, `push`, `shift` and `trunc` change the store
+-- of their object, `wput` and `wdel` the table of their map. The four commands that collect keep each entry.
 abbrev pub rooms_after : Graph → (ℕ → Room) → Command → ℕ → Room
 rooms_after graph rooms (command.New x cap) = with_room rooms (length graph.objects) no_room
 rooms_after graph rooms (command.List x) = with_room rooms (length graph.objects) no_room

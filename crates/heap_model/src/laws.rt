@@ -3,17 +3,22 @@ ghost use Rattle.heap_model.specs.Laws.{OwnChangesKeepWhole, OwnChangesShow, Mad
 ghost use Rattle.heap_model.specs.Laws.{BindingsShow, NewBindingsShow, NewObjectsShow};
 ghost use Rattle.heap_model.specs.Laws.{NewObjectsAreNoKeys};
 ghost use Rattle.heap_model.specs.Rooms.{ShownObjectsHaveRooms};
-ghost use Rattle.heap_model.specs.Collectable.{OwnChangesStayCollectable};
+ghost use Rattle.heap_model.specs.Collectable.{OwnChangesStayCollectable, OwnChangesKeepFree};
+ghost use Rattle.heap_model.specs.Remembered.{ChangesStayRemembered};
 ghost use Rattle.heap_model.specs.Laws.{ChangesKeepCells, RewritesArePatches, RewritesKeepCells, SlotWritesKeepCells};
 
 /// A heap whose objects change inside their own cells is whole again, and shows the graph in which
-/// these objects are what their cells show; no cell comes to a page or to the half that is empty. A
-/// cell that was made and refers to nothing is such a change.
+/// these objects are what their cells show; no cell comes to the half that is empty, and free runs
+/// stay free. A cell that was made and refers to nothing is such a change. Where each
+/// touch of a word of a page was recorded, the list of the slots of pages that refer to young cells
+/// stays right.
 pub fn laws_of_changes()
     ensures whole { OwnChangesKeepWhole }
     ensures show { OwnChangesShow }
     ensures made { MadeCellsAreOwn }
     ensures collectable { OwnChangesStayCollectable }
+    ensures free { OwnChangesKeepFree }
+    ensures remembered { ChangesStayRemembered }
 {}
 
 /// A heap in which the root words of a variable become those of a value shows the graph in which

@@ -1,5 +1,5 @@
 -- How a run that goes no further has ended.
-use Rattle.std.proofs.Common.{◌≡◌, ℕ, ◌<◌, List, [], ◌∷◌, Option}
+use Rattle.std.proofs.Common.{◌≡◌, ℕ, ◌<◌, Bool, List, [], ◌∷◌, Option}
 use Rattle.std.proofs.Common.{Some, None, Err, refl, sym, ap, subst, ◌∙◌}
 use Rattle.std.specs.Prelude.{slice_get}
 use Rattle.heap_model.specs.Types.{Command, FaultWord}
@@ -21,6 +21,7 @@ use Rattle.nursery.specs.Young.{Young, HasRoom}
 use Rattle.write_barrier.specs.MutatorState.{Mutator, heap_of, IsTied, MainShows}
 use Rattle.scavenger.specs.Scavenged.{Scavenges}
 use Rattle.scavenger.proofs.Tight.{scavenges_are_tight}
+use Rattle.collector.specs.Making.{ScavengesFor}
 use Rattle.collector.specs.States.{HeapState, HeapShows}
 use Rattle.collector.proofs.Keeping.{still_shows}
 use Rattle.mutator.specs.CarriesOut.{Carries}
@@ -71,11 +72,19 @@ record IsLeftBare (main : Mutator) : Type 0 where
   tight : IsTight (heap_of main)
 
 -- so a scavenge leaves a heap that showed a graph
-left_bare : {old new : Mutator} {graph : Graph} → MainShows old graph → Scavenges old new → IsLeftBare new
-left_bare {old} {new} {graph} shows scavenges = record {
+left_by_one : {old new : Mutator} {graph : Graph} {all : Bool} → MainShows old graph → Scavenges old new all
+    → IsLeftBare new
+left_by_one {old} {new} {graph} {all} shows scavenges = record {
   empty = ap (λ (young : Young). young.used) scavenges.young;
-  tight = scavenges_are_tight old new graph shows scavenges;
+  tight = scavenges_are_tight old new graph all shows scavenges;
 }
+
+-- and so do scavenges for words
+left_bare : {old new : Mutator} {graph : Graph} {need : ℕ} → MainShows old graph → ScavengesFor old new need
+    → IsLeftBare new
+left_bare shows (ScavengesFor.once scavenges room) = left_by_one shows scavenges
+left_bare {graph = graph} shows (ScavengesFor.twice first scavenges keeps lacks again) =
+    left_by_one (keeps.shows graph shows) again
 
 -- a command faults
 EndsRun-faulted : (script : ScriptText) (heap : Heap) (at' n number : ℕ) (ts' : List ℕ) (command : Command)
@@ -153,8 +162,7 @@ Pauses-line script heap after objects waiting old new at at' ts ts' n number (So
     let graph = r.reached.so_far.graph in
     let (next, written, does-is, needs, lacks, same) = carries.carries in
     let apart = no_room_apart mid graph need command (carries.keeps.shows graph r.shown.main) needs lacks in
-    let found = Running-found r apart (λ short. wants_room heap.main r.reached below goes r.shown.main.tied does-is short)
-    carries.collects carries.keeps in
+    let found = Running-found r apart (wants_room r.reached.so_far below goes does-is) carries.collects carries.keeps in
     let left : IsLeftBare mid = subst IsLeftBare same (left_bare r.shown.main (carries.gave_up need refl)) in
     let comes = EndsRun-full script mid at' n number ts' command need next written found.shown.main.tied left
     found.reached below goes does-is needs lacks in

@@ -1,5 +1,5 @@
 -- A run behind a line that was executed, whose command may have found the heap scavenged.
-use Rattle.std.proofs.Common.{◌≡◌, ◌≢◌, ℕ, ◌+◌, ◌<◌, List, ◌++◌, Option, Some, None, Ok}
+use Rattle.std.proofs.Common.{◌≡◌, ◌≢◌, ◌↔◌, ℕ, ◌+◌, ◌<◌, Bool, false, List, ◌++◌, Option, Some, None, Ok}
 use Rattle.std.proofs.Common.{refl, sym, ap, subst, ◌∙◌, add-zero, append-nil, arith}
 use Rattle.heap_model.specs.Types.{Command}
 use Rattle.heap_command.specs.declared.command.Command.TheVariants.{Scavenge}
@@ -12,15 +12,17 @@ use Rattle.script_text.specs.Unrolled.{executed, executed_lines}
 use Rattle.script_text.specs.Left.{Goes}
 use Rattle.page_space.specs.Extents.{Space}
 use Rattle.heap_model.specs.Heaps.{Heap}
-use Rattle.heap_model.specs.Rooms.{need_of}
+use Rattle.heap_model.specs.Rooms.{Room, HasRooms, need_of}
 use Rattle.heap_model.specs.Showing.{Shows}
-use Rattle.nursery.specs.Young.{Young}
+use Rattle.nursery.specs.Young.{Young, HasRoom}
 use Rattle.write_barrier.specs.MutatorState.{Mutator, heap_of, IsTied, MainShows}
 use Rattle.scavenger.specs.Scavenged.{Scavenges}
 use Rattle.scavenger.specs.Laws.{KeepsGraphs}
-use Rattle.scavenger.proofs.Tight.{scavenges_are_tight}
+use Rattle.scavenger.proofs.Tight.{scavenges_are_tight, scavenges_fill_pages}
+use Rattle.collector.specs.Making.{ScavengesFor}
 use Rattle.collector.specs.States.{HeapState}
 use Rattle.collector.proofs.Keeping.{same_heap, still_shows}
+use Rattle.collector.proofs.MadeRoom.{scavenged_space}
 use Rattle.heap_script.specs.Collecting.{LacksWords, Collects, CarriesAtLast}
 use Rattle.heap_script.specs.Runs.{left_after, RanTo, Spends, LineAllocates, IsCollected, WantsRoom, TellsAt}
 use Rattle.heap_script.specs.Progress.{objects_made, made_by, CarriesLine}
@@ -34,19 +36,21 @@ pub found_space : {old mid : Mutator} {graph : Graph} {command : Command} → Co
     → mid.seat.space ≡ old.seat.space
 found_space (Collects.asked is scavenges) = scavenges.seat.space
 found_space (Collects.unchanged apart same) = ap (λ (main : Mutator). main.seat.space) same
-found_space (Collects.for_room apart lacks scavenges) = scavenges.seat.space
+found_space (Collects.for_room need apart lacks scavenges) = scavenged_space scavenges
 
--- what a scavenge leaves of a heap that shows a graph
-collected_by : {old new : Mutator} {graph : Graph} → Scavenges old new → KeepsGraphs old new → MainShows old graph
-    → IsCollected (heap_of old) (heap_of new) graph
-collected_by {old} {new} {graph} scavenges keeps shows =
+-- what a scavenge leaves of a heap that shows a graph, whose objects have the rooms that they had
+collected_by : {old new : Mutator} {graph : Graph} {all : Bool} → Scavenges old new all
+    → ((rooms : ℕ → Room) → HasRooms (heap_of old) graph rooms ↔ HasRooms (heap_of new) graph rooms)
+    → MainShows old graph → IsCollected (heap_of old) (heap_of new) graph
+collected_by {old} {new} {graph} {all} scavenges rooms shows =
     let survivors = ap (λ (young : Young). young.survivors) scavenges.young in
     record {
       space = scavenges.seat.space;
-      rooms = λ rooms. keeps.rooms graph rooms shows;
+      rooms = rooms;
       emptied = ap (λ (young : Young). young.used) scavenges.young;
       few = omega (arith, survivors, scavenges.few);
-      tight = scavenges_are_tight old new graph shows scavenges;
+      tight = scavenges_are_tight old new graph all shows scavenges;
+      pages = scavenges_fill_pages old new graph all shows scavenges;
     }
 
 -- the run has come as far on another heap with these regions, which shows the graph
@@ -61,32 +65,64 @@ reached_on r space shows = record {
   shown = shows;
 }
 
--- where the run goes on at a command for which there was no room, the heap wants room
-pub wants_room : {script : ScriptText} (main : Mutator) {at' n number : ℕ} {ts' : List ℕ} {command : Command} {after : Graph}
-    {written : List ℕ} → (r : RanTo script (heap_of main) n) → n < lines_most
-    → Goes script.lines at' ts' (left_after script n) (executed number (Some command)) → IsTied main
-    → does ideal_limits script.fields r.so_far.graph command ≡ done after written
-    → LacksWords main r.so_far.graph command → WantsRoom script (heap_of main) n r.so_far
-wants_room {script} main {at'} {n} {number} {ts'} {command} {after} {written} r below goes tied does-is lacks =
-    let graph = r.so_far.graph in
+-- a heap that shows the graph, with no room for the words that the next command needs, wants room
+abbrev Wants : ScriptText → ℕ → Told → Command → Type 0
+Wants script n so_far command =
+    (main : Mutator) (need : ℕ) → IsTied main → LacksWords main so_far.graph command need
+    → WantsRoom script (heap_of main) n so_far
+
+-- so it does where the run goes on at that command
+pub wants_room : {script : ScriptText} {at' n number : ℕ} {ts' : List ℕ} {command : Command} {after : Graph}
+    {written : List ℕ} (so_far : Told) → n < lines_most
+    → Goes script.lines at' ts' (left_after script n) (executed number (Some command))
+    → does ideal_limits script.fields so_far.graph command ≡ done after written → Wants script n so_far command
+wants_room {script} {at'} {n} {number} {ts'} {command} {after} {written} so_far below goes does-is main need tied lacks =
+    let graph = so_far.graph in
     record {
       goes_on = goes-on script graph after written at' n number ts' command below goes does-is;
       line = executed number (Some command);
       next = next_at (executed_lines script.lines) n (executed number (Some command)) goes.rest goes.is;
-      lacks = λ rooms has. full_for main (need_of graph rooms command) tied (lacks rooms has);
+      lacks = λ rooms has.
+          full_for main (need_of graph rooms command) tied
+          (λ room. lacks.lacks (subst (HasRoom main.young) (sym (lacks.needs rooms has)) room));
     }
+
+-- it has spent what it had spent where it was scavenged for room
+spends_made : {script : ScriptText} {old mid : Mutator} {n : ℕ} {command : Command} (need : ℕ)
+    → (r : RanTo script (heap_of old) n) → Spends script (heap_of old) n → Wants script n r.so_far command
+    → LacksWords old r.so_far.graph command need → ScavengesFor old mid need → KeepsGraphs old mid
+    → MainShows old r.so_far.graph → RanTo script (heap_of mid) n → Spends script (heap_of mid) n
+spends_made {old = old} {mid} {n} need r spends wants lacks (ScavengesFor.once scavenges room) keeps shows reached =
+    Spends.collected (heap_of old) (heap_of mid) n spends r (wants old need shows.tied lacks) reached
+    (collected_by scavenges (λ rooms. keeps.rooms r.so_far.graph rooms shows) shows)
+spends_made {script} {old} {mid} {n} {command} need r spends wants lacks
+    (ScavengesFor.twice first scavenges keeps_first lacks_still again) keeps shows reached =
+    let graph = r.so_far.graph in
+    let shows_first = keeps_first.shows graph shows in
+    let reached_first = reached_on r scavenges.seat.space shows_first.shows in
+    let back = λ (rooms : ℕ → Room). keeps_first.rooms graph rooms shows in
+    let still : LacksWords first graph command need =
+    record { needs = λ rooms has. lacks.needs rooms ((back rooms).1 has); lacks = lacks_still } in
+    let spends_first = Spends.collected (heap_of old) (heap_of first) n spends r (wants old need shows.tied lacks)
+    reached_first (collected_by scavenges back shows) in
+    Spends.collected (heap_of first) (heap_of mid) n spends_first reached_first
+    (wants first need shows_first.tied still) reached
+    (collected_by again
+    (λ rooms.
+    let on = keeps.rooms graph rooms shows in
+    (λ has. on.0 ((back rooms).1 has), λ has. (back rooms).0 (on.1 has)))
+    shows_first)
 
 -- it has spent what it had spent, and may have been scavenged for want of room
 pub spends_on : {script : ScriptText} {old mid : Mutator} {n : ℕ} {command : Command} → (r : RanTo script (heap_of old) n)
-    → Spends script (heap_of old) n → command ≢ Scavenge
-    → (LacksWords old r.so_far.graph command → WantsRoom script (heap_of old) n r.so_far)
+    → Spends script (heap_of old) n → command ≢ Scavenge → Wants script n r.so_far command
     → Collects old mid r.so_far.graph command → KeepsGraphs old mid → MainShows old r.so_far.graph
     → RanTo script (heap_of mid) n → Spends script (heap_of mid) n
 spends_on r spends other wants (Collects.asked is scavenges) keeps shows reached = absurd (other is)
 spends_on {script} {n = n} r spends other wants (Collects.unchanged apart same) keeps shows reached =
     subst (λ (main : Mutator). Spends script (heap_of main) n) (sym same) spends
-spends_on {old = old} {mid} {n} r spends other wants (Collects.for_room apart lacks scavenges) keeps shows reached =
-    Spends.collected (heap_of old) (heap_of mid) n spends r (wants lacks) reached (collected_by scavenges keeps shows)
+spends_on r spends other wants (Collects.for_room need apart lacks scavenges) keeps shows reached =
+    spends_made need r spends wants lacks scavenges keeps shows reached
 
 -- the heap with another mutator's side
 abbrev pub heap_with : HeapState → Mutator → HeapState
@@ -96,8 +132,7 @@ heap_with heap main = record heap { main = main }
 abbrev pub Running-found : {script : ScriptText} {heap : HeapState} {mid : Mutator} {objects : ℕ} {waiting : List ℕ}
     {old new : List ℕ → Type 0} {at : ℕ} {ts : List ℕ} {n : ℕ} {command : Command}
     → (r : Running script heap objects waiting old new at ts n) → command ≢ Scavenge
-    → (LacksWords heap.main r.reached.so_far.graph command
-    → WantsRoom script (heap_of heap.main) n r.reached.so_far)
+    → Wants script n r.reached.so_far command
     → Collects heap.main mid r.reached.so_far.graph command → KeepsGraphs heap.main mid
     → Running script (heap_with heap mid) objects waiting old new at ts n
 Running-found {heap = heap} {mid} r apart wants collects keeps =
@@ -135,8 +170,7 @@ Running-apart script heap after objects waiting old new at at' ts ts' n number c
     carries =
     let (graph, does-is, shown, takes) = carries.carries in
     let there = heap_with heap carries.mid in
-    let found = Running-found r apart (λ lacks. wants_room heap.main r.reached below goes r.shown.main.tied does-is lacks)
-    carries.collects carries.keeps in
+    let found = Running-found r apart (wants_room r.reached.so_far below goes does-is) carries.collects carries.keeps in
     Running-carried script there after objects waiting old new at at' ts ts' n number command text graph found below goes
     spare (takes_space command found.shown.main takes) does-is shown
     (LineAllocates.allocates command apart (allocates command found.shown.main takes))
@@ -148,18 +182,19 @@ Running-asked : (script : ScriptText) (heap after : HeapState) (objects : ℕ) (
     → Goes script.lines at' ts' (left_after script n) (executed number (Some command))
     → after.spare ≡ heap.spare → command ≡ Scavenge
     → (carries : CarriesAtLast script.fields heap.main after.main r.reached.so_far.graph command text (Ok tt))
-    → Scavenges heap.main carries.mid
+    → Scavenges heap.main carries.mid false
     → Running script after (objects + objects_made command) (waiting ++ text) old new at' ts' (n + 1)
 Running-asked script heap after objects waiting old new at at' ts ts' n number command text r below goes spare is
     carries scavenges =
     let (graph, does-is, shown, takes) = carries.carries in
     let same = sym (carries.asked is) in
-    let scavenged : Scavenges heap.main after.main = subst (Scavenges heap.main) same scavenges in
+    let scavenged : Scavenges heap.main after.main false =
+    subst (λ (main : Mutator). Scavenges heap.main main false) same scavenges in
     let keeps : KeepsGraphs heap.main after.main = subst (KeepsGraphs heap.main) same carries.keeps in
     let before = r.reached.so_far.graph in
     let uses : LineAllocates (heap_of heap.main) (heap_of after.main) before graph (Some command) =
     subst (λ (one : Command). LineAllocates (heap_of heap.main) (heap_of after.main) before graph (Some one)) (sym is)
-    (LineAllocates.collects (collected_by scavenged keeps r.shown.main)) in
+    (LineAllocates.collects (collected_by scavenged (λ rooms. keeps.rooms before rooms r.shown.main) r.shown.main)) in
     Running-carried script heap after objects waiting old new at at' ts ts' n number command text graph r below goes
     spare scavenged.seat.space does-is shown uses
 
@@ -181,7 +216,7 @@ Running-by script heap after objects waiting old new at at' ts ts' n number comm
     Running-apart script heap after objects waiting old new at at' ts ts' n number command text r below goes spare apart
     carries
 Running-by script heap after objects waiting old new at at' ts ts' n number command text r below goes spare carries
-    (Collects.for_room apart lacks scavenges) =
+    (Collects.for_room need apart lacks scavenges) =
     Running-apart script heap after objects waiting old new at at' ts ts' n number command text r below goes spare apart
     carries
 

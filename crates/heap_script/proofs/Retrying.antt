@@ -1,8 +1,6 @@
 -- A heap on which a command is tried: it is as it was, or a scavenge made room for the command.
 use Rattle.std.proofs.Common.{◌≡◌, ◌≢◌, ◌∙◌, ℕ, ◌<◌, List, [], Bool, true, false, length, Result, Err, if◌then◌else◌}
 use Rattle.std.proofs.Common.{ap, arith, sym, subst, refl}
-use Rattle.std.specs.Prelude.{◌==◌}
-use Rattle.std.proofs.lemmas.Bool.Decides.{nat_tests}
 use Rattle.heap_model.specs.Types.{Command, FaultWord}
 use Rattle.heap_command.specs.declared.command.Command.TheVariants.{Scavenge}
 use Rattle.heap_command.specs.Commands.{IsWithin}
@@ -11,61 +9,65 @@ use Rattle.object_graph.specs.Meaning.{does, done, fault}
 use Rattle.object_graph.specs.Limits.{ideal_limits}
 use Rattle.heap_model.specs.Rooms.{Room, HasRooms, need_of}
 use Rattle.heap_model.proofs.ShownRooms.{shown_objects_have_rooms}
-use Rattle.nursery.specs.Young.{Young, HasRoom, other_half}
+use Rattle.nursery.specs.Young.{HasRoom}
 use Rattle.write_barrier.specs.MutatorState.{Mutator, heap_of}
-use Rattle.scavenger.specs.Scavenged.{Scavenges}
 use Rattle.scavenger.specs.Laws.{KeepsGraphs}
+use Rattle.collector.specs.Making.{ScavengesFor}
 use Rattle.collector.specs.States.{HeapState, HeapShows}
 use Rattle.collector.proofs.Keeping.{same_heap}
+use Rattle.collector.proofs.MadeRoom.{scavenged_space}
 use Rattle.mutator.specs.declared.stop.Stop.{Stop}
 use Rattle.mutator.specs.declared.stop.Stop.TheVariants.{Fault, NoRoom}
 use Rattle.mutator.specs.CarriesOut.{Carries, field_numbers}
 use Rattle.heap_script.specs.Collecting.{LacksWords, Finds, Collects, Tries, CarriesAtLast}
 use Rattle.heap_script.proofs.Carrying.{IsRefused, refused}
 
--- a scavenge leads from one heap to another, which shows each graph that was shown, with the same memory for an image
-pub record IsScavenged (old new : HeapState) : Type 0 where
-  pub scavenges : Scavenges old.main new.main
+-- scavenges for so many words lead from one heap to another, which shows each graph that was shown, with the same memory
+-- for an image
+pub record IsScavenged (old new : HeapState) (need : ℕ) : Type 0 where
+  pub scavenges : ScavengesFor old.main new.main need
   pub shows : (graph : Graph) → HeapShows old graph → HeapShows new graph
   pub keeps : KeepsGraphs old.main new.main
   pub spare : new.spare ≡ old.spare
 
--- The heap, which has so many objects, was scavenged for this command, since there was no room for it, and now there is.
+-- The heap, which has so many objects, was scavenged for the words that this command needs, since there was no room for
+-- them, and now there is.
 pub record MadeRoom (names : List (List ℕ)) (old now : HeapState) (objects : ℕ) (command : Command) : Type 0 where
   pub apart : command ≢ Scavenge
   pub sound : (graph : Graph) (word : FaultWord) → HeapShows old graph → objects ≡ length graph.objects
       → does ideal_limits names graph command ≡ fault word → ⊥
-  pub scavenged : IsScavenged old now
+  pub need : ℕ
+  pub scavenged : IsScavenged old now need
   pub lacks : (graph : Graph) → HeapShows old graph → objects ≡ length graph.objects
-      → LacksWords old.main graph command
+      → LacksWords old.main graph command need
   pub room : (graph : Graph) (rooms : ℕ → Room) → HeapShows old graph → objects ≡ length graph.objects
       → HasRooms (heap_of now.main) graph rooms → HasRoom now.main.young (need_of graph rooms command)
 
--- the heap at a try: as it was, or with room that was made
-pub data IsReady (names : List (List ℕ)) (old now : HeapState) (objects : ℕ) (command : Command) : Type 0 where
-  first : now ≡ old → IsReady names old now objects command
-  again : MadeRoom names old now objects command → IsReady names old now objects command
+-- the heap at a try: as it was at the first one, and with room that was made if it is tried again
+pub data IsReady (names : List (List ℕ)) (old now : HeapState) (objects : ℕ) (command : Command) : Bool → Type 0 where
+  first : now ≡ old → IsReady names old now objects command false
+  again : MadeRoom names old now objects command → IsReady names old now objects command true
 
--- how many more tries there may be: none once the half of the survivors was turned
-abbrev pub tries_left : HeapState → HeapState → ℕ
-tries_left old now = if now.main.young.half == old.main.young.half then 1 else 0
+-- how many more tries there may be: none once it is tried again
+abbrev pub tries_left : Bool → ℕ
+tries_left second = if second then 0 else 1
 
 -- a heap at a try shows what was shown
 pub ready_shows : {names : List (List ℕ)} {old now : HeapState} {objects : ℕ} {command : Command} {graph : Graph}
-    → IsReady names old now objects command → HeapShows old graph → HeapShows now graph
+    {second : Bool} → IsReady names old now objects command second → HeapShows old graph → HeapShows now graph
 ready_shows {graph = graph} (IsReady.first same) shown = subst (λ (heap : HeapState). HeapShows heap graph) (sym same) shown
 ready_shows {graph = graph} (IsReady.again made) shown = made.scavenged.shows graph shown
 
 -- it has the regions that there were
 pub ready_space : {names : List (List ℕ)} {old now : HeapState} {objects : ℕ} {command : Command}
-    → IsReady names old now objects command
+    {second : Bool} → IsReady names old now objects command second
     → now.main.seat.space ≡ old.main.seat.space
 ready_space (IsReady.first same) = ap (λ (heap : HeapState). heap.main.seat.space) same
-ready_space (IsReady.again made) = made.scavenged.scavenges.seat.space
+ready_space (IsReady.again made) = scavenged_space made.scavenged.scavenges
 
 -- and the memory for an image
 pub ready_spare : {names : List (List ℕ)} {old now : HeapState} {objects : ℕ} {command : Command}
-    → IsReady names old now objects command
+    {second : Bool} → IsReady names old now objects command second
     → now.spare ≡ old.spare
 ready_spare (IsReady.first same) = ap (λ (heap : HeapState). heap.spare) same
 ready_spare (IsReady.again made) = made.scavenged.spare
@@ -80,16 +82,16 @@ no_third {now = now} {graph = graph} made shown counted told =
     let (rooms, has) = shown_objects_have_rooms (heap_of now.main) graph shows in
     told.lacks (subst (HasRoom now.main.young) (sym (told.needs rooms has)) (made.room graph rooms shown counted has))
 
--- a command that is refused is tried for the first time
+-- a command that is refused is tried for the first time, on the heap as it was
 at_first : {names : List (List ℕ)} {old now : HeapState} {new : Mutator} {objects need : ℕ} {command : Command}
-    {graph : Graph}
-    → IsReady names old now objects command → HeapShows old graph → objects ≡ length graph.objects
-    → IsRefused names now.main new graph command need → now ≡ old
-at_first (IsReady.first same) shown counted told = same
+    {graph : Graph} {second : Bool}
+    → IsReady names old now objects command second → HeapShows old graph → objects ≡ length graph.objects
+    → IsRefused names now.main new graph command need → (now ≡ old) × (second ≡ false)
+at_first (IsReady.first same) shown counted told = (same, refl)
 at_first (IsReady.again made) shown counted told = absurd (no_third made shown counted told)
 
 module _ (names : List (List ℕ)) {old now : HeapState} (after : HeapState) {objects counted need : ℕ} {command : Command}
-    {stop : Stop} {Rest : Type 0} (ready : IsReady names old now objects command) (same : counted ≡ objects)
+    {stop : Stop} {Rest : Type 0} {second : Bool} (ready : IsReady names old now objects command second) (same : counted ≡ objects)
     (within : IsWithin old.main.seat.space.variables field_numbers command) (is : stop ≡ NoRoom need)
     (carried : (graph : Graph) → HeapShows now graph → counted ≡ length graph.objects
     → (text : List ℕ) × Tries names now.main after.main graph command text (Err stop) × Rest) where
@@ -102,8 +104,9 @@ module _ (names : List (List ℕ)) {old now : HeapState} (after : HeapState) {ob
       refused names old.main.seat.space.variables field_numbers shows.main within
       (subst (λ (stop : Stop). Tries names now.main after.main graph command text (Err stop)) is tries)
 
-  -- so it was tried for the first time
-  pub was_first : (graph : Graph) × HeapShows old graph × (objects ≡ length graph.objects) → now ≡ old
+  -- so it was tried for the first time, on the heap as it was
+  pub was_first : (graph : Graph) × HeapShows old graph × (objects ≡ length graph.objects)
+      → (now ≡ old) × (second ≡ false)
   was_first (graph, shown, made) = at_first ready shown made (refused_now graph shown made)
 
   -- and refused on the heap as it was, whichever graph that shows
@@ -111,7 +114,7 @@ module _ (names : List (List ℕ)) {old now : HeapState} (after : HeapState) {ob
       → IsRefused names old.main after.main graph command need
   refused_always graph shown made =
       subst (λ (heap : HeapState). IsRefused names heap.main after.main graph command need)
-      (was_first (graph, shown, made)) (refused_now graph shown made)
+      (was_first (graph, shown, made)).0 (refused_now graph shown made)
 
   -- the heap is as it was
   pub unchanged_first : after.spare ≡ now.spare → (graph : Graph) × HeapShows old graph × (objects ≡ length graph.objects)
@@ -119,14 +122,14 @@ module _ (names : List (List ℕ)) {old now : HeapState} (after : HeapState) {ob
   unchanged_first spare (graph, shown, made) =
       same_heap old after (refused_always graph shown made).same (spare ∙ ready_spare ready)
 
--- a heap that was asked for the room that a refused command lacked was scavenged
+-- a heap that was asked for the words that a refused command lacked was scavenged for them
 pub scavenged_for : {names : List (List ℕ)} {old mid new : HeapState} {graph : Graph} {command : Command} {need : ℕ} → mid ≡ old
     → IsRefused names old.main mid.main graph command need
-    → ((HasRoom mid.main.young need → ⊥) → Scavenges mid.main new.main)
+    → ((HasRoom mid.main.young need → ⊥) → ScavengesFor mid.main new.main need)
     → ((graph : Graph) → HeapShows mid graph → HeapShows new graph) → KeepsGraphs mid.main new.main
-    → new.spare ≡ mid.spare → IsScavenged old new
+    → new.spare ≡ mid.spare → IsScavenged old new need
 scavenged_for {old} {mid} {new} {need = need} same told scavenges shows keeps spare =
-    subst (λ (heap : HeapState). IsScavenged heap new) same
+    subst (λ (heap : HeapState). IsScavenged heap new need) same
     (record {
       scavenges = scavenges
           (subst (λ (heap : HeapState). HasRoom heap.main.young need → ⊥) (sym same) told.lacks);
@@ -137,50 +140,31 @@ scavenged_for {old} {mid} {new} {need = need} same told scavenges shows keeps sp
 
 -- a heap that was scavenged for a command, where there is room then
 pub made_room : {names : List (List ℕ)} {old new : HeapState} {mid : Mutator} {objects need : ℕ} {command : Command}
-    → IsScavenged old new → command ≢ Scavenge
+    → IsScavenged old new need → command ≢ Scavenge
     → ((graph : Graph) → HeapShows old graph → objects ≡ length graph.objects
     → IsRefused names old.main mid graph command need)
     → HasRoom new.main.young need → MadeRoom names old new objects command
-made_room {old} {new} scavenged apart told room = record {
+made_room {old} {new} {need = need} scavenged apart told room = record {
   apart = apart;
   sound = λ graph word shown counted. (told graph shown counted).sound word;
+  need = need;
   scavenged = scavenged;
-  lacks = λ graph shown counted rooms has wanted.
+  lacks = λ graph shown counted.
       let one = told graph shown counted in
-      one.lacks (subst (HasRoom old.main.young) (sym (one.needs rooms has)) wanted);
+      record { needs = one.needs; lacks = one.lacks };
   room = λ graph rooms shown counted has.
       let one = told graph shown counted in
       let had = (scavenged.keeps.rooms graph rooms shown.main).1 has in
       subst (HasRoom new.main.young) (one.needs rooms had) room;
 }
 
--- the survivors are in the other half, which is another one
-half_turned : (half : ℕ) → (other_half half == half) ≡ false
-half_turned half = grind (arith, nat_tests)
-
--- a half is itself
-same_half : (half : ℕ) → (half == half) ≡ true
-same_half half = grind (arith, nat_tests)
-
--- none is less than one
-counted_down : {after before : Bool} → after ≡ false → before ≡ true
-    → (if after then 1 else 0) < (if before then 1 else 0)
-counted_down fails holds = rw (fails, holds) (omega arith)
-
--- a scavenge leaves fewer tries
-pub fewer_tries : {old now new : HeapState} → now ≡ old → IsScavenged old new → tries_left old new < tries_left old now
-fewer_tries {old} {now} {new} same scavenged =
-    let before : (now.main.young.half == old.main.young.half) ≡ true =
-    ap (λ (heap : HeapState). heap.main.young.half == old.main.young.half) same ∙ same_half old.main.young.half in
-    let turned : new.main.young.half ≡ other_half old.main.young.half =
-    ap (λ (young : Young). young.half) scavenged.scavenges.young in
-    let after : (new.main.young.half == old.main.young.half) ≡ false =
-    ap (λ half. half == old.main.young.half) turned ∙ half_turned old.main.young.half in
-    counted_down after before
+-- a try more leaves fewer
+pub fewer_tries : {second : Bool} → second ≡ false → tries_left true < tries_left second
+fewer_tries none = rw none (omega arith)
 
 -- a command that stops for want of room on a heap that was scavenged for it
 pub gives_up : {names : List (List ℕ)} {old new : HeapState} {start mid : Mutator} {need : ℕ} {command : Command}
-    {graph : Graph} {text : List ℕ} {stop : Stop} → IsScavenged old new → HeapShows old graph
+    {graph : Graph} {text : List ℕ} {stop : Stop} → IsScavenged old new need → HeapShows old graph
     → IsRefused names old.main mid graph command need → Tries names start mid graph command text (Err stop)
     → stop ≡ NoRoom need → (HasRoom new.main.young need → ⊥)
     → CarriesAtLast names old.main new.main graph command text (Err (NoRoom need))
@@ -189,8 +173,7 @@ gives_up {names} {old} {new} {start} {mid} {need} {command} {graph} {text} scave
     subst (λ (stop : Stop). Carries names tries.mid mid graph command text (Err stop)) is tries.carries in
     record {
       mid = new.main;
-      collects = Collects.for_room told.apart
-          (λ rooms has room. told.lacks (subst (HasRoom old.main.young) (sym (told.needs rooms has)) room))
+      collects = Collects.for_room need told.apart (record { needs = told.needs; lacks = told.lacks })
           scavenged.scavenges;
       keeps = scavenged.keeps;
       carries = (
@@ -203,7 +186,7 @@ gives_up {names} {old} {new} {start} {mid} {need} {command} {graph} {text} scave
       );
       asked = λ is. absurd (told.apart is);
       faulted = λ word is. absurd (cc);
-      gave_up = λ need is. scavenged.scavenges;
+      gave_up = λ other is. let same : need ≡ other = cc in subst (ScavengesFor old.main new.main) same scavenged.scavenges;
     }
 
 -- what a command finds at its first try
@@ -239,7 +222,8 @@ faulted_first {names} {old} {new} {graph} {command} word tries is =
 
 -- a command that did not stop for want of room, at whichever try
 pub carried_at : {names : List (List ℕ)} {old now : HeapState} {new : Mutator} {objects : ℕ} {command : Command}
-    {graph : Graph} {text : List ℕ} {result : Result (Unit {0}) Stop} → IsReady names old now objects command
+    {graph : Graph} {text : List ℕ} {result : Result (Unit {0}) Stop} {second : Bool}
+    → IsReady names old now objects command second
     → HeapShows old graph → objects ≡ length graph.objects → ((need : ℕ) → result ≡ Err (NoRoom need) → ⊥)
     → Tries names now.main new graph command text result
     → CarriesAtLast names old.main new graph command text result
@@ -263,7 +247,7 @@ carried_at {names} {old} {now} {new} {objects} {command} {graph} {text} {result}
       | Finds.scavenged is scavenges ↦ absurd (made.apart is)
       | Finds.unchanged apart same ↦ record {
         mid = now.main;
-        collects = Collects.for_room apart (made.lacks graph shown counted) made.scavenged.scavenges;
+        collects = Collects.for_room made.need apart (made.lacks graph shown counted) made.scavenged.scavenges;
         keeps = made.scavenged.keeps;
         carries = subst (λ (main : Mutator). Carries names main new graph command text result) same tries.carries;
         asked = λ is. absurd (made.apart is);

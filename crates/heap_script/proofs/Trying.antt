@@ -1,5 +1,5 @@
 -- A command that is tried once on a heap, of which it is lent the mutator's side.
-use Rattle.std.proofs.Common.{◌≡◌, ◌≢◌, ℕ, List, [], length, Result, Ok, refl, sym, subst}
+use Rattle.std.proofs.Common.{◌≡◌, ◌≢◌, ℕ, false, List, [], length, Result, Ok, refl, sym, subst}
 use Rattle.heap_model.specs.Types.{Command}
 use Rattle.heap_command.specs.declared.command.Command.TheVariants.{Scavenge}
 use Rattle.object_graph.specs.Graphs.{Graph}
@@ -43,7 +43,7 @@ tried {names} {old} {lent} {new} {graph} {command} {text} {result} is apart carr
 }
 
 -- the command `scavenge` leaves its graph, writes nothing and uses nothing of what the scavenge left
-pub tried_scavenge : (names : List (List ℕ)) {old new : Mutator} {graph : Graph} → Scavenges old new
+pub tried_scavenge : (names : List (List ℕ)) {old new : Mutator} {graph : Graph} → Scavenges old new false
     → KeepsGraphs old new → MainShows old graph → Tries names old new graph Scavenge [] (Ok tt)
 tried_scavenge names {old} {new} {graph} scavenges keeps shows = record {
   mid = new;

@@ -16,7 +16,7 @@ use Rattle.script_text.specs.Unrolled.{executed_lines}
 use Rattle.heap_model.specs.Heaps.{Heap}
 use Rattle.heap_model.specs.Slots.{IsPlace}
 use Rattle.heap_model.specs.Needs.{capacity_at, lacks_room}
-use Rattle.heap_model.specs.Reaching.{IsTight}
+use Rattle.heap_model.specs.Reaching.{IsTight, FillsPages}
 use Rattle.heap_model.specs.Rooms.{Room, HasRooms, need_of}
 use Rattle.heap_model.specs.Showing.{Shows}
 use Rattle.mutator.specs.Capacities.{KeepsStores}
@@ -35,8 +35,9 @@ AreBuilt lines = All (λ line. IsBuilt unbuilt_keywords line.what) lines
 abbrev pub left_after : ScriptText → ℕ → List Executed
 left_after script executed = drop executed (executed_lines script.lines)
 
--- The heap is full for so many words: eden is empty, each young cell is reached from a variable, where pairs of weak
--- tables count as slots, and the survivors and these words are more than the words of the young generation.
+-- The heap is full for so many words: eden is empty, each young cell is reached from a variable or a slot of a page,
+-- where pairs of weak tables count as slots, and the survivors and these words are more than the words of the young
+-- generation.
 pub record IsFull (heap : Heap) (need : ℕ) : Type 0 where
   pub empty : heap.used ≡ 0
   pub tight : IsTight heap
@@ -66,17 +67,19 @@ pub record Allocates (old new : Heap) (graph after : Graph) (command : Command) 
   pub survivors : new.survivors ≡ old.survivors
   pub uses : (rooms : ℕ → Room) → HasRooms old graph rooms → UsesNeed old new graph after command rooms
 
--- What is told of a collection: the regions stay, objects have the rooms that they had, eden is empty, the survivors are
--- no more than survivors and used words before, and only what is reached is kept.
+-- What is told of a collection: the regions stay, objects have the rooms that they had, eden is empty, the survivors
+-- are no more than survivors and used words before, of young cells only what is reached is kept, and what came to pages
+-- is free or reached.
 pub record IsCollected (old new : Heap) (graph : Graph) : Type 0 where
   pub space : new.space ≡ old.space
   pub rooms : (rooms : ℕ → Room) → HasRooms old graph rooms ↔ HasRooms new graph rooms
   pub emptied : new.used ≡ 0
   pub few : new.survivors ≤ old.survivors + old.used
   pub tight : IsTight new
+  pub pages : FillsPages old new
 
--- what a line does with the heap: one that runs no command leaves it as it is, `scavenge` collects, and any other command
--- allocates
+-- what a line does with the heap: one that runs no command leaves it as it is, `scavenge` collects, and any other
+-- command allocates
 pub data LineAllocates (old new : Heap) (graph after : Graph) : Option Command → Type 0 where
   passes : new ≡ old → LineAllocates old new graph after None
   collects : IsCollected old new graph → LineAllocates old new graph after (Some Scavenge)
@@ -98,7 +101,8 @@ pub record WantsRoom (script : ScriptText) (heap : Heap) (executed : ℕ) (so_fa
 
 -- The words that the executed lines of a script spend, one line after another, up to this heap. No word is used before
 -- the first line, and each line uses what its command needs, by the graph and the rooms that the lines before it led
--- to. Between two lines the heap is scavenged only where it lacks room for the words that the next line needs.
+-- to. Between two lines the heap is scavenged only where it lacks room for the words that the next line needs; where it
+-- still lacks room then, it may be again.
 pub data Spends (script : ScriptText) : Heap → ℕ → Type 0 where
   none : (heap : Heap) → heap.used ≡ 0 → heap.survivors ≡ 0 → RanTo script heap 0 → Spends script heap 0
   one_more : (old new : Heap) (executed : ℕ) (line : Executed) → Spends script old executed

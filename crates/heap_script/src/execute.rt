@@ -15,6 +15,7 @@ ghost use Rattle.nursery.specs.Young.{HasRoom};
 ghost use Rattle.scavenger.specs.Scavenged.{Scavenges};
 ghost use Rattle.scavenger.specs.Laws.{KeepsGraphs};
 ghost use Rattle.mutator.specs.CarriesOut.{field_numbers};
+ghost use Rattle.collector.specs.Making.{ScavengesFor};
 ghost use Rattle.collector.specs.States.{HeapShows};
 ghost use Rattle.heap_script.specs.Collecting.{Tries, CarriesAtLast};
 ghost use Rattle.heap_script.specs.Progress.{objects_made, made_by, command_in};
@@ -66,8 +67,8 @@ pub(crate) fn execute_line(
     }
 }
 
-/// Carries a command out. Where there is no room for it, the heap makes some by a scavenge, and then
-/// it is tried again.
+/// Carries a command out. Where there is no room for it, the heap makes some by scavenges, and then it
+/// is tried again.
 #[inline(always)]
 fn carry_out(
     heap: &mut Heap,
@@ -92,6 +93,7 @@ fn carry_out(
     // The call stands in one place alone: with a second one it is not inlined into the loop over
     // lines, whatever its attribute asks. Once there is room the command finds it, so no third try
     // comes.
+    let mut again = false;
     'tries: loop {
         let Err(stop) = execute(heap, script, objects, command, out) else {
             return Ok(());
@@ -99,9 +101,10 @@ fn carry_out(
         let Stop::NoRoom { need } = stop else {
             return Err(stop);
         };
-        if !ensure_room(heap, need) {
+        if again || !ensure_room(heap, need) {
             return Err(stop);
         }
+        again = true;
     }
 }
 
@@ -114,7 +117,8 @@ fn ensure_room(heap: &mut Heap, need: u32) -> bool
     requires few { need ≤ cell_words_most }
     requires shown { (graph : Graph) × HeapShows heap.old graph }
     ensures room { IsTrue result ↔ HasRoom heap.new.main.young need }
-    ensures scavenged { ¬ HasRoom heap.old.main.young need → Scavenges heap.old.main heap.new.main }
+    ensures scavenged { ¬ HasRoom heap.old.main.young need →
+        ScavengesFor heap.old.main heap.new.main need }
     ensures shows { (graph : Graph) → HeapShows heap.old graph → HeapShows heap.new graph }
     ensures rooms { KeepsGraphs heap.old.main heap.new.main }
     ensures spare { heap.new.spare ≡ heap.old.spare }
@@ -127,7 +131,7 @@ fn ensure_room(heap: &mut Heap, need: u32) -> bool
 #[inline(never)]
 fn scavenge(heap: &mut Heap)
     requires shown { (graph : Graph) × HeapShows heap.old graph }
-    ensures scavenged { Scavenges heap.old.main heap.new.main }
+    ensures scavenged { Scavenges heap.old.main heap.new.main false }
     ensures rooms { KeepsGraphs heap.old.main heap.new.main }
     ensures spare { heap.new.spare ≡ heap.old.spare }
 {

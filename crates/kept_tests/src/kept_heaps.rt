@@ -9,7 +9,7 @@ use std::alloc::Global;
 use std::test::Fail;
 use std::thread::Threads;
 
-const SCRIPTS: [&[u8]; 17] = [
+const SCRIPTS: [&[u8]; 21] = [
     b"let x 1",
     b"new x 2\nset x a 1\nset x b 5000000000\nset x c x\ndel x b\nset x c 5000000000",
     b"new x 0\nset x a 5000000000\nset x b 5000000000\nset x a x\ndel x a\ndel x b",
@@ -36,6 +36,16 @@ const SCRIPTS: [&[u8]; 17] = [
       wput m j m\nnew k 0\nwput m k 1\nwput m l 2\nwdel m k\nscavenge\ndrop l",
     b"let w 5000000000\nnew a 1\nnew b 1\nset a n b\nset b n a\ndrop b\nscavenge\nnew c 8\nscavenge\nnew d 8\n\
       new e 8\nnew f 8\nnew g 8\nnew h 8\nnew i 8\nnew j 8\nnew k 8\nnew c 8\nnew d 8\nnew e 8\nnew f 8",
+    b"new x 1\nset x a x\nset x b 5000000000\nscavenge\nscavenge\nnew y 0\nset x a y\ndrop y\n\
+      set x c 6000000000\nscavenge\nset x b 7\nnew y 0\nset x d y\ndel x a\nset x b 8000000000",
+    b"list l\npush l 1\npush l 5000000000\npush l l\nscavenge\nscavenge\nnew y 1\nput l 0 y\nset y a l\n\
+      drop y\nscavenge\nshift l 1\npush l 7000000000\nscavenge\ntrunc l 2\nnew y 0\npush l y",
+    b"weak m\nnew k 0\nwput m k 1\nscavenge\nscavenge\nnew j 1\nwput m j k\nwput m k j\nset j a m\n\
+      drop k\nscavenge\nwput m j 5000000000\nscavenge\nwdel m j\nnew k 0\nwput m k k",
+    b"list l\nnew a 8\npush l a\nnew a 8\npush l a\nnew a 8\npush l a\nnew a 8\npush l a\n\
+      new a 8\npush l a\nnew a 8\npush l a\nnew a 8\npush l a\nnew a 8\npush l a\n\
+      new a 8\npush l a\nnew a 8\npush l a\nnew a 8\npush l a\nnew a 8\npush l a\n\
+      new a 8\npush l a\nnew a 8\npush l a\nnew a 8\npush l a\nnew a 8\npush l a\nprint l",
 ];
 
 /// The graph of a script without `repeat` up to its end or its first fault.

@@ -21,6 +21,7 @@ use Rattle.object_cells.specs.declared.stores.Store.{Store}
 use Rattle.object_cells.proofs.ContentValues.{box_shows}
 use Rattle.object_cells.proofs.HeldContents.{HoldsValue}
 use Rattle.object_cells.proofs.HeldNeeds.{new_value_held}
+use Rattle.object_cells.proofs.IntegerTouches.{integer_remembers}
 use Rattle.object_cells.proofs.ListSlots.{element_of_number}
 use Rattle.object_cells.proofs.MadeBoxes.{boxed_integer}
 use Rattle.object_cells.proofs.NumberedSlots.{SlotOfNumber}
@@ -123,7 +124,7 @@ module _ {old new : Mutator} {graph : Graph} {at slot count : ℕ} {list : ListO
       written_elements_show old new graph list cell (box_of.cell ∷ []) [] becomes.after known.shows known.is.object
       known.shown.carries known.shown.shows becomes.are_new
       (keeps_regions (integer.rest_stays put_it) (integer.same_young put_it)) (ap (λ (m : Mutator). m.paths) puts_it)
-      (integer.writes put_it) (element_refills puts_element)
+      (integer.writes put_it) (element_refills puts_element) (integer_remembers put_it)
 
   -- each store has as many slots as before
   pub box_keeps : ChangesObject (heap_of old) (heap_of new) cell.at (capacity_at (heap_of old) cell.at)

@@ -1,3 +1,4 @@
+mod TouchedLists
 mod PushNeeds
 mod WrittenSlots
 mod PushedToNewStore

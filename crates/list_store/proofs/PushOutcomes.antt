@@ -1,5 +1,5 @@
 -- What comes of a push: the heap shows the graph in which the value is the list's last element.
-use Rattle.std.proofs.Common.{◌≡◌, ◌≢◌, ℕ, ◌+◌, ◌<◌, ◌==◌, ◌++◌, ◌∷◌, [], eq-eqb}
+use Rattle.std.proofs.Common.{◌≡◌, ◌≢◌, ℕ, ◌+◌, ◌≤◌, ◌<◌, ◌==◌, ◌++◌, ◌∷◌, [], eq-eqb}
 use Rattle.std.proofs.Common.{true, false, length, length-append, cond, sym, ◌∙◌, ap}
 use Rattle.std.proofs.Common.{subst, arith}
 use Rattle.std.proofs.lemmas.Bool.Decides.{nat_tests}
@@ -22,7 +22,7 @@ use Rattle.list_store.specs.ListChanges.{HasPushed}
 use Rattle.list_store.specs.Pushes.{PushesAt}
 use Rattle.list_store.proofs.PushNeeds.{need_to_store, need_to_new_store, push_need_is}
 use Rattle.object_cells.proofs.ListChanging.{Changing, Elements}
-use Rattle.list_store.proofs.WrittenSlots.{slot_shown, slot_keeps}
+use Rattle.list_store.proofs.WrittenSlots.{slot_shown, slot_keeps, push_remembers}
 use Rattle.list_store.proofs.PushedToNewStore.{to_new_store_shown, to_new_store_becomes}
 
 -- one element more
@@ -53,15 +53,19 @@ has_pushed {old} {new} {at = at} {count} {list} {value} {what} known is few size
     let need : content_need (store_content value) ≡ push_need held list what =
     sym (need_to_store held count value apart) ∙ push_need_is list held count value known.held.shows is in
     let test : (length list.elements == held) ≡ false = grind (arith, nat_tests, is, can.is.capacity, room) in
+    let becomes = pushed_elements count known is few in
+    let enough : count + 1 ≤ store.capacity = omega (arith, room) in
     record {
       few = few;
       room = subst (HasRoom old.young) need pushes.room;
-      uses = subst (UsesMore old new) need (record { beside = pushes.words.beside; young = pushes.words.young });
+      uses = subst (UsesMore old new) need
+          (record { beside = pushes.words.beside; young = pushes.words.young; free = pushes.touches.free });
       changes = subst (ChangesObject heap (heap_of new) at)
           (sym (ap (λ t. cond t (grown_list (length list.elements)) held) test))
           (subst (λ a. ChangesObject heap (heap_of new) a (capacity_at heap a)) known.shown.stands
-          (slot_keeps known (pushed_elements count known is few) can.is room (omega (arith, room)) pushes));
-      shows = slot_shown known (pushed_elements count known is few) can.is room (omega (arith, room)) pushes;
+          (slot_keeps known becomes can.is room enough pushes.room pushes.words));
+      shows = slot_shown known becomes can.is room enough pushes.room pushes.words
+          (push_remembers known becomes can.is room enough pushes.room pushes.words pushes.touches);
       held = value;
       holds = known.held.shows;
       puts = subst (λ n. PushesAt old new at n value) is (PushesAt.to_store store can room pushes);
@@ -79,7 +83,8 @@ has_pushed {old} {new} {at = at} {count} {list} {value} {what} known is few size
     record {
       few = few;
       room = subst (HasRoom old.young) need pushes.room;
-      uses = subst (UsesMore old new) need (record { beside = pushes.words.beside; young = pushes.words.young });
+      uses = subst (UsesMore old new) need
+          (record { beside = pushes.words.beside; young = pushes.words.young; free = pushes.touches.free });
       changes = subst (ChangesObject heap (heap_of new) at) grows
           (subst (λ a. ChangesObject heap (heap_of new) a (grown_list count)) known.shown.stands
           (to_new_store_becomes known can is few full pushes sizes));

@@ -2,9 +2,10 @@
 use Rattle.std.proofs.Common.{◌≡◌, ◌≢◌, ℕ, ◌+◌, ◌≤◌, ◌<◌, ◌⊎◌, inl, inr, List, [], ◌∷◌, ◌++◌, length, drop, Some}
 use Rattle.std.proofs.Common.{slice_get}
 use Rattle.std.proofs.Common.{false, refl, sym, ◌∙◌, ap, subst, arith, length-append, length-drop}
-use Rattle.tagged_word.specs.Cells.{store_head}
+use Rattle.tagged_word.specs.Cells.{store_head, store_slot}
 use Rattle.tagged_word.specs.declared.layout.Kind.TheVariants as kind
 use Rattle.tagged_word.proofs.Members.{first_in}
+use Rattle.page_space.specs.Extents.{eden_start}
 use Rattle.page_space.specs.Sizes.{AreWithin}
 use Rattle.page_space.proofs.Starts.{marks_start_is}
 use Rattle.object_graph.specs.Graphs.{Graph, ListObject}
@@ -14,18 +15,21 @@ use Rattle.heap_table.specs.Seats.{heap_words}
 use Rattle.heap_model.specs.Heaps.{HasCell, words_of_cell}
 use Rattle.heap_model.specs.Kinds.{HasWord, count_offset}
 use Rattle.heap_model.specs.Needs.{grown_list}
+use Rattle.heap_model.specs.Remembered.{Touch}
 use Rattle.heap_model.specs.Showing.{ShowsValue}
 use Rattle.heap_model.specs.Slots.{reference_word, HoldsStore, hole_word}
 use Rattle.heap_model.proofs.BoundHeaps.{none_in}
 use Rattle.heap_model.proofs.CellWords.{words_by_kind}
 use Rattle.write_barrier.specs.MutatorState.{Mutator, heap_of, MainShows}
+use Rattle.write_barrier.specs.Recording.{Remembers, touched_one, touched_then}
 use Rattle.object_cells.specs.Capacities.{ChangesObject}
 use Rattle.object_cells.specs.Contents.{next_at}
 use Rattle.object_cells.specs.FilledRuns.{FillsRun}
 use Rattle.object_cells.specs.OwnSlots.{ComesFrom}
-use Rattle.object_cells.specs.Made.{store_content, content_word}
+use Rattle.object_cells.specs.Made.{store_content, content_touch, content_word, store_touch}
 use Rattle.object_cells.specs.declared.stores.Store.{Store}
 use Rattle.object_cells.proofs.CopiedSlots.{NewSlotIs, new_slot_is}
+use Rattle.object_cells.proofs.FittingCells.{content_fits}
 use Rattle.object_cells.proofs.FilledRuns.{FillsOwn, next_run, makes_store, own_run, filled_named}
 use Rattle.object_cells.proofs.HeldNeeds.{new_value_held}
 use Rattle.object_cells.proofs.ListChanging.{Changing, list_word}
@@ -42,8 +46,10 @@ use Rattle.object_cells.proofs.StoreRuns.{CopiesSlots, fills_run, own_put, copie
 use Rattle.object_cells.proofs.StoreWords.{MakesStore}
 use Rattle.object_cells.proofs.TakenValues as taken
 use Rattle.object_cells.proofs.TakenValues.{TakesValue, filled_takes}
+use Rattle.object_cells.proofs.TouchedCells.{fits_then, fits_young, remembers, same_cells_touched}
 use Rattle.object_cells.proofs.UnusedWords.{marks_fit}
 use Rattle.list_store.specs.Pushes.{CanChange, PushesToNewStore}
+use Rattle.list_store.proofs.TouchedLists.{count_fits, store_fits}
 
 module _ {old new : Mutator} {graph : Graph} {at count : ℕ} {list : ListObject} {value : Held} {what : Value}
     {store : Store} (known : Changing old graph at list value what) (can : CanChange old at count store)
@@ -193,6 +199,30 @@ module _ {old new : Mutator} {graph : Graph} {at count : ℕ} {list : ListObject
         boxes = taken.boxes_told takes;
       }
 
+  -- what is made is in eden, so of pages only words of the list's cell are touched: it is remembered
+  new_store_remembers : Remembers old new (cell ∷ []) (cell ∷ [])
+  new_store_remembers =
+      let cells : List Cell = cell ∷ [] in
+      let eden : ℕ = eden_start old.seat.space in
+      let next : ℕ = next_at old in
+      let slot : ℕ = next + (store_head + count) in
+      let made : ℕ → Touch = touched_then (store_touch capacity next) (content_touch (store_content value) box) in
+      let put : ℕ → Touch = touched_then made (touched_one Touch.Stored slot) in
+      let linked : ℕ → Touch = touched_then put (touched_one Touch.Stored (at + store_slot)) in
+      let counted : ℕ → Touch = touched_one Touch.Wiped (at + count_offset) in
+      let whole = known.shows.shows.whole in
+      remembers (touched_then linked counted) pushes.touches
+      (same_cells_touched eden cells (touched_then linked counted) (λ a of_page.
+      fits_then cells cells linked counted a
+      (fits_then cells cells put (touched_one Touch.Stored (at + store_slot)) a
+      (fits_then cells cells made (touched_one Touch.Stored slot) a
+      (fits_then cells cells (store_touch capacity next) (content_touch (store_content value) box) a
+      (fits_young cells cells Touch.Wiped eden next (next + (store_head + capacity)) a (omega arith) of_page)
+      (content_fits cells cells (store_content value) eden box a (omega arith) of_page))
+      (fits_young cells cells Touch.Stored eden slot (slot + 1) a (omega arith) of_page))
+      (store_fits [] whole known.shown (λ one among. absurd (none_in one among)) a))
+      (count_fits [] whole known.shown (λ one among. absurd (none_in one among)) a)))
+
   -- and the graph is shown in which it is the last
   pub to_new_store_shown : MainShows new (relist graph list (list.elements ++ what ∷ []))
   to_new_store_shown =
@@ -201,7 +231,7 @@ module _ {old new : Mutator} {graph : Graph} {at count : ℕ} {list : ListObject
       (pushed_elements_are_new graph list what known.shows.is_graph known.is.object known.is.reached least known.fits
       known.held.reached)
       (keeps_regions pushes.words.beside pushes.words.young) pushes.words.paths takes.writes
-      (element_refills puts_element)
+      (element_refills puts_element) new_store_remembers
 
   -- the list has as many slots as the store that was made, and each other object as many as before
   pub to_new_store_becomes : AreWithin old.seat.space.sizes old.seat.space.variables

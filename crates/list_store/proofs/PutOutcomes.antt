@@ -1,6 +1,6 @@
 -- What comes of a put: the heap shows the graph in which the value is in the place of the element.
 use Rattle.std.proofs.Common.{◌≡◌, ℕ, ◌+◌, ◌≤◌, ◌<◌, length, Some}
-use Rattle.std.proofs.Common.{not, ◌&&◌, slice_get, get_or, set, length-set, unwrap_or}
+use Rattle.std.proofs.Common.{not, ◌&&◌, false, slice_get, get_or, set, length-set, unwrap_or}
 use Rattle.std.proofs.Common.{refl, sym, ◌∙◌, ap, subst, arith}
 use Rattle.std.specs.Prelude.{slice_set}
 use Rattle.tagged_word.specs.declared.layout.Kind.TheVariants as kind
@@ -16,14 +16,20 @@ use Rattle.heap_model.specs.Kinds.{count_offset}
 use Rattle.heap_model.specs.Needs.{capacity_at, word_at, box_need, is_box_word}
 use Rattle.heap_model.proofs.CellsApart.{IsOfCell, cells_apart}
 use Rattle.heap_model.proofs.CellWords.{words_by_kind, words_are_size}
-use Rattle.write_barrier.specs.MutatorState.{Mutator, heap_of}
+use Rattle.write_barrier.specs.MutatorState.{Mutator, heap_of, reserved}
+use Rattle.write_barrier.specs.Recording.{Touches, touched_one}
+use Rattle.heap_model.specs.Remembered.{Touch}
+use Rattle.heap_model.specs.Slots.{IsSlotWord}
 use Rattle.object_cells.specs.declared.stores.Store.{Store}
 use Rattle.object_cells.specs.Capacities.{ChangesObject}
-use Rattle.object_cells.specs.Contents.{next_at, box_in, filling_of, filling_need, FillsSlot}
-use Rattle.object_cells.specs.Made.{IsStoreAt, with_content, content_need, content_word, store_content, is_wide_held}
+use Rattle.object_cells.specs.Contents.{next_at, box_in, filling_at, filling_of, filling_need, FillsSlot}
+use Rattle.object_cells.specs.Made.{IsStoreAt, PutsWords, with_content, content_need, content_word, slot_touch}
+use Rattle.object_cells.specs.Made.{store_content, is_wide_held}
+use Rattle.object_cells.specs.declared.content.SlotContent.{SlotContent}
+use Rattle.object_cells.specs.declared.content.SlotContent.TheVariants as content
 use Rattle.object_cells.specs.Uses.{UsesMore}
 use Rattle.object_cells.proofs.CellsRead.{word_stands}
-use Rattle.object_cells.proofs.HeldNeeds.{wide_is}
+use Rattle.object_cells.proofs.HeldNeeds.{wide_is, new_value_held}
 use Rattle.object_cells.proofs.MadeBoxes.{with_content_stays}
 use Rattle.object_cells.proofs.NewElements.{put_elements_are_new}
 use Rattle.object_cells.proofs.OneElement.{set_differs}
@@ -34,15 +40,16 @@ use Rattle.heap_model.specs.Rooms.{on_found, is_wide, put_need}
 use Rattle.heap_model.proofs.ShownBoxes.{value_boxed}
 use Rattle.object_graph.specs.declared.value.Value.TheVariants.{Undefined}
 use Rattle.std.proofs.lemmas.Option.{slice_get-get_or}
-use Rattle.object_cells.proofs.FilledSlots.{FilledBy, held_put, set_there}
+use Rattle.object_cells.proofs.FilledSlots.{FilledBy, held_before, held_put, no_raw, set_there}
+use Rattle.object_cells.proofs.FilledTouches.{fills_slot_touch}
 use Rattle.object_cells.proofs.NothingUsed.{room_for_none}
 use Rattle.list_store.specs.ListChanges.{HasPut}
-use Rattle.list_store.specs.Pushes.{WritesSlot}
+use Rattle.list_store.specs.Pushes.{with_count, with_element}
 use Rattle.list_store.proofs.BoxedElements.{box_shown, box_keeps, put_it}
 use Rattle.object_cells.proofs.OwnIntegers.{same_young}
 use Rattle.object_cells.proofs.ElementsRead.{SlotRead, slot_read}
 use Rattle.object_cells.proofs.ListChanging.{Changing, Elements, list_is_no_store}
-use Rattle.list_store.proofs.WrittenSlots.{slot_shown, slot_keeps}
+use Rattle.list_store.proofs.WrittenSlots.{slot_shown, slot_keeps, put_remembers}
 
 -- one element in the place of another
 abbrev pub put_elements : {old : Mutator} {graph : Graph} {at : ℕ} {list : ListObject} {value : Held} {what : Value}
@@ -57,6 +64,12 @@ put_elements {graph = graph} {list = list} {what = what} place known there few =
   are_new = put_elements_are_new graph list place what known.shows.is_graph known.is.object known.is.reached known.fits
       known.held.reached;
 }
+
+-- what is no raw word is put as a slot's
+stored_content : (holds : SlotContent) → ((w : ℕ) → holds ≡ content.Raw w → ⊥) → slot_touch holds ≡ Touch.Stored
+stored_content (content.Tagged word) not_raw = refl
+stored_content (content.Raw word) not_raw = absurd (not_raw word refl)
+stored_content (content.Boxed v) not_raw = refl
 
 -- the address of the slot
 abbrev pub place_at : Store → ℕ → ℕ
@@ -126,6 +139,35 @@ module _ {old : Mutator} {graph : Graph} {at : ℕ} {list : ListObject} {value :
       ∙ ap (λ n. slice_get (heap_words old.seat) (n + count_offset)) (sym shown.stands)
       ∙ word_stands count_offset (length list.elements) shown.has shown.shows.counted
 
+  -- so it is put again
+  counted_words : {new : Mutator} → HasRoom old.young (content_need (store_content value))
+      → PutsWords (reserved old (content_need (store_content value))) new
+      (with_element (heap_words old.seat) (place_at store place) value (next_at old))
+      → PutsWords (reserved old (content_need (store_content value))) new
+      (with_count (with_element (heap_words old.seat) (place_at store place) value (next_at old)) at
+      (length list.elements))
+  counted_words room words = record {
+    beside = words.beside;
+    paths = words.paths;
+    young = words.young;
+    heap = words.heap
+        ∙ sym (set_there (with_element (heap_words old.seat) (place_at store place) value (next_at old))
+        (at + count_offset) (length list.elements) (count_stays room));
+  }
+
+  -- of pages only the slot is touched, where a box that it needs is made
+  element_touch : {new : Mutator} → FillsSlot old new (place_at store place) (store_content value)
+      → filling_need (filling_at old (place_at store place) (store_content value)) ≡ content_need (store_content value)
+      → Touches old new (touched_one Touch.Stored (place_at store place))
+  element_touch {new} fills needs =
+      let heap = heap_of old in
+      subst (λ how. Touches old new (touched_one how (place_at store place)))
+      (stored_content (store_content value) (λ w. no_raw w (new_value_held false value what known.held.shows)))
+      (fills_slot_touch fills known.shows.tied known.shows.shows.whole
+      (omega (arith, is_store.within, below))
+      (held_before heap (word_at heap (place_at store place)) (store_content value)
+      (subst (IsSlotWord heap) (sym word_is) slot.is)) known.shows.bounded needs)
+
 -- so the element is the value
 pub has_put : {old new : Mutator} {graph : Graph} {at : ℕ} {list : ListObject} {value : Held} {what : Value}
     (store : Store)
@@ -139,24 +181,20 @@ has_put {old} {new} {at = at} {list} {value} {what} store place known is_store b
     (FilledBy.slot room words needs) =
     let heap = heap_of old in
     let need = sym needs ∙ need_to_put store place known is_store below sizes there in
-    let pushes : WritesSlot old new at place (length list.elements) value store = record {
-      room = room;
-      words = record {
-        beside = words.beside;
-        paths = words.paths;
-        young = words.young;
-        heap = words.heap
-            ∙ sym (set_there _ (at + count_offset) (length list.elements)
-            (count_stays store place known is_store below room));
-      };
-    } in
+    let puts = counted_words store place known is_store below room words in
     let becomes = put_elements place known there few in
     record {
       room = subst (HasRoom old.young) need room;
-      uses = subst (UsesMore old new) need (record { beside = words.beside; young = words.young });
+      uses = subst (UsesMore old new) need (record {
+        beside = words.beside;
+        young = words.young;
+        free = (element_touch store place known is_store below fills needs).free;
+      });
       changes = subst (λ a. ChangesObject heap (heap_of new) a (capacity_at heap a)) known.shown.stands
-          (slot_keeps known becomes is_store below enough pushes);
-      shows = slot_shown known becomes is_store below enough pushes;
+          (slot_keeps known becomes is_store below enough room puts);
+      shows = slot_shown known becomes is_store below enough room puts
+          (put_remembers known becomes is_store below enough room puts
+          (element_touch store place known is_store below fills needs));
       store = store;
       is_store = is_store;
       held = value;
@@ -181,6 +219,7 @@ has_put {old} {new} {at = at} {list} {value} {what} store place known is_store b
       uses = subst (UsesMore old new) need (record {
         beside = fills.beside;
         young = same_young (put_it w known becomes is_store enough refl read.holds box_of boxed same);
+        free = ap (λ (main : Mutator). main.free) same;
       });
       changes = subst (λ a. ChangesObject heap (heap_of new) a (capacity_at heap a)) known.shown.stands
           (box_keeps w known becomes is_store enough refl read.holds box_of boxed same);

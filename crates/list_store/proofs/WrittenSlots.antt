@@ -1,12 +1,14 @@
 -- A value that comes to a slot that the store of a list has is shown as the element of this number.
 use Rattle.std.specs.Prelude.{slice_set}
 use Rattle.std.proofs.Common.{◌≡◌, ◌≢◌, ℕ, ◌+◌, ◌≤◌, ◌<◌, inl, List, [], ◌∷◌, length, slice_get, sym, ◌∙◌, ap, subst}
-use Rattle.std.proofs.Common.{arith, length-set, drop, Some, false, length-drop}
+use Rattle.std.proofs.Common.{arith, length-set, drop, Some, false, length-drop, Contains}
 use Rattle.std.proofs.lemmas.Option.{same_Some}
 use Rattle.tagged_word.specs.declared.layout.Kind.TheVariants as kind
 use Rattle.tagged_word.specs.Cells.{store_head, store_slot}
 use Rattle.tagged_word.proofs.Members.{first_in, one_in}
+use Rattle.page_space.specs.Extents.{eden_start}
 use Rattle.page_space.proofs.Starts.{marks_start_is}
+use Rattle.nursery.specs.Young.{HasRoom}
 use Rattle.object_graph.specs.Graphs.{Graph, ListObject}
 use Rattle.object_graph.specs.Meaning.{relist}
 use Rattle.object_graph.proofs.Lists.{slice_get-set_other, slice_get-set_same}
@@ -15,13 +17,16 @@ use Rattle.heap_model.specs.Types.{Value, Cell, Held}
 use Rattle.heap_model.specs.Heaps.{HasCell, words_of_cell}
 use Rattle.heap_model.specs.Kinds.{count_offset, HasWord, IsSoundOf}
 use Rattle.heap_model.specs.Needs.{capacity_at}
+use Rattle.heap_model.specs.Remembered.{Touch}
 use Rattle.heap_model.specs.Showing.{ShowsValue}
 use Rattle.heap_model.specs.Slots.{HoldsStore}
 use Rattle.heap_model.proofs.CellsApart.{IsOfCell}
 use Rattle.heap_model.proofs.CellWords.{words_by_kind}
-use Rattle.write_barrier.specs.MutatorState.{Mutator, heap_of, MainShows}
+use Rattle.write_barrier.specs.MutatorState.{Mutator, heap_of, MainShows, reserved}
+use Rattle.write_barrier.specs.Recording.{Touches, Remembers, touched_one, touched_then}
 use Rattle.object_cells.specs.Contents.{next_at}
-use Rattle.object_cells.specs.Made.{IsStoreAt, with_content, content_need, content_word, store_content}
+use Rattle.object_cells.specs.Made.{IsStoreAt, PutsWords, with_content, content_need, content_touch, content_word}
+use Rattle.object_cells.specs.Made.{store_content}
 use Rattle.object_cells.specs.declared.stores.Store.{Store}
 use Rattle.object_cells.specs.Capacities.{ChangesObject}
 use Rattle.object_cells.specs.OwnSlots.{ComesFrom}
@@ -43,18 +48,23 @@ use Rattle.object_cells.proofs.OwnCapacities.{object_keeps}
 use Rattle.object_cells.proofs.CellsRead.{word_stands}
 use Rattle.object_cells.proofs.OwnContents as beside
 use Rattle.object_cells.proofs.OwnContents.{PutsBeside, not_made, apart}
-use Rattle.list_store.specs.Pushes.{WritesSlot, with_count}
+use Rattle.object_cells.proofs.FittingCells.{content_fits}
+use Rattle.object_cells.proofs.TouchedCells.{FitsTouch, fits_then, remembers, same_cells_touched}
+use Rattle.list_store.specs.Pushes.{with_count, with_element}
+use Rattle.list_store.proofs.TouchedLists.{count_fits, element_fits}
 
 module _ {old new : Mutator} {graph : Graph} {at slot count : ℕ} {list : ListObject} {value : Held} {what : Value}
     {store : Store} (known : Changing old graph at list value what) (becomes : Elements graph list what slot count)
     (is_store : IsStoreAt (heap_of old) at store) (below : slot < store.capacity) (enough : count ≤ store.capacity)
-    (pushes : WritesSlot old new at slot count value store) where
+    (room : HasRoom old.young (content_need (store_content value)))
+    (puts : let put = with_element (heap_words old.seat) (store.at + (store_head + slot)) value (next_at old) in
+    PutsWords (reserved old (content_need (store_content value))) new (with_count put at count)) where
   -- the list's cell
   abbrev cell : Cell
   cell = known.shown.cell
 
   -- the store's
-  there : StoredAt (heap_of old) known.shown.shows.store known.shown.shows.slots store
+  pub there : StoredAt (heap_of old) known.shown.shows.store known.shown.shows.slots store
   there = changing_store slot known is_store below
 
   abbrev other : Cell
@@ -115,8 +125,8 @@ module _ {old new : Mutator} {graph : Graph} {at slot count : ℕ} {list : ListO
           refers = store_is.refers.refers;
         };
         slot = known.shown.shows.slot;
-        room = pushes.room;
-        puts = pushes.words;
+        room = room;
+        puts = puts;
         long = length-set put (at + count_offset) count ∙ length-set boxed place word
             ∙ length-with_content (heap_words old.seat) (store_content value) (next_at old);
         beside = λ a not_count not_slot. word_stays a (λ same. not_count (omega (arith, same, known.shown.stands)))
@@ -150,7 +160,7 @@ module _ {old new : Mutator} {graph : Graph} {at slot count : ℕ} {list : ListO
       let of_other : IsOfCell other a =
       record { from = omega arith; below = omega (arith, inside, there.found.size) } in
       ap (λ all. slice_get all k) there.found.are ∙ slot_stands k there.found.refers.has there.found.of_kind inside
-      ∙ sym (ap (λ all. slice_get all a) pushes.words.heap
+      ∙ sym (ap (λ all. slice_get all a) puts.heap
       ∙ word_stays a (not_count a of_other) (λ same. not_one (omega (arith, same, there.found.stands)))
       ∙ with_content_stays (heap_words old.seat) (store_content value) (next_at old) a
       (not_made putting a other_has of_other))
@@ -171,7 +181,7 @@ module _ {old new : Mutator} {graph : Graph} {at slot count : ℕ} {list : ListO
       ) in
       same_Some word x (sym (slice_get-set_same boxed place word within)
       ∙ sym (slice_get-set_other put (at + count_offset) place count (not_count place of_store))
-      ∙ sym (ap (λ all. slice_get all place) pushes.words.heap)
+      ∙ sym (ap (λ all. slice_get all place) puts.heap)
       ∙ ap (slice_get (heap_words new.seat)) (sym at_place)
       ∙ sym (slot_stands slot store_has there.found.of_kind inside) ∙ holds)
 
@@ -190,7 +200,7 @@ module _ {old new : Mutator} {graph : Graph} {at slot count : ℕ} {list : ListO
       ) in
       word_at_offset count_offset (taken.came_has takes) (omega (arith, size.below, known.shown.stands))
       ∙ ap (λ n. slice_get (heap_words new.seat) (n + count_offset)) known.shown.stands
-      ∙ ap (λ all. slice_get all (at + count_offset)) pushes.words.heap
+      ∙ ap (λ all. slice_get all (at + count_offset)) puts.heap
       ∙ slice_get-set_same put (at + count_offset) count within ∙ ap (λ n. Some n) (sym becomes.long)
 
   -- so an element is pushed
@@ -235,13 +245,54 @@ module _ {old new : Mutator} {graph : Graph} {at slot count : ℕ} {list : ListO
         boxes = taken.boxes_told takes;
       }
 
+  -- the cells that are written
+  abbrev cells : List Cell
+  cells = cell ∷ other ∷ []
+
+  -- the store is one of those that stand
+  others_stand : (one : Cell) → Contains (other ∷ []) one → HasCell (heap_of old) one (words_of_cell (heap_of old) one)
+  others_stand one among =
+      subst (λ (c : Cell). HasCell (heap_of old) c (words_of_cell (heap_of old) c)) (one_in other one among) other_has
+
+  -- the slot fits where it is stored
+  place_fits : (a : ℕ) → FitsTouch cells cells a (touched_one Touch.Stored place a)
+  place_fits a =
+      subst (λ n. FitsTouch cells cells a (touched_one Touch.Stored (n + (store_head + slot)) a)) there.found.stands
+      (element_fits (other ∷ []) known.shows.shows.whole known.shown others_stand slot a (first_in other [])
+      there.found.of_kind (omega (arith, there.capacity, below)))
+
+  -- so an element that is put is remembered
+  pub put_remembers : Touches old new (touched_one Touch.Stored place) → Remembers old new cells cells
+  put_remembers touches =
+      remembers (touched_one Touch.Stored place) touches
+      (same_cells_touched (eden_start old.seat.space) cells (touched_one Touch.Stored place)
+      (λ a of_page. place_fits a))
+
+  -- a box is made for it in eden
+  abbrev slot_touch : ℕ → Touch
+  slot_touch = touched_then (content_touch (store_content value) (next_at old)) (touched_one Touch.Stored place)
+
+  -- and so is one that is pushed, where the list's length is another
+  pub push_remembers : Touches old new (touched_then slot_touch (touched_one Touch.Wiped (at + count_offset)))
+      → Remembers old new cells cells
+  push_remembers touches =
+      let eden : ℕ = eden_start old.seat.space in
+      let made : ℕ → Touch = content_touch (store_content value) (next_at old) in
+      let counted : ℕ → Touch = touched_one Touch.Wiped (at + count_offset) in
+      remembers (touched_then slot_touch counted) touches
+      (same_cells_touched eden cells (touched_then slot_touch counted) (λ a of_page.
+      fits_then cells cells slot_touch counted a
+      (fits_then cells cells made (touched_one Touch.Stored place) a
+      (content_fits cells cells (store_content value) eden (next_at old) a (omega arith) of_page) (place_fits a))
+      (count_fits (other ∷ []) known.shows.shows.whole known.shown others_stand a)))
+
   -- and the graph is shown in which it is the last
-  pub slot_shown : MainShows new (relist graph list becomes.after)
-  slot_shown =
+  pub slot_shown : Remembers old new cells cells → MainShows new (relist graph list becomes.after)
+  slot_shown remembered =
       written_elements_show old new graph list cell (other ∷ []) (made_boxes (store_content value) (next_at old))
       becomes.after known.shows known.is.object known.shown.carries known.shown.shows becomes.are_new
-      (keeps_regions pushes.words.beside pushes.words.young) pushes.words.paths takes.writes
-      (element_refills puts_element)
+      (keeps_regions puts.beside puts.young) puts.paths takes.writes
+      (element_refills puts_element) remembered
 
   -- each store has as many slots as before
   pub slot_keeps : ChangesObject (heap_of old) (heap_of new) cell.at (capacity_at (heap_of old) cell.at)

@@ -6,12 +6,14 @@ use Rattle.heap_model.specs.Types.{Held}
 use Rattle.heap_table.specs.Seats.{heap_words}
 use Rattle.heap_model.specs.Slots.{reference_word}
 use Rattle.heap_model.specs.Kinds.{count_offset}
+use Rattle.heap_model.specs.Remembered.{Touch}
 use Rattle.write_barrier.specs.MutatorState.{Mutator, heap_of, reserved}
+use Rattle.write_barrier.specs.Recording.{Touches, touched_one, touched_then}
 use Rattle.object_cells.specs.declared.stores.Store.{Store}
 use Rattle.object_cells.specs.ListObjects.{IsListReady}
 use Rattle.object_cells.specs.Contents.{next_at}
 use Rattle.object_cells.specs.Made.{PutsWords, IsStoreAt, begun_store, with_content, content_need, content_word}
-use Rattle.object_cells.specs.Made.{store_content}
+use Rattle.object_cells.specs.Made.{store_content, content_touch, store_touch}
 use Rattle.heap_model.specs.Needs.{grown_list}
 
 -- The elements of the list at the address, which are so many, may change, and stand in this store.
@@ -33,6 +35,9 @@ pub record WritesSlot (old new : Mutator) (list slot count : ℕ) (value : Held)
   pub room : HasRoom old.young (content_need (store_content value))
   pub words : let put = with_element (heap_words old.seat) (store.at + (store_head + slot)) value (next_at old) in
       PutsWords (reserved old (content_need (store_content value))) new (with_count put list count)
+  pub touches : let boxed = content_touch (store_content value) (next_at old) in
+      let put = touched_then boxed (touched_one Touch.Stored (store.at + (store_head + slot))) in
+      Touches old new (touched_then put (touched_one Touch.Wiped (list + count_offset)))
 
 -- The value comes to the next slot of the list's store.
 abbrev pub PushesToStore : Mutator → Mutator → ℕ → ℕ → Held → Store → Type 0
@@ -49,6 +54,12 @@ pub record PushesToNewStore (old new : Mutator) (list count : ℕ) (value : Held
       let linked = slice_set put (list + store_slot) (reference_word at) in
       PutsWords (reserved old (store_head + grown_list count + content_need (store_content value))) new
       (with_count linked list (count + 1))
+  pub touches : let at = next_at old in
+      let behind = at + (store_head + grown_list count) in
+      let boxed = touched_then (store_touch (grown_list count) at) (content_touch (store_content value) behind) in
+      let put = touched_then boxed (touched_one Touch.Stored (at + (store_head + count))) in
+      let linked = touched_then put (touched_one Touch.Stored (list + store_slot)) in
+      Touches old new (touched_then linked (touched_one Touch.Wiped (list + count_offset)))
 
 -- How the value comes behind so many elements of the list at the address: to the list's store, which is made anew where
 -- it is full or absent.

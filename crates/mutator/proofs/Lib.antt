@@ -12,6 +12,8 @@ pub mod NewCells
 pub mod EmptyCells
 pub mod EmptyCounted
 pub mod PutCells
+mod YoungWords
+mod MadeRecords
 pub mod MadeObjects
 pub mod MadeCells
 pub mod FieldMeanings

@@ -1,7 +1,7 @@
 -- A heap in which an object was made and bound shows the graph in which it is.
 use Rattle.std.proofs.Common.{◌≡◌, ℕ, ◌+◌, ◌<◌, ◌≤◌, ◌^◌, List, [], ◌∷◌, length, Ok, Err, sym}
 use Rattle.std.proofs.Common.{refl, ◌∙◌, ap, subst, arith, inl, inr}
-use Rattle.heap_model.specs.Types.{Command, Object, Cell, Held}
+use Rattle.heap_model.specs.Types.{Command, Object, Cell, Held, Run}
 use Rattle.tagged_word.proofs.Members.{first_in}
 use Rattle.object_graph.specs.declared.object.Object.TheVariants.{Weak}
 use Rattle.object_graph.specs.Graphs.{Graph, make}
@@ -21,7 +21,8 @@ use Rattle.heap_table.specs.Seats.{heap_words, RestStays}
 use Rattle.heap_table.specs.Staying.{rest_stays_again}
 use Rattle.heap_model.specs.Heaps.{Heap, HasCell, words_of_cell}
 use Rattle.heap_model.specs.Counting.{CountsEntries}
-use Rattle.heap_model.specs.Collectable.{IsCollectable}
+use Rattle.heap_model.specs.Collectable.{IsCollectable, AreFreeRuns}
+use Rattle.heap_model.specs.Remembered.{AreRemembered}
 use Rattle.heap_model.specs.Rooms.{Room, no_room, need_of, rooms_after, with_room}
 use Rattle.heap_model.specs.Showing.{Shows, ShowsObject}
 use Rattle.heap_model.specs.Laws.{IsNoEntryKey, ReachesOneMore, bound}
@@ -31,6 +32,7 @@ use Rattle.heap_model.proofs.CountsStay.{HasCountOf, counts_made}
 use Rattle.heap_model.proofs.BoundHeaps.{none_in, bound_moves}
 use Rattle.heap_model.proofs.NewObjects.{new_objects_show}
 use Rattle.heap_model.proofs.StaysCollectable.{own_changes_stay_collectable, bound_stays_collectable}
+use Rattle.heap_model.proofs.FreeStays.{own_changes_keep_free, bound_keeps_free}
 use Rattle.write_barrier.specs.MutatorState.{Mutator, heap_of, IsTied, MainShows, reserved, with_table, with_variable}
 use Rattle.write_barrier.specs.Values.{with_range}
 use Rattle.object_cells.specs.Uses.{UsesMore}
@@ -39,6 +41,7 @@ use Rattle.object_cells.proofs.RestOfWords.{range_beside, variable_beside}
 use Rattle.mutator.specs.Binding.{BindsMade}
 use Rattle.mutator.specs.CarriesOut.{Carries}
 use Rattle.mutator.proofs.NewCells.{NewCell, cell_of}
+use Rattle.mutator.proofs.MadeRecords.{made_and_bound_remembers}
 use Rattle.mutator.proofs.MadeRooms.{HasNoEntry, MakesOne, makes_one, keeps_made}
 use Rattle.mutator.proofs.PutCells.{next_at, with_cell, HasRoomFor, IsSoundThere, IsPutCell, with_cell_put}
 use Rattle.mutator.proofs.Rebinding.{HoldsAnew, heap_bound}
@@ -181,6 +184,25 @@ module _ {old mid filled new : Mutator} {graph : Graph} {command : Command} {x a
       subst (λ h. IsCollectable h (other_half new.young.half)) (sym (bound_heap shows.tied makes))
       (subst (λ n. IsCollectable (bound now x refers) (other_half n)) (sym same) bound_too)
 
+  -- free runs of pages stay so
+  made_free : AreFreeRuns (heap_of new) new.free
+  made_free =
+      let with_it = own_changes_keep_free (heap_of old) now [] [] (cell ∷ []) old.free shows.shows.whole put.cells
+      put.own shows.free in
+      let bound_too = bound_keeps_free now x refers old.free below put.whole with_it in
+      let same : new.free ≡ old.free = ap (λ (main : Mutator). main.free) (made_is makes) in
+      subst (λ h. AreFreeRuns h new.free) (sym (bound_heap shows.tied makes))
+      (subst (λ (rows : List (List Run)). AreFreeRuns (bound now x refers) rows) (sym same) bound_too)
+
+  -- and what is recorded stays right
+  made_remembered : AreRemembered (heap_of new) new.recorded.slots
+  made_remembered =
+      let slots = made_and_bound_remembers old.recorded.slots x refers shows.shows.whole made.fits put below
+      shows.remembered in
+      let same : new.recorded.slots ≡ old.recorded.slots = ap (λ (main : Mutator). main.recorded.slots) (made_is makes) in
+      subst (λ h. AreRemembered h new.recorded.slots) (sym (bound_heap shows.tied makes))
+      (subst (λ (all : List ℕ). AreRemembered (bound now x refers) all) (sym same) slots)
+
   -- the mutator shows it then
   made_main : MainShows new (make graph x what)
   made_main = record {
@@ -191,6 +213,10 @@ module _ {old mid filled new : Mutator} {graph : Graph} {command : Command} {x a
     shows = made_shows;
     counts = made_counts;
     collectable = made_collectable;
+    free = made_free;
+    bounded = ap (λ (now : Mutator). now.recorded.bound) (made_is makes) ∙ shows.bounded
+        ∙ ap eden_start (sym (ap (λ (now : Mutator). now.seat.space) (made_is makes)));
+    remembered = made_remembered;
   }
 
   -- as many words more were used as the cell has
@@ -210,6 +236,7 @@ module _ {old mid filled new : Mutator} {graph : Graph} {command : Command} {x a
       record {
         beside = subst (λ (now : Mutator). RestStays old.seat now.seat) (sym (made_is makes)) beside;
         young = ap (λ (now : Mutator). now.young) (made_is makes);
+        free = ap (λ (now : Mutator). now.free) (made_is makes);
       }
 
   -- and the command is carried out

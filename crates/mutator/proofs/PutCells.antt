@@ -68,6 +68,12 @@ before_words {heap} {one} fits =
       fits.sized.words,
     )
 
+-- words before those of the cell stay
+pub before_stays : {heap : Heap} {one : NewCell} (at : ℕ) → HasRoomFor heap one → at < next_at heap
+    → slice_get (with_cell heap one).words at ≡ slice_get heap.words at
+before_stays {heap} {one} at fits below =
+    with_range_before heap.words one.words (next_at heap) at (before_words fits) below
+
 -- words from the segments on stay
 behind_stays : {heap : Heap} {one : NewCell} (at : ℕ) → HasRoomFor heap one
     → segments_start heap.space ≤ at → slice_get (with_cell heap one).words at ≡ slice_get heap.words at

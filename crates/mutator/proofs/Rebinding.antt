@@ -3,7 +3,7 @@ use Rattle.std.proofs.Common.{◌≡◌, ℕ, ◌<◌, List, [], Some, None, Ok,
 use Rattle.std.specs.Prelude.{Option, IsTrue, is_some}
 use Rattle.std.specs.FinMap.{get}
 use Rattle.std.proofs.lemmas.Bool.{false≢true}
-use Rattle.heap_model.specs.Types.{Command, Value, Held, Cell}
+use Rattle.heap_model.specs.Types.{Command, Value, Held, Cell, Run}
 use Rattle.object_graph.specs.Graphs.{Graph, bind}
 use Rattle.object_graph.specs.Meaning.{done, does}
 use Rattle.object_graph.specs.Limits.{ideal_limits}
@@ -12,14 +12,15 @@ use Rattle.graph_laws.specs.ReachAfter.{made_for}
 use Rattle.graph_laws.proofs.FieldLimits.{ideal_field_limit}
 use Rattle.graph_laws.proofs.GraphsStay.{graphs_stay}
 use Rattle.graph_laws.proofs.NothingNew.{only_made_is_new}
-use Rattle.page_space.specs.Extents.{Space}
+use Rattle.page_space.specs.Extents.{Space, eden_start}
 use Rattle.nursery.specs.Young.{HasRoom, other_half}
 use Rattle.handle_roots.specs.Roots.{FitsHeld, with_root}
 use Rattle.heap_table.specs.declared.phase.Phase.TheVariants.{Quiet}
 use Rattle.heap_table.specs.Seats.{heap_words, RestStays}
 use Rattle.heap_model.specs.Heaps.{Heap, HasCell}
 use Rattle.heap_model.specs.Counting.{CountsEntries}
-use Rattle.heap_model.specs.Collectable.{IsCollectable}
+use Rattle.heap_model.specs.Collectable.{IsCollectable, AreFreeRuns}
+use Rattle.heap_model.specs.Remembered.{AreRemembered}
 use Rattle.heap_model.specs.Rooms.{Room, need_of, rooms_after}
 use Rattle.heap_model.specs.Showing.{ShowsHeld, Shows}
 use Rattle.heap_model.specs.Laws.{ReachesNoMore, BindsAnew, bound}
@@ -28,6 +29,8 @@ use Rattle.heap_model.proofs.BoundHeaps.{none_in, bound_moves}
 use Rattle.heap_model.proofs.BoundGraphs.{bindings_show}
 use Rattle.heap_model.proofs.CountsStay.{counts_stay}
 use Rattle.heap_model.proofs.StaysCollectable.{bound_stays_collectable}
+use Rattle.heap_model.proofs.FreeStays.{bound_keeps_free}
+use Rattle.heap_model.proofs.RememberedAlike.{bound_stays_remembered}
 use Rattle.write_barrier.specs.MutatorState.{Mutator, heap_of, IsTied, MainShows, with_variable}
 use Rattle.object_cells.specs.Uses.{UsesMore}
 use Rattle.object_cells.proofs.RestOfWords.{variable_beside}
@@ -84,6 +87,7 @@ uses_none {old} {new} x one holds below = record {
       (variable_beside old x one below);
   young = ap (λ (main : Mutator). main.young) holds.held
       ∙ ap (λ (used : ℕ). record old.young { used = used }) (sym (add-zero old.young.used));
+  free = ap (λ (main : Mutator). main.free) holds.held;
 }
 
 -- it shows the graph after the command
@@ -111,6 +115,16 @@ rebound_shows {old} {new} {graph} {after} names command text x one shows carried
           (subst (λ (half : ℕ). IsCollectable (bound heap x one) (other_half half))
           (sym (ap (λ (main : Mutator). main.young.half) holds.held))
           (bound_stays_collectable heap x one (other_half old.young.half) below shows.shows.whole shows.collectable));
+      free = subst (λ heap. AreFreeRuns heap new.free) (sym (heap_bound x one holds))
+          (subst (λ (rows : List (List Run)). AreFreeRuns (bound heap x one) rows)
+          (sym (ap (λ (main : Mutator). main.free) holds.held))
+          (bound_keeps_free heap x one old.free below shows.shows.whole shows.free));
+      bounded = ap (λ (main : Mutator). main.recorded.bound) holds.held ∙ shows.bounded
+          ∙ ap eden_start (sym (ap (λ (main : Mutator). main.seat.space) holds.held));
+      remembered = subst (λ heap. AreRemembered heap new.recorded.slots) (sym (heap_bound x one holds))
+          (subst (λ (slots : List ℕ). AreRemembered (bound heap x one) slots)
+          (sym (ap (λ (main : Mutator). main.recorded.slots) holds.held))
+          (bound_stays_remembered heap x one old.recorded.slots below shows.shows.whole shows.remembered));
     }
 
 -- the command needs no words, and leaves each room

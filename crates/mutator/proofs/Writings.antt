@@ -19,6 +19,7 @@ uses_none_still {old} same = record {
   beside = same_rest same;
   young = ap (λ (main : Mutator). main.young) same
       ∙ ap (λ (used : ℕ). record old.young { used = used }) (sym (add-zero old.young.used));
+  free = ap (λ (main : Mutator). main.free) same;
 }
 
 -- so it is carried out, if it needs no words

@@ -44,12 +44,14 @@ pub fn new_plain(main: &mut Main, x: u32, object: u32, cap: u32) -> Result<(), S
     Ok(())
 }
 
-/// Makes the words at an address the cell of a plain object without fields.
+/// Makes the words at an address the cell of a plain object without fields. Of young words nothing is
+/// recorded, so nothing else changes then.
 fn fill_plain(main: &mut Main, at: u32, header: Header, cap: u32)
     requires quiet { main.old.seat.phase ≡ Quiet }
     requires is { IsHeader header }
     requires within { at + (PLAIN_HEAD + cap) ≤ marks_start main.old.seat.space }
     ensures filled { let words = empty_plain header cap in
+        main.old.recorded.bound ≤ at →
         main.new ≡ with_table main.old (with_range main.old.seat.table at words) }
     ensures heap { let words = empty_plain header cap in
         heap_words main.new.seat ≡ with_range (heap_words main.old.seat) at words }
@@ -62,11 +64,13 @@ fn fill_plain(main: &mut Main, at: u32, header: Header, cap: u32)
 }
 
 /// Makes the words at an address the cell of a list without elements, or of a weak map without entries.
+/// Of young words nothing is recorded, so nothing else changes then.
 pub(crate) fn fill_counted(main: &mut Main, at: u32, header: Header)
     requires quiet { main.old.seat.phase ≡ Quiet }
     requires is { IsHeader header }
     requires within { at + COUNTED_WORDS ≤ marks_start main.old.seat.space }
     ensures filled { let words = empty_counted header in
+        main.old.recorded.bound ≤ at →
         main.new ≡ with_table main.old (with_range main.old.seat.table at words) }
     ensures heap { let words = empty_counted header in
         heap_words main.new.seat ≡ with_range (heap_words main.old.seat) at words }

@@ -17,7 +17,7 @@ use Rattle.heap_table.specs.Seats.{heap_words, RestStays}
 use Rattle.heap_model.specs.Heaps.{Heap}
 use Rattle.heap_model.specs.Slots.{raw_word, reference_word, IsSlotWord}
 use Rattle.heap_model.specs.Needs.{box_need, box_words, is_box_word, word_at}
-use Rattle.write_barrier.specs.MutatorState.{Mutator, heap_of, reserved, with_word, IsTied}
+use Rattle.write_barrier.specs.MutatorState.{Mutator, heap_of, reserved, with_word, with_slot, IsTied}
 use Rattle.object_cells.specs.Formats.{box_header}
 use Rattle.object_cells.specs.declared.content.SlotContent.{SlotContent}
 use Rattle.object_cells.specs.declared.content.SlotContent.TheVariants as content
@@ -61,11 +61,11 @@ filled_by : (old between new : Mutator) (at word : ℕ) (holds : SlotContent) (f
 filled_by old between new at word (content.Raw w) found tied within room is not_raw allocates fills beside =
     absurd (not_raw w refl)
 filled_by old between new at word (content.Tagged one) found tied within room is not_raw allocates fills beside =
-    let same : new ≡ with_word old at one.0 = fills ∙ ap (λ (m : Mutator). with_word m at one.0) allocates in
+    let same : new ≡ with_slot old at one.0 = fills ∙ ap (λ (m : Mutator). with_slot m at one.0) allocates in
     FilledBy.slot room (record {
       beside = beside;
       paths = ap (λ (m : Mutator). m.paths) same;
-      young = ap (λ (m : Mutator). m.young) (same ∙ ap (λ (m : Mutator). with_word m at one.0) (reserved_none old));
+      young = ap (λ (m : Mutator). m.young) (same ∙ ap (λ (m : Mutator). with_slot m at one.0) (reserved_none old));
       heap = ap (λ (m : Mutator). heap_words m.seat) same ∙ heap_with_word old at one.0 within;
     }) refl
 filled_by old between new at word (content.Boxed v) (Some box) tied within room is not_raw allocates fills beside =
@@ -75,8 +75,8 @@ filled_by old between new at word (content.Boxed v) None tied within room is not
     let next : ℕ = next_at old in
     let ends = next_before_marks old box_words tied allocates.0 in
     let headed : Mutator = with_word more next (header_bits box_header) in
-    let same : new ≡ with_word (with_box more next v) at (reference_word next) =
-    fills ∙ ap (λ (m : Mutator). with_word (with_box m next v) at (reference_word next)) allocates.1 in
+    let same : new ≡ with_slot (with_box more next v) at (reference_word next) =
+    fills ∙ ap (λ (m : Mutator). with_slot (with_box m next v) at (reference_word next)) allocates.1 in
     FilledBy.slot allocates.0 (record {
       beside = beside;
       paths = ap (λ (m : Mutator). m.paths) same;

@@ -6,8 +6,18 @@ pub mod EdenCells
 pub mod NewBoxes
 pub mod RestOfWords
 pub mod WordsPut
+pub mod WipedRanges
+pub mod HeadedHoles
+pub mod FilledTouches
 pub mod OneWord
 pub mod OwnCells
+pub mod TouchedOffsets
+pub mod PathOffsets
+pub mod SlotsOfCells
+pub mod TouchedCells
+pub mod FittingCells
+pub mod TouchedWords
+pub mod TouchedFields
 pub mod SlotsNow
 pub mod OwnPlaces
 pub mod OneField
@@ -25,6 +35,7 @@ pub mod OwnerWrites
 pub mod NothingUsed
 pub mod OwnPuts
 pub mod OwnIntegers
+pub mod IntegerTouches
 pub mod OwnContents
 pub mod ContentValues
 pub mod KeptCapacities

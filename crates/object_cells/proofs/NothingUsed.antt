@@ -20,9 +20,11 @@ room_for_none old tied whole =
 pub used_and_none : (young : Young) → young ≡ record young { used = young.used + 0 }
 used_and_none young = ap (λ n. record young { used = n }) (sym (add-zero young.used))
 
--- so none more is, where the young generation is as it was
-pub uses_none : {old new : Mutator} → RestStays old.seat new.seat → new.young ≡ old.young → UsesMore old new 0
-uses_none {old} beside young = record { beside = beside; young = young ∙ used_and_none old.young }
+-- so none more is, where the young generation and the free runs are as they were
+pub uses_none : {old new : Mutator} → RestStays old.seat new.seat → new.young ≡ old.young → new.free ≡ old.free
+    → UsesMore old new 0
+uses_none {old} beside young free =
+    record { beside = beside; young = young ∙ used_and_none old.young; free = free }
 
 -- where nothing has changed, each object has the capacity that it had
 pub nothing_changes : (heap : Heap) (at capacity : ℕ) → capacity_at heap at ≡ capacity

@@ -61,11 +61,11 @@ module _ {owner owned : Kind} {old new : Mutator} {cell : Cell} {word box : ℕ}
   others = one_box ∷ []
 
   -- it stands there with its words
-  box_has : HasCell (heap_of old) one_box (words_of_cell (heap_of old) one_box)
+  pub box_has : HasCell (heap_of old) one_box (words_of_cell (heap_of old) one_box)
   box_has = has_own_words writing.box_of.refers.has
 
   -- the integer is its second word
-  of_box : IsOfCell one_box (box + 1)
+  pub of_box : IsOfCell one_box (box + 1)
   of_box = record {
     from = omega (arith, writing.box_of.stands);
     below = omega (arith, writing.box_of.stands, box_size box_has writing.box_of.box);
@@ -88,7 +88,7 @@ module _ {owner owned : Kind} {old new : Mutator} {cell : Cell} {word box : ℕ}
   put = slice_set (heap_words old.seat) (box + 1) (raw_word v)
 
   -- the word is before the marks
-  within : box + 1 < marks_start old.seat.space
+  pub within : box + 1 < marks_start old.seat.space
   within =
       omega (
         arith,
@@ -99,7 +99,9 @@ module _ {owner owned : Kind} {old new : Mutator} {cell : Cell} {word box : ℕ}
 
   -- all words from the marks on stay
   pub rest_stays : RestStays old.seat new.seat
-  rest_stays = put_rest (box + 1) (raw_word v) (rest_stays_itself old.seat) writing.puts_it within
+  rest_stays =
+      put_rest (box + 1) (raw_word v) (rest_stays_itself old.seat)
+      (ap (λ (m : Mutator). m.seat) writing.puts_it) within
 
   -- these are the words that came to be
   pub put_heap : heap_words new.seat ≡ put

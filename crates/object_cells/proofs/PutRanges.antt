@@ -1,6 +1,9 @@
 -- Words where a stretch of others was put, or copied.
-use Rattle.std.proofs.Common.{◌≡◌, ℕ, ◌+◌, ◌-◌, ◌≤◌, ◌<◌, List, ◌++◌, length, take, drop, slice_get}
-use Rattle.std.proofs.Common.{slice_range, refl, sym, ◌∙◌, ap, arith, length-append, length-drop}
+use Rattle.std.proofs.Common.{◌≡◌, ℕ, ◌+◌, ◌-◌, ◌≤◌, ◌<◌, List, [], ◌∷◌, ◌++◌, length, take, drop, slice_get}
+use Rattle.std.proofs.Common.{slice_range, refl, sym, ◌∙◌, ap, arith, append_assoc, length-append, length-drop}
+use Rattle.std.specs.Prelude.{slice_set}
+use Rattle.std.proofs.Math.Seq.{drop-set-lt}
+use Rattle.std.proofs.lemmas.Grind.{take-set_at}
 use Rattle.std.proofs.lemmas.List.{length-take-le}
 use Rattle.word_store.specs.Copies.{copied}
 use Rattle.word_store.proofs.CopiedWords.{length-piece}
@@ -51,6 +54,18 @@ with_range_behind words others at a within behind =
     slice_get-append_right front (drop end words) (a - end) a
     (omega (arith, behind, long, length-append (take at words) others))
     ∙ slice_get-drop end words (a - end) a (omega (arith, behind))
+
+-- a word that is put before a stretch is the first of a longer one
+pub with_range-put : (words others : List ℕ) (at word : ℕ) → at < length words
+    → with_range (slice_set words at word) (at + 1) others ≡ with_range words at (word ∷ others)
+with_range-put words others at word within =
+    let end : at + 1 + length others ≡ at + length (word ∷ others) = omega arith in
+    ap (λ front. front ++ others ++ drop (at + 1 + length others) (slice_set words at word))
+    (take-set_at words at (at + 1) word refl within)
+    ∙ ap (λ behind. take at words ++ (word ∷ []) ++ others ++ behind)
+    (drop-set-lt (at + 1 + length others) words at word (omega arith))
+    ∙ ap (λ front. front ++ drop (at + 1 + length others) words) (append_assoc (take at words) (word ∷ []) others)
+    ∙ ap (λ n. take at words ++ (word ∷ others) ++ drop n words) end
 
 -- a copy puts the words of the other stretch
 pub copied_is : (words : List ℕ) (from to count : ℕ) → from + count ≤ length words

@@ -9,6 +9,7 @@ use Rattle.write_barrier.specs.MutatorState.{heap_of}
 use Rattle.object_cells.specs.CellWrites.{reshaped}
 use Rattle.object_cells.specs.Refills.{RestsAgain}
 use Rattle.object_cells.specs.SlotChanges.{SlotsRefill, WrittenFieldsShow}
+use Rattle.object_cells.proofs.ReplacedObjects.{rests_again}
 use Rattle.object_cells.proofs.Refills.{refills_show}
 use Rattle.object_cells.proofs.OwnerWrites.{plain_owns, written_own_keeps_cells}
 use Rattle.object_cells.proofs.OwnSteps.{OwnStep, own_step, went_object, of_kind_is_no_object}
@@ -38,11 +39,12 @@ slots_refill old new plain cell shape others made fields whole carries cap shows
 -- so the heap shows the graph in which it has them
 pub written_fields_show : WrittenFieldsShow
 written_fields_show old new graph plain cell shape others made fields shows there carries cap shown are added regions
-    writes slots =
+    writes slots remembers =
     let whole = shows.shows.whole in
     let kept = written_own_keeps_cells plain_owns whole writes in
-    let rest : RestsAgain old new = record { regions = regions; sized = writes.sized; rows = kept.0 } in
+    let gone : List Cell = cell ∷ others in
+    let came : List Cell = reshaped new.paths cell shape ∷ others in
+    let rest : RestsAgain old new = rests_again gone came made shows regions writes.sized kept.0 kept.1 remembers in
     let refills =
     slots_refill (heap_of old) (heap_of new) plain cell shape others made fields whole carries cap shown writes slots in
-    let came : List Cell = reshaped new.paths cell shape ∷ others in
-    refills_show old new graph plain fields (cell ∷ others) came made shows there are added rest refills
+    refills_show old new graph plain fields gone came made shows there are added rest refills

@@ -16,7 +16,7 @@ use Rattle.object_cells.specs.ElementChanges.{AreNewElements, WrittenElementsSho
 use Rattle.object_cells.proofs.OwnerWrites.{list_owns, written_own_keeps_cells}
 use Rattle.object_cells.proofs.OwnSteps.{own_step, went_object, of_kind_is_no_object}
 use Rattle.object_cells.proofs.RefilledElements.{list_shows, elements_own}
-use Rattle.object_cells.proofs.ReplacedObjects.{HasReachedLinks, ReplacesCells, replaced_shows}
+use Rattle.object_cells.proofs.ReplacedObjects.{HasReachedLinks, ReplacesCells, rests_again, replaced_shows}
 
 -- what a list links to is what one of its elements refers to
 pub links_reached : (graph : Graph) (elements : List Value) → AreNewElements graph elements
@@ -27,13 +27,14 @@ links_reached graph elements are number link =
 -- so the heap shows the graph in which the list has these elements
 pub written_elements_show : WrittenElementsShow
 written_elements_show old new graph list cell others made elements shows there carries shown are regions same writes
-    slots =
+    slots remembers =
     let before : Heap = heap_of old in
     let now : Heap = heap_of new in
     let whole = shows.shows.whole in
     let kept = written_own_keeps_cells list_owns whole writes in
-    let rest : RestsAgain old new = record { regions = regions; sized = writes.sized; rows = kept.0 } in
-    let replaces : ReplacesCells before now graph list.number (ListOf elements) (cell ∷ others) (cell ∷ others) made =
+    let cells : List Cell = cell ∷ others in
+    let rest : RestsAgain old new = rests_again cells cells made shows regions writes.sized kept.0 kept.1 remembers in
+    let replaces : ReplacesCells before now graph list.number (ListOf elements) cells cells made =
     record {
       cells = kept.1;
       own = elements_own whole shown writes slots;

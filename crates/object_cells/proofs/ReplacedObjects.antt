@@ -5,6 +5,7 @@ use Rattle.std.specs.Prelude.{Contains, IsTrue}
 use Rattle.std.proofs.lemmas.Bool.{false≢true}
 use Rattle.std.proofs.lemmas.Option.{none-some, same_Some}
 use Rattle.std.proofs.lemmas.List.Elements.{Contains-append_left}
+use Rattle.page_space.specs.Extents.{Space, eden_start}
 use Rattle.nursery.specs.Young.{other_half}
 use Rattle.heap_model.specs.Types.{Object, Path, Cell}
 use Rattle.object_graph.specs.declared.object.Object.TheVariants as graph_object
@@ -15,16 +16,21 @@ use Rattle.graph_laws.specs.ReachLaws.{LinksTo, HasBound, IsClosed}
 use Rattle.graph_laws.proofs.Reaches.{reach_has_bound, reach_closed, reach_least}
 use Rattle.heap_model.specs.Heaps.{Heap, words_of_cell}
 use Rattle.heap_model.specs.Slots.{is_object_kind}
+use Rattle.heap_model.specs.Wholeness.{HasSizes, HasRows}
 use Rattle.heap_model.specs.Showing.{ShowsObject, Shows}
 use Rattle.heap_model.specs.Changes.{CellsChange, IsOwnChange, IsGraphChange}
 use Rattle.heap_model.specs.Counting.{CountsEntries}
-use Rattle.heap_model.specs.Collectable.{IsCollectable}
+use Rattle.heap_model.specs.Collectable.{IsCollectable, AreFreeRuns}
 use Rattle.heap_model.proofs.ShownObjects.{object_of_shown}
 use Rattle.heap_model.proofs.CountsStay.{HasCountOf, count_kept, count_came}
 use Rattle.heap_model.proofs.WholeStays.{own_changes_keep_whole}
 use Rattle.heap_model.proofs.ShownGraphs.{own_changes_show}
 use Rattle.heap_model.proofs.StaysCollectable.{own_changes_stay_collectable}
+use Rattle.heap_model.proofs.FreeStays.{own_changes_keep_free}
 use Rattle.write_barrier.specs.MutatorState.{Mutator, heap_of, MainShows}
+use Rattle.write_barrier.specs.Recording.{Remembers}
+use Rattle.write_barrier.proofs.Recording.{remembers_heap}
+use Rattle.object_cells.specs.Uses.{KeepsRegions}
 use Rattle.object_cells.specs.Refills.{RestsAgain}
 
 -- after one was put in the place of another, an element stood at another place, or is that one
@@ -143,6 +149,19 @@ counts_after {new = new} graph number object paths {gone} {came} {made} shows sh
           (replaces.carries ∙ sym put.0) (subst (λ (one : Object). HasCountOf words one) put.1 replaces.counts) place
     ]
 
+-- the mutator rests again where its change of cells is remembered
+pub rests_again : {old new : Mutator} {graph : Graph} (gone came made : List Cell) → MainShows old graph
+    → KeepsRegions old new → HasSizes (heap_of new) → HasRows (heap_of new)
+    → CellsChange (heap_of old) (heap_of new) gone came made → Remembers old new gone came → RestsAgain old new
+rests_again {old} {new} gone came made shows regions sized rows cells remembers = record {
+  regions = regions;
+  sized = sized;
+  rows = rows;
+  free = remembers.touches.free;
+  bound = remembers.touches.bound;
+  remembered = remembers_heap old new gone came made remembers shows.bounded shows.shows.whole cells shows.remembered;
+}
+
 -- so the heap shows it
 pub replaced_shows : {old new : Mutator} {graph : Graph} (number : ℕ) (object : Object) (paths : List Path)
     {gone came made : List Cell} → MainShows old graph → IsGraph (replaced graph number object paths)
@@ -167,4 +186,9 @@ replaced_shows {old} {new} {graph} number object paths {gone} {came} {made} show
       collectable = subst (λ (half : ℕ). IsCollectable now (other_half half)) (sym rest.regions.half)
           (own_changes_stay_collectable before now gone came made (other_half old.young.half) shows.shows.whole
           rest.rows replaces.cells replaces.own shows.collectable);
+      free = subst (AreFreeRuns now) (sym rest.free)
+          (own_changes_keep_free before now gone came made old.free shows.shows.whole replaces.cells replaces.own
+          shows.free);
+      bounded = rest.bound ∙ shows.bounded ∙ ap (λ (space : Space). eden_start space) (sym rest.regions.space);
+      remembered = rest.remembered;
     }

@@ -1,7 +1,7 @@
 -- What is written before the marks leaves all words from the marks on, and so the regions.
 use Rattle.std.proofs.Common.{◌≡◌, ℕ, ◌+◌, ◌-◌, ◌≤◌, ◌<◌, List, ◌++◌, length, take, drop}
 use Rattle.std.proofs.Common.{refl, sym, ◌∙◌, ap, subst, arith, length-append, length-take}
-use Rattle.std.specs.Prelude.{ℤ, slice_range}
+use Rattle.std.specs.Prelude.{ℤ, slice_range, slice_set}
 use Rattle.std.proofs.Math.Seq.{drop-append-add, drop-drop}
 use Rattle.std.proofs.lemmas.List.{length-take-le}
 use Rattle.tagged_word.specs.Headers.{header_bits}
@@ -16,7 +16,7 @@ use Rattle.heap_table.specs.Seats.{Seat, heap_words, RestStays}
 use Rattle.heap_table.specs.Staying.{rest_stays_itself, rest_stays_again}
 use Rattle.heap_table.proofs.HeapWords.{stays_beside-put}
 use Rattle.heap_model.specs.Slots.{raw_word, reference_word}
-use Rattle.write_barrier.specs.MutatorState.{Mutator, with_word, with_table, with_variable, reserved}
+use Rattle.write_barrier.specs.MutatorState.{Mutator, with_table, with_variable, reserved}
 use Rattle.write_barrier.specs.Values.{with_range}
 use Rattle.object_cells.specs.Formats.{box_header}
 use Rattle.object_cells.specs.declared.content.SlotWrite.{SlotWrite}
@@ -46,12 +46,12 @@ pub reserved_rest : {new : Mutator} (old : Mutator) (need : ℕ) → new ≡ res
 reserved_rest old need same =
     subst (λ (main : Mutator). RestStays old.seat main.seat) (sym same) (rest_stays_itself old.seat)
 
--- where they stayed, and then a word before the marks was put, they have stayed
-pub put_rest : {seat : Seat} {mid new : Mutator} (a word : ℕ) → RestStays seat mid.seat → new ≡ with_word mid a word
-    → a < marks_start mid.seat.space → RestStays seat new.seat
-put_rest {seat} {mid} {new} a word first same below =
-    rest_stays_again seat mid.seat new.seat first
-    (subst (λ (main : Mutator). RestStays mid.seat main.seat) (sym same) (stays_beside-put mid.seat a word below))
+-- where they stayed, and then a word before the marks was put, a slot's or none, they have stayed
+pub put_rest : {first mid last : Seat} (a word : ℕ) → RestStays first mid
+    → last ≡ record mid { table = slice_set mid.table a word } → a < marks_start mid.space → RestStays first last
+put_rest {first} {mid} {last} a word stays same below =
+    rest_stays_again first mid last stays
+    (subst (λ (other : Seat). RestStays mid other) (sym same) (stays_beside-put mid a word below))
 
 -- words behind a stretch stay where others are put in its place
 drop-with_range : (words others : List ℕ) (at from : ℕ) → at ≤ length words → at + length others ≤ from
@@ -103,7 +103,7 @@ copy_beside main from to count counted within room =
 pub box_beside : (main : Mutator) (at : ℕ) (v : ℤ) → at + 1 < marks_start main.seat.space
     → RestStays main.seat (with_box main at v).seat
 box_beside main at v within =
-    put_rest {mid = with_word main at (header_bits box_header)} (at + 1) (raw_word v)
+    put_rest {last = (with_box main at v).seat} (at + 1) (raw_word v)
     (stays_beside-put main.seat at (header_bits box_header) (omega arith)) refl within
 
 -- where a slot before the marks is filled
@@ -112,8 +112,8 @@ pub filled_beside : (main : Mutator) (at : ℕ) (filling : SlotWrite) → at < m
 filled_beside main at (filling.Tagged word) below room = stays_beside-put main.seat at word.0 below
 filled_beside main at (filling.Raw word) below room = stays_beside-put main.seat at word below
 filled_beside main at (filling.NewBox box v) below room =
-    put_rest {mid = with_box main box v} at (reference_word box) (box_beside main box v (omega (arith, room))) refl
-    below
+    put_rest {last = (filled main at (filling.NewBox box v)).seat} at (reference_word box)
+    (box_beside main box v (omega (arith, room))) refl below
 filled_beside main at (filling.OldBox box v) below room =
     stays_beside-put main.seat (box + 1) (raw_word v) (omega (arith, room))
 
@@ -142,5 +142,5 @@ variable_beside main variable held known =
     let space : Space = main.seat.space in
     let at : ℕ = root_at space variable in
     let below : at + 1 < marks_start space = omega (arith, known, layouts_start_is space, marks_start_is space) in
-    put_rest {mid = with_word main at (first_word held)} (at + 1) (second_word held)
+    put_rest {last = (with_variable main variable held).seat} (at + 1) (second_word held)
     (stays_beside-put main.seat at (first_word held) (omega (arith, below))) refl below

@@ -1,12 +1,10 @@
 -- The words of eden that are not used: where they stand, and that no cell has one of them.
-use Rattle.std.proofs.Common.{◌≡◌, ℕ, ◌+◌, ◌*◌, ◌/◌, ◌≤◌, ◌<◌, ◌⊎◌, inl, inr, List, refl, ap}
+use Rattle.std.proofs.Common.{◌≡◌, ℕ, ◌+◌, ◌≤◌, ◌<◌, ◌⊎◌, inl, inr, List, ap}
 use Rattle.std.proofs.Common.{subst, arith}
 use Rattle.std.proofs.lemmas.Bool.{cases_lt}
-use Rattle.page_space.specs.declared.region.Region.TheVariants.{Page, Eden}
+use Rattle.page_space.specs.declared.region.Region.TheVariants.{Eden}
 use Rattle.page_space.specs.Extents.{Extent, Space, ContainsAddress, eden_start, segments_start, marks_start}
-use Rattle.page_space.specs.Sizes.{AreWithin, page_words}
-use Rattle.page_space.proofs.CellAddresses.{in_page, page_ends, cells_end}
-use Rattle.page_space.proofs.CellEnds.{end_once}
+use Rattle.page_space.specs.Sizes.{AreWithin}
 use Rattle.page_space.proofs.Limits.{words_count_most}
 use Rattle.page_space.proofs.Starts.{roots_start_is, layouts_start_is, marks_start_is, board_start_is, words_count_is}
 use Rattle.page_space.proofs.Covering.{disjoint}
@@ -16,8 +14,9 @@ use Rattle.heap_model.specs.Types.{Cell}
 use Rattle.cell_layout.proofs.Rows.{cell_within}
 use Rattle.heap_model.specs.Heaps.{Heap, Row, EndsUsed, IsUsedRow, HasCell}
 use Rattle.heap_model.specs.Wholeness.{HasRows}
-use Rattle.heap_model.proofs.CellsApart.{IsOfCell, has_is_cell, first_of_cell, cell_extent_stands}
+use Rattle.heap_model.proofs.CellsApart.{IsOfCell, first_of_cell, cell_extent_stands}
 use Rattle.heap_model.proofs.Patches.{row_holds}
+use Rattle.heap_model.proofs.RememberedSlots.{ends_in_page}
 use Rattle.write_barrier.specs.MutatorState.{Mutator, heap_of, IsTied}
 use Rattle.word_store.specs.Copies.{AreDisjoint}
 use Rattle.tagged_word.specs.Cells.{store_head}
@@ -92,20 +91,7 @@ pub cell_is_used : {heap : Heap} {cell : Cell} {words : List ℕ} {at : ℕ} →
 cell_is_used {heap} rows has of_cell from below =
     omega (arith, ends_in_eden rows has of_cell (omega arith) below, of_cell.below, from)
 
--- a cell of a page ends before eden
-ends_in_page : {heap : Heap} {cell : Cell} {words : List ℕ} → HasCell heap cell words → cell.at < eden_start heap.space
-    → cell.at + cell.size ≤ eden_start heap.space
-ends_in_page {heap} {cell} has below =
-    let space = heap.space in
-    let is_cell = has_is_cell has in
-    let page : ℕ = cell.at / page_words in
-    let in_one = in_page space cell.at below in
-    let end : ℕ = page_words * page + page_words in
-    let same : is_cell.end ≡ end = end_once space cell.at is_cell.end end is_cell.stands
-    (cells_end space (Page page) cell.at end refl in_one refl) in
-    omega (arith, is_cell.reads.ends, same, page_ends space page in_one.is_region)
-
--- so a cell ends before them, or stands behind eden
+-- each cell ends before them, or stands behind eden
 pub cell_apart : {heap : Heap} {cell : Cell} {words : List ℕ} → HasRows heap → HasCell heap cell words
     → (cell.at + cell.size ≤ eden_start heap.space + heap.used) ⊎ (segments_start heap.space ≤ cell.at)
 cell_apart {heap} {cell} rows has = elim (cases_lt cell.at (eden_start heap.space)) [

@@ -7,16 +7,49 @@ use Rattle.page_space.specs.Extents.{Space, layouts_start, marks_start}
 use Rattle.shape_tree.specs.Shapes.{AreShapes}
 use Rattle.shape_tree.specs.ShapeLayouts.{layout_word}
 use Rattle.object_graph.proofs.Lists.{slice_get-set_same, slice_get-set_other}
-use Rattle.heap_table.specs.Seats.{heap_words, RestStays}
+use Rattle.heap_table.specs.Seats.{Seat, heap_words, RestStays}
 use Rattle.heap_table.proofs.HeapWords.{stays_beside-put}
 use Rattle.heap_model.specs.Wholeness.{HasSizes}
-use Rattle.write_barrier.specs.MutatorState.{Mutator, heap_of, with_word}
+use Rattle.write_barrier.specs.MutatorState.{Mutator, heap_of, put_word, with_word, with_slot}
 use Rattle.object_cells.proofs.RestOfWords.{put_rest}
 
 -- a word that is put before the marks is one of the heap's
 pub heap_with_word : (main : Mutator) (a word : ℕ) → a < marks_start main.seat.space
-    → heap_words (with_word main a word).seat ≡ slice_set (heap_words main.seat) a word
+    → heap_words (put_word main a word).seat ≡ slice_set (heap_words main.seat) a word
 heap_with_word main a word below = take-set-lt (marks_start main.seat.space) main.seat.table a word below
+
+-- One word was put, a slot's or none: but for what is recorded, nothing else has changed.
+pub record PutsWord (old new : Mutator) (at word : ℕ) : Type 0 where
+  pub seat : new.seat ≡ (put_word old at word).seat
+  pub paths : new.paths ≡ old.paths
+  pub young : new.young ≡ old.young
+
+-- so it is where a word is put that is no slot's
+pub puts_no_slot : {old new : Mutator} {at word : ℕ} → new ≡ with_word old at word → PutsWord old new at word
+puts_no_slot is = record {
+  seat = ap (λ (main : Mutator). main.seat) is;
+  paths = ap (λ (main : Mutator). main.paths) is;
+  young = ap (λ (main : Mutator). main.young) is;
+}
+
+-- and where a slot's is
+pub puts_slot : {old new : Mutator} {at word : ℕ} → new ≡ with_slot old at word → PutsWord old new at word
+puts_slot is = record {
+  seat = ap (λ (main : Mutator). main.seat) is;
+  paths = ap (λ (main : Mutator). main.paths) is;
+  young = ap (λ (main : Mutator). main.young) is;
+}
+
+-- then it is one of the heap's, where it is before the marks
+pub word_is_put : {old new : Mutator} {at word : ℕ} → PutsWord old new at word → at < marks_start old.seat.space
+    → heap_words new.seat ≡ slice_set (heap_words old.seat) at word
+word_is_put {old} {at = at} {word} puts below = ap heap_words puts.seat ∙ heap_with_word old at word below
+
+-- and all words from the marks on stay
+pub word_beside : {old new : Mutator} {at word : ℕ} → PutsWord old new at word → at < marks_start old.seat.space
+    → RestStays old.seat new.seat
+word_beside {old} {at = at} {word} puts below =
+    subst (λ (seat : Seat). RestStays old.seat seat) (sym puts.seat) (stays_beside-put old.seat at word below)
 
 -- Of the old mutator only words at two addresses have changed: that of an object's header, and one other.
 pub record PutsTwo (old new : Mutator) (object head at word : ℕ) : Type 0 where
@@ -34,16 +67,15 @@ HasHead before old new object head =
     ((new ≡ old) × (slice_get (heap_words before.seat) object ≡ Some head)) ⊎ (new ≡ with_word old object head)
 
 -- a word was put, and the header is there
-puts_one : (old : Mutator) (object head at word : ℕ) → at < marks_start old.seat.space
+puts_one : {old new : Mutator} (object head at word : ℕ) → PutsWord old new at word → at < marks_start old.seat.space
     → length (heap_words old.seat) ≡ marks_start old.seat.space → object ≢ at
-    → slice_get (heap_words old.seat) object ≡ Some head
-    → PutsTwo old (with_word old at word) object head at word
-puts_one old object head at word below counted apart there =
-    let heap = heap_with_word old at word below in
+    → slice_get (heap_words old.seat) object ≡ Some head → PutsTwo old new object head at word
+puts_one {old} object head at word puts below counted apart there =
+    let heap = word_is_put puts below in
     record {
-      beside = stays_beside-put old.seat at word below;
-      paths = refl;
-      young = refl;
+      beside = word_beside puts below;
+      paths = puts.paths;
+      young = puts.young;
       count = ap length heap ∙ length-set (heap_words old.seat) at word;
       header = ap (λ words. slice_get words object) heap
           ∙ slice_get-set_other (heap_words old.seat) at object word apart ∙ there;
@@ -54,21 +86,21 @@ puts_one old object head at word below counted apart there =
     }
 
 -- a word was put, and then the header
-puts_both : (old : Mutator) (object head at word : ℕ) → at < marks_start old.seat.space
+puts_both : {old mid : Mutator} (object head at word : ℕ) → PutsWord old mid at word → at < marks_start old.seat.space
     → object < marks_start old.seat.space
     → length (heap_words old.seat) ≡ marks_start old.seat.space → object ≢ at
-    → PutsTwo old (with_word (with_word old at word) object head) object head at word
-puts_both old object head at word below within counted apart =
-    let first = heap_with_word old at word below in
+    → PutsTwo old (with_word mid object head) object head at word
+puts_both {old} {mid} object head at word puts below within counted apart =
+    let first = word_is_put puts below in
     let words = slice_set (heap_words old.seat) at word in
-    let heap = heap_with_word (with_word old at word) object head within
-    ∙ ap (λ all. slice_set all object head) first in
+    let beside = word_beside puts below in
+    let inside : object < marks_start mid.seat.space = omega (arith, within, ap marks_start beside.space) in
+    let heap = heap_with_word mid object head inside ∙ ap (λ all. slice_set all object head) first in
     let long : length words ≡ length (heap_words old.seat) = length-set (heap_words old.seat) at word in
     record {
-      beside = put_rest {mid = with_word old at word} object head (stays_beside-put old.seat at word below) refl
-          within;
-      paths = refl;
-      young = refl;
+      beside = put_rest {last = (with_word mid object head).seat} object head beside refl inside;
+      paths = puts.paths;
+      young = puts.young;
       count = ap length heap ∙ length-set words object head ∙ long;
       header = ap (λ all. slice_get all object) heap
           ∙ slice_get-set_same words object head (omega (arith, long, counted));
@@ -81,15 +113,16 @@ puts_both old object head at word below within counted apart =
     }
 
 -- so it is in both cases
-pub puts_two : (old new : Mutator) (object head at word : ℕ) → at < marks_start old.seat.space
-    → object < marks_start old.seat.space → length (heap_words old.seat) ≡ marks_start old.seat.space → object ≢ at
-    → HasHead old (with_word old at word) new object head → PutsTwo old new object head at word
-puts_two old new object head at word below within counted apart (inl is) =
+pub puts_two : (old mid new : Mutator) (object head at word : ℕ) → PutsWord old mid at word
+    → at < marks_start old.seat.space → object < marks_start old.seat.space
+    → length (heap_words old.seat) ≡ marks_start old.seat.space → object ≢ at
+    → HasHead old mid new object head → PutsTwo old new object head at word
+puts_two old mid new object head at word puts below within counted apart (inl is) =
     subst (λ (main : Mutator). PutsTwo old main object head at word) (sym is.0)
-    (puts_one old object head at word below counted apart is.1)
-puts_two old new object head at word below within counted apart (inr is) =
+    (puts_one object head at word puts below counted apart is.1)
+puts_two old mid new object head at word puts below within counted apart (inr is) =
     subst (λ (main : Mutator). PutsTwo old main object head at word) (sym is)
-    (puts_both old object head at word below within counted apart)
+    (puts_both object head at word puts below within counted apart)
 
 -- the sizes stay where nothing changes from the layout words on
 pub sizes_stay : (old new : Mutator) → HasSizes (heap_of old) → RestStays old.seat new.seat → new.paths ≡ old.paths

@@ -12,8 +12,8 @@ use Rattle.object_cells.specs.CellWrites.{Owns, WritesOwnCells}
 use Rattle.object_cells.specs.OwnWords.{ChangesOwnWords}
 
 -- Of the words before the layout words only those of the object at the address have changed, and newly used ones. The
--- object has a store of so many slots, or a table of so many pairs, and each other object one of as many as before. Each
--- object stands where it stood, and none is made.
+-- object has a store of so many slots, or a table of so many pairs, and each other object one of as many as before.
+-- Each object stands where it stood, and none is made.
 pub record ChangesObject (old new : Heap) (at capacity : ℕ) : Type 0 where
   pub words : ChangesOwnWords old new at
   pub own : capacity_at new at ≡ capacity

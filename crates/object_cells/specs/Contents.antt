@@ -13,7 +13,9 @@ use Rattle.heap_table.specs.Seats.{RestStays}
 use Rattle.heap_model.specs.Heaps.{Heap}
 use Rattle.heap_model.specs.Slots.{small_word, undefined_word, reference_word, raw_word, IsSlotWord}
 use Rattle.heap_model.specs.Needs.{box_words, is_box_word, word_at}
-use Rattle.write_barrier.specs.MutatorState.{Mutator, heap_of, with_word, reserved}
+use Rattle.heap_model.specs.Remembered.{Touch}
+use Rattle.write_barrier.specs.MutatorState.{Mutator, heap_of, with_word, with_slot, reserved}
+use Rattle.write_barrier.specs.Recording.{touched, touched_one, touched_then}
 use Rattle.object_cells.specs.Formats.{box_header}
 use Rattle.write_barrier.specs.declared.room.NoRoom.{NoRoom}
 use Rattle.object_cells.specs.declared.content.SlotContent.{SlotContent}
@@ -94,10 +96,18 @@ with_box main at v = with_word (with_word main at (header_bits box_header)) (at 
 
 -- the slot at the address is filled so
 abbrev pub filled : Mutator → ℕ → SlotWrite → Mutator
-filled main at (filling.Tagged word) = with_word main at word.0
+filled main at (filling.Tagged word) = with_slot main at word.0
 filled main at (filling.Raw word) = with_word main at word
-filled main at (filling.NewBox box v) = with_word (with_box main box v) at (reference_word box)
+filled main at (filling.NewBox box v) = with_slot (with_box main box v) at (reference_word box)
 filled main at (filling.OldBox box v) = with_word main (box + 1) (raw_word v)
+
+-- which addresses that touches
+abbrev pub filled_touch : SlotWrite → ℕ → ℕ → Touch
+filled_touch (filling.Tagged word) at = touched_one Touch.Stored at
+filled_touch (filling.Raw word) at = touched_one Touch.Wiped at
+filled_touch (filling.NewBox box v) at =
+    touched_then (touched Touch.Wiped box (box + box_words)) (touched_one Touch.Stored at)
+filled_touch (filling.OldBox box v) at = touched_one Touch.Wiped (box + 1)
 
 -- The slot at the address came to hold this: the words that it needs are used, and it was filled. The marks and the
 -- board are as they were.

@@ -15,6 +15,7 @@ use Rattle.heap_model.specs.Slots.{hole_word, HoldsStore}
 use Rattle.heap_model.specs.Kinds.{HasWord, count_offset}
 use Rattle.heap_model.specs.Showing.{ShowsValue, ShowsList}
 use Rattle.write_barrier.specs.MutatorState.{Mutator, heap_of, MainShows}
+use Rattle.write_barrier.specs.Recording.{Remembers}
 use Rattle.object_cells.specs.HeldValues.{IsReachedValue}
 use Rattle.object_cells.specs.Uses.{KeepsRegions}
 use Rattle.object_cells.specs.CellWrites.{WritesOwnCells}
@@ -73,6 +74,7 @@ WrittenElementsShow =
     → AreNewElements graph elements → KeepsRegions old new → new.paths ≡ old.paths
     → WritesList (heap_of old) (heap_of new) cell others made
     → RefillsElements (heap_of old) (heap_of new) cell others made list.elements elements
+    → Remembers old new (cell ∷ others) (cell ∷ others)
     → MainShows new (relist graph list elements)
 
 -- With one element more behind those that it has, for which there is room, a list that can be reached has elements that

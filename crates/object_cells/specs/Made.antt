@@ -14,17 +14,19 @@ use Rattle.heap_model.specs.Heaps.{Heap, HasCell}
 use Rattle.heap_model.specs.Slots.{reference_word, raw_word, HoldsStore}
 use Rattle.heap_model.specs.Kinds.{HasWord}
 use Rattle.heap_model.specs.Needs.{box_words, capacity_at}
+use Rattle.heap_model.specs.Remembered.{Touch}
 use Rattle.write_barrier.specs.declared.room.NoRoom.{NoRoom}
 use Rattle.write_barrier.specs.MutatorState.{Mutator}
 use Rattle.write_barrier.specs.Values.{with_range}
+use Rattle.write_barrier.specs.Recording.{touched, untouched}
 use Rattle.object_cells.specs.Formats.{box_header, empty_store}
 use Rattle.object_cells.specs.declared.content.SlotContent.{SlotContent}
 use Rattle.object_cells.specs.declared.content.SlotContent.TheVariants as content
 use Rattle.object_cells.specs.declared.stores.Store.{Store}
 use Rattle.object_cells.specs.Contents.{held_rep, content_of}
 
--- Of all that the mutator has, only the words of the heap are others, and they are these; so the marks and the board
--- are as they were.
+-- Of the seat, the paths and the young generation only the words of the heap are others, and they are these; so the
+-- marks and the board are as they were. What becomes of records and free runs is said beside it.
 pub record PutsWords (old new : Mutator) (words : List ℕ) : Type 0 where
   pub beside : RestStays old.seat new.seat
   pub paths : new.paths ≡ old.paths
@@ -84,6 +86,22 @@ with_content words (content.Tagged word) at = words
 with_content words (content.Raw word) at = words
 with_content words (content.Boxed v) at =
     slice_set (slice_set words at (header_bits box_header)) (at + 1) (raw_word v)
+
+-- which addresses making that box touches
+abbrev pub content_touch : SlotContent → ℕ → ℕ → Touch
+content_touch (content.Tagged word) at = untouched
+content_touch (content.Raw word) at = untouched
+content_touch (content.Boxed v) at = touched Touch.Wiped at (at + box_words)
+
+-- how the slot itself is touched
+abbrev pub slot_touch : SlotContent → Touch
+slot_touch (content.Tagged word) = Touch.Stored
+slot_touch (content.Raw word) = Touch.Wiped
+slot_touch (content.Boxed v) = Touch.Stored
+
+-- which addresses making a store of so many slots touches
+abbrev pub store_touch : ℕ → ℕ → ℕ → Touch
+store_touch capacity at = touched Touch.Wiped at (at + (store_head + capacity))
 
 -- the word that the slot holds, where its box stands at an address
 abbrev pub content_word : SlotContent → ℕ → ℕ

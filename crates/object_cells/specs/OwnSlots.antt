@@ -32,8 +32,8 @@ StoreComes owned old cell made store =
     ⊎ ((other : Cell) × Contains made other × (other.layout.kind ≡ owned) × (store ≡ reference_word other.at))
 
 -- The words of an object's slots become others. `was` and `is` tell which word the slot of a number held before and
--- holds then. `others` are cells that belong to the object and were written, and `made` those that were made: a store or
--- a table, which the object has, and boxes.
+-- holds then. `others` are cells that belong to the object and were written, and `made` those that were made: a store
+-- or a table, which the object has, and boxes.
 pub record Refills (owned : Kind) (old new : Heap) (cell came : Cell) (others made : List Cell)
     (was is : ℕ → ℕ → Type 0) : Type 0 where
   -- from which slot each comes; no two come from one

@@ -13,6 +13,7 @@ use Rattle.heap_model.specs.Slots.{is_object_kind}
 use Rattle.heap_model.specs.Wholeness.{HasSizes, HasRows}
 use Rattle.heap_model.specs.Showing.{ShowsPlain}
 use Rattle.heap_model.specs.Changes.{CellsChange, IsOwnChange}
+use Rattle.heap_model.specs.Remembered.{AreRemembered}
 use Rattle.write_barrier.specs.MutatorState.{Mutator, heap_of, MainShows}
 use Rattle.object_cells.specs.Uses.{KeepsRegions}
 use Rattle.object_cells.specs.PlainObjects.{LacksFields, ShowsRefilled}
@@ -37,11 +38,14 @@ pub record RefillsCells (old new : Heap) (plain : PlainObject) (fields : List Fi
   pub carries : cell.header.object ≡ plain.number
   pub shows : ShowsPlain new cell (words_of_cell new cell) plain.cap fields
 
--- the mutator rests again: its regions are kept, and its words are those of a heap
+-- the mutator rests again: its regions are kept, its words are those of a heap, and what is recorded is right
 pub record RestsAgain (old new : Mutator) : Type 0 where
   pub regions : KeepsRegions old new
   pub sized : HasSizes (heap_of new)
   pub rows : HasRows (heap_of new)
+  pub free : new.free ≡ old.free
+  pub bound : new.recorded.bound ≡ old.recorded.bound
+  pub remembered : AreRemembered (heap_of new) new.recorded.slots
 
 -- A heap that showed a graph shows it with these fields in the object, where their path was added and its cells show
 -- them.

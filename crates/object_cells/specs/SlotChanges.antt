@@ -15,6 +15,7 @@ use Rattle.heap_model.specs.Kinds.{HasWord, HasSlots}
 use Rattle.heap_model.specs.Wholeness.{Whole}
 use Rattle.heap_model.specs.Showing.{ShowsField, ShowsPlain}
 use Rattle.write_barrier.specs.MutatorState.{Mutator, heap_of, MainShows}
+use Rattle.write_barrier.specs.Recording.{Remembers}
 use Rattle.object_cells.specs.Uses.{KeepsRegions}
 use Rattle.object_cells.specs.CellWrites.{reshaped, WritesOwnCells}
 use Rattle.object_cells.specs.OwnSlots.{IsNoBoxOf, Refills}
@@ -89,4 +90,5 @@ WrittenFieldsShow =
     → KeepsRegions old new
     → WritesFields (heap_of old) (heap_of new) cell shape others made
     → RefillsSlots (heap_of old) (heap_of new) cell shape others made plain.fields fields
+    → Remembers old new (cell ∷ others) (reshaped new.paths cell shape ∷ others)
     → ShowsRefilled new graph plain fields

@@ -6,11 +6,12 @@ ghost use Rattle.heap_table.specs.declared.phase.Phase.TheVariants.{Quiet};
 ghost use Rattle.heap_table.specs.Seats.{heap_words};
 ghost use Rattle.heap_model.specs.Needs.{box_words, word_at};
 ghost use Rattle.write_barrier.specs.MutatorState.{heap_of, IsTied};
+ghost use Rattle.write_barrier.specs.Recording.{Touches};
 ghost use Rattle.object_cells.specs.CellsAt.{IsQuietWhole};
 ghost use Rattle.object_cells.specs.Contents as contents;
 ghost use Rattle.object_cells.specs.Contents.{next_at, AllocatesBox, LacksRoom, IsBeforeMarks};
 ghost use Rattle.object_cells.specs.Contents.{HoldsSlotWord};
-ghost use Rattle.object_cells.specs.Made.{PutsWords, content_need, content_word, with_content};
+ghost use Rattle.object_cells.specs.Made.{PutsWords, content_need, content_touch, content_word, with_content};
 
 use crate::content::{SlotContent, SlotWrite};
 use crate::formats::make_box;
@@ -36,6 +37,7 @@ pub fn boxed_word(main: &mut Main, content: SlotContent, at: u32) -> Word
         → at + 1 < marks_start main.old.seat.space }
     ensures made { let words = heap_words main.old.seat in
         PutsWords main.old main.new (with_content words content at) }
+    ensures touches { Touches main.old main.new (content_touch content at) }
     ensures word { result.0 ≡ content_word content at }
 {
     match content {

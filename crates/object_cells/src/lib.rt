@@ -7,9 +7,9 @@
 //! `laws_of_refills` what a change of its cells makes of the graph. `specs/SlotChanges.antt` and
 //! `laws_of_slots` say what the slots of a plain object then show, `specs/ElementChanges.antt` and
 //! `laws_of_elements` those of a list.
-//! `content_of` is what the slot of a field holds for a value. `formats.rt` has the words of boxes,
-//! stores and free cells; `stores.rt` and `boxes.rt` make those that objects need, and say which words
-//! that puts; `lists.rt` reads a list's length.
+//! `content_of` is what the slot of a field holds for a value. `formats.rt` has the words of boxes and
+//! stores; `stores.rt` and `boxes.rt` make those that objects need, and say which words that puts, and
+//! what becomes of the recorded slots; `lists.rt` reads a list's length.
 //! Invariant: none. The calls that write show how they wrote, and nothing of graphs or owners.
 #![tactic(auto)]
 
@@ -22,7 +22,7 @@ mod stores;
 
 pub use boxes::{boxed_word, fill, filling_of, need_of};
 pub use content::{SlotContent, SlotWrite, content_for, content_of, rep_of};
-pub use formats::{STORE, fill_store, make_box, put_filler};
+pub use formats::{STORE, fill_store, make_box};
 pub use laws::{
     laws_of_capacities, laws_of_elements, laws_of_refills, laws_of_slots, laws_of_writes,
 };

@@ -6,11 +6,13 @@ ghost use Rattle.nursery.specs.Young.{HasRoom};
 ghost use Rattle.word_store.specs.Copies.{AreDisjoint};
 ghost use Rattle.heap_table.specs.declared.phase.Phase.TheVariants.{Quiet};
 ghost use Rattle.heap_table.specs.Seats.{heap_words};
+ghost use Rattle.heap_model.specs.Remembered.{Touch};
 ghost use Rattle.write_barrier.specs.MutatorState.{heap_of, IsTied, reserved};
+ghost use Rattle.write_barrier.specs.Recording.{Touches, touched_one, touched_then};
 ghost use Rattle.object_cells.specs.CellsAt.{IsQuietWhole};
 ghost use Rattle.object_cells.specs.Contents.{next_at};
 ghost use Rattle.object_cells.specs.Made.{HasStoreSlot, IsStoreAt, PutsWords, RefusesRoom};
-ghost use Rattle.object_cells.specs.Made.{begun_store, with_store};
+ghost use Rattle.object_cells.specs.Made.{begun_store, store_touch, with_store};
 
 use crate::formats::fill_store;
 use tagged_word::Word;
@@ -72,8 +74,9 @@ pub fn begin_store(main: &mut Main, store: Store, capacity: u32, at: u32)
     requires within { at + (store_head + capacity) ≤ marks_start main.old.seat.space }
     requires other { store.at + (store_head + store.capacity) ≤ marks_start main.old.seat.space }
     requires apart { AreDisjoint (store.at + store_head) (at + store_head) store.capacity }
-    ensures { let words = heap_words main.old.seat in
+    ensures puts { let words = heap_words main.old.seat in
         PutsWords main.old main.new (begun_store words store capacity at) }
+    ensures touches { Touches main.old main.new (store_touch capacity at) }
 {
     main.addresses_fit();
     fill_store(main, at, capacity);
@@ -90,10 +93,14 @@ pub fn make_store(main: &mut Main, object: u32, store: Store, capacity: u32, at:
     requires other { store.at + (store_head + store.capacity) ≤ marks_start main.old.seat.space }
     requires named { object + store_slot < marks_start main.old.seat.space }
     requires apart { AreDisjoint (store.at + store_head) (at + store_head) store.capacity }
-    ensures { let words = heap_words main.old.seat in
+    ensures puts { let words = heap_words main.old.seat in
         PutsWords main.old main.new (with_store words object store capacity at) }
+    ensures touches { let named = touched_one Touch.Stored (object + store_slot) in
+        Touches main.old main.new (touched_then (store_touch capacity at) named) }
 {
     begin_store(main, store, capacity, at);
     main.made(at);
+    // There are as many words as addresses before the marks.
+    main.addresses_fit();
     main.store(object, STORE_SLOT, Word::reference(at));
 }

@@ -204,6 +204,19 @@ passes_outside from to slot passes between =
     let inside : not (is_between from to slot) ≡ false = grind (arith, nat_tests, begins, ends) in
     absurd (cc)
 
+-- once a range is forgotten, what was recorded still is, outside the range
+pub forgotten_has : (recorded : Recorded) (from to other : ℕ)
+    → Contains (forgotten recorded from to).slots other
+    ↔ (Contains recorded.slots other × (¬ IsBetween from to other))
+forgotten_has recorded from to other =
+    let test : ℕ → Bool = λ slot. not (is_between from to slot) in (
+      λ there. (
+        filter_from test recorded.slots other there,
+        passes_outside from to other (filter_true test recorded.slots other there),
+      ),
+      λ stood. in_filter test recorded.slots other (outside_passes from to other stood.1) stood.0,
+    )
+
 -- where the slots of the range are not recorded and the others are those that were, the set is the one without them
 pub is_forgotten : (old new : Recorded) (from to : ℕ) → IsRecorded old → IsRecorded new → new.bound ≡ old.bound
     → ((other : ℕ) → Contains new.slots other ↔ (Contains old.slots other × (¬ IsBetween from to other)))
@@ -214,11 +227,6 @@ is_forgotten old new from to was is bound has =
     (same_numbers new.slots (filter test old.slots) is.ascending
     (AllPairs-filter (λ x y. x < y) test old.slots was.ascending)
     (λ other. (
-      λ there.
-          let stood = (has other).0 there in
-          in_filter test old.slots other (outside_passes from to other stood.1) stood.0,
-      λ there. (has other).1 (
-        filter_from test old.slots other there,
-        passes_outside from to other (filter_true test old.slots other there),
-      ),
+      λ there. (forgotten_has old from to other).1 ((has other).0 there),
+      λ there. (has other).1 ((forgotten_has old from to other).0 there),
     )))

@@ -6,14 +6,14 @@
 //! the pages, and a count for each page of its recorded slots.
 #![tactic(auto)]
 
-ghost use Rattle.std.specs.Prelude.{◌≡◌, ◌+◌, ◌*◌, ◌<◌, ◌≤◌, ◌↔◌, ◌⊎◌, ℕ, min, max, [], Contains, IfOk, IfSome, MatchOption};
+ghost use Rattle.std.specs.Prelude.{◌≡◌, ◌+◌, ◌*◌, ◌<◌, ◌≤◌, ◌↔◌, ◌⊎◌, ℕ, min, max, [], Contains, IsTrue, IfOk, IfSome, MatchOption};
 ghost use Rattle.page_space.specs.Sizes.{page_words, pages_most};
 ghost use Rattle.remembered_set.specs.Recorded.{IsRecorded, IsAscending, IsBetween, HasNoneFrom, IsNextRecorded};
 ghost use Rattle.remembered_set.specs.Recorded.{HasNoneBetween, IsLeastBetween, noted, forgotten};
 
 mod bits;
 
-use crate::bits::{clear, first_set, note};
+use crate::bits::{BITS, clear, first_set, note};
 use page_space::PAGE_WORDS;
 use std::alloc::Global;
 use std::marker::Model;
@@ -57,6 +57,14 @@ impl Remembered {
         Ok(Remembered { bits, counts })
     }
 
+    /// Whether an address is one of the pages'.
+    #[inline(always)]
+    pub fn covers(&self, slot: u32) -> bool
+        ensures { IsTrue result ↔ (slot < self.now.bound) }
+    {
+        (slot as u64) < BITS as u64 * self.bits.len() as u64
+    }
+
     /// Records a slot, which may be recorded already.
     pub fn note(&mut self, slot: u32)
         requires { slot < self.old.bound }
@@ -71,6 +79,8 @@ impl Remembered {
     }
 
     /// Forgets the slots from `from` up to, not including, `to`.
+    #[cold]
+    #[inline(never)]
     pub fn forget_range(&mut self, from: u32, to: u32)
         ensures forgotten { (other : ℕ)
             → Contains self.new.slots other

@@ -70,9 +70,9 @@ fn each_write_that_fails_leaves_the_front_of_the_output(rt: HostRuntime) -> Resu
     check_front(&rt, "print 5; print 6", (2, 2), (2, "2 0 0"))?;
     check_front(
         &rt,
-        "let p undefined; repeat 6000; new x 8; set x n p; let p x; end",
+        "let p undefined; repeat 20000; new x 8; set x n p; let p x; end",
         (4096, 1),
-        (0, "3278 3 10"),
+        (0, "55502 3 10"),
     )?;
     // At the fourth call the last bytes are handed on, behind the fault.
     let long = "repeat 20000; print 123456789; end; get y q f";

@@ -49,18 +49,37 @@ fn each_cell_has_the_words_of_its_description(rt: HostRuntime) -> Result<(), Fai
     Ok(())
 }
 
-/// On a heap of 2,048 page words, 64 young words and no helper: a script, the first root word of its first
-/// variable, and the words from 2,112 on, where the halves begin, up to the one behind the copies. Half 1
-/// begins at 2,176, and the roots at 2,240. Copies stand in the order in which they were reached: the
-/// objects of variables, and then, copy by copy, what the slots refer to. A raw integer stays, though it
-/// has the bits of the reference to the place where its object stood.
+/// On a heap of 2,048 page words, 64 young words and no helper: a script, the first root word of its first variable,
+/// the words from 2,112 on, where the halves begin, up to the one behind the copies, and the words of the page up to
+/// the size of the gap that is left. Half 1 begins at 2,176, and the roots at 2,240. The objects of variables are
+/// copied first, then what recorded slots refer to, in their order, and then what the slots of the copy refer to that
+/// was made last of those not looked at. What lives over a second scavenge is in the page. A raw integer stays, though
+/// it has the bits of the reference to the place where its object stood, or where a reference was recorded.
 const SCAVENGED: &str = "\
-new x 0; scavenge | 8705 | 64 34 3 0
-new x 0; scavenge; scavenge | 8449 | 0 34 3 0
-new x 1; set x a 5000000000; set x a 8193; scavenge | 8705 | 64 70 3 8193 0
-new x 0; drop x; new y 0; let x y; scavenge | 8705 | 64 4294967330 3 0
-list l; push l 5000000000; push l l; scavenge | 8705 | 64 6 8717 2 14 4 8741 8705 7 7 22 5000000000 0
-weak m; wput m m 5; scavenge | 8705 | 64 10 8717 1 18 4 8705 10 7 7 7 7 7 7 0";
+new x 0; scavenge | 8705 | 64 34 3 0 | 30 2048
+new x 0; scavenge; scavenge | 1 | 0 0 | 34 3 30 2046
+new x 1; set x a 5000000000; set x a 8193; scavenge | 8705 | 64 70 3 8193 0 | 30 2048
+new x 1; set x a 5000000000; set x a 8193; scavenge; scavenge | 1 | 0 0 | 70 3 8193 30 2045
+new x 0; drop x; new y 0; let x y; scavenge | 8705 | 64 4294967330 3 0 | 30 2048
+list l; push l 5000000000; push l l; scavenge | 8705 | 64 6 8717 2 14 4 8741 8705 7 7 22 5000000000 0 | 30 2048
+list l; push l 5000000000; push l l; scavenge; scavenge | 1 | 0 0 | 6 13 2 14 4 37 1 7 7 22 5000000000 30 2037
+weak m; wput m m 5; scavenge | 8705 | 64 10 8717 1 18 4 8705 10 7 7 7 7 7 7 0 | 30 2048
+weak m; wput m m 5; scavenge; scavenge | 1 | 0 0 | 10 13 1 18 4 1 10 7 7 7 7 7 7 30 2035
+list l; new x 1; new y 0; set x a y; push l x; new x 1; new y 0; set x a y; push l x; drop x; drop y; scavenge | 8705 | \
+64 6 8717 2 14 4 8741 8753 7 7 4294967366 3 8773 12884901958 3 8765 17179869218 3 8589934626 3 0 | 30 2048
+new x 1; scavenge; scavenge; new y 0; set x a y; drop y; scavenge | 1 | 64 4294967330 3 0 | 70 3 8705 30 2045
+new x 1; scavenge; scavenge; new y 0; set x a y; drop y; scavenge; scavenge | 1 | 0 0 | 70 3 13 4294967330 3 30 2043
+new x 1; scavenge; scavenge; new y 0; set x a y; drop y; set x a 7; scavenge | 1 | 64 0 | 70 3 14 30 2045
+new x 0; new y 1; scavenge; scavenge; new z 0; set y a z; set x a z; drop z; scavenge | 1 | \
+64 14 4 8729 7 7 7 8589934626 3 0 | 74 8705 4294967366 3 8729 30 2043
+list l; push l 1; push l 2; push l 3; push l 4; scavenge; scavenge; new y 0; put l 3 y; drop y; shift l 2; scavenge | 1 | \
+64 4294967330 3 0 | 6 21 2 30 2 14 2 6 8705 30 2039
+weak m; scavenge; scavenge; new k 0; wput m k m; scavenge | 1 | \
+64 4294967330 3 18 4 7 7 8705 1 7 7 7 7 0 | 10 8713 1 30 2045
+weak m; wput m m 1; scavenge; scavenge; new k 0; wput m k 2; drop k; scavenge | 1 | \
+64 4294967330 3 0 | 10 13 2 18 4 1 2 8705 4 7 7 7 7 30 2035
+weak m; wput m m 1; scavenge; scavenge; new k 0; wput m k 2; drop k; scavenge; scavenge | 1 | \
+0 0 | 10 13 2 18 4 1 2 53 4 7 7 7 7 4294967330 3 30 2033";
 
 #[test]
 fn a_scavenge_leaves_the_words_of_what_lives(rt: HostRuntime) -> Result<(), Fail> {
@@ -82,7 +101,23 @@ fn a_scavenge_leaves_the_words_of_what_lives(rt: HostRuntime) -> Result<(), Fail
         let end = from + wanted.split(' ').count();
         let words = text_of(rt.alloc(), seen.words.get(from..end).unwrap_or(&[]))?;
         assert_eq!(rt; words.as_str().trim_start(), wanted, "{row}");
+        let page = fields.next().unwrap_or("");
+        let end = page.split(' ').count();
+        let words = text_of(rt.alloc(), seen.words.get(0..end).unwrap_or(&[]))?;
+        assert_eq!(rt; words.as_str().trim_start(), page, "{row}");
     }
+    Ok(())
+}
+
+/// 511 objects of 4 words and a list of 3 are in the page: 2,047 words.
+#[test]
+fn a_word_that_is_left_of_a_page_is_a_filler(rt: HostRuntime) -> Result<(), Fail> {
+    let script =
+        "let p undefined; repeat 511; new x 2; set x n p; let p x; end; list l; scavenge; scavenge";
+    let given = "run --pages 1 --young 4096 --helpers 0";
+    let seen = came(&rt, given, script, SURE)?;
+    assert_eq!(rt; seen.words.get(2_047).copied(), Some(26));
+    assert_eq!(rt; (seen.used, seen.survivors), (0, 0));
     Ok(())
 }
 

@@ -11,12 +11,19 @@ use Rattle.heap_table.specs.Seats.{RestStays, heap_words}
 use Rattle.heap_table.specs.Staying.{rest_stays_itself, rest_stays_again}
 use Rattle.heap_table.proofs.HeapWords.{stays_beside-put}
 use Rattle.page_space.proofs.LawsHold.{kinds_by_number}
-use Rattle.write_barrier.specs.MutatorState.{Mutator, with_word, with_table}
+use Rattle.write_barrier.specs.MutatorState.{Mutator, forgets, with_word, with_table}
+use Rattle.write_barrier.proofs.JudgedSlots.{wiped_bound}
 use Rattle.scavenger.specs.Filling.{ChangesWords}
 
 -- nothing has changed
 pub changes_nothing : (main : Mutator) → ChangesWords main main
-changes_nothing main = record { seat = rest_stays_itself main.seat; paths = refl; young = refl; count = refl }
+changes_nothing main = record {
+  seat = rest_stays_itself main.seat;
+  paths = refl;
+  young = refl;
+  bound = refl;
+  count = refl;
+}
 
 -- changes after changes
 pub changes_again : {first old new : Mutator} → ChangesWords first old → ChangesWords old new → ChangesWords first new
@@ -24,6 +31,7 @@ changes_again {first} {old} {new} before then = record {
   seat = rest_stays_again first.seat old.seat new.seat before.seat then.seat;
   paths = then.paths ∙ before.paths;
   young = then.young ∙ before.young;
+  bound = then.bound ∙ before.bound;
   count = then.count ∙ before.count;
 }
 
@@ -35,6 +43,7 @@ put_changes {old} {new} a word is heap below = record {
   seat = subst (λ (main : Mutator). RestStays old.seat main.seat) (sym is) (stays_beside-put old.seat a word below);
   paths = ap (λ (main : Mutator). main.paths) is;
   young = ap (λ (main : Mutator). main.young) is;
+  bound = ap (λ (main : Mutator). main.recorded.bound) is ∙ wiped_bound old.recorded a (a + 1);
   count = ap length heap ∙ length-set (heap_words old.seat) a word;
 }
 
@@ -62,7 +71,7 @@ drop-copied words from to count behind within room few =
 
 -- the copy of words to others before the marks is a change of heap words
 pub copy_changes : {old new : Mutator} (from to count : ℕ)
-    → new ≡ with_table old (copied old.seat.table from to count)
+    → new ≡ with_table (forgets old to (to + count)) (copied old.seat.table from to count)
     → heap_words new.seat ≡ copied (heap_words old.seat) from to count
     → length old.seat.table ≡ words_count old.seat.space
     → length (heap_words old.seat) ≡ marks_start old.seat.space
@@ -81,6 +90,7 @@ copy_changes {old} {new} from to count is heap counted heap_counted within room 
       });
       paths = ap (λ (main : Mutator). main.paths) is;
       young = ap (λ (main : Mutator). main.young) is;
+      bound = ap (λ (main : Mutator). main.recorded.bound) is ∙ wiped_bound old.recorded to (to + count);
       count = ap length heap
           ∙ length-copied (heap_words old.seat) from to count (omega (arith, within, heap_counted))
           (omega (arith, room, heap_counted));

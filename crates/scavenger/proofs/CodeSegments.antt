@@ -1,5 +1,5 @@
 -- Where eden, the halves and their segments begin and end, as the code computes it.
-use Rattle.std.proofs.Common.{◌≡◌, ℕ, ◌+◌, ◌-◌, ◌*◌, ◌<◌, ◌≤◌, inl, inr, refl, sym, ◌∙◌, subst, arith}
+use Rattle.std.proofs.Common.{◌≡◌, ℕ, ◌+◌, ◌-◌, ◌*◌, ◌<◌, ◌≤◌, Bool, inl, inr, refl, sym, ◌∙◌, subst, arith}
 use Rattle.std.proofs.lemmas.Bool.{cases_lt}
 use Rattle.page_space.specs.declared.sizes.Sizes.{Sizes}
 use Rattle.page_space.specs.declared.region.Region.{Region}
@@ -13,8 +13,8 @@ use Rattle.page_space.proofs.LawsHold.{stand_by_number, starts_are_inside, exten
 use Rattle.nursery.specs.Young.{other_half}
 use Rattle.scavenger.specs.Starts.{room_start}
 use Rattle.scavenger.specs.Following.{half_start, half_end}
-use Rattle.scavenger.specs.Walking.{AreSpaces}
-use Rattle.scavenger.proofs.LoopFollows.{room_before_marks}
+use Rattle.scavenger.specs.Walking.{AreSpaces, room_end}
+use Rattle.scavenger.proofs.TargetNumbers.{room_below_roots}
 
 -- a region begins at one address
 pub one_start : (space : Space) (region : Region) (one other : ℕ) → StartsAt space region one
@@ -39,6 +39,16 @@ segment_before_marks space half worker at limits is =
     })).below in
     omega (arith, below, kinds.layouts, kinds.marks)
 
+-- and not in a page
+pub segment_is_young : (space : Space) (half worker at : ℕ) → IsSpace space
+    → StartsAt space (Segment half worker) at → eden_start space ≤ at
+segment_is_young space half worker at limits is =
+    ((young_are space at limits).1 (record {
+      region = Segment half worker;
+      is_in = starts_are_inside space (Segment half worker) at limits is;
+      of_kind = refl;
+    })).from
+
 -- the segments of either half end where those of both do, or before
 half_ends : (young helpers half : ℕ) → half ≤ 1
     → young * (half * (helpers + 1)) + young * (helpers + 1) ≤ 2 * ((helpers + 1) * young)
@@ -60,10 +70,17 @@ half_before_marks space half two =
     let ends = half_ends space.sizes.young space.sizes.helpers half two in
     omega (arith, ends, kinds.roots, kinds.layouts, kinds.marks)
 
+-- the room ends before the marks
+pub room_before_marks : (space : Space) (left : ℕ) → room_end space (other_half left) ≤ marks_start space
+room_before_marks space left =
+    let kinds = kinds_by_number space in
+    let two : other_half left ≤ 1 = omega arith in
+    omega (arith, room_below_roots space (other_half left) two, kinds.layouts, kinds.marks)
+
 -- the numbers that the code computes are those of the spaces
-spaces_by : (space : Space) (half eden left room : ℕ) → half ≤ 1 → StartsAt space Eden eden
+spaces_by : (space : Space) (half eden left room : ℕ) (all : Bool) → half ≤ 1 → StartsAt space Eden eden
     → StartsAt space (Segment half 0) left → StartsAt space (Segment (1 - half) space.sizes.helpers) room
-    → AreSpaces space half (record {
+    → AreSpaces space half all (record {
       eden = eden;
       eden_end = eden + space.sizes.young;
       half = half;
@@ -71,8 +88,9 @@ spaces_by : (space : Space) (half eden left room : ℕ) → half ≤ 1 → Start
       left_end = left + space.sizes.young * (space.sizes.helpers + 1);
       room = room;
       room_end = room + space.sizes.young;
+      promote_all = all;
     })
-spaces_by space half eden left room two of_eden of_left of_room =
+spaces_by space half eden left room all two of_eden of_left of_room =
     let by_number = stand_by_number space in
     let eden_is : eden ≡ eden_start space = one_start space Eden eden (eden_start space) of_eden by_number.eden in
     let first = by_number.segments half 0 (omega arith) (omega arith) in
@@ -91,13 +109,14 @@ spaces_by space half eden left room two of_eden of_left of_room =
       room = room_is;
       room_end = omega (arith, room_is);
       before_marks = omega (arith, room_is, room_before_marks space half);
+      promote_all = refl;
     }
 
 -- also where the sizes were read apart
-pub spaces_are : (space : Space) (sizes : Sizes) (half eden left room : ℕ) → sizes ≡ space.sizes → half ≤ 1
+pub spaces_are : (space : Space) (sizes : Sizes) (half eden left room : ℕ) (all : Bool) → sizes ≡ space.sizes → half ≤ 1
     → StartsAt space Eden eden → StartsAt space (Segment half 0) left
     → StartsAt space (Segment (1 - half) sizes.helpers) room
-    → AreSpaces space half (record {
+    → AreSpaces space half all (record {
       eden = eden;
       eden_end = eden + sizes.young;
       half = half;
@@ -105,16 +124,18 @@ pub spaces_are : (space : Space) (sizes : Sizes) (half eden left room : ℕ) →
       left_end = left + sizes.young * (sizes.helpers + 1);
       room = room;
       room_end = room + sizes.young;
+      promote_all = all;
     })
-spaces_are space sizes half eden left room same two of_eden of_left =
-    let Are : Sizes → Type 0 = λ (all : Sizes). StartsAt space (Segment (1 - half) all.helpers) room
-    → AreSpaces space half (record {
+spaces_are space sizes half eden left room promote_all same two of_eden of_left =
+    let Are : Sizes → Type 0 = λ (many : Sizes). StartsAt space (Segment (1 - half) many.helpers) room
+    → AreSpaces space half promote_all (record {
       eden = eden;
-      eden_end = eden + all.young;
+      eden_end = eden + many.young;
       half = half;
       left = left;
-      left_end = left + all.young * (all.helpers + 1);
+      left_end = left + many.young * (many.helpers + 1);
       room = room;
-      room_end = room + all.young;
+      room_end = room + many.young;
+      promote_all = promote_all;
     }) in
-    subst Are (sym same) (spaces_by space half eden left room two of_eden of_left)
+    subst Are (sym same) (spaces_by space half eden left room promote_all two of_eden of_left)

@@ -1,27 +1,32 @@
 -- Where what stood at an address stands at the end of a scavenge, and what becomes of a word that referred to it.
-use Rattle.std.proofs.Common.{◌≡◌, ◌≢◌, ℕ, zero, suc, ◌<◌, ◌≤◌, ◌/◌, ◌%◌, inl, inr, List, [], ◌∷◌, length, Contains}
-use Rattle.std.proofs.Common.{Some, get_or, sym, ◌∙◌, ap, arith}
-use Rattle.std.proofs.lemmas.Bool.{cases_lt, cases_eq}
+use Rattle.std.proofs.Common.{◌≡◌, ◌≢◌, ℕ, zero, suc, ◌<◌, ◌≤◌, ◌/◌, ◌%◌, ◌⊎◌, inl, inr, true, false, List, [], ◌∷◌}
+use Rattle.std.proofs.Common.{length, Contains, Some, None, get_or, sym, ◌∙◌, ap, arith}
+use Rattle.std.proofs.lemmas.Bool.{cases_lt, cases_eq, cases_Bool}
 use Rattle.std.proofs.lemmas.Bool.Decides.{nat_tests}
 use Rattle.std.proofs.lemmas.Option.{same_Some, none-some}
 use Rattle.tagged_word.proofs.Members.{first_in, rest_in}
 use Rattle.page_space.specs.Extents.{eden_start}
-use Rattle.heap_model.specs.Heaps.{Heap}
 use Rattle.heap_model.specs.Slots.{reference_word}
 use Rattle.heap_moves.specs.Moved.{IsMovedWord}
 use Rattle.scav_copy.specs.declared.places.Home.{Home}
 use Rattle.scav_copy.specs.Renamings.{IsRenamed, HasOneHomeEach}
-use Rattle.scavenger.specs.Scavenged.{home_of, place_after}
+use Rattle.scavenger.specs.Starts.{Start}
+use Rattle.scavenger.specs.Scavenged.{home_of, begins_free, place_after}
 
--- what stands in a page stays where it is
-pub stays_in_page : (heap : Heap) (homes : List Home) (at : ℕ) → at < eden_start heap.space
-    → place_after heap homes at ≡ Some at
-stays_in_page heap homes at below = grind (arith, nat_tests)
+-- what stands in a page and is no free run stays where it is
+pub stays_in_page : (start : Start) (homes : List Home) (at : ℕ) → at < eden_start start.heap.space
+    → begins_free start.rows at ≡ false → place_after start homes at ≡ Some at
+stays_in_page start homes at below none = grind (arith, nat_tests)
+
+-- a free run does not stay
+run_goes : (start : Start) (homes : List Home) (at : ℕ) → at < eden_start start.heap.space
+    → begins_free start.rows at ≡ true → place_after start homes at ≡ None
+run_goes start homes at below found = grind (arith, nat_tests)
 
 -- what is young goes home
-pub goes_home : (heap : Heap) (homes : List Home) (at : ℕ) → eden_start heap.space ≤ at
-    → place_after heap homes at ≡ home_of homes at
-goes_home heap homes at young = grind (arith, nat_tests)
+pub goes_home : (start : Start) (homes : List Home) (at : ℕ) → eden_start start.heap.space ≤ at
+    → place_after start homes at ≡ home_of homes at
+goes_home start homes at young = grind (arith, nat_tests)
 
 -- the first home is that of its cell
 first_home : (home : Home) (homes : List Home) (at : ℕ) → home.from ≡ at → home_of (home ∷ homes) at ≡ Some home.to
@@ -70,39 +75,87 @@ pub home_found : (homes : List Home) (home : Home) → HasOneHomeEach homes → 
     → home_of homes home.from ≡ Some home.to
 home_found homes home one_each there = home_at homes there.0 home one_each there.1 there.2
 
--- Where a cell stays: in a page, or it is young and has a home.
-pub data StaysAt (heap : Heap) (homes : List Home) (at now : ℕ) : Type 0 where
-  in_page : at < eden_start heap.space → at ≡ now → StaysAt heap homes at now
-  at_home : eden_start heap.space ≤ at → IsHomeOf homes at now → StaysAt heap homes at now
+-- Where a cell stays: in a page, where it is no free run, or it is young and has a home.
+pub data StaysAt (start : Start) (homes : List Home) (at now : ℕ) : Type 0 where
+  in_page : at < eden_start start.heap.space → begins_free start.rows at ≡ false → at ≡ now
+      → StaysAt start homes at now
+  at_home : eden_start start.heap.space ≤ at → IsHomeOf homes at now → StaysAt start homes at now
 
--- one of the two it is
-pub stays_at : (heap : Heap) (homes : List Home) (at now : ℕ) → place_after heap homes at ≡ Some now
-    → StaysAt heap homes at now
-stays_at heap homes at now stays =
-    elim (cases_lt at (eden_start heap.space)) [
-      | inl below ↦ StaysAt.in_page below (same_Some at now (sym (stays_in_page heap homes at below) ∙ stays))
-      | inr young ↦ StaysAt.at_home young (found_home homes at now (sym (goes_home heap homes at young) ∙ stays))
+-- so it is in a page, where it stays
+page_stays_at : (start : Start) (homes : List Home) (at now : ℕ) → at < eden_start start.heap.space
+    → place_after start homes at ≡ Some now → StaysAt start homes at now
+page_stays_at start homes at now below stays =
+    elim (cases_Bool (begins_free start.rows at)) [
+      | inl found ↦ absurd (none-some now (sym (run_goes start homes at below found) ∙ stays))
+      | inr none ↦
+          StaysAt.in_page below none (same_Some at now (sym (stays_in_page start homes at below none) ∙ stays))
     ]
 
+-- one of the two it is
+pub stays_at : (start : Start) (homes : List Home) (at now : ℕ) → place_after start homes at ≡ Some now
+    → StaysAt start homes at now
+stays_at start homes at now stays =
+    elim (cases_lt at (eden_start start.heap.space)) [
+      | inl below ↦ page_stays_at start homes at now below stays
+      | inr young ↦ StaysAt.at_home young (found_home homes at now (sym (goes_home start homes at young) ∙ stays))
+    ]
+
+-- a word refers to what is young, or to nothing young
+pub young_or_not : (word eden : ℕ) → ((at : ℕ) × (word ≡ reference_word at) × (eden ≤ at))
+    ⊎ ((at : ℕ) → word ≡ reference_word at → at < eden)
+young_or_not word eden =
+    let first : ℕ = word / 4 in
+    elim (cases_eq (word % 4) 1) [
+      | inl refers ↦
+          let was : word ≡ reference_word first = omega arith in
+          elim (cases_lt first eden) [
+            | inl below ↦ inr (λ at is. omega (arith, is, was, below))
+            | inr behind ↦ inl (first, was, behind)
+          ]
+      | inr refers_not ↦ inr (λ at is. absurd (refers_not (omega (arith, is))))
+    ]
+
+-- What a word may refer to at the start: in a page no free run, and in the young generation what has a home.
+pub record RefersWell (start : Start) (homes : List Home) (word : ℕ) : Type 0 where
+  pub page : (at : ℕ) → word ≡ reference_word at → at < eden_start start.heap.space
+      → begins_free start.rows at ≡ false
+  pub young : (at : ℕ) → word ≡ reference_word at → eden_start start.heap.space ≤ at
+      → (home : Home) × Contains homes home × (home.from ≡ at)
+
 -- A word that is renamed is moved: where it is kept and refers to what is young, that has a home, so it is not kept.
-pub renamed_is_moved : (heap : Heap) (homes : List Home) (old new : ℕ) → HasOneHomeEach homes
-    → ((home : Home) → Contains homes home → eden_start heap.space ≤ home.from)
-    → ((at : ℕ) → old ≡ reference_word at → eden_start heap.space ≤ at
-    → (home : Home) × Contains homes home × (home.from ≡ at))
-    → IsRenamed homes old new → IsMovedWord (place_after heap homes) old new
-renamed_is_moved heap homes old new one_each young reached (IsRenamed.renamed home there was is) =
+pub renamed_is_moved : (start : Start) (homes : List Home) (old new : ℕ) → HasOneHomeEach homes
+    → ((home : Home) → Contains homes home → eden_start start.heap.space ≤ home.from)
+    → RefersWell start homes old → IsRenamed homes old new → IsMovedWord (place_after start homes) old new
+renamed_is_moved start homes old new one_each young well (IsRenamed.renamed home there was is) =
     IsMovedWord.reference home.from home.to was
-    (goes_home heap homes home.from (young home there) ∙ home_found homes home one_each there) is
-renamed_is_moved heap homes old new one_each young reached (IsRenamed.kept none same) =
+    (goes_home start homes home.from (young home there) ∙ home_found homes home one_each there) is
+renamed_is_moved start homes old new one_each young well (IsRenamed.kept none same) =
     let at : ℕ = old / 4 in
     elim (cases_eq (old % 4) 1) [
       | inl refers ↦
           let was : old ≡ reference_word at = omega arith in
-          elim (cases_lt at (eden_start heap.space)) [
-            | inl below ↦ IsMovedWord.reference at at was (stays_in_page heap homes at below) (same ∙ was)
+          elim (cases_lt at (eden_start start.heap.space)) [
+            | inl below ↦
+                IsMovedWord.reference at at was (stays_in_page start homes at below (well.page at was below))
+                (same ∙ was)
             | inr behind ↦
-                let found = reached at was behind in
+                let found = well.young at was behind in
                 absurd (none found.0 found.1 (was ∙ ap reference_word (sym found.2)))
           ]
+      | inr refers_not ↦ IsMovedWord.other (λ other refers. refers_not (omega arith)) same
+    ]
+
+-- and so is a word that is as it was and refers to nothing young
+pub kept_is_moved : (start : Start) (homes : List Home) (old new : ℕ)
+    → ((at : ℕ) → old ≡ reference_word at → at < eden_start start.heap.space → begins_free start.rows at ≡ false)
+    → ((at : ℕ) → old ≡ reference_word at → at < eden_start start.heap.space) → new ≡ old
+    → IsMovedWord (place_after start homes) old new
+kept_is_moved start homes old new page low same =
+    let at : ℕ = old / 4 in
+    elim (cases_eq (old % 4) 1) [
+      | inl refers ↦
+          let was : old ≡ reference_word at = omega arith in
+          let below = low at was in
+          IsMovedWord.reference at at was (stays_in_page start homes at below (page at was below)) (same ∙ was)
       | inr refers_not ↦ IsMovedWord.other (λ other refers. refers_not (omega arith)) same
     ]

@@ -1,153 +1,79 @@
 -- Each cell that stays stands where it came at the end of a scavenge, with its words moved.
-use Rattle.std.proofs.Common.{◌≡◌, ℕ, ◌+◌, ◌<◌, ◌≤◌, ◌^◌, inl, inr, List, [], Contains, Option, Some, IsTrue, slice_get}
-use Rattle.std.proofs.Common.{get_or, refl, sym, ◌∙◌, ap, subst, arith}
-use Rattle.std.proofs.lemmas.Bool.{cases_lt, false≢true}
-use Rattle.std.proofs.lemmas.Option.{slice_get_past}
-use Rattle.tagged_word.specs.declared.layout.Kind.TheVariants as kind
-use Rattle.tagged_word.specs.declared.layout.LayoutWord.{LayoutWord}
-use Rattle.tagged_word.specs.Cells.{scavenge_offsets, scavenge_offsets_of, is_free_kind}
-use Rattle.tagged_word.proofs.Readings.{reference_to}
+use Rattle.std.proofs.Common.{◌≡◌, ℕ, ◌+◌, ◌<◌, inl, inr, false, List, Contains, Some, slice_get, get_or}
+use Rattle.std.proofs.Common.{sym, ◌∙◌, ap, subst, arith}
+use Rattle.std.proofs.lemmas.Bool.{cases_lt}
+use Rattle.std.proofs.lemmas.Option.{slice_get_past, get_or_from_slice_get}
+use Rattle.tagged_word.specs.Cells.{scavenge_offsets}
 use Rattle.page_space.specs.Extents.{eden_start}
-use Rattle.heap_model.specs.Types.{Kind, Cell}
-use Rattle.heap_model.specs.Heaps.{Heap, HasCell, words_of_cell}
-use Rattle.heap_model.specs.Slots.{reference_word}
+use Rattle.cell_layout.proofs.OneCell.{slots_lie_within}
+use Rattle.heap_model.specs.Types.{Cell, Run}
+use Rattle.heap_model.specs.Heaps.{HasCell, words_of_cell}
 use Rattle.heap_model.specs.Kinds.{HasWord}
-use Rattle.heap_model.proofs.BoundHeaps.{none_in}
-use Rattle.heap_model.proofs.CellsApart.{first_of_cell, used_few}
+use Rattle.heap_model.specs.Remembered.{IsSlotOf}
+use Rattle.heap_model.proofs.CellsApart.{IsOfCell, has_is_cell, cells_apart}
 use Rattle.heap_model.proofs.CellWords.{words_are_size, word_there}
-use Rattle.heap_model.proofs.WordsAlike.{cell_below_roots}
+use Rattle.heap_model.proofs.RememberedSlots.{ends_in_page, slot_of_cell}
 use Rattle.heap_moves.specs.Moved.{IsMovedWord, AreMoved, moved_to, StandsMoved}
 use Rattle.scav_copy.specs.declared.places.Home.{Home}
 use Rattle.scav_copy.specs.Places.{Fixed, offsets_in, offsets_of}
-use Rattle.scav_copy.specs.Renamings.{RefersToAddress, IsReachable, IsRenamed}
-use Rattle.scavenger.specs.Starts.{IsYoungCell}
-use Rattle.scavenger.specs.Scavenged.{place_after}
-use Rattle.scavenger.proofs.StartReadings.{low_within}
-use Rattle.scavenger.proofs.StartTargets.{StandsAt, kind_to_cell, word_reads}
-use Rattle.scavenger.proofs.TargetCells.{before_is_young, young_size}
-use Rattle.scavenger.proofs.EndWords.{Ending}
-use Rattle.scavenger.proofs.EndCopies.{renaming, young_of}
-use Rattle.scavenger.proofs.EndRows.{ended_heap}
-use Rattle.scavenger.proofs.EndHeap.{page_stays, copy_stands}
-use Rattle.scavenger.proofs.EndPlaces.{StaysAt, stays_at, renamed_is_moved}
+use Rattle.scav_copy.specs.Renamings.{IsRenamed}
+use Rattle.scavenger.specs.Starts.{Start, IsYoungCell}
+use Rattle.scavenger.specs.Scavenged.{place_after, begins_free}
+use Rattle.scavenger.proofs.StartTargets.{word_reads}
+use Rattle.scavenger.proofs.TargetCells.{before_is_young}
+use Rattle.scavenger.proofs.EndRuns.{run_of_no_cell, used_is_no_run}
+use Rattle.scavenger.proofs.EndWords.{Ending, the_halves, outside_same}
+use Rattle.scavenger.proofs.EndCopies.{renaming, young_of, copy_size}
+use Rattle.scavenger.proofs.EndHeap.{end_heap, page_stays, copy_stands}
+use Rattle.scavenger.proofs.EndPlaces.{StaysAt, RefersWell, stays_at, young_or_not, renamed_is_moved, kept_is_moved}
+use Rattle.scavenger.proofs.EndSlots.{word_found, word_before, slot_target, slots_read, young_word, young_refers_well}
+use Rattle.scavenger.proofs.EndSlots.{recorded_refers_well, recorded_is_young, young_is_recorded}
 
--- a free cell has no slots, kind by kind
-free_slots : (k : Kind) (layout : LayoutWord) (long : ℕ) → IsTrue (is_free_kind k)
-    → scavenge_offsets_of k layout long ≡ []
-free_slots kind.Filler layout long free = refl
-free_slots kind.Gap layout long free = refl
-free_slots _ layout long free = absurd (false≢true free)
-
--- so its words, which are as they were, are moved
-free_moved : {to : ℕ → Option ℕ} (cell : Cell) (words : List ℕ) → IsTrue (is_free_kind cell.layout.kind)
-    → AreMoved to cell words words
-free_moved cell words free = record {
-  long = refl;
-  slots = λ offset word now slot there there_too.
-      let none = free_slots cell.layout.kind cell.layout cell.length free in
-      absurd (none_in offset (subst (λ offsets. Contains offsets offset) none slot));
-  raw = λ offset none. refl;
-}
-
-module _ {heap : Heap} {half left : ℕ} {fixed : Fixed} {homes : List Home} {words now : List ℕ} {fill : ℕ}
-    (ending : Ending heap half left fixed homes words now fill) where
-  -- the address of a cell is one that a reference may have
-  pub cell_fits : {cell : Cell} {body : List ℕ} → HasCell heap cell body → cell.at < 2 ^ 32
-  cell_fits {cell} has =
-      let below = cell_below_roots (used_few ending.begun.whole.rows) has in
-      omega (arith, below, (first_of_cell has).below, low_within heap.space ending.limits)
-
-  -- a young cell that was reached has a home
-  pub reached_home : (at : ℕ) → IsReachable fixed at → (home : Home) × Contains homes home × (home.from ≡ at)
-  reached_home at reached = ((renaming ending).survivors at).1 reached
-
-  -- where a young cell stands, one of the cells does
-  pub young_is : {at : ℕ} → StandsAt heap at → eden_start heap.space ≤ at → Contains fixed.cells at
-  young_is {at} target young =
-      (ending.begun.begins.cells at).1 record {
-        cell = target.cell;
-        words = target.words;
-        has = target.has;
-        stands = target.stands;
-        young = young;
-      }
-
-  -- a word that is the reference to a cell reads as its address
-  pub target_reads : {at : ℕ} (place word : ℕ) → StandsAt heap at → word ≡ reference_word at
-      → get_or heap.words place 0 ≡ word → RefersToAddress fixed.before place at
-  target_reads {at} place word target is reads =
-      let fits : at < 2 ^ 32 = subst (λ n. n < 2 ^ 32) target.stands (cell_fits target.has) in
-      reference_to (get_or fixed.before place 0) at fits
-      (ap (λ (all : List ℕ). get_or all place 0) ending.begun.begins.before ∙ reads ∙ is)
-
-  -- the slots of a cell that has a home are those that were read
-  slots_read : (home : Home) (offset : ℕ) (is : IsYoungCell heap home.from)
-      → Contains (scavenge_offsets is.cell.layout is.cell.length) offset → Contains (offsets_of fixed home.from) offset
-  slots_read home offset is slot =
-      let same : offsets_of fixed home.from ≡ scavenge_offsets is.cell.layout is.cell.length =
-      ap offsets_in (before_is_young ending.begun is) in
-      subst (λ offsets. Contains offsets offset) (sym same) slot
-
-  -- what such a slot refers to in the young generation has a home
-  slot_reached : (home : Home) (offset word at : ℕ) → Contains homes home → (is : IsYoungCell heap home.from)
-      → Contains (scavenge_offsets is.cell.layout is.cell.length) offset → HasWord is.words offset word
-      → word ≡ reference_word at → eden_start heap.space ≤ at
-      → (other : Home) × Contains homes other × (other.from ≡ at)
-  slot_reached home offset word at there is slot stands refers young =
-      let whole = ending.begun.whole in
-      let target = kind_to_cell is.cell.layout.kind offset word at whole.sized is.has refl
-      (whole.sound is.cell is.words is.has) slot stands refers in
-      let host : IsReachable fixed home.from = ((renaming ending).survivors home.from).0 (home, there, refl) in
-      let reads : get_or heap.words (home.from + offset) 0 ≡ word =
-      ap (λ n. get_or heap.words (n + offset) 0) (sym is.stands) ∙ word_reads offset word is.has stands in
-      reached_home at (IsReachable.by_cell home.from offset at host (slots_read home offset is slot)
-      (target_reads (home.from + offset) word target refers reads) (young_is target young))
-
-  -- the words of a home copy
-  abbrev copy_words : (home : Home) → IsYoungCell heap home.from → List ℕ
-  copy_words home is = words_of_cell (ended_heap heap fixed homes now) (moved_to is.cell home.to)
+module _ {start : Start} {left : ℕ} {fixed : Fixed} {homes : List Home} {rows : List (List Run)} {words now : List ℕ}
+    {fill : ℕ} (ending : Ending start left fixed homes rows words now fill) where
+  -- a word that is renamed is moved
+  pub word_moved : (word new : ℕ) → RefersWell start homes word → IsRenamed homes word new
+      → IsMovedWord (place_after start homes) word new
+  word_moved word new well becomes =
+      renamed_is_moved start homes word new (renaming ending).one_each
+      (λ home among. (young_of ending home among).young) well becomes
 
   -- a slot of a home copy is moved
-  slot_moved : (home : Home) (offset word new : ℕ) → Contains homes home → (is : IsYoungCell heap home.from)
+  slot_moved : (home : Home) (offset word new : ℕ) → Contains homes home → (is : IsYoungCell start.heap home.from)
       → Contains (scavenge_offsets is.cell.layout is.cell.length) offset → HasWord is.words offset word
-      → get_or now (home.to + offset) 0 ≡ new → IsMovedWord (place_after heap homes) word new
+      → get_or now (home.to + offset) 0 ≡ new → IsMovedWord (place_after start homes) word new
   slot_moved home offset word new there is slot stands reads =
-      let renames = renaming ending in
       let was : get_or fixed.before (home.from + offset) 0 ≡ word =
-      ap (λ (all : List ℕ). get_or all (home.from + offset) 0) ending.begun.begins.before
-      ∙ ap (λ n. get_or heap.words (n + offset) 0) (sym is.stands) ∙ word_reads offset word is.has stands in
-      renamed_is_moved heap homes word new renames.one_each (λ other among. (young_of ending other among).young)
-      (λ at refers young. slot_reached home offset word at there is slot stands refers young)
+      word_before ending (home.from + offset) word (young_word ending home offset word is stands) in
+      word_moved word new (young_refers_well ending home offset word there is slot stands)
       (subst (λ n. IsRenamed homes n new) was
       (subst (IsRenamed homes (get_or fixed.before (home.from + offset) 0)) reads
-      (renames.copied_slots home offset there (slots_read home offset is slot))))
+      ((renaming ending).copied_slots home offset there (slots_read ending home offset is slot))))
 
-  -- any other word is as it was
-  raw_same : (home : Home) (offset : ℕ) (there : Contains homes home) (is : IsYoungCell heap home.from)
+  -- any other word of it is as it was
+  raw_same : (home : Home) (offset : ℕ) (there : Contains homes home) (is : IsYoungCell start.heap home.from)
       → (Contains (scavenge_offsets is.cell.layout is.cell.length) offset → ⊥) → offset < is.cell.size
-      → slice_get (words_of_cell (ended_heap heap fixed homes now) (moved_to is.cell home.to)) offset
-      ≡ slice_get is.words offset
+      → slice_get (words_of_cell (end_heap ending) (moved_to is.cell home.to)) offset ≡ slice_get is.words offset
   raw_same home offset there is raw within =
       let has = copy_stands ending home there is in
       let new = word_there offset has within in
       let old = word_there offset is.has within in
       let same_slots : offsets_of fixed home.from ≡ scavenge_offsets is.cell.layout is.cell.length =
       ap offsets_in (before_is_young ending.begun is) in
-      let copied = (renaming ending).copied home offset there (omega (arith, within, young_size ending.begun is))
+      let copied = (renaming ending).copied home offset there (omega (arith, within, copy_size ending home is))
       (λ slot. raw (subst (λ offsets. Contains offsets offset) same_slots slot)) in
       let same : new.0 ≡ old.0 =
       sym (word_reads offset new.0 has new.1) ∙ copied
-      ∙ ap (λ (all : List ℕ). get_or all (home.from + offset) 0) ending.begun.begins.before
-      ∙ ap (λ n. get_or heap.words (n + offset) 0) (sym is.stands) ∙ word_reads offset old.0 is.has old.1 in
+      ∙ word_before ending (home.from + offset) old.0 (young_word ending home offset old.0 is old.1) in
       new.1 ∙ ap (λ n. Some n) same ∙ sym old.1
 
   -- the words of a home copy are moved
-  copy_moved : (home : Home) (there : Contains homes home) (is : IsYoungCell heap home.from)
-      → AreMoved (place_after heap homes) is.cell is.words
-      (words_of_cell (ended_heap heap fixed homes now) (moved_to is.cell home.to))
+  copy_moved : (home : Home) (there : Contains homes home) (is : IsYoungCell start.heap home.from)
+      → AreMoved (place_after start homes) is.cell is.words
+      (words_of_cell (end_heap ending) (moved_to is.cell home.to))
   copy_moved home there is =
       let has = copy_stands ending home there is in
-      let body = words_of_cell (ended_heap heap fixed homes now) (moved_to is.cell home.to) in
+      let body = words_of_cell (end_heap ending) (moved_to is.cell home.to) in
       record {
         long = words_are_size has ∙ sym (words_are_size is.has);
         slots = λ offset word new slot stands stands_too.
@@ -161,17 +87,114 @@ module _ {heap : Heap} {half left : ℕ} {fixed : Fixed} {homes : List Home} {wo
             ];
       }
 
+  -- a word of a cell of a page that is no free run and that is not recorded is as it was
+  pub page_kept : {cell : Cell} {body : List ℕ} (offset word : ℕ) → HasCell start.heap cell body
+      → cell.at < eden_start start.heap.space → begins_free start.rows cell.at ≡ false → offset < cell.size
+      → HasWord body offset word → (Contains start.recorded (cell.at + offset) → ⊥)
+      → slice_get now (cell.at + offset) ≡ Some word
+  page_kept {cell} offset word has below none within stands not_recorded =
+      let halves = the_halves ending in
+      let place : ℕ = cell.at + offset in
+      let in_page : place < eden_start start.heap.space = omega (arith, within, ends_in_page has below) in
+      let of_cell : IsOfCell cell place = record { from = omega arith; below = omega (arith, within) } in
+      outside_same ending place (inl in_page)
+      (λ root. omega (arith, in_page, root.stands, halves.from, halves.room_from, halves.room_to, halves.to))
+      not_recorded (run_of_no_cell ending.begun place has of_cell none)
+      ∙ word_found offset word has within stands
+
+  -- a slot of such a cell that is recorded is moved
+  recorded_moved : {cell : Cell} {body : List ℕ} (offset word new : ℕ) → HasCell start.heap cell body
+      → Contains (scavenge_offsets cell.layout cell.length) offset → HasWord body offset word
+      → Contains start.recorded (cell.at + offset) → get_or now (cell.at + offset) 0 ≡ new
+      → IsMovedWord (place_after start homes) word new
+  recorded_moved {cell} offset word new has slot stands recorded reads =
+      let place : ℕ = cell.at + offset in
+      let was = word_before ending place word (word_reads offset word has stands) in
+      word_moved word new (recorded_refers_well ending offset word has slot stands recorded)
+      (subst (λ n. IsRenamed homes n new) was
+      (subst (IsRenamed homes (get_or fixed.before place 0)) reads
+      ((renaming ending).slots place ((ending.begun.begins.slots place).1 (inr recorded)))))
+
+  -- each slot of such a cell is moved
+  page_slot_moved : {cell : Cell} {body : List ℕ} (offset word new : ℕ) → HasCell start.heap cell body
+      → cell.at < eden_start start.heap.space → begins_free start.rows cell.at ≡ false
+      → Contains (scavenge_offsets cell.layout cell.length) offset → HasWord body offset word
+      → get_or now (cell.at + offset) 0 ≡ new → IsMovedWord (place_after start homes) word new
+  page_slot_moved {cell} offset word new has below none slot stands reads =
+      let within = (slots_lie_within start.heap.space start.heap.words cell offset (has_is_cell has) slot).within in
+      elim (young_or_not word (eden_start start.heap.space)) [
+        | inl young ↦
+            recorded_moved offset word new has slot stands
+            (young_is_recorded ending offset word young.0 has below slot stands young.1 young.2) reads
+        | inr old ↦
+            let kept = page_kept offset word has below none within stands (λ recorded.
+            let young = recorded_is_young ending offset word has within stands recorded in
+            omega (arith, old young.0 young.1, young.2)) in
+            kept_is_moved start homes word new
+            (λ at refers in_page.
+            used_is_no_run ending.begun (slot_target ending offset word at has slot stands refers))
+            old (sym reads ∙ get_or_from_slice_get now (cell.at + offset) word 0 kept)
+      ]
+
+  -- no other word of it is recorded
+  raw_not_recorded : {cell : Cell} {body : List ℕ} (offset : ℕ) → HasCell start.heap cell body → offset < cell.size
+      → (Contains (scavenge_offsets cell.layout cell.length) offset → ⊥)
+      → Contains start.recorded (cell.at + offset) → ⊥
+  raw_not_recorded {cell} offset has within raw recorded =
+      let page_slot = ((ending.begun.remembered (cell.at + offset)).0 recorded).0 in
+      let slot = page_slot.slot in
+      let same : page_slot.cell ≡ cell =
+      cells_apart (cell.at + offset) ending.begun.whole.rows page_slot.has has (slot_of_cell page_slot.has slot)
+      (record { from = omega arith; below = omega (arith, within) }) in
+      let own : IsSlotOf cell (cell.at + offset) = subst (λ (one : Cell). IsSlotOf one (cell.at + offset)) same slot in
+      let here : own.offset ≡ offset = omega (arith, own.stands) in
+      raw (subst (Contains (scavenge_offsets cell.layout cell.length)) here own.visited)
+
+  -- so it is as it was
+  page_raw : {cell : Cell} {body : List ℕ} (offset : ℕ) → (has : HasCell start.heap cell body)
+      → (below : cell.at < eden_start start.heap.space) → (none : begins_free start.rows cell.at ≡ false)
+      → (Contains (scavenge_offsets cell.layout cell.length) offset → ⊥) → offset < cell.size
+      → slice_get (words_of_cell (end_heap ending) cell) offset ≡ slice_get body offset
+  page_raw {cell} {body} offset has below none raw within =
+      let stays = page_stays ending has below none in
+      let old = word_there offset has within in
+      let new = word_there offset stays within in
+      let kept = page_kept offset old.0 has below none within old.1 (raw_not_recorded offset has within raw) in
+      let same : new.0 ≡ old.0 =
+      sym (word_reads offset new.0 stays new.1) ∙ get_or_from_slice_get now (cell.at + offset) old.0 0 kept in
+      new.1 ∙ ap (λ n. Some n) same ∙ sym old.1
+
+  -- the words of a cell of a page that was no free run are moved
+  page_moved : {cell : Cell} {body : List ℕ} → (has : HasCell start.heap cell body)
+      → (below : cell.at < eden_start start.heap.space) → (none : begins_free start.rows cell.at ≡ false)
+      → AreMoved (place_after start homes) cell body (words_of_cell (end_heap ending) cell)
+  page_moved {cell} {body} has below none =
+      let stays = page_stays ending has below none in
+      let others = words_of_cell (end_heap ending) cell in
+      record {
+        long = words_are_size stays ∙ sym (words_are_size has);
+        slots = λ offset word new slot stands stands_too.
+            page_slot_moved offset word new has below none slot stands (word_reads offset new stays stands_too);
+        raw = λ offset raw.
+            elim (cases_lt offset cell.size) [
+              | inl within ↦ page_raw offset has below none raw within
+              | inr past ↦
+                  slice_get_past others offset (omega (arith, past, words_are_size stays))
+                  ∙ sym (slice_get_past body offset (omega (arith, past, words_are_size has)))
+            ];
+      }
+
   -- each cell that stays stands where it came
-  stands_by : {cell : Cell} {body : List ℕ} (to : ℕ) → HasCell heap cell body → StaysAt heap homes cell.at to
-      → StandsMoved (ended_heap heap fixed homes now) (place_after heap homes) cell body to
-  stands_by {cell} {body} to has (StaysAt.in_page below same) = record {
-    others = body;
-    has = subst (λ n. HasCell (ended_heap heap fixed homes now) (moved_to cell n) body) same
-        (page_stays ending has below);
-    are = free_moved cell body (ending.begun.collectable.pages cell body has below);
-  }
+  stands_by : {cell : Cell} {body : List ℕ} (to : ℕ) → HasCell start.heap cell body → StaysAt start homes cell.at to
+      → StandsMoved (end_heap ending) (place_after start homes) cell body to
+  stands_by {cell} {body} to has (StaysAt.in_page below none same) =
+      subst (λ n. StandsMoved (end_heap ending) (place_after start homes) cell body n) same record {
+        others = words_of_cell (end_heap ending) cell;
+        has = page_stays ending has below none;
+        are = page_moved has below none;
+      }
   stands_by {cell} {body} to has (StaysAt.at_home young found) =
-      let is : IsYoungCell heap found.home.from =
+      let is : IsYoungCell start.heap found.home.from =
       record {
         cell = cell;
         words = body;
@@ -179,16 +202,15 @@ module _ {heap : Heap} {half left : ℕ} {fixed : Fixed} {homes : List Home} {wo
         stands = sym found.from;
         young = omega (arith, young, found.from);
       } in
-      let came = copy_stands ending found.home found.among is in
-      let end = ended_heap heap fixed homes now in
-      subst (λ n. StandsMoved end (place_after heap homes) cell body n) found.to record {
+      let end = end_heap ending in
+      subst (λ n. StandsMoved end (place_after start homes) cell body n) found.to record {
         others = words_of_cell end (moved_to cell found.home.to);
-        has = came;
+        has = copy_stands ending found.home found.among is;
         are = copy_moved found.home found.among is;
       }
 
   -- so it does
-  pub stands_moved : (cell : Cell) (body : List ℕ) (to : ℕ) → HasCell heap cell body
-      → place_after heap homes cell.at ≡ Some to
-      → StandsMoved (ended_heap heap fixed homes now) (place_after heap homes) cell body to
-  stands_moved cell body to has stays = stands_by to has (stays_at heap homes cell.at to stays)
+  pub stands_moved : (cell : Cell) (body : List ℕ) (to : ℕ) → HasCell start.heap cell body
+      → place_after start homes cell.at ≡ Some to
+      → StandsMoved (end_heap ending) (place_after start homes) cell body to
+  stands_moved cell body to has stays = stands_by to has (stays_at start homes cell.at to stays)

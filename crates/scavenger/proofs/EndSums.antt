@@ -1,4 +1,4 @@
--- A sum over the regions of cells to which one alone adds something.
+-- A sum over the regions of cells to which one alone adds something, and the words of copies one behind another.
 use Rattle.std.proofs.Common.{◌≡◌, ℕ, ◌+◌, ◌<◌, ◌≤◌, inl, inr, List, [], ◌∷◌, Contains, sum_by}
 use Rattle.std.proofs.Common.{◌==◌, if◌then◌else◌, refl, ◌∙◌, ap, arith}
 use Rattle.std.proofs.lemmas.Bool.Decides.{nat_tests}
@@ -12,6 +12,11 @@ use Rattle.heap_model.specs.Heaps.{cell_extents}
 use Rattle.heap_model.proofs.BoundHeaps.{none_in}
 use Rattle.heap_model.proofs.CellsApart.{cell_extent_stands}
 use Rattle.heap_model.proofs.RegionStarts.{start_is_in}
+use Rattle.scav_copy.specs.declared.places.Home.{Home}
+use Rattle.scav_copy.specs.Places.{Fixed, size_of}
+use Rattle.scavenger.specs.Filling.{Tiles}
+use Rattle.scavenger.specs.Scavenged.{words_of_homes}
+use Rattle.scavenger.proofs.FollowTiles.{tiles_of_none, tiles_begin}
 
 -- so many at the region that begins at this address, and else nothing
 abbrev pub adds_at : ℕ → ℕ → Extent → ℕ
@@ -91,3 +96,16 @@ pub cells_add : (space : Space) (extent : Extent) (many : ℕ) → IsSpace space
     → sum_by (adds_at extent.start many) (cell_extents space) ≡ many
 cells_add space extent many limits among =
     one_adds extent.start many 0 (cell_stretches space) extent (has_words space limits) among refl
+
+-- copies one behind another end as many words behind where they begin as they have together
+pub tiles_add : {fixed : Fixed} (from to : ℕ) (homes : List Home) → Tiles fixed from to homes
+    → from + words_of_homes fixed homes ≡ to
+tiles_add from to [] tiles = omega (arith, tiles_of_none tiles)
+tiles_add {fixed} from to (home ∷ homes) tiles =
+    let begins = tiles_begin tiles in
+    omega (
+      arith,
+      begins.starts,
+      sum_by-cons (λ (one : Home). size_of fixed one.from) home homes,
+      tiles_add (home.to + size_of fixed home.from) to homes begins.rest,
+    )

@@ -3,36 +3,38 @@ use Rattle.std.proofs.Common.{◌≡◌, ◌≢◌, ℕ, ◌+◌, ◌<◌, ◌�
 use Rattle.std.proofs.Common.{get_or, sym, ◌∙◌, ap, arith}
 use Rattle.std.proofs.lemmas.Bool.{cases_lt}
 use Rattle.std.proofs.lemmas.Option.{slice_get-get_or, slice_get_past, get_or_from_slice_get}
-use Rattle.std.proofs.lemmas.List.Elements.{Contains-append_cases}
+use Rattle.std.proofs.lemmas.List.Elements.{Contains-append_left}
 use Rattle.page_space.specs.Extents.{eden_start, roots_start}
 use Rattle.page_space.specs.RegionLaws.{IsSpace}
-use Rattle.heap_model.specs.Types.{Cell}
+use Rattle.heap_model.specs.Types.{Cell, Run}
 use Rattle.heap_model.specs.Heaps.{Heap, HasCell}
 use Rattle.heap_model.proofs.CellsApart.{IsOfCell, used_few}
 use Rattle.heap_model.proofs.WordsAlike.{cell_below_roots}
 use Rattle.scav_copy.specs.declared.places.Home.{Home}
-use Rattle.scav_copy.specs.Places.{Fixed, IsInCells, IsInRooms}
+use Rattle.scav_copy.specs.declared.places.Room.{Room}
+use Rattle.scav_copy.specs.Places.{Fixed, size_of, IsInCells, IsInRooms}
 use Rattle.scav_copy.specs.Renamings.{Renaming, Outside}
-use Rattle.scav_copy.specs.Copies.{AreHoused, HomesDisjoint}
+use Rattle.scav_copy.specs.Copies.{AreHoused, HomesDisjoint, LiesInRoom}
 use Rattle.scav_copy.proofs.Ending.{end_is_renaming}
-use Rattle.scav_copy.proofs.Spots.{from_is, some_words}
-use Rattle.scavenger.specs.Starts.{IsBegun, IsRootAt, room_start}
+use Rattle.scavenger.specs.Starts.{Start, IsBegun, IsRunOf, IsRootAt, room_start, room_of, room_of_run}
 use Rattle.scavenger.specs.Filling.{IsFilled, AllAreDone, IsEmptied}
 use Rattle.scavenger.specs.Following.{half_start, half_end}
 use Rattle.scavenger.proofs.Sums.{few_filled}
-use Rattle.scavenger.proofs.TargetCells.{young_size, one_room}
-use Rattle.scavenger.proofs.FollowTiles.{tile_within}
-use Rattle.scavenger.proofs.EndRanges.{are_halves, start_within}
+use Rattle.scavenger.proofs.TargetCells.{IsInSegment, young_size, recorded_below, run_ends}
+use Rattle.scavenger.proofs.PagesRuns.{HasRun}
+use Rattle.scavenger.proofs.FollowTiles.{fill_above, stayed_or_promoted, stayed_within}
+use Rattle.scavenger.proofs.EndRanges.{AreHalves, are_halves, start_within}
 
 -- all is done, and the words that are left were emptied
-pub record Ending (heap : Heap) (half left : ℕ) (fixed : Fixed) (homes : List Home) (words now : List ℕ) (fill : ℕ)
-    : Type 0 where
-  pub limits : IsSpace heap.space
-  pub halves : half + left ≡ 1
-  pub begun : IsBegun heap half fixed
-  pub filled : IsFilled fixed words homes (room_start heap.space half) fill fill
+pub record Ending (start : Start) (left : ℕ) (fixed : Fixed) (homes : List Home) (rows : List (List Run))
+    (words now : List ℕ) (fill : ℕ) : Type 0 where
+  pub limits : IsSpace start.heap.space
+  pub halves : start.half + left ≡ 1
+  pub begun : IsBegun start fixed
+  pub filled : IsFilled start fixed words rows homes fill
   pub done : AllAreDone fixed words homes
-  pub emptied : IsEmptied heap.space left fill (room_start heap.space half + heap.space.sizes.young) words now
+  pub emptied : IsEmptied start.heap.space left fill
+      (room_start start.heap.space start.half + start.heap.space.sizes.young) words now
 
 -- equal words, as they are found
 same_found : (words other : List ℕ) (at : ℕ) → length other ≡ length words → get_or other at 0 ≡ get_or words at 0
@@ -60,55 +62,137 @@ pub record IsOfSomeYoung (heap : Heap) (at : ℕ) : Type 0 where
   pub young : eden_start heap.space ≤ cell.at
   pub of_cell : IsOfCell cell at
 
-module _ {heap : Heap} {half left : ℕ} {fixed : Fixed} {homes : List Home} {words now : List ℕ} {fill : ℕ}
-    (ending : Ending heap half left fixed homes words now fill) where
+-- the copy stands in the segment, before the address up to which that is filled
+pub record StaysYoung (start : Start) (fixed : Fixed) (stayed : List Home) (fill : ℕ) (home : Home) : Type 0 where
+  pub among : Contains stayed home
+  pub from : room_start start.heap.space start.half ≤ home.to
+  pub ends : home.to + size_of fixed home.from ≤ fill
+
+-- the copy stands in what was a free run
+pub record IsPromoted (start : Start) (fixed : Fixed) (home : Home) : Type 0 where
+  pub below : home.to < eden_start start.heap.space
+  pub run : Run
+  pub is : IsRunOf start.rows run
+  pub from : run.at ≤ home.to
+  pub ends : home.to + size_of fixed home.from ≤ run.at + run.words
+
+module _ {start : Start} {left : ℕ} {fixed : Fixed} {homes : List Home} {rows : List (List Run)} {words now : List ℕ}
+    {fill : ℕ} (ending : Ending start left fixed homes rows words now fill) where
   -- what the end is, before words are emptied
   pub ended : Renaming fixed words homes × Outside fixed words × AreHoused fixed homes × HomesDisjoint fixed homes
   ended = end_is_renaming fixed words homes ending.begun.laid ending.filled.copying ending.done
 
+  -- where the halves stand
+  pub the_halves : AreHalves start.heap.space start.half left
+  the_halves = are_halves start.heap.space start.half left ending.halves
+
   -- there are as many words as before
-  as_long : length words ≡ length heap.words
+  pub as_long : length words ≡ length start.heap.words
   as_long = ending.filled.copying.long ∙ ap (λ (all : List ℕ). length all) ending.begun.begins.before
 
   -- and after some were emptied
-  pub long : length now ≡ length heap.words
+  pub long : length now ≡ length start.heap.words
   long = ending.emptied.count ∙ as_long
 
-  -- there are so few copies that they end in the room
-  pub few : fill ≤ room_start heap.space half + (heap.survivors + heap.used)
+  -- there are so few copies that they end in the segment
+  pub few : fill ≤ room_start start.heap.space start.half + (start.heap.survivors + start.heap.used)
   few = few_filled ending.begun ending.filled
 
-  -- the room is not passed
-  pub in_room : fill ≤ room_start heap.space half + heap.space.sizes.young
+  -- the segment is not passed
+  pub in_room : fill ≤ room_start start.heap.space start.half + start.heap.space.sizes.young
   in_room = omega (arith, few, ending.begun.whole.rows.few)
 
-  -- no home copy is to do
-  pub home_done : (home : Home) → Contains homes home → Contains ending.filled.done home
-  home_done home there =
+  -- a home copy that is not in a page is in the segment
+  stays_young : (home : Home) → Contains ending.filled.stayed home
+      → StaysYoung start fixed ending.filled.stayed fill home
+  stays_young home there =
+      let within = stayed_within home ending.filled there in
+      record { among = there; from = within.0; ends = within.1 }
+
+  -- a room before eden is a free run
+  room_in_page : (home : Home) (room : Room) → LiesInRoom fixed room home.to (size_of fixed home.from)
+      → home.to < eden_start start.heap.space → IsPromoted start fixed home
+  room_in_page home room lies below =
+      elim ((ending.begun.begins.rooms room).0 lies.among) [
+        | inl segment ↦
+            let from : room.from ≡ room_start start.heap.space start.half =
+            ap (λ (one : Room). one.from) segment in
+            absurd (omega (arith, lies.from, from, below, the_halves.room_from, the_halves.from))
+        | inr run ↦
+            let same : room ≡ room_of_run start.heap.space run.0 = run.2 in
+            record {
+              below = below;
+              run = run.0;
+              is = run.1;
+              from = omega (arith, lies.from, ap (λ (one : Room). one.from) same);
+              ends = omega (arith, lies.ends, ap (λ (one : Room). one.to) same);
+            }
+      ]
+
+  -- one that is in a page is in what was a free run
+  pub is_promoted : (home : Home) → Contains homes home → home.to < eden_start start.heap.space
+      → IsPromoted start fixed home
+  is_promoted home there below =
+      let housed = ending.filled.copying.housed home there in room_in_page home housed.0 housed.1 below
+
+  -- each home copy stands in the segment, or in what was a free run
+  pub home_place : (home : Home) → Contains homes home
+      → StaysYoung start fixed ending.filled.stayed fill home ⊎ IsPromoted start fixed home
+  home_place home there =
+      elim (stayed_or_promoted home ending.filled there) [
+        | inl stayed ↦ inl (stays_young home stayed)
+        | inr promoted ↦ inr (is_promoted home there (ending.filled.in_pages home promoted))
+      ]
+
+  -- each of those in the segment is a home copy, and begins behind the pages
+  pub stayed_is : (home : Home) → Contains ending.filled.stayed home
+      → Contains homes home × (eden_start start.heap.space ≤ home.to)
+  stayed_is home there =
       let filled = ending.filled in
-      elim (Contains-append_cases filled.done filled.todo home ((filled.same home).0 there)) [
-        | inl done ↦ done
-        | inr todo ↦
-            let rest = tile_within fill fill filled.todo home filled.tiles_todo todo in
-            let some = some_words home.from ending.begun.laid (from_is home ending.filled.copying there) in
-            absurd (omega (arith, rest.0, rest.1, some))
+      let stays = stays_young home there in (
+        (filled.same home).1 (Contains-append_left filled.stayed filled.promoted home there),
+        omega (arith, stays.from, the_halves.room_from, the_halves.from),
+      )
+
+  -- and each home copy that begins there is one of those
+  pub is_stayed : (home : Home) → Contains homes home → eden_start start.heap.space ≤ home.to
+      → Contains ending.filled.stayed home
+  is_stayed home there young =
+      elim (home_place home there) [
+        | inl stays ↦ stays.among
+        | inr promoted ↦ absurd (omega (arith, promoted.below, young))
       ]
 
   -- a word that was not emptied is as it was
-  pub kept : (at : ℕ) → at ≢ fill ⊎ (room_start heap.space half + heap.space.sizes.young ≤ at)
-      → (at < half_start heap.space left) ⊎ (half_end heap.space left ≤ at) → slice_get now at ≡ slice_get words at
+  pub kept : (at : ℕ) → at ≢ fill ⊎ (room_start start.heap.space start.half + start.heap.space.sizes.young ≤ at)
+      → (at < half_start start.heap.space left) ⊎ (half_end start.heap.space left ≤ at)
+      → slice_get now at ≡ slice_get words at
   kept at apart outside =
       ending.emptied.others at
       (λ here. elim apart [ inl other ↦ other here.0 | inr behind ↦ omega (arith, here.0, here.1, behind) ])
       (λ starts.
-      let within = start_within heap.space left at starts in
+      let within = start_within start.heap.space left at starts in
       elim outside [
         | inl before ↦ omega (arith, within.0, before)
         | inr behind ↦ omega (arith, within.1, behind, ending.limits.young_is_least)
       ])
 
+  -- so is a word of a page, or behind the segments
+  pub kept_apart : (at : ℕ) → (at < eden_start start.heap.space) ⊎ (roots_start start.heap.space ≤ at)
+      → slice_get now at ≡ slice_get words at
+  kept_apart at apart =
+      let halves = the_halves in
+      elim apart [
+        | inl page ↦
+            let from = fill_above ending.filled in
+            kept at (inl (λ same. omega (arith, page, same, from, halves.room_from, halves.from)))
+            (inl (omega (arith, page, halves.left_from)))
+        | inr behind ↦ kept at (inr (omega (arith, behind, halves.room_to, halves.to)))
+            (inr (omega (arith, behind, halves.left_to)))
+      ]
+
   -- an address of the cells is one of a young cell
-  pub cells_hold : (at : ℕ) → IsInCells fixed at → IsOfSomeYoung heap at
+  pub cells_hold : (at : ℕ) → IsInCells fixed at → IsOfSomeYoung start.heap at
   cells_hold at inside =
       let is = (ending.begun.begins.cells inside.0).0 inside.1 in
       let size = young_size ending.begun is in
@@ -123,40 +207,75 @@ module _ {heap : Heap} {half left : ℕ} {fixed : Fixed} {homes : List Home} {wo
         };
       }
 
+  -- an address of the rooms is one of the segment, or of a free run
+  pub rooms_hold : (at : ℕ) → IsInRooms fixed at → IsInSegment start at ⊎ HasRun start.rows at
+  rooms_hold at inside =
+      elim ((ending.begun.begins.rooms inside.0).0 inside.1) [
+        | inl segment ↦
+            let same : inside.0 ≡ room_of start.heap.space start.half = segment in
+            inl record {
+              from = omega (arith, inside.2.from, ap (λ (one : Room). one.from) same);
+              below = omega (arith, inside.2.below, ap (λ (one : Room). one.to) same);
+            }
+        | inr run ↦
+            let same : inside.0 ≡ room_of_run start.heap.space run.0 = run.2 in
+            inr record {
+              run = run.0;
+              is = run.1;
+              of_run = record {
+                from = omega (arith, inside.2.from, ap (λ (one : Room). one.from) same);
+                below = omega (arith, inside.2.below, ap (λ (one : Room). one.to) same);
+              };
+            }
+      ]
+
   -- a word outside is as before
   pub outside_kept : (at : ℕ) → (IsInCells fixed at → ⊥) → (Contains fixed.slots at → ⊥) → (IsInRooms fixed at → ⊥)
-      → slice_get words at ≡ slice_get heap.words at
+      → slice_get words at ≡ slice_get start.heap.words at
   outside_kept at no_cell no_slot no_room =
-      same_found heap.words words at as_long
+      same_found start.heap.words words at as_long
       (ended.1 at no_cell no_slot no_room ∙ ap (λ (all : List ℕ). get_or all at 0) ending.begun.begins.before)
 
-  -- so is one of a page, or behind the segments where no slot stands
-  pub outside_same : (at : ℕ) → (at < eden_start heap.space) ⊎ (roots_start heap.space ≤ at)
-      → (IsRootAt heap.space at → ⊥) → slice_get now at ≡ slice_get heap.words at
-  outside_same at apart no_root =
-      let halves = are_halves heap.space half left ending.halves in
-      let no_cell : IsInCells fixed at → ⊥ = λ inside.
+  -- a word of a page, or behind the segments, is in no cell
+  apart_from_cells : (at : ℕ) → (at < eden_start start.heap.space) ⊎ (roots_start start.heap.space ≤ at)
+      → IsInCells fixed at → ⊥
+  apart_from_cells at apart inside =
       let is = cells_hold at inside in
       let below = cell_below_roots (used_few ending.begun.whole.rows) is.has in
       elim apart [
         | inl page ↦ omega (arith, page, is.young, is.of_cell.from)
         | inr behind ↦ omega (arith, behind, below, is.of_cell.below)
-      ] in
-      let no_room : IsInRooms fixed at → ⊥ = λ inside.
-      let holds = one_room at ending.begun inside in
-      elim apart [
-        | inl page ↦ omega (arith, page, holds.0, halves.room_from, halves.from)
-        | inr behind ↦ omega (arith, behind, holds.1, halves.room_to, halves.to)
-      ] in
-      let other : at ≢ fill ⊎ (room_start heap.space half + heap.space.sizes.young ≤ at) =
-      elim apart [
-        | inl page ↦ inl (λ same. omega (arith, page, same, ending.filled.long, halves.room_from, halves.from))
-        | inr behind ↦ inr (omega (arith, behind, halves.room_to, halves.to))
-      ] in
-      let not_left : (at < half_start heap.space left) ⊎ (half_end heap.space left ≤ at) =
-      elim apart [
-        | inl page ↦ inl (omega (arith, page, halves.left_from))
-        | inr behind ↦ inr (omega (arith, behind, halves.left_to))
-      ] in
-      kept at other not_left
-      ∙ outside_kept at no_cell (λ slot. no_root ((ending.begun.begins.slots at).0 slot)) no_room
+      ]
+
+  -- nor in a room, where it is in no free run
+  apart_from_rooms : (at : ℕ) → (at < eden_start start.heap.space) ⊎ (roots_start start.heap.space ≤ at)
+      → (HasRun start.rows at → ⊥) → IsInRooms fixed at → ⊥
+  apart_from_rooms at apart none inside =
+      let halves = the_halves in
+      elim (rooms_hold at inside) [
+        | inl segment ↦ elim apart [
+          | inl page ↦ omega (arith, page, segment.from, halves.room_from, halves.from)
+          | inr behind ↦ omega (arith, behind, segment.below, halves.room_to, halves.to)
+        ]
+        | inr run ↦ none run
+      ]
+
+  -- so it is as before where it is none of these, no first root word and not recorded
+  pub outside_same : (at : ℕ) → (at < eden_start start.heap.space) ⊎ (roots_start start.heap.space ≤ at)
+      → (IsRootAt start.heap.space at → ⊥) → (Contains start.recorded at → ⊥) → (HasRun start.rows at → ⊥)
+      → slice_get now at ≡ slice_get start.heap.words at
+  outside_same at apart no_root no_record no_run =
+      kept_apart at apart
+      ∙ outside_kept at (apart_from_cells at apart)
+      (λ slot. elim ((ending.begun.begins.slots at).0 slot) [ inl root ↦ no_root root | inr there ↦ no_record there ])
+      (apart_from_rooms at apart no_run)
+
+  -- one behind the segments is as before where it is no first root word
+  pub behind_same : (at : ℕ) → roots_start start.heap.space ≤ at → (IsRootAt start.heap.space at → ⊥)
+      → slice_get now at ≡ slice_get start.heap.words at
+  behind_same at behind no_root =
+      let halves = the_halves in
+      let young : eden_start start.heap.space ≤ at =
+      omega (arith, behind, halves.from, halves.room_from, halves.room_to, halves.to) in
+      outside_same at (inr behind) no_root (λ there. omega (arith, recorded_below at ending.begun there, young))
+      (λ inside. omega (arith, run_ends inside.run ending.begun inside.is, inside.of_run.below, young))

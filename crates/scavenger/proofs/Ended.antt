@@ -1,15 +1,22 @@
 -- A scavenge that has come to its end is one, and the heap that is left shows the graph.
-use Rattle.std.proofs.Common.{◌≡◌, ℕ, ◌≤◌, List, Contains, Option, inr, sym, ◌∙◌, ap, subst, arith}
+use Rattle.std.proofs.Common.{◌≡◌, ℕ, ◌<◌, ◌≤◌, ◌⊎◌, Bool, List, Contains, Option, inl, inr, slice_get, sym, ◌∙◌, ap}
+use Rattle.std.proofs.Common.{subst}
+use Rattle.std.proofs.Common.{arith}
 use Rattle.object_graph.specs.Graphs.{Graph}
+use Rattle.page_space.specs.Extents.{eden_start, roots_start}
+use Rattle.cell_layout.proofs.OneCell.{cells_have_words}
 use Rattle.nursery.specs.Young.{Young, IsYoung, other_half}
+use Rattle.free_runs.specs.FreeRuns.{longest_of}
+use Rattle.free_runs.specs.Laws.{IsFreeWord}
+use Rattle.free_runs.proofs.Takes.{longest_tells}
 use Rattle.heap_table.specs.Seats.{heap_words}
-use Rattle.page_space.specs.Extents.{eden_start}
-use Rattle.heap_model.specs.Types.{Cell}
-use Rattle.heap_model.specs.Heaps.{Heap, HasCell}
 use Rattle.object_graph.specs.declared.object.Object.TheVariants.{Weak}
+use Rattle.heap_model.specs.Heaps.{Heap}
 use Rattle.heap_model.specs.Showing.{Shows}
 use Rattle.heap_model.specs.Counting.{CountsEntries}
-use Rattle.heap_model.specs.Collectable.{IsCollectable}
+use Rattle.heap_model.specs.Collectable.{IsCollectable, AreFreeRuns}
+use Rattle.heap_model.specs.Remembered.{AreRemembered}
+use Rattle.heap_model.proofs.CellsApart.{has_is_cell}
 use Rattle.heap_moves.specs.Moved.{IsMoved}
 use Rattle.heap_moves.specs.Standing.{Stays}
 use Rattle.heap_moves.proofs.AllStands.{whole_for, shows_for}
@@ -19,26 +26,20 @@ use Rattle.heap_moves.proofs.MovedRooms.{moves_keep_room}
 use Rattle.heap_moves.proofs.RoomsStay.{moves_keep_rooms}
 use Rattle.write_barrier.specs.MutatorState.{Mutator, heap_of, MainShows}
 use Rattle.scav_copy.specs.declared.places.Home.{Home}
-use Rattle.scav_copy.specs.Places.{Fixed}
+use Rattle.scav_copy.specs.Places.{Fixed, size_of}
+use Rattle.scavenger.specs.Starts.{IsRootAt, start_of}
+use Rattle.scavenger.specs.Walking.{IsToPromote}
 use Rattle.scavenger.specs.Laws.{IsEnded, EndsAreScavenges}
 use Rattle.scavenger.specs.Scavenged.{Scavenges, place_after}
-use Rattle.scavenger.proofs.EndWords.{Ending, ended, few, outside_same}
-use Rattle.scavenger.proofs.EndCopies.{renaming}
-use Rattle.scavenger.proofs.EndRows.{CameFrom, ended_heap}
-use Rattle.scavenger.proofs.EndHeap.{came_from}
-use Rattle.scavenger.proofs.EndMoved.{is_moved, is_collectable}
-
--- the heap that is left is the one at the end
-new_is : (old new : Mutator) (fixed : Fixed) (homes : List Home) (words : List ℕ) (fill : ℕ)
-    → IsEnded old new fixed homes words fill
-    → heap_of new ≡ ended_heap (heap_of old) fixed homes (heap_words new.seat)
-new_is old new fixed homes words fill is = λ i. record {
-  space = is.seat.space i;
-  used = ap (λ (young : Young). young.used) is.young i;
-  survivors = ap (λ (young : Young). young.survivors) is.young i;
-  paths = is.paths i;
-  words = heap_words new.seat;
-}
+use Rattle.scavenger.proofs.PagesRuns.{word_of_run}
+use Rattle.scavenger.proofs.EndWords.{ended, outside_same}
+use Rattle.scavenger.proofs.EndCopies.{renaming, young_of, copy_size}
+use Rattle.scavenger.proofs.EndHeap.{runs_are_free}
+use Rattle.scavenger.proofs.EndMoved.{is_collectable}
+use Rattle.scavenger.proofs.EndRecords.{end_is_remembered}
+use Rattle.scavenger.proofs.EndedHeap.{ending_is, left_young, left_is, left_is_moved, left_alone, left_stayed}
+use Rattle.scavenger.proofs.EndedHeap.{left_tiles}
+use Rattle.scavenger.proofs.EndedHeap.{left_few}
 
 -- where entries were counted, they are in the moved heap
 counts_stay : {old new : Heap} {to : ℕ → Option ℕ} {graph : Graph} → Shows old graph → IsMoved old new to
@@ -52,87 +53,103 @@ counts_stay {old} {new} {to} shows moved counts number at entries there marked p
     (inr reached.shows.of_kind)
     ∙ counts number before.at entries there marked before.place
 
--- an end of a scavenge, by its parts
-ending_is : (old new : Mutator) (fixed : Fixed) (homes : List Home) (words : List ℕ) (fill : ℕ) → IsYoung old.young
-    → IsEnded old new fixed homes words fill
-    → Ending (heap_of old) (other_half old.young.half) old.young.half fixed homes words (heap_words new.seat) fill
-ending_is old new fixed homes words fill young is = record {
-  limits = is.limits;
-  halves = omega (arith, young.half);
-  begun = is.begun;
-  filled = is.filled;
-  done = is.done;
-  emptied = is.emptied;
-}
+module _ {old new : Mutator} {all : Bool} {fixed : Fixed} {homes : List Home} {words : List ℕ} {fill refused : ℕ}
+    (young : IsYoung old.young) (is : IsEnded old new all fixed homes words fill refused) where
+  -- a word outside is as before, where it was in no free run
+  outside : (at : ℕ) → (at < eden_start old.seat.space) ⊎ (roots_start old.seat.space ≤ at)
+      → (IsRootAt old.seat.space at → ⊥) → (Contains old.recorded.slots at → ⊥) → (IsFreeWord old.free at → ⊥)
+      → slice_get (heap_words new.seat) at ≡ slice_get (heap_words old.seat) at
+  outside at apart no_root no_record no_run =
+      outside_same (ending_is young is) at apart no_root no_record (λ inside.
+      no_run (word_of_run old.free inside.run at is.begun.apart inside.is inside.of_run))
 
--- the heap that is left is the old one, moved
-left_is_moved : (old new : Mutator) (fixed : Fixed) (homes : List Home) (words : List ℕ) (fill : ℕ) → IsYoung old.young
-    → IsEnded old new fixed homes words fill
-    → IsMoved (heap_of old) (heap_of new) (place_after (heap_of old) homes)
-left_is_moved old new fixed homes words fill young is =
-    subst (λ heap. IsMoved (heap_of old) heap (place_after (heap_of old) homes))
-    (sym (new_is old new fixed homes words fill is)) (is_moved (ending_is old new fixed homes words fill young is))
+  -- no free run has so many words as a cell that was refused
+  longest_below : (home : Home) → Contains homes home → refused ≤ size_of fixed home.from
+      → longest_of new.free < size_of fixed home.from
+  longest_below home there enough =
+      let ending = ending_is young is in
+      let of_young = young_of ending home there in
+      let size = copy_size ending home of_young in
+      let bounds = cells_have_words old.seat.space (heap_words old.seat) of_young.cell (has_is_cell of_young.has) in
+      let some : 1 ≤ size_of fixed home.from = omega (arith, size, bounds.0) in
+      (longest_tells new.free (size_of fixed home.from) some).1
+      (is.placed.none_fits (size_of fixed home.from) some enough (omega (arith, size, bounds.1)))
 
--- its young cells are home copies
-young_came : {heap : Heap} {homes : List Home} {cell : Cell} → CameFrom heap homes cell
-    → eden_start heap.space ≤ cell.at → (home : Home) × Contains homes home × (home.to ≡ cell.at)
-young_came (CameFrom.of_page had below) young = absurd (omega (arith, below, young))
-young_came (CameFrom.of_copy home there same) young = (home, there, same)
+  -- what is to be promoted is in a page, unless it is longer than each free run
+  promotes : (home : Home) → Contains homes home → IsToPromote old.seat.space all home.from
+      → (home.to < eden_start old.seat.space) ⊎ (longest_of new.free < size_of fixed home.from)
+  promotes home there to_promote =
+      elim (is.placed.stayed home there to_promote) [
+        | inl below ↦ inl below
+        | inr enough ↦ inr (longest_below home there enough)
+      ]
 
--- and it may be collected
-left_is_collectable : (old new : Mutator) (fixed : Fixed) (homes : List Home) (words : List ℕ) (fill : ℕ)
-    → IsYoung old.young → IsEnded old new fixed homes words fill
-    → IsCollectable (heap_of new) (other_half new.young.half)
-left_is_collectable old new fixed homes words fill young is =
-    let half : other_half new.young.half ≡ old.young.half =
-    ap (λ (one : Young). other_half one.half) is.young ∙ omega (arith, young.half) in
-    subst (IsCollectable (heap_of new)) (sym half)
-    (subst (λ heap. IsCollectable heap old.young.half) (sym (new_is old new fixed homes words fill is))
-    (is_collectable (ending_is old new fixed homes words fill young is)))
+  -- it is a scavenge
+  scavenged : Scavenges old new all
+  scavenged =
+      let ending = ending_is young is in
+      record {
+        fixed = fixed;
+        homes = homes;
+        begins = is.begun.begins;
+        renaming = renaming ending;
+        housed = (ended ending).2;
+        outside = outside;
+        seat = is.seat;
+        paths = is.paths;
+        stayed = is.filled.stayed;
+        stayed_are = left_stayed young is;
+        tiles = left_tiles young is;
+        young = left_young young is;
+        few = left_few young is;
+        moved = left_is_moved young is;
+        alone = left_alone young is;
+        promotes = promotes;
+        stays = is.placed.promoted;
+        left = is.filled.left;
+      }
 
--- it is a scavenge
-scavenged : (old new : Mutator) (fixed : Fixed) (homes : List Home) (words : List ℕ) (fill : ℕ) → IsYoung old.young
-    → IsEnded old new fixed homes words fill → Scavenges old new
-scavenged old new fixed homes words fill young is =
-    let ending = ending_is old new fixed homes words fill young is in
-    record {
-      fixed = fixed;
-      homes = homes;
-      begins = is.begun.begins;
-      renaming = renaming ending;
-      housed = (ended ending).2;
-      outside = outside_same ending;
-      seat = is.seat;
-      paths = is.paths;
-      young = is.young;
-      few = omega (arith, few ending, is.filled.long);
-      moved = left_is_moved old new fixed homes words fill young is;
-      alone = λ cell body has.
-          young_came (came_from ending
-          (subst (λ heap. HasCell heap cell body) (new_is old new fixed homes words fill is) has));
-    }
+  -- the heap that is left may be collected
+  left_is_collectable : IsCollectable (heap_of new) (other_half new.young.half)
+  left_is_collectable =
+      let half : other_half new.young.half ≡ old.young.half =
+      ap (λ (one : Young). other_half one.half) is.young ∙ omega (arith, young.half) in
+      subst (IsCollectable (heap_of new)) (sym half)
+      (subst (λ heap. IsCollectable heap old.young.half) (sym (left_is young is)) (is_collectable (ending_is young is)))
 
--- the heap that is left shows the graph
-still_shows : (old new : Mutator) (graph : Graph) (fixed : Fixed) (homes : List Home) (words : List ℕ) (fill : ℕ)
-    → MainShows old graph → IsYoung old.young → IsEnded old new fixed homes words fill → MainShows new graph
-still_shows old new graph fixed homes words fill shows young is =
-    let to = place_after (heap_of old) homes in
-    let moved = left_is_moved old new fixed homes words fill young is in
-    record {
-      tied = ap (λ (one : Young). one.space) is.young ∙ shows.tied ∙ sym is.seat.space;
-      is_graph = shows.is_graph;
-      quiet = is.seat.phase ∙ shows.quiet;
-      shows = moves_show (heap_of old) (heap_of new) to graph (shows_for (Stays to) shows.shows) moved;
-      counts = counts_stay shows.shows moved shows.counts;
-      collectable = left_is_collectable old new fixed homes words fill young is;
-    }
+  -- each free run is one free cell of it
+  left_is_free : AreFreeRuns (heap_of new) new.free
+  left_is_free = subst (λ heap. AreFreeRuns heap new.free) (sym (left_is young is)) (runs_are_free (ending_is young is))
+
+  -- and what is recorded is right
+  left_is_remembered : AreRemembered (heap_of new) new.recorded.slots
+  left_is_remembered =
+      subst (λ heap. AreRemembered heap new.recorded.slots) (sym (left_is young is))
+      (end_is_remembered (ending_is young is) new.recorded.slots is.kept)
+
+  -- the heap that is left shows the graph
+  still_shows : (graph : Graph) → MainShows old graph → MainShows new graph
+  still_shows graph shows =
+      let to = place_after (start_of old) homes in
+      let moved = left_is_moved young is in
+      record {
+        tied = ap (λ (one : Young). one.space) is.young ∙ shows.tied ∙ sym is.seat.space;
+        is_graph = shows.is_graph;
+        quiet = is.seat.phase ∙ shows.quiet;
+        shows = moves_show (heap_of old) (heap_of new) to graph (shows_for (Stays to) shows.shows) moved;
+        counts = counts_stay shows.shows moved shows.counts;
+        collectable = left_is_collectable;
+        free = left_is_free;
+        bounded = is.bound ∙ shows.bounded ∙ ap eden_start (sym is.seat.space);
+        remembered = left_is_remembered;
+      }
 
 -- an end is a scavenge, shows the graph, and keeps the rooms
 pub ends_are_scavenges : EndsAreScavenges
-ends_are_scavenges old new graph fixed homes words fill shows young is =
-    let to = place_after (heap_of old) homes in
-    let moved = left_is_moved old new fixed homes words fill young is in (
-      scavenged old new fixed homes words fill young is,
-      still_shows old new graph fixed homes words fill shows young is,
-      λ rooms. moves_keep_rooms (heap_of old) (heap_of new) to graph rooms (shows_for (Stays to) shows.shows) moved,
+ends_are_scavenges old new graph all fixed homes words fill refused shows young free is =
+    let to = place_after (start_of old) homes in (
+      scavenged young is,
+      still_shows young is graph shows,
+      λ rooms. moves_keep_rooms (heap_of old) (heap_of new) to graph rooms (shows_for (Stays to) shows.shows)
+          (left_is_moved young is),
     )

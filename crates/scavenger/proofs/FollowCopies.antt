@@ -1,100 +1,101 @@
--- The copy of a cell behind the copies that stand in the room.
-use Rattle.std.proofs.Common.{ℕ, zero, suc, ◌+◌, ◌-◌, ◌<◌, ◌≤◌, ◌≡◌, List, [], ◌∷◌, length, set, get_or}
+-- The copy of a cell in a room, where no home copy stands.
+use Rattle.std.proofs.Common.{ℕ, zero, suc, ◌+◌, ◌-◌, ◌<◌, ◌≤◌, ◌≡◌, List, length, set, get_or}
 use Rattle.std.proofs.Common.{arith, refl, sym, ap, subst, ◌∙◌}
 use Rattle.std.specs.List.{Contains}
-use Rattle.tagged_word.specs.declared.word.Class.TheVariants.{Ref}
-use Rattle.tagged_word.specs.Words.{bits_of}
-use Rattle.tagged_word.proofs.Members.{first_in}
 use Rattle.word_store.specs.Copies.{copied}
 use Rattle.word_store.proofs.CopiedWords.{copied_none, copied_more, get_or-copied}
+use Rattle.heap_model.specs.Types.{Cell}
 use Rattle.scav_copy.specs.declared.places.Home.{Home}
 use Rattle.scav_copy.specs.declared.places.Room.{Room}
-use Rattle.scav_copy.specs.Places.{Fixed, size_of, IsInRooms, IsInCopies, IsLaidOut}
+use Rattle.scav_copy.specs.Places.{Fixed, size_of, IsInRooms, IsInCopies, IsLaidOut, StoodAt}
 use Rattle.scav_copy.specs.Renamings.{IsReachable}
-use Rattle.scav_copy.specs.Copies.{with_home, HasNoHome, HasHeader, Copying, IsCopyAt}
-use Rattle.scav_copy.proofs.Spots.{cell_ends, some_words}
-use Rattle.scav_copy.proofs.Filling.{rooms_may_be_filled}
+use Rattle.scav_copy.specs.Copies.{with_home, HasNoHome, LiesInRoom, Copying, IsCopyAt}
+use Rattle.scav_copy.proofs.Spots.{cell_ends, some_words, elsewhere}
+use Rattle.scav_copy.proofs.Filling.{rooms_may_be_filled, free_is_not_live}
 use Rattle.scav_copy.proofs.Moving.{cells_may_move}
-use Rattle.scavenger.specs.Filling.{IsFilled}
-use Rattle.scavenger.proofs.FollowTiles.{copy_within, fill_above}
+use Rattle.scavenger.specs.Following.{moved_words}
+use Rattle.scavenger.proofs.PagesCells.{header_stays}
 
--- A cell that was reached has no home, and behind the copies the one room has so many words more.
-pub record MayCopy (fixed : Fixed) (words : List ℕ) (homes : List Home) (room : Room) (scan fill cell : ℕ)
-    : Type 0 where
+-- Words are put one after another, each where a word of a room is in no home copy.
+pub data Fills (fixed : Fixed) (homes : List Home) (words : List ℕ) : List ℕ → Type 0 where
+  stays : Fills fixed homes words words
+  puts : (now : List ℕ) (at word : ℕ) → Fills fixed homes words now → IsInRooms fixed at
+      → (IsInCopies fixed homes at → ⊥) → Fills fixed homes words (set now at word)
+
+-- so the words are still copying
+pub fills_copying : {fixed : Fixed} {words : List ℕ} {homes : List Home} {now : List ℕ} → IsLaidOut fixed
+    → Copying fixed words homes → Fills fixed homes words now → Copying fixed now homes
+fills_copying laid copying Fills.stays = copying
+fills_copying {fixed} {homes = homes} laid copying (Fills.puts now at word fills in_room free) =
+    rooms_may_be_filled fixed now homes at word laid (fills_copying laid copying fills) in_room free
+
+-- and live slots keep their words
+pub fills_live : {fixed : Fixed} {words : List ℕ} {homes : List Home} {now : List ℕ} (slot place : ℕ) → IsLaidOut fixed
+    → StoodAt fixed homes slot place → Fills fixed homes words now → get_or now slot 0 ≡ get_or words slot 0
+fills_live slot place laid stood Fills.stays = refl
+fills_live slot place laid stood (Fills.puts now at word fills in_room free) =
+    elsewhere now at word slot (free_is_not_live at slot place laid in_room free stood)
+    ∙ fills_live slot place laid stood fills
+
+-- A cell that was reached has no home, and from an address on a room has as many words that are in no home copy.
+pub record FitsCopy (fixed : Fixed) (words : List ℕ) (homes : List Home) (cell : Cell) (to : ℕ) : Type 0 where
   pub laid : IsLaidOut fixed
-  pub rooms : fixed.rooms ≡ room ∷ []
-  pub filled : IsFilled fixed words homes room.from scan fill
-  pub ends : fill + size_of fixed cell ≤ room.to
-  pub is : Contains fixed.cells cell
-  pub reached : IsReachable fixed cell
-  pub none : HasNoHome homes cell
+  pub copying : Copying fixed words homes
+  pub size : cell.size ≡ size_of fixed cell.at
+  pub room : Room
+  pub lies : LiesInRoom fixed room to cell.size
+  pub free : (at : ℕ) → to ≤ at → at < to + cell.size → IsInCopies fixed homes at → ⊥
+  pub is : Contains fixed.cells cell.at
+  pub reached : IsReachable fixed cell.at
+  pub none : HasNoHome homes cell.at
 
--- the room is one of the rooms
-room_among : {fixed : Fixed} {words : List ℕ} {homes : List Home} {room : Room} {scan fill cell : ℕ}
-    → MayCopy fixed words homes room scan fill cell → Contains fixed.rooms room
-room_among {room = room} may = subst (λ (rooms : List Room). Contains rooms room) (sym may.rooms) (first_in room [])
-
--- each word of the copy is a word of the room
-pub copy_in_rooms : {fixed : Fixed} {words : List ℕ} {homes : List Home} {room : Room} {scan fill cell : ℕ} (at : ℕ)
-    → MayCopy fixed words homes room scan fill cell → fill ≤ at → at < fill + size_of fixed cell → IsInRooms fixed at
-copy_in_rooms {room = room} at may from below =
-    let start = fill_above may.filled in
-    (room, room_among may, record { from = omega (arith, start); below = omega (arith, may.ends) })
-
--- and in no home copy
-pub copy_is_free : {fixed : Fixed} {words : List ℕ} {homes : List Home} {room : Room} {scan fill cell : ℕ} (at : ℕ)
-    → MayCopy fixed words homes room scan fill cell → fill ≤ at → IsInCopies fixed homes at → ⊥
-copy_is_free at may from inside =
-    let within = copy_within inside.0 may.filled inside.1 in
-    omega (arith, inside.2.below, within.1)
+-- each word of the copy is a word of a room
+copy_in_rooms : {fixed : Fixed} {words : List ℕ} {homes : List Home} {cell : Cell} {to : ℕ} (at : ℕ)
+    → FitsCopy fixed words homes cell to → to ≤ at → at < to + cell.size → IsInRooms fixed at
+copy_in_rooms at fits from below = (
+  fits.room,
+  fits.lies.among,
+  record { from = omega (arith, fits.lies.from, from); below = omega (arith, fits.lies.ends, below) },
+)
 
 -- the cell is there
-pub cell_is_there : {fixed : Fixed} {words : List ℕ} {homes : List Home} {room : Room} {scan fill cell : ℕ}
-    → MayCopy fixed words homes room scan fill cell → cell + size_of fixed cell ≤ length words
-cell_is_there {fixed} {cell = cell} may =
-    omega (arith, cell_ends fixed cell (may.laid.cells_are cell may.is), may.filled.copying.long)
+pub cell_is_there : {fixed : Fixed} {words : List ℕ} {homes : List Home} {cell : Cell} {to : ℕ}
+    → FitsCopy fixed words homes cell to → cell.at + cell.size ≤ length words
+cell_is_there {fixed} {cell = cell} fits =
+    omega (arith, cell_ends fixed cell.at (fits.laid.cells_are cell.at fits.is), fits.size, fits.copying.long)
 
 -- and so are the words that it is copied to
-pub copy_is_there : {fixed : Fixed} {words : List ℕ} {homes : List Home} {room : Room} {scan fill cell : ℕ}
-    → MayCopy fixed words homes room scan fill cell → fill + size_of fixed cell ≤ length words
-copy_is_there {fixed} {words} {fill = fill} {cell} may =
-    let some : 1 ≤ size_of fixed cell = some_words cell may.laid may.is in
-    let last : ℕ = fill + size_of fixed cell - 1 in
+pub copy_is_there : {fixed : Fixed} {words : List ℕ} {homes : List Home} {cell : Cell} {to : ℕ}
+    → FitsCopy fixed words homes cell to → to + cell.size ≤ length words
+copy_is_there {fixed} {words} {cell = cell} {to} fits =
+    let some : 1 ≤ cell.size = omega (arith, fits.size, some_words cell.at fits.laid fits.is) in
+    let last : ℕ = to + cell.size - 1 in
     let inside : last < length fixed.before =
-    may.laid.rooms_there last (copy_in_rooms last may (omega arith) (omega arith)) in
-    let long : length words ≡ length fixed.before = may.filled.copying.long in
-    omega (arith, some, inside, long)
+    fits.laid.rooms_there last (copy_in_rooms last fits (omega (arith, some)) (omega (arith, some))) in
+    omega (arith, some, inside, fits.copying.long)
 
--- the words are copying while the first ones of the cell are copied
-first_copied : {fixed : Fixed} {words : List ℕ} {homes : List Home} {room : Room} {scan fill cell : ℕ} (many : ℕ)
-    → MayCopy fixed words homes room scan fill cell → many ≤ size_of fixed cell
-    → Copying fixed (copied words cell fill many) homes
-first_copied {fixed} {words} {homes} {fill = fill} {cell} zero may few =
-    subst (λ (now : List ℕ). Copying fixed now homes)
-    (copied_none words cell fill (omega (arith, copy_is_there may))) may.filled.copying
-first_copied {fixed} {words} {homes} {fill = fill} {cell} (suc many) may few =
-    let word : ℕ = get_or words (cell + many) 0 in
-    let size : ℕ = size_of fixed cell in
+-- the first words of the cell are put one after another
+first_copied : {fixed : Fixed} {words : List ℕ} {homes : List Home} {cell : Cell} {to : ℕ} (many : ℕ)
+    → FitsCopy fixed words homes cell to → many ≤ cell.size
+    → Fills fixed homes words (copied words cell.at to many)
+first_copied {fixed} {words} {homes} {cell} {to} zero fits few =
+    subst (Fills fixed homes words) (copied_none words cell.at to (omega (arith, copy_is_there fits))) Fills.stays
+first_copied {fixed} {words} {homes} {cell} {to} (suc many) fits few =
+    let word : ℕ = get_or words (cell.at + many) 0 in
     let next : many + 1 ≡ suc many = omega arith in
-    let less : many < size = omega arith in
-    let stored = rooms_may_be_filled fixed (copied words cell fill many) homes (fill + many) word may.laid
-    (first_copied many may (omega arith)) (copy_in_rooms (fill + many) may (omega arith) (omega arith))
-    (copy_is_free (fill + many) may (omega arith)) in
-    subst (λ (now : List ℕ). Copying fixed now homes)
-    (copied_more words cell fill size many word (cell_is_there may) (copy_is_there may) less refl
-    ∙ ap (copied words cell fill) next) stored
+    let less : many < cell.size = omega (arith, few) in
+    let low : to ≤ to + many = omega arith in
+    let high : to + many < to + cell.size = omega (arith, less) in
+    subst (Fills fixed homes words)
+    (copied_more words cell.at to cell.size many word (cell_is_there fits) (copy_is_there fits) less refl
+    ∙ ap (copied words cell.at to) next)
+    (Fills.puts (copied words cell.at to many) (to + many) word (first_copied many fits (omega (arith, few)))
+    (copy_in_rooms (to + many) fits low high) (fits.free (to + many) low high))
 
--- and when all are
-pub all_copied : {fixed : Fixed} {words : List ℕ} {homes : List Home} {room : Room} {scan fill cell : ℕ}
-    → MayCopy fixed words homes room scan fill cell
-    → Copying fixed (copied words cell fill (size_of fixed cell)) homes
-all_copied {fixed} {cell = cell} may = first_copied (size_of fixed cell) may (omega arith)
-
--- a header of a cell with no home is as before
-header_before : {fixed : Fixed} {words : List ℕ} {homes : List Home} {cell : ℕ} → HasNoHome homes cell
-    → HasHeader fixed words homes cell → get_or words cell 0 ≡ get_or fixed.before cell 0
-header_before none (HasHeader.forwarded home there of word) = absurd (none home there of)
-header_before none (HasHeader.unmoved homeless word) = word
+-- and all are
+pub all_copied : {fixed : Fixed} {words : List ℕ} {homes : List Home} {cell : Cell} {to : ℕ}
+    → FitsCopy fixed words homes cell to → Fills fixed homes words (copied words cell.at to cell.size)
+all_copied {cell = cell} fits = first_copied cell.size fits (omega arith)
 
 -- all words of a cell with no home are as before
 words_before : {fixed : Fixed} {words : List ℕ} {homes : List Home} (cell offset : ℕ) → Copying fixed words homes
@@ -102,33 +103,36 @@ words_before : {fixed : Fixed} {words : List ℕ} {homes : List Home} (cell offs
     → get_or words (cell + offset) 0 ≡ get_or fixed.before (cell + offset) 0
 words_before {fixed} {words} cell zero copying is none less =
     let back : cell + 0 ≡ cell = omega arith in
-    ap (λ (at : ℕ). get_or words at 0) back ∙ header_before none (copying.headers cell is)
+    ap (λ (at : ℕ). get_or words at 0) back ∙ header_stays none (copying.headers cell is)
     ∙ sym (ap (λ (at : ℕ). get_or fixed.before at 0) back)
 words_before cell (suc k) copying is none less = copying.bodies cell (suc k) is (omega arith) less
 
 -- the words that were copied are a copy of the cell
-copy_stands : {fixed : Fixed} {words : List ℕ} {homes : List Home} {room : Room} {scan fill cell : ℕ}
-    → MayCopy fixed words homes room scan fill cell
-    → IsCopyAt fixed (copied words cell fill (size_of fixed cell)) homes cell fill
-copy_stands {fixed} {words} {room = room} {fill = fill} {cell} may =
-    let start = fill_above may.filled in
-    record {
-      room = room;
-      lies = record { among = room_among may; from = start; ends = may.ends };
-      apart = λ home at there has also. copy_is_free at may also.from (home, there, has);
-      whole = λ offset less.
-          get_or-copied words cell fill (size_of fixed cell) offset 0 (cell_is_there may) (copy_is_there may) less
-          ∙ words_before cell offset may.filled.copying may.is may.none less;
-    }
+copy_stands : {fixed : Fixed} {words : List ℕ} {homes : List Home} {cell : Cell} {to : ℕ}
+    → FitsCopy fixed words homes cell to → IsCopyAt fixed (copied words cell.at to cell.size) homes cell.at to
+copy_stands {fixed} {words} {cell = cell} {to} fits = record {
+  room = fits.room;
+  lies = record {
+    among = fits.lies.among;
+    from = fits.lies.from;
+    ends = omega (arith, fits.lies.ends, fits.size);
+  };
+  apart = λ home at there has also.
+      fits.free at also.from (omega (arith, also.below, fits.size)) (home, there, has);
+  whole = λ offset less.
+      let within : offset < cell.size = omega (arith, less, fits.size) in
+      get_or-copied words cell.at to cell.size offset 0 (cell_is_there fits) (copy_is_there fits) within
+      ∙ words_before cell.at offset fits.copying fits.is fits.none less;
+}
 
--- the words with the copy, and with the reference to it as the cell's header
-abbrev pub with_copy : Fixed → List ℕ → ℕ → ℕ → List ℕ
-with_copy fixed words cell fill = set (copied words cell fill (size_of fixed cell)) cell (bits_of (Ref fill))
+-- the home of a cell at an address
+abbrev pub home_at : Cell → ℕ → Home
+home_at cell to = record { from = cell.at; to = to }
 
--- they are copying, and the copy is the cell's home
-pub copy_is_home : {fixed : Fixed} {words : List ℕ} {homes : List Home} {room : Room} {scan fill cell : ℕ}
-    → MayCopy fixed words homes room scan fill cell
-    → Copying fixed (with_copy fixed words cell fill) (with_home homes (record { from = cell; to = fill }))
-copy_is_home {fixed} {words} {homes} {fill = fill} {cell} may =
-    cells_may_move fixed (copied words cell fill (size_of fixed cell)) homes cell fill may.laid (all_copied may)
-    may.reached may.none (copy_stands may)
+-- with the reference to the copy as the cell's header the words are copying, and the copy is its home
+pub copy_is_home : {fixed : Fixed} {words : List ℕ} {homes : List Home} {cell : Cell} {to : ℕ}
+    → FitsCopy fixed words homes cell to
+    → Copying fixed (moved_words words cell to) (with_home homes (home_at cell to))
+copy_is_home {fixed} {words} {homes} {cell} {to} fits =
+    cells_may_move fixed (copied words cell.at to cell.size) homes cell.at to fits.laid
+    (fills_copying fits.laid fits.copying (all_copied fits)) fits.reached fits.none (copy_stands fits)

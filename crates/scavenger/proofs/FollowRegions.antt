@@ -18,7 +18,7 @@ use Rattle.heap_model.specs.Wholeness.{HasRows}
 use Rattle.heap_model.proofs.CellsApart.{has_is_cell, cell_extent_stands, ends_within, used_few}
 use Rattle.scav_copy.proofs.Redirecting.{equal_or_not}
 use Rattle.scav_copy.specs.Places.{Fixed}
-use Rattle.scavenger.specs.Starts.{IsYoungCell, IsBegun}
+use Rattle.scavenger.specs.Starts.{Start, IsYoungCell, IsBegun}
 use Rattle.scavenger.specs.Following.{IsLeft}
 
 -- an address of a segment of the half that is left is left
@@ -73,13 +73,14 @@ in_own_region {heap} {cell} rows has =
     }
 
 -- a young cell is left
-young_is_left : {heap : Heap} {half : ℕ} {fixed : Fixed} (left at : ℕ) → IsBegun heap half fixed → half + left ≡ 1
-    → IsYoungCell heap at → IsLeft heap.space left at
-young_is_left {heap} {half} left at begun other young =
+young_is_left : {start : Start} {fixed : Fixed} (left at : ℕ) → IsBegun start fixed → start.half + left ≡ 1
+    → IsYoungCell start.heap at → IsLeft start.heap.space left at
+young_is_left {start} left at begun other young =
+    let heap = start.heap in
     let has = young.has in
     let rows = begun.whole.rows in
     let from : eden_start heap.space ≤ young.cell.at = omega (arith, young.young, young.stands) in
-    let empty : (worker : ℕ) → has.row.extent.region ≡ Segment half worker → ⊥ =
+    let empty : (worker : ℕ) → has.row.extent.region ≡ Segment start.half worker → ⊥ =
     λ worker is. begun.collectable.empty young.cell young.words has (record {
       extent = has.row.extent;
       among = has.in_region;
@@ -88,11 +89,11 @@ young_is_left {heap} {half} left at begun other young =
       holds = region_holds rows has;
     }) in
     subst (IsLeft heap.space left) young.stands
-    (left_by heap half left young.cell.at has.row.end has.row.extent has.row.extent.region other empty from
+    (left_by heap start.half left young.cell.at has.row.end has.row.extent has.row.extent.region other empty from
     (in_own_region rows has) has.used.ends)
 
 -- each of the cells is left
-pub cell_is_left : {heap : Heap} {half : ℕ} {fixed : Fixed} (left at : ℕ) → IsBegun heap half fixed → half + left ≡ 1
-    → Contains fixed.cells at → IsLeft heap.space left at
+pub cell_is_left : {start : Start} {fixed : Fixed} (left at : ℕ) → IsBegun start fixed → start.half + left ≡ 1
+    → Contains fixed.cells at → IsLeft start.heap.space left at
 cell_is_left left at begun other there =
     young_is_left left at begun other ((begun.begins.cells at).0 there)

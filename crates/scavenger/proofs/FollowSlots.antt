@@ -1,22 +1,19 @@
--- A live slot that stays as it is, and one that becomes the reference to a home.
-use Rattle.std.proofs.Common.{ℕ, ◌<◌, ◌≡◌, ◌≢◌, inl, List, length, set, get_or, Some}
+-- A live slot that becomes the reference to a home.
+use Rattle.std.proofs.Common.{ℕ, ◌<◌, ◌≡◌, ◌≢◌, List, length, set, get_or, Some}
 use Rattle.std.proofs.Common.{arith, ap, subst, ◌∙◌}
 use Rattle.std.specs.List.{Contains}
 use Rattle.std.proofs.lemmas.List.{get_or-set_same}
 use Rattle.tagged_word.specs.declared.word.Class.TheVariants.{Ref}
 use Rattle.tagged_word.specs.Words.{bits_of}
 use Rattle.tagged_word.specs.Readings.{reference_in}
-use Rattle.tagged_word.proofs.Cells.{some_same}
 use Rattle.scav_copy.specs.declared.places.Home.{Home}
 use Rattle.scav_copy.specs.Places.{Fixed, IsLaidOut, StoodAt}
 use Rattle.scav_copy.specs.Renamings.{RefersToAddress}
 use Rattle.scav_copy.specs.Copies.{Copying}
-use Rattle.scav_copy.specs.Going.{IsFollowed}
-use Rattle.scav_copy.proofs.Redirecting.{slots_may_be_renamed}
-use Rattle.scav_copy.proofs.Spots.{elsewhere, home_is_no_cell, live_is_there}
-use Rattle.scavenger.specs.Filling.{IsFilled}
-use Rattle.scavenger.specs.Following.{HasFollowed}
-use Rattle.scavenger.proofs.FollowTiles.{still_filled}
+use Rattle.scav_copy.proofs.Redirecting.{as_before, slots_may_be_renamed}
+use Rattle.scav_copy.proofs.Spots.{elsewhere, from_is, home_is_no_cell, live_is_there}
+use Rattle.scavenger.specs.Following.{RenamingGoesOn}
+use Rattle.scavenger.proofs.PagesSlots.{pages_stay_for_slots}
 
 -- a slot that became the reference to a home refers to none of the cells, so another does
 pub other_slot : {fixed : Fixed} {words : List ℕ} {homes : List Home} (slot place other cell : ℕ) (home : Home)
@@ -35,46 +32,37 @@ pub refers_before : (words : List ℕ) (slot word other cell : ℕ) → other �
 refers_before words slot word other cell apart refers =
     subst (λ (one : ℕ). reference_in one ≡ Some cell) (elsewhere words slot word other apart) refers
 
--- a slot that refers to nothing that is left may stay
-pub stays_done : {fixed : Fixed} {words : List ℕ} {homes : List Home} {start scan fill : ℕ} (slot : ℕ)
-    → IsFilled fixed words homes start scan fill
-    → ((cell : ℕ) → RefersToAddress words slot cell → Contains fixed.cells cell → ⊥)
-    → HasFollowed fixed words words homes start scan fill fill slot
-stays_done {words = words} {homes} slot filled none = record {
-  all = homes;
-  filled = filled;
-  kept = λ home there. there;
-  on = omega arith;
-  others = λ other place cell stood refers is. (
-    λ same. none cell (subst (λ (at : ℕ). RefersToAddress words at cell) same refers) is,
-    inl (stood, refers),
-  );
-}
-
 -- a slot that refers to a cell with a home may become the reference to that
-renamed_done : {fixed : Fixed} {words : List ℕ} {homes : List Home} {start scan fill : ℕ} (slot place : ℕ)
-    (home : Home) → IsLaidOut fixed → IsFilled fixed words homes start scan fill → StoodAt fixed homes slot place
-    → Contains homes home → RefersToAddress fixed.before place home.from
-    → HasFollowed fixed words (set words slot (bits_of (Ref home.to))) homes start scan fill fill slot
-renamed_done {fixed} {words} {homes} slot place home laid filled stood there refers = record {
-  all = homes;
-  filled = still_filled filled
-      (slots_may_be_renamed fixed words homes slot place home laid filled.copying stood there refers);
-  kept = λ one among. among;
-  on = omega arith;
-  others = λ other origin cell also now is.
-      let apart = other_slot slot place other cell home laid filled.copying stood there now is in
-      (apart, inl (also, refers_before words slot (bits_of (Ref home.to)) other cell apart now));
-}
+renamed_copying : {fixed : Fixed} {words : List ℕ} {homes : List Home} (slot place : ℕ) (home : Home)
+    → IsLaidOut fixed → Copying fixed words homes → StoodAt fixed homes slot place
+    → RefersToAddress words slot home.from → Contains homes home
+    → Copying fixed (set words slot (bits_of (Ref home.to))) homes
+renamed_copying {fixed} {words} {homes} slot place home laid copying stood refers there =
+    let same = (as_before fixed words homes slot place home.from laid copying stood refers
+    (from_is home copying there)).0 in
+    slots_may_be_renamed fixed words homes slot place home laid copying stood there
+    (subst (λ (word : ℕ). reference_in word ≡ Some home.from) same refers)
 
--- the header of the cell that the slot refers to is the reference to this home, so the cell has it
-pub renamed_by : {fixed : Fixed} {words : List ℕ} {homes : List Home} {start scan fill : ℕ} (slot place at to : ℕ)
-    → IsLaidOut fixed → IsFilled fixed words homes start scan fill → StoodAt fixed homes slot place
-    → RefersToAddress words at to → IsFollowed fixed words homes place at
-    → HasFollowed fixed words (set words slot (bits_of (Ref to))) homes start scan fill fill slot
-renamed_by {fixed} {words} {homes} {start} {scan} {fill} slot place at to laid filled stood forwards
-    (IsFollowed.has_home home there header refers) =
-    let same : home.to ≡ to = some_same header forwards in
-    subst (λ (one : ℕ). HasFollowed fixed words (set words slot (bits_of (Ref one))) homes start scan fill fill slot)
-    same (renamed_done slot place home laid filled stood there refers)
-renamed_by slot place at to laid filled stood forwards (IsFollowed.has_none none reached header reads) = cc
+-- so a scavenge goes on
+pub renaming_goes_on : RenamingGoesOn
+renaming_goes_on start left fixed words rows homes todo front home fill slot place begun both filled stood refers
+    is_left there =
+    let laid = begun.laid in
+    record {
+      filled = record {
+        copying = renamed_copying slot place home laid filled.copying stood refers there;
+        stayed = filled.stayed;
+        tiles = filled.tiles;
+        promoted = filled.promoted;
+        in_pages = filled.in_pages;
+        same = filled.same;
+        long = filled.long;
+        pages = pages_stay_for_slots start fixed words rows homes fill slot place (bits_of (Ref home.to)) begun filled stood;
+        left = filled.left;
+        free = filled.free;
+        apart = filled.apart;
+      };
+      others = λ others other origin cell also now is.
+          let apart = other_slot slot place other cell home laid filled.copying stood there now is in
+          (apart, refers_before words slot (bits_of (Ref home.to)) other cell apart now);
+    }

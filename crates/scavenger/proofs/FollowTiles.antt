@@ -1,15 +1,20 @@
--- Copies that stand one behind another, and one more behind them.
-use Rattle.std.proofs.Common.{ℕ, ◌+◌, ◌≤◌, ◌≡◌, ◌⊎◌, inl, inr, List, [], ◌∷◌, ◌++◌, ◌↔◌, arith, refl, sym, subst}
+-- Copies that stand one behind another, and one more behind them; where home copies are.
+use Rattle.std.proofs.Common.{ℕ, ◌+◌, ◌<◌, ◌≤◌, ◌≡◌, ◌⊎◌, inl, inr, List, [], ◌∷◌, ◌++◌, ◌↔◌}
+use Rattle.std.proofs.Common.{arith, refl, sym, ap, subst}
 use Rattle.std.specs.List.{Contains}
 use Rattle.std.proofs.lemmas.List.Elements.{Contains-append_cases, Contains-append_left, Contains-append_right}
-use Rattle.tagged_word.proofs.Members.{first_in, in_cases, one_in}
+use Rattle.tagged_word.proofs.Members.{first_in, rest_in, in_cases, one_in}
+use Rattle.page_space.specs.Extents.{eden_start}
+use Rattle.heap_model.specs.Types.{Run}
 use Rattle.scav_copy.specs.declared.places.Home.{Home}
-use Rattle.scav_copy.specs.Places.{Fixed, size_of}
+use Rattle.scav_copy.specs.declared.places.Room.{Room}
+use Rattle.scav_copy.specs.Places.{Fixed, size_of, IsInCopies}
 use Rattle.scav_copy.specs.Copies.{with_home, Copying}
 use Rattle.scav_copy.proofs.Ascending.{new_in, old_in, joined_is}
 use Rattle.scav_copy.proofs.Spots.{none_in}
+use Rattle.scavenger.specs.Starts.{Start, IsBegun, IsRunOf, room_start, room_of, room_of_run}
 use Rattle.scavenger.specs.Filling.{Tiles, none, next, IsFilled}
-use Rattle.scavenger.proofs.Sums.{one_home_more}
+use Rattle.scavenger.proofs.TargetCells.{run_ends}
 
 -- what copies with a first one say of it
 pub record BeginsWith (fixed : Fixed) (from to : ℕ) (home : Home) (homes : List Home) : Type 0 where
@@ -67,98 +72,131 @@ tiles_push {fixed} from (home ∷ homes) new tiles =
       rest = tiles_push (home.to + size_of fixed home.from) homes new begins.rest;
     }
 
--- one of two lists, or the one behind both
-behind_all : {X : Type 0} (done todo : List X) (new one : X) → Contains (done ++ (todo ++ new ∷ [])) one
-    → (new ≡ one) ⊎ Contains (done ++ todo) one
-behind_all done todo new one there =
-    elim (Contains-append_cases done (todo ++ new ∷ []) one there) [
-      | inl first ↦ inr (Contains-append_left done todo one first)
-      | inr rest ↦ elim (Contains-append_cases todo (new ∷ []) one rest) [
-        | inl second ↦ inr (Contains-append_right done todo one second)
-        | inr last ↦ inl (one_in new one last)
-      ]
-    ]
-
--- one of two lists is among both and one behind them
-among_all : {X : Type 0} (done todo : List X) (new one : X) → Contains (done ++ todo) one
-    → Contains (done ++ (todo ++ new ∷ [])) one
-among_all done todo new one there =
-    elim (Contains-append_cases done todo one there) [
-      | inl first ↦ Contains-append_left done (todo ++ new ∷ []) one first
-      | inr second ↦ Contains-append_right done (todo ++ new ∷ []) one
-          (Contains-append_left todo (new ∷ []) one second)
-    ]
-
--- and so is that one
-last_of_all : {X : Type 0} (done todo : List X) (new : X) → Contains (done ++ (todo ++ new ∷ [])) new
-last_of_all done todo new =
-    Contains-append_right done (todo ++ new ∷ []) new (Contains-append_right todo (new ∷ []) new (first_in new []))
-
--- the homes are those of two lists, and so they are with one more behind them
-pub same_with_home : (homes done todo : List Home) (new : Home)
-    → ((home : Home) → Contains homes home ↔ Contains (done ++ todo) home)
-    → (home : Home) → Contains (with_home homes new) home ↔ Contains (done ++ (todo ++ new ∷ [])) home
-same_with_home homes done todo new same home = (
+-- the homes are those of a list, and with one more those of a list that has this one besides
+pub same_with_home : (homes all more : List Home) (new : Home)
+    → ((home : Home) → Contains homes home ↔ Contains all home)
+    → ((home : Home) → Contains more home ↔ ((new ≡ home) ⊎ Contains all home))
+    → (home : Home) → Contains (with_home homes new) home ↔ Contains more home
+same_with_home homes all more new same besides home = (
   λ there. elim (joined_is homes new home there) [
-    | inl e ↦ subst (Contains (done ++ (todo ++ new ∷ []))) e (last_of_all done todo new)
-    | inr among ↦ among_all done todo new home ((same home).0 among)
+    | inl e ↦ (besides home).1 (inl e)
+    | inr among ↦ (besides home).1 (inr ((same home).0 among))
   ],
-  λ there. elim (behind_all done todo new home there) [
+  λ there. elim ((besides home).0 there) [
     | inl e ↦ subst (Contains (with_home homes new)) e (new_in homes new)
     | inr among ↦ old_in homes new home ((same home).1 among)
   ],
 )
 
--- a home copy lies between the start of the room and where the copies end
-pub copy_within : {fixed : Fixed} {words : List ℕ} {homes : List Home} {start scan fill : ℕ} (home : Home)
-    → IsFilled fixed words homes start scan fill → Contains homes home
-    → (start ≤ home.to) × (home.to + size_of fixed home.from ≤ fill)
-copy_within {start = start} {scan} {fill} home filled there =
-    let on = tiles_ascend start scan filled.done filled.tiles_done in
-    let more = tiles_ascend scan fill filled.todo filled.tiles_todo in
-    elim (Contains-append_cases filled.done filled.todo home ((filled.same home).0 there)) [
-      | inl first ↦
-          let within = tile_within start scan filled.done home filled.tiles_done first in
-          (within.0, omega (arith, within.1, more))
-      | inr second ↦
-          let within = tile_within scan fill filled.todo home filled.tiles_todo second in
-          (omega (arith, on, within.0), within.1)
+-- one more between two lists is there besides what both have
+pub one_between : {X : Type 0} (front back : List X) (new one : X)
+    → Contains (front ++ new ∷ back) one ↔ ((new ≡ one) ⊎ Contains (front ++ back) one)
+one_between front back new one = (
+  λ there. elim (Contains-append_cases front (new ∷ back) one there) [
+    | inl first ↦ inr (Contains-append_left front back one first)
+    | inr rest ↦ elim (in_cases new back one rest) [
+      | inl e ↦ inl e
+      | inr second ↦ inr (Contains-append_right front back one second)
     ]
+  ],
+  λ either. elim either [
+    | inl e ↦
+        subst (Contains (front ++ new ∷ back)) e (Contains-append_right front (new ∷ back) new (first_in new back))
+    | inr there ↦ elim (Contains-append_cases front back one there) [
+      | inl first ↦ Contains-append_left front (new ∷ back) one first
+      | inr second ↦ Contains-append_right front (new ∷ back) one (rest_in new back one second)
+    ]
+  ],
+)
+
+-- and so is one more behind the first of them
+pub one_behind : {X : Type 0} (front back : List X) (new one : X)
+    → Contains ((front ++ new ∷ []) ++ back) one ↔ ((new ≡ one) ⊎ Contains (front ++ back) one)
+one_behind front back new one = (
+  λ there. elim (Contains-append_cases (front ++ new ∷ []) back one there) [
+    | inl either ↦ elim (Contains-append_cases front (new ∷ []) one either) [
+      | inl first ↦ inr (Contains-append_left front back one first)
+      | inr last ↦ inl (one_in new one last)
+    ]
+    | inr second ↦ inr (Contains-append_right front back one second)
+  ],
+  λ either. elim either [
+    | inl e ↦
+        subst (Contains ((front ++ new ∷ []) ++ back)) e (Contains-append_left (front ++ new ∷ []) back new
+        (Contains-append_right front (new ∷ []) new (first_in new [])))
+    | inr there ↦ elim (Contains-append_cases front back one there) [
+      | inl first ↦
+          Contains-append_left (front ++ new ∷ []) back one (Contains-append_left front (new ∷ []) one first)
+      | inr second ↦ Contains-append_right (front ++ new ∷ []) back one second
+    ]
+  ],
+)
 
 -- the copies end behind the start of the room
-pub fill_above : {fixed : Fixed} {words : List ℕ} {homes : List Home} {start scan fill : ℕ}
-    → IsFilled fixed words homes start scan fill → start ≤ fill
-fill_above {start = start} {scan} {fill} filled =
-    let on = tiles_ascend start scan filled.done filled.tiles_done in
-    let more = tiles_ascend scan fill filled.todo filled.tiles_todo in
-    omega (arith, on, more)
+pub fill_above : {start : Start} {fixed : Fixed} {words : List ℕ} {rows : List (List Run)} {homes : List Home}
+    {fill : ℕ} → IsFilled start fixed words rows homes fill → room_start start.heap.space start.half ≤ fill
+fill_above {start} {fill = fill} filled =
+    tiles_ascend (room_start start.heap.space start.half) fill filled.stayed filled.tiles
 
--- the room is filled as far with other words that are copying
-pub still_filled : {fixed : Fixed} {words now : List ℕ} {homes : List Home} {start scan fill : ℕ}
-    → IsFilled fixed words homes start scan fill → Copying fixed now homes → IsFilled fixed now homes start scan fill
-still_filled filled copying = record {
-  copying = copying;
-  done = filled.done;
-  todo = filled.todo;
-  tiles_done = filled.tiles_done;
-  tiles_todo = filled.tiles_todo;
-  same = filled.same;
-  long = filled.long;
-}
+-- a home copy is one of the segment, or of a page
+pub stayed_or_promoted : {start : Start} {fixed : Fixed} {words : List ℕ} {rows : List (List Run)} {homes : List Home}
+    {fill : ℕ} (home : Home) (filled : IsFilled start fixed words rows homes fill) → Contains homes home
+    → Contains filled.stayed home ⊎ Contains filled.promoted home
+stayed_or_promoted home filled there =
+    Contains-append_cases filled.stayed filled.promoted home ((filled.same home).0 there)
 
--- with one copy more, which stands behind the others, it is filled up to the end of that
-pub filled_more : {fixed : Fixed} {words now : List ℕ} {homes : List Home} {start scan fill : ℕ} (cell : ℕ)
-    → IsFilled fixed words homes start scan fill
-    → Copying fixed now (with_home homes (record { from = cell; to = fill }))
-    → IsFilled fixed now (with_home homes (record { from = cell; to = fill })) start scan (fill + size_of fixed cell)
-filled_more {fixed} {homes = homes} {start} {scan} {fill} cell filled copying =
-    let new : Home = record { from = cell; to = fill } in
-    record {
-      copying = copying;
-      done = filled.done;
-      todo = filled.todo ++ new ∷ [];
-      tiles_done = filled.tiles_done;
-      tiles_todo = tiles_push scan filled.todo new filled.tiles_todo;
-      same = same_with_home homes filled.done filled.todo new filled.same;
-      long = omega (arith, one_home_more (size_of fixed) homes new, filled.long);
-    }
+-- one of the segment lies between its start and where the copies end
+pub stayed_within : {start : Start} {fixed : Fixed} {words : List ℕ} {rows : List (List Run)} {homes : List Home}
+    {fill : ℕ} (home : Home) (filled : IsFilled start fixed words rows homes fill) → Contains filled.stayed home
+    → (room_start start.heap.space start.half ≤ home.to) × (home.to + size_of fixed home.from ≤ fill)
+stayed_within {start} {fill = fill} home filled there =
+    tile_within (room_start start.heap.space start.half) fill filled.stayed home filled.tiles there
+
+-- so does a home copy that is not in a page
+pub young_within : {start : Start} {fixed : Fixed} {words : List ℕ} {rows : List (List Run)} {homes : List Home}
+    {fill : ℕ} (home : Home) → IsFilled start fixed words rows homes fill → Contains homes home
+    → eden_start start.heap.space ≤ home.to
+    → (room_start start.heap.space start.half ≤ home.to) × (home.to + size_of fixed home.from ≤ fill)
+young_within home filled there young =
+    elim (stayed_or_promoted home filled there) [
+      | inl stayed ↦ stayed_within home filled stayed
+      | inr promoted ↦ absurd (omega (arith, young, filled.in_pages home promoted))
+    ]
+
+-- a copy in a room that begins before eden ends there
+ends_by : {start : Start} {fixed : Fixed} (room : Room) (first many : ℕ) → IsBegun start fixed → room.from ≤ first
+    → first + many ≤ room.to → first < eden_start start.heap.space
+    → ((room ≡ room_of start.heap.space start.half)
+    ⊎ ((run : Run) × IsRunOf start.rows run × (room ≡ room_of_run start.heap.space run)))
+    → first + many ≤ eden_start start.heap.space
+ends_by {start} room first many begun from ends below (inl same) =
+    let starts : room.from ≡ room_start start.heap.space start.half = ap (λ (one : Room). one.from) same in
+    absurd (omega (arith, starts, from, below))
+ends_by {start} room first many begun from ends below (inr of_run) =
+    let run : Run = of_run.0 in
+    let to : room.to ≡ run.at + run.words = ap (λ (one : Room). one.to) of_run.2 in
+    omega (arith, to, ends, run_ends run begun of_run.1)
+
+-- so does a home copy
+pub copy_in_page : {start : Start} {fixed : Fixed} {words : List ℕ} {homes : List Home} (home : Home)
+    → IsBegun start fixed → Copying fixed words homes → Contains homes home → home.to < eden_start start.heap.space
+    → home.to + size_of fixed home.from ≤ eden_start start.heap.space
+copy_in_page {fixed = fixed} home begun copying there below =
+    let housed = copying.housed home there in
+    let lies = housed.1 in
+    ends_by housed.0 home.to (size_of fixed home.from) begun lies.from lies.ends below
+    ((begun.begins.rooms housed.0).0 lies.among)
+
+-- behind the copies of the segment no word is in a copy
+pub segment_is_free : {start : Start} {fixed : Fixed} {words : List ℕ} {rows : List (List Run)} {homes : List Home}
+    {fill : ℕ} (at : ℕ) → IsBegun start fixed → IsFilled start fixed words rows homes fill → fill ≤ at
+    → IsInCopies fixed homes at → ⊥
+segment_is_free {start} {fixed} at begun filled from inside =
+    let home : Home = inside.0 in
+    elim (stayed_or_promoted home filled inside.1) [
+      | inl stayed ↦
+          let within = stayed_within home filled stayed in omega (arith, inside.2.below, within.1, from)
+      | inr promoted ↦
+          let ends = copy_in_page home begun filled.copying inside.1 (filled.in_pages home promoted) in
+          omega (arith, inside.2.below, ends, fill_above filled, from)
+    ]

@@ -1,74 +1,40 @@
--- The copy that is scanned next: it reads as the cell that was copied.
-use Rattle.std.proofs.Common.{◌≡◌, ℕ, ◌+◌, ◌<◌, ◌≤◌, List, [], ◌∷◌, Some, Option}
-use Rattle.std.proofs.Common.{refl, sym, ◌∙◌, ap, subst, arith, slice_get, IsSome, None}
+-- A copy that is taken from the list: the cell that stands there is the one that was copied, and its slots are to do.
+use Rattle.std.proofs.Common.{◌≡◌, ℕ, ◌+◌, ◌/◌, ◌<◌, ◌≤◌, inl, inr, Bool, List, [], ◌∷◌, ◌++◌, Some, Option}
+use Rattle.std.proofs.Common.{length, refl, sym, ◌∙◌, ap, subst, arith, slice_get, IsSome, None, length-append}
 use Rattle.std.specs.List.{Contains}
-use Rattle.std.proofs.lemmas.List.Elements.{Contains-append_right}
+use Rattle.std.proofs.lemmas.Bool.{cases_lt}
+use Rattle.std.proofs.lemmas.List.Elements.{Contains-append_cases, Contains-append_left, Contains-append_right}
 use Rattle.tagged_word.specs.declared.reading.Reading.{Reading}
 use Rattle.tagged_word.proofs.CellReadings.{cell_from}
-use Rattle.tagged_word.proofs.Members.{first_in}
+use Rattle.tagged_word.proofs.Members.{first_in, one_in}
+use Rattle.page_space.specs.Sizes.{page_words}
 use Rattle.page_space.specs.declared.region.Region.TheVariants.{Segment}
-use Rattle.page_space.specs.Extents.{Space, CellsEndAt}
+use Rattle.page_space.specs.Extents.{Space, CellsEndAt, eden_start}
 use Rattle.page_space.proofs.Addresses.{start_of_is}
 use Rattle.page_space.proofs.CellAddresses.{cells_end}
 use Rattle.page_space.proofs.LawsHold.{stand_by_number}
 use Rattle.cell_layout.specs.Cells.{IsCell}
-use Rattle.cell_layout.proofs.OneCell.{one_cell, cell_is_sized}
+use Rattle.cell_layout.proofs.OneCell.{cell_is_sized}
 use Rattle.heap_model.specs.Types.{Cell}
 use Rattle.nursery.specs.Young.{other_half}
 use Rattle.heap_table.specs.Seats.{heap_words}
 use Rattle.write_barrier.specs.MutatorState.{Mutator}
 use Rattle.scav_copy.specs.declared.places.Home.{Home}
-use Rattle.scav_copy.specs.Places.{Fixed, size_of, cell_before, words_in, offsets_in}
+use Rattle.scav_copy.specs.Places.{Fixed, size_of, cell_before}
 use Rattle.scav_copy.proofs.Reading.{copies_read}
 use Rattle.scav_copy.proofs.Spots.{from_is, home_itself}
-use Rattle.scavenger.specs.Starts.{room_start}
-use Rattle.scavenger.specs.Filling.{Tiles, IsFilled}
-use Rattle.scavenger.specs.Walking.{room_end, Scavenging, IsScanned}
-use Rattle.scavenger.proofs.FollowTiles.{tiles_begin, tiles_of_none, copy_within}
+use Rattle.scavenger.specs.declared.progress.Progress.{Progress}
+use Rattle.scavenger.specs.Starts.{Start, room_start}
+use Rattle.scavenger.specs.Filling.{Front, IsToDo}
+use Rattle.scavenger.specs.Walking.{room_end, Scavenging, IsCopyAt, IsCopyOf, IsScanned, at_copy}
+use Rattle.scavenger.proofs.FollowTiles.{young_within}
 use Rattle.scavenger.proofs.TargetCells.{layouts_same}
+use Rattle.scavenger.proofs.PagesWords.{page_of}
+use Rattle.scavenger.proofs.PagesCells.{copy_size, copy_offsets}
+use Rattle.scavenger.proofs.PagesFree.{row_has}
 use Rattle.scavenger.proofs.LoopGoing.{fill_in_room}
 
--- the first of copies that stand one behind another, and the others
-record IsFirst (fixed : Fixed) (from to : ℕ) (homes : List Home) : Type 0 where
-  home : Home
-  rest : List Home
-  is : homes ≡ home ∷ rest
-  stands : home.to ≡ from
-  tiles : Tiles fixed (home.to + size_of fixed home.from) to rest
-
--- where they end behind their start, there is a first one
-first_of : {fixed : Fixed} (from to : ℕ) (homes : List Home) → Tiles fixed from to homes → from < to
-    → IsFirst fixed from to homes
-first_of from to [] tiles less = absurd (omega (arith, less, tiles_of_none tiles))
-first_of from to (home ∷ homes) tiles less =
-    let begins = tiles_begin tiles in
-    record { home = home; rest = homes; is = refl; stands = begins.starts; tiles = begins.rest }
-
--- the first of the copies that are to do, which is one of all
-pub record StandsNext (fixed : Fixed) (homes todo : List Home) (scan fill : ℕ) : Type 0 where
-  pub home : Home
-  pub among : Contains homes home
-  pub stands : home.to ≡ scan
-  pub rest : List Home
-  pub is : todo ≡ home ∷ rest
-  pub tiles : Tiles fixed (home.to + size_of fixed home.from) fill rest
-
--- there is one where any is to do
-pub next_home : {fixed : Fixed} {words : List ℕ} {homes : List Home} {start scan fill : ℕ}
-    (filled : IsFilled fixed words homes start scan fill) → scan < fill → StandsNext fixed homes filled.todo scan fill
-next_home {scan = scan} {fill} filled less =
-    let first = first_of scan fill filled.todo filled.tiles_todo less in
-    let among = subst (λ (all : List Home). Contains all first.home) (sym first.is) (first_in first.home first.rest) in
-    record {
-      home = first.home;
-      among = (filled.same first.home).1 (Contains-append_right filled.done filled.todo first.home among);
-      stands = first.stands;
-      rest = first.rest;
-      is = first.is;
-      tiles = first.tiles;
-    }
-
--- what is read there, as a cell
+-- what is read at an address, as a cell
 abbrev cell_of : ℕ → Reading → Cell
 cell_of at reading = record {
   at = at;
@@ -99,87 +65,176 @@ is_some : (found : Option Reading) → IsSome found → (reading : Reading) × (
 is_some None some = cc
 is_some (Some reading) some = (reading, refl)
 
-module _ {start now : Mutator} {reached root fill : ℕ} (home : Home)
-    (before : Scavenging start now home.to reached root fill) (among : Contains before.homes home) where
-  -- the cell that the copy is of
-  read_before : (reading : Reading) × (cell_before before.fixed home.from ≡ Some reading)
-  read_before =
-      is_some (cell_before before.fixed home.from)
-      (before.begun.laid.cells_are home.from (from_is home before.filled.copying among))
+-- a cell stands where the copy does
+pub record StandsThere (main : Mutator) (at : ℕ) : Type 0 where
+  pub cell : Cell
+  pub is_cell : IsCell main.seat.space (heap_words main.seat) cell
+  pub stands : cell.at ≡ at
 
-  -- the copy is a cell
-  copy_is_cell : IsCell start.seat.space (heap_words now.seat) (cell_of home.to read_before.0)
-  copy_is_cell =
-      let fixed : Fixed = before.fixed in
+module _ {start now : Mutator} {all : Bool} {progress : Progress} {todo : List ℕ} {front : Front}
+    (state : Scavenging start now all progress todo front) (home : Home) (among : Contains state.homes home) where
+  -- in a page it is one of the page's row
+  stands_in_page : home.to < eden_start start.seat.space
+      → (cell : Cell) × IsCell start.seat.space (heap_words now.seat) cell × (cell.at ≡ home.to)
+  stands_in_page below =
+      let page : ℕ = home.to / page_words in
+      let stands = state.filled.pages page (omega (arith, below)) in
+      let one = stands.copies home among (page_of home.to) in
+      (one.cell, row_has stands one.among, one.stands)
+
+  -- in the segment it is read as the cell that was copied
+  stands_in_segment : eden_start start.seat.space ≤ home.to
+      → (cell : Cell) × IsCell start.seat.space (heap_words now.seat) cell × (cell.at ≡ home.to)
+  stands_in_segment young =
+      let fixed : Fixed = state.fixed in
       let words : List ℕ = heap_words now.seat in
       let space : Space = start.seat.space in
       let half : ℕ = other_half start.young.half in
       let end : ℕ = room_end space half in
-      let reading : Reading = read_before.0 in
-      let copying = before.filled.copying in
-      let within = copy_within home before.filled among in
-      let itself = home_itself home before.begun.laid copying among in
-      let most = fill_in_room before in
+      let copying = state.filled.copying in
+      let before = is_some (cell_before fixed home.from)
+      (state.begun.laid.cells_are home.from (from_is home copying among)) in
+      let reading : Reading = before.0 in
+      let within = young_within home state.filled among young in
+      let itself = home_itself home state.begun.laid copying among in
+      let most = fill_in_room state in
       let ends : home.to + size_of fixed home.from ≤ end = omega (arith, within.1, most) in
       let reads = cell_from words fixed.layouts home.to end reading
-      (copies_read fixed words before.homes home end before.begun.laid copying among ends ∙ read_before.1) in
-      record {
+      (copies_read fixed words state.homes home end state.begun.laid copying among ends ∙ before.1) in
+      let is_cell : IsCell space words (cell_of home.to reading) = record {
         end = end;
-        stands = room_ends space half home.to before.begun.is_half within.0
-            (omega (arith, itself.below, ends));
+        stands = room_ends space half home.to state.begun.is_half within.0 (omega (arith, itself.below, ends));
         reads = record {
           is_header = reads.is_header;
           first = reads.first;
           known = reads.known;
           is_layout = reads.is_layout;
-          of_shape = layouts_same reading.header.shape before.begun copying reads.known
-              ∙ ap (λ (layouts : List ℕ). slice_get layouts reading.header.shape) (sym before.begun.begins.layouts)
+          of_shape = layouts_same reading.header.shape state.begun copying reads.known
+              ∙ ap (λ (layouts : List ℕ). slice_get layouts reading.header.shape) (sym state.begun.begins.layouts)
               ∙ reads.of_shape;
           second = reads.second;
           sized = reads.sized;
           ends = reads.ends;
           there = reads.there;
         };
+      } in
+      (cell_of home.to reading, is_cell, refl)
+
+  -- so one stands there, among the words as they are
+  pub copy_stands : StandsThere now home.to
+  copy_stands =
+      let space : Space = start.seat.space in
+      let found : (cell : Cell) × IsCell space (heap_words now.seat) cell × (cell.at ≡ home.to) =
+      elim (cases_lt home.to (eden_start space)) [
+        | inl below ↦ stands_in_page below
+        | inr young ↦ stands_in_segment young
+      ] in
+      record {
+        cell = found.0;
+        is_cell = subst (λ (one : Space). IsCell one (heap_words now.seat) found.0) (sym state.changes.seat.space)
+            found.1;
+        stands = found.2;
       }
 
-  -- so a cell that is read there is scanned
-  home_is_scanned : home.to < fill → (found : Cell) → IsCell start.seat.space (heap_words now.seat) found
-      → found.at ≡ home.to → IsScanned start now found reached root fill
-  home_is_scanned less found is_cell at =
-      let cell : Cell = cell_of home.to read_before.0 in
-      let same : cell ≡ found =
-      one_cell start.seat.space (heap_words now.seat) cell found copy_is_cell is_cell (sym at) in
-      subst (λ (one : Cell). IsScanned start now one reached root fill) same (record {
-        scavenging = before;
-        home = home;
-        among = among;
-        stands = refl;
-        size = ap words_in read_before.1;
-        offsets = ap offsets_in read_before.1;
-        sized = cell_is_sized start.seat.space (heap_words now.seat) cell copy_is_cell;
-        before = less;
-      })
+  -- each cell that stands there is the copy, with all its slots
+  pub is_copy : (cell : Cell) → IsCell now.seat.space (heap_words now.seat) cell → cell.at ≡ home.to
+      → IsCopyOf state.fixed home cell
+  is_copy cell is_cell_now stands =
+      let copying = state.filled.copying in
+      let is_cell : IsCell start.seat.space (heap_words now.seat) cell =
+      subst (λ (one : Space). IsCell one (heap_words now.seat) cell) state.changes.seat.space is_cell_now in
+      record {
+        stands = sym stands;
+        size = copy_size home cell state.begun copying among is_cell stands;
+        offsets = copy_offsets home cell state.begun copying among is_cell stands;
+        sized = cell_is_sized start.seat.space (heap_words now.seat) cell is_cell;
+      }
 
--- a cell stands where copies are to do
-pub next_is_cell : {start now : Mutator} {scan reached root fill : ℕ}
-    → Scavenging start now scan reached root fill → scan < fill
-    → (cell : Cell) × (cell.at ≡ scan) × IsCell start.seat.space (heap_words now.seat) cell
-next_is_cell {start} {now} {scan} {reached} {root} {fill} before less =
-    let next = next_home before.filled less in
-    let Has : ℕ → Type 0 = λ (at : ℕ). (one : Scavenging start now at reached root fill) → Contains one.homes next.home
-    → (cell : Cell) × (cell.at ≡ at) × IsCell start.seat.space (heap_words now.seat) cell in
-    subst Has next.stands (λ one among.
-    (cell_of next.home.to (read_before next.home one among).0, refl, copy_is_cell next.home one among)) before
-    next.among
+-- what was to do is so once a copy is taken from the list, and its slots are at hand
+taken_to_do : {start : Start} {fixed : Fixed} {homes : List Home} (end eden : ℕ) (todo rest : List ℕ) (cell : Cell)
+    (slot : ℕ) → todo ≡ rest ++ cell.at ∷ []
+    → ((home : Home) → Contains homes home → home.to ≡ cell.at → size_of fixed home.from ≡ cell.size)
+    → IsToDo start fixed homes todo (at_copy end eden 0 0) slot
+    → IsToDo start fixed homes rest (at_copy end eden cell.at (cell.at + cell.size)) slot
+taken_to_do end eden todo rest cell slot is sizes (IsToDo.root from) = IsToDo.root from
+taken_to_do end eden todo rest cell slot is sizes (IsToDo.recorded from below there) = IsToDo.recorded from below there
+taken_to_do end eden todo rest cell slot is sizes (IsToDo.at_hand from below) = absurd (omega (arith, below))
+taken_to_do end eden todo rest cell slot is sizes (IsToDo.listed home there listed inside) =
+    let all = subst (λ (list : List ℕ). Contains list home.to) is listed in
+    elim (Contains-append_cases rest (cell.at ∷ []) home.to all) [
+      | inl later ↦ IsToDo.listed home there later inside
+      | inr last ↦
+          let at : cell.at ≡ home.to = one_in cell.at home.to last in
+          let size = sizes home there (sym at) in
+          IsToDo.at_hand (omega (arith, at, inside.from)) (omega (arith, at, inside.below, size))
+    ]
 
--- a cell that is read there is scanned
-pub next_is_scanned : {start now : Mutator} {scan reached root fill : ℕ}
-    → Scavenging start now scan reached root fill → scan < fill → (found : Cell)
-    → IsCell start.seat.space (heap_words now.seat) found → found.at ≡ scan
-    → IsScanned start now found reached root fill
-next_is_scanned {start} {now} {scan} {reached} {root} {fill} before less found is_cell at =
-    let next = next_home before.filled less in
-    let Has : ℕ → Type 0 = λ (one : ℕ). (state : Scavenging start now one reached root fill)
-    → Contains state.homes next.home → one < fill → found.at ≡ one → IsScanned start now found reached root fill in
-    subst Has next.stands (λ state among below stands. home_is_scanned next.home state among below found is_cell stands)
-    before next.among less at
+-- this cell is the copy that stands at the address, in each state of a scavenge
+abbrev pub CopiesAt : Mutator → ℕ → Cell → Type 0
+CopiesAt now at cell =
+    (start : Mutator) (all : Bool) (progress : Progress) (todo : List ℕ) (front : Front)
+    (state : Scavenging start now all progress todo front) (home : Home) → Contains state.homes home → home.to ≡ at
+    → IsCopyOf state.fixed home cell
+
+-- the last address of a list is one of it
+last_is_there : {todo : List ℕ} (rest : List ℕ) (at : ℕ) → todo ≡ rest ++ at ∷ [] → Contains todo at
+last_is_there rest at is =
+    subst (λ (list : List ℕ). Contains list at) (sym is) (Contains-append_right rest (at ∷ []) at (first_in at []))
+
+-- a copy stands there
+pub taken_is_there : {start now : Mutator} {all : Bool} {progress : Progress} {todo : List ℕ} {front : Front}
+    (rest : List ℕ) (at : ℕ) → Scavenging start now all progress todo front → todo ≡ rest ++ at ∷ []
+    → IsCopyAt now at
+taken_is_there {start} {now} {all} {progress} {todo} {front} rest at state is =
+    let listed = state.listed at (last_is_there rest at is) in
+    record {
+      start = start;
+      all = all;
+      progress = progress;
+      todo = todo;
+      front = front;
+      scavenging = state;
+      home = listed.0;
+      among = listed.1;
+      stands = listed.2;
+    }
+
+-- the copy that is taken from the list is scanned
+pub takes_copy : {start now : Mutator} {all : Bool} {progress : Progress} {todo : List ℕ} {end eden : ℕ}
+    (rest : List ℕ) (at : ℕ) (cell : Cell)
+    → (state : Scavenging start now all progress todo (at_copy end eden 0 0)) → todo ≡ rest ++ at ∷ []
+    → ((home : Home) → Contains state.homes home → home.to ≡ at → IsCopyOf state.fixed home cell)
+    → IsScanned start now all progress rest cell (at_copy end eden cell.at (cell.at + cell.size))
+takes_copy {start} {now} {all} {progress} {todo} {end} {eden} rest at cell state is copies =
+    let listed = state.listed at (last_is_there rest at is) in
+    let home : Home = listed.0 in
+    let copy = copies home listed.1 listed.2 in
+    let same : at ≡ cell.at = sym listed.2 ∙ copy.stands in
+    let is_cell : todo ≡ rest ++ cell.at ∷ [] = is ∙ ap (λ (one : ℕ). rest ++ one ∷ []) same in
+    record {
+      scavenging = record {
+        fixed = state.fixed;
+        homes = state.homes;
+        two = state.two;
+        bounded = state.bounded;
+        quiet = state.quiet;
+        begun = state.begun;
+        filled = state.filled;
+        copied = state.copied;
+        placed = state.placed;
+        kept = state.kept;
+        listed = λ other there.
+            state.listed other
+            (subst (λ (list : List ℕ). Contains list other) (sym is)
+            (Contains-append_left rest (at ∷ []) other there));
+        few = omega (arith, state.few, ap (λ (list : List ℕ). length list) is, length-append rest (at ∷ []));
+        others = λ slot place target stood refers of_cells.
+            taken_to_do end eden todo rest cell slot is_cell
+            (λ other there stands. (copies other there (stands ∙ sym same)).size)
+            (state.others slot place target stood refers of_cells);
+        changes = state.changes;
+      };
+      home = home;
+      among = listed.1;
+      is = copy;
+    }

@@ -1,101 +1,110 @@
--- A scavenge ends where all copies were scanned.
-use Rattle.std.proofs.Common.{◌≡◌, ℕ, ◌-◌, ◌≤◌, inl, inr, List, sym, ◌∙◌, ap, subst, arith}
-use Rattle.page_space.specs.Extents.{Space, layouts_start}
+-- A scavenge ends where no copy is on the list.
+use Rattle.std.proofs.Common.{◌≡◌, ℕ, ◌-◌, ◌≤◌, inl, inr, Bool, List, []}
+use Rattle.std.proofs.Common.{sym, ◌∙◌, ap, subst, arith}
+use Rattle.page_space.specs.Extents.{Space, eden_start, layouts_start}
 use Rattle.page_space.specs.RegionLaws.{IsSpace}
 use Rattle.page_space.proofs.LawsHold.{kinds_by_number}
 use Rattle.nursery.specs.Young.{Young, turned, other_half}
+use Rattle.remembered_set.specs.Recorded.{Recorded}
 use Rattle.heap_table.specs.Seats.{heap_words}
+use Rattle.heap_model.specs.Types.{Run}
 use Rattle.write_barrier.specs.MutatorState.{Mutator}
 use Rattle.scav_copy.specs.declared.places.Home.{Home}
 use Rattle.scav_copy.specs.Places.{Fixed, StoodAt}
+use Rattle.scav_copy.proofs.Spots.{none_in}
 use Rattle.scavenger.specs.declared.spaces.Spaces.{Spaces}
-use Rattle.scavenger.specs.Starts.{room_start}
-use Rattle.scavenger.specs.Filling.{IsToDo, AllAreDone, ChangesWords, IsEmptied}
-use Rattle.scavenger.specs.Scavenged.{words_of_homes}
+use Rattle.scavenger.specs.declared.progress.Progress.{Progress}
+use Rattle.scavenger.specs.Starts.{room_start, start_of}
+use Rattle.scavenger.specs.Filling.{Front, IsToDo, IsFilled, AllAreDone, ChangesWords, IsEmptied}
 use Rattle.scavenger.specs.Laws.{IsEnded}
-use Rattle.scavenger.specs.Walking.{AreSpaces, room_end, Scavenging}
+use Rattle.scavenger.specs.Walking.{AreSpaces, AreKept, IsPlaced, room_end, Scavenging, at_copy}
 use Rattle.scavenger.proofs.FollowTiles.{fill_above}
-use Rattle.scavenger.proofs.TargetNumbers.{room_below_roots}
 use Rattle.scavenger.proofs.CodeChanges.{changes_again}
-use Rattle.scavenger.proofs.LoopGoing.{fill_in_room}
-use Rattle.scavenger.proofs.LoopRoots.{root_or_copy}
+use Rattle.scavenger.proofs.LoopGoing.{fill_in_room, root_or_before}
+
+-- all roots and recorded slots were followed, and no copy is to do
+abbrev pub at_end : Space → Front
+at_end space = at_copy (layouts_start space) (eden_start space) 0 0
 
 -- nothing is to do then
-nothing_to_do : {start now : Mutator} {scan fill : ℕ}
-    (state : Scavenging start now scan fill (layouts_start start.seat.space) fill) (slot place : ℕ)
+nothing_to_do : {start now : Mutator} {all : Bool} {progress : Progress}
+    (state : Scavenging start now all progress [] (at_end start.seat.space)) (slot place : ℕ)
     → StoodAt state.fixed state.homes slot place
-    → IsToDo (room_end start.seat.space (other_half start.young.half)) fill (layouts_start start.seat.space) slot → ⊥
-nothing_to_do {start} {now} {scan} {fill} state slot place stood to_do =
-    let space : Space = start.seat.space in
-    let kinds = kinds_by_number space in
-    let below = room_below_roots space (other_half start.young.half) state.begun.is_half in
-    let most = fill_in_room state in
-    elim (root_or_copy state slot place stood) [
-      | inl root ↦ elim to_do [
-        | inl in_room ↦ omega (arith, in_room.1, below, root.stands)
-        | inr behind ↦ omega (arith, behind, root.known, root.stands, kinds.layouts)
-      ]
-      | inr copy ↦ elim to_do [
-        | inl in_room ↦ omega (arith, in_room.0, copy.1)
-        | inr behind ↦ omega (arith, behind, copy.1, most, below, kinds.layouts)
-      ]
+    → IsToDo (start_of start) state.fixed state.homes [] (at_end start.seat.space) slot → ⊥
+nothing_to_do {start} state slot place stood (IsToDo.root from) =
+    let kinds = kinds_by_number start.seat.space in
+    elim (root_or_before state slot place stood) [
+      | inl root ↦ omega (arith, from, root.known, root.stands, kinds.layouts)
+      | inr before ↦ omega (arith, from, before, kinds.layouts)
     ]
+nothing_to_do state slot place stood (IsToDo.recorded from below there) = omega (arith, from, below)
+nothing_to_do state slot place stood (IsToDo.at_hand from below) = omega (arith, below)
+nothing_to_do state slot place stood (IsToDo.listed home there listed inside) = none_in home.to listed
 
 -- so all is done
-pub all_done : {start now : Mutator} {scan fill : ℕ}
-    (state : Scavenging start now scan fill (layouts_start start.seat.space) fill)
+pub all_done : {start now : Mutator} {all : Bool} {progress : Progress}
+    (state : Scavenging start now all progress [] (at_end start.seat.space))
     → AllAreDone state.fixed (heap_words now.seat) state.homes
 all_done state slot place cell stood refers is =
     nothing_to_do state slot place stood (state.others slot place cell stood refers is)
 
--- the words of the copies are those behind the start of the room
-pub filled_words : {start now : Mutator} {scan reached root fill : ℕ}
-    (state : Scavenging start now scan reached root fill)
-    → fill - room_start start.seat.space (other_half start.young.half) ≡ words_of_homes state.fixed state.homes
-filled_words state = omega (arith, state.filled.long)
-
 -- what is left is emptied and the nursery is turned, and that is the end
-pub ends_scavenging : {start now emptied new : Mutator} {fill : ℕ} → IsSpace start.seat.space
-    → (state : Scavenging start now fill fill (layouts_start start.seat.space) fill)
-    → IsEmptied start.seat.space start.young.half fill (room_end start.seat.space (other_half start.young.half))
-    (heap_words now.seat) (heap_words emptied.seat)
-    → ChangesWords now emptied
+pub ends_scavenging : {start now emptied new : Mutator} {all : Bool} {progress : Progress} → IsSpace start.seat.space
+    → (state : Scavenging start now all progress [] (at_end start.seat.space))
+    → IsEmptied start.seat.space start.young.half progress.fill
+    (room_end start.seat.space (other_half start.young.half)) (heap_words now.seat) (heap_words emptied.seat)
+    → ChangesWords now emptied → emptied.free ≡ now.free → emptied.recorded ≡ now.recorded
     → new ≡ record emptied {
-      young = turned emptied.young (fill - room_start start.seat.space (other_half start.young.half));
+      young = turned emptied.young (progress.fill - room_start start.seat.space (other_half start.young.half));
     }
-    → IsEnded start new state.fixed state.homes (heap_words now.seat) fill
-ends_scavenging {start} {now} {emptied} {new} {fill} limits state is_emptied changes is =
-    let all = changes_again state.changes changes in
+    → IsEnded start new all state.fixed state.homes (heap_words now.seat) progress.fill progress.refused
+ends_scavenging {start} {now} {emptied} {new} {all} {progress} limits state is_emptied changes free recorded is =
+    let words : List ℕ = heap_words now.seat in
+    let both = changes_again state.changes changes in
+    let Filled : List (List Run) → Type 0 = λ rows.
+    IsFilled (start_of start) state.fixed words rows state.homes progress.fill in
+    let Placed : List (List Run) → Type 0 = λ rows.
+    IsPlaced (start_of start) state.fixed rows state.homes all progress.refused in
+    let Kept : Recorded → Type 0 = λ one. AreKept (start_of start) state.fixed words state.homes one.slots in
     let Of : Mutator → Type 0 = λ (main : Mutator).
-    IsEnded start main state.fixed state.homes (heap_words now.seat) fill in
+    IsEnded start main all state.fixed state.homes words progress.fill progress.refused in
     subst Of (sym is) (record {
       limits = limits;
       begun = state.begun;
-      filled = state.filled;
+      bounded = state.bounded;
+      filled = subst Filled (sym free) state.filled;
       done = all_done state;
+      placed = subst Placed (sym free) state.placed;
+      kept = subst Kept (sym recorded) state.kept;
       emptied = is_emptied;
-      seat = all.seat;
-      paths = all.paths;
-      young = ap (λ (count : ℕ). turned emptied.young count) (filled_words state)
-          ∙ ap (λ (young : Young). turned young (words_of_homes state.fixed state.homes)) all.young;
+      seat = both.seat;
+      paths = both.paths;
+      bound = both.bound;
+      young = ap (λ (young : Young). turned young
+          (progress.fill - room_start start.seat.space (other_half start.young.half))) both.young;
     })
 
 -- What a scavenge comes to at its end, in words of its own.
-pub record HasEnded (old new : Mutator) : Type 0 where
+pub record HasEnded (old new : Mutator) (all : Bool) : Type 0 where
   pub fixed : Fixed
   pub homes : List Home
   pub words : List ℕ
   pub fill : ℕ
-  pub ended : IsEnded old new fixed homes words fill
+  pub refused : ℕ
+  pub ended : IsEnded old new all fixed homes words fill refused
 
 -- the last two steps end it, as the code computes their numbers
-pub has_ended : (start now emptied : Mutator) (spaces : Spaces) (half fill : ℕ) (nursery young : Young)
-    → IsSpace start.seat.space → AreSpaces start.seat.space start.young.half spaces → half ≡ start.young.half
-    → Scavenging start now fill fill (layouts_start start.seat.space) fill
-    → IsEmptied now.seat.space half fill spaces.room_end (heap_words now.seat) (heap_words emptied.seat)
-    → ChangesWords now emptied → nursery ≡ emptied.young → young ≡ turned nursery (fill - spaces.room)
-    → HasEnded start (record { seat = emptied.seat; paths = emptied.paths; young = young })
-has_ended start now emptied spaces half fill nursery young limits are is_half state is_emptied changes lent turns =
+pub has_ended : (start now emptied : Mutator) (spaces : Spaces) (all : Bool) (progress : Progress) (half : ℕ)
+    (nursery young : Young)
+    → IsSpace start.seat.space → AreSpaces start.seat.space start.young.half all spaces → half ≡ start.young.half
+    → Scavenging start now all progress [] (at_end start.seat.space)
+    → IsEmptied now.seat.space half progress.fill spaces.room_end (heap_words now.seat) (heap_words emptied.seat)
+    → ChangesWords now emptied → emptied.free ≡ now.free → emptied.recorded ≡ now.recorded
+    → nursery ≡ emptied.young → young ≡ turned nursery (progress.fill - spaces.room)
+    → HasEnded start (record emptied { young = young }) all
+has_ended start now emptied spaces all progress half nursery young limits are is_half state is_emptied changes free
+    recorded lent turns =
+    let fill : ℕ = progress.fill in
     let left : ℕ = start.young.half in
     let Emptied : Space → ℕ → ℕ → Type 0 = λ space one end.
     IsEmptied space one fill end (heap_words now.seat) (heap_words emptied.seat) in
@@ -110,16 +119,27 @@ has_ended start now emptied spaces half fill nursery young limits are is_half st
       homes = state.homes;
       words = heap_words now.seat;
       fill = fill;
-      ended = ends_scavenging limits state of_room changes
-          (ap (λ (one : Young). record { seat = emptied.seat; paths = emptied.paths; young = one }) turned_by);
+      refused = progress.refused;
+      ended = ends_scavenging limits state of_room changes free recorded
+          (ap (λ (one : Young). record emptied { young = one }) turned_by);
     }
 
--- the copies have no more words than the young generation
-pub fill_fits : (start now : Mutator) (spaces : Spaces) (fill : ℕ)
-    → AreSpaces start.seat.space start.young.half spaces
-    → Scavenging start now fill fill (layouts_start start.seat.space) fill
-    → (spaces.room ≤ fill) × (fill - spaces.room ≤ start.seat.space.sizes.young)
-fill_fits start now spaces fill are state =
+-- the copies of the segment have no more words than the young generation
+pub fill_fits : {start now : Mutator} {spaces : Spaces} {all : Bool} {progress : Progress} {todo : List ℕ}
+    {front : Front} → AreSpaces start.seat.space start.young.half all spaces
+    → Scavenging start now all progress todo front
+    → (spaces.room ≤ progress.fill) × (progress.fill - spaces.room ≤ start.seat.space.sizes.young)
+fill_fits are state =
     let above = fill_above state.filled in
     let most = fill_in_room state in
     (omega (arith, above, are.room), omega (arith, most, are.room))
+
+-- what is recorded stands before eden, and so before where the segment is filled
+pub bound_below : {start now : Mutator} {all : Bool} {progress : Progress} {todo : List ℕ} {front : Front}
+    → Scavenging start now all progress todo front
+    → (now.recorded.bound ≤ eden_start now.seat.space) × (now.recorded.bound ≤ progress.fill)
+bound_below {start} {now} state =
+    let above = fill_above state.filled in
+    let same = ap (λ (space : Space). eden_start space) state.changes.seat.space in
+    let bound : now.recorded.bound ≡ eden_start start.seat.space = state.changes.bound ∙ state.bounded in
+    (omega (arith, bound, same), omega (arith, bound, above))

@@ -1,26 +1,39 @@
 -- What may be read and copied where a live slot is followed.
-use Rattle.std.proofs.Common.{◌≡◌, ℕ, ◌+◌, ◌<◌, ◌≤◌, inl, inr, List, [], length, get_or, slice_get, Some, None}
-use Rattle.std.proofs.Common.{sym, ◌∙◌, ap, subst, arith}
+use Rattle.std.proofs.Common.{◌≡◌, ℕ, ◌+◌, ◌-◌, ◌<◌, ◌≤◌, ◌↔◌, inl, inr, List, length, get_or, slice_get, Some, None}
+use Rattle.std.proofs.Common.{Bool, true, false, IsTrue, sym, ◌∙◌, ap, subst, arith}
 use Rattle.std.specs.List.{Contains}
 use Rattle.std.proofs.lemmas.Bool.{cases_lt}
 use Rattle.std.proofs.lemmas.Option.{get_or_from_slice_get}
 use Rattle.tagged_word.specs.Readings.{reference_in}
-use Rattle.tagged_word.proofs.Members.{first_in}
 use Rattle.page_space.specs.Extents.{Space, marks_start}
+use Rattle.page_space.proofs.LawsHold.{kinds_by_number}
 use Rattle.word_store.specs.Copies.{AreDisjoint}
-use Rattle.heap_model.specs.Types.{Cell}
-use Rattle.heap_model.specs.Heaps.{Heap}
-use Rattle.nursery.specs.Young.{Young, other_half}
+use Rattle.cell_layout.specs.Cells.{IsCell}
+use Rattle.free_runs.specs.FreeRuns.{TakesFront}
+use Rattle.nursery.specs.Young.{Young}
+use Rattle.heap_model.specs.Types.{Cell, Run}
+use Rattle.heap_table.specs.declared.phase.Phase.TheVariants.{Quiet}
 use Rattle.heap_table.specs.Seats.{heap_words}
-use Rattle.write_barrier.specs.MutatorState.{Mutator, heap_of}
-use Rattle.scav_copy.specs.declared.places.Room.{Room}
-use Rattle.scav_copy.specs.Places.{Fixed, size_of, IsInRooms}
-use Rattle.scav_copy.specs.Renamings.{RefersToAddress}
+use Rattle.write_barrier.specs.MutatorState.{Mutator}
+use Rattle.write_barrier.specs.FreeCells.{with_free_cell}
+use Rattle.write_barrier.proofs.FreeCells.{cell_beside}
+use Rattle.scav_copy.specs.declared.places.Home.{Home}
+use Rattle.scav_copy.specs.Places.{Fixed, size_of, StoodAt}
+use Rattle.scav_copy.specs.Renamings.{RefersToAddress, IsReachable}
+use Rattle.scav_copy.proofs.Redirecting.{as_before}
 use Rattle.scav_copy.proofs.Spots.{live_is_there, cell_within}
-use Rattle.scavenger.specs.Starts.{IsBegun, room_start, room_of}
-use Rattle.scavenger.specs.Following.{IsLeft, IsTarget}
-use Rattle.scavenger.specs.Walking.{room_end, MayFollow}
-use Rattle.scavenger.proofs.FollowTiles.{fill_above}
+use Rattle.scavenger.specs.declared.progress.Progress.{Progress}
+use Rattle.scavenger.specs.Starts.{Start, start_of, room_start}
+use Rattle.scavenger.specs.Filling.{Front}
+use Rattle.scavenger.specs.Following.{IsFreeAt, IsLeft, IsTarget}
+use Rattle.scavenger.specs.Walking.{Places, Scavenging, StandFree, TakesRun}
+use Rattle.scavenger.proofs.CodeMoves.{two_halves}
+use Rattle.scavenger.proofs.CodeSegments.{room_before_marks}
+use Rattle.scavenger.proofs.FollowFilled.{IsNew, fits_behind}
+use Rattle.scavenger.proofs.FollowRegions.{cell_is_left}
+use Rattle.scavenger.proofs.FollowRunWords.{takes_room}
+use Rattle.scavenger.proofs.PagesFree.{free_runs_stand}
+use Rattle.scavenger.proofs.Sums.{few_with_one}
 use Rattle.scavenger.proofs.Targets.{slots_have_targets}
 
 -- the word that is read at a slot refers where the slot does
@@ -32,6 +45,14 @@ refers_by words slot word at read is = ap reference_in (get_or_from_slice_get wo
 pub refers_nowhere : (words : List ℕ) (slot word : ℕ) → slice_get words slot ≡ Some word → None ≡ reference_in word
     → reference_in (get_or words slot 0) ≡ None
 refers_nowhere words slot word read is = ap reference_in (get_or_from_slice_get words slot word 0 read) ∙ sym is
+
+-- what a test that passed says
+pub passed : {P : Type 0} (test : Bool) → test ≡ true → IsTrue test ↔ P → P
+passed test is says = says.0 is
+
+-- what a test that failed says
+pub failed : {P : Type 0} (test : Bool) → test ≡ false → IsTrue test ↔ P → P → ⊥
+failed test is says holds = let holds_too : test ≡ true = says.1 holds in cc
 
 -- two stretches with no common address are disjoint
 pub disjoint_by : (from to count : ℕ)
@@ -47,79 +68,177 @@ disjoint_by from to count none = elim (cases_lt to (from + count)) [
   ]
 ]
 
--- two halves, of which one is the other
-pub two_halves : (left : ℕ) → left ≤ 1 → other_half left + left ≡ 1
-two_halves left two = omega arith
+-- a cell that has no home stands at the address
+pub record NewAt (start : Start) (fixed : Fixed) (words : List ℕ) (homes : List Home) (fill at : ℕ) : Type 0 where
+  pub cell : Cell
+  pub new : IsNew start fixed words homes fill cell
+  pub stands : cell.at ≡ at
 
--- the room of copies is one of the rooms
-pub in_the_room : {heap : Heap} {half : ℕ} {fixed : Fixed} (at : ℕ) → IsBegun heap half fixed
-    → room_start heap.space half ≤ at → at < room_end heap.space half → IsInRooms fixed at
-in_the_room {heap} {half} {fixed} at begun from below =
-    let room : Room = room_of heap.space half in (
-      room,
-      subst (λ (rooms : List Room). Contains rooms room) (sym begun.begins.rooms) (first_in room []),
-      record { from = from; below = below },
-    )
+-- so it does where a slot refers to a word that is no reference
+new_target : {start : Start} {fixed : Fixed} {words : List ℕ} {homes : List Home} {fill at : ℕ}
+    → Contains fixed.cells at → IsReachable fixed at → reference_in (get_or words at 0) ≡ None
+    → IsTarget start.heap.space fixed words homes
+    (room_start start.heap.space start.half + start.heap.space.sizes.young) fill at
+    → NewAt start fixed words homes fill at
+new_target is reached head (IsTarget.forwarded home there from refers) = absurd cc
+new_target {fixed = fixed} is reached head (IsTarget.unmoved cell none is_cell stands size ends homeless) = record {
+  cell = cell;
+  new = record {
+    is_cell = is_cell;
+    is = subst (Contains fixed.cells) (sym stands) is;
+    reached = subst (IsReachable fixed) (sym stands) reached;
+    none = λ home among from. homeless home among (from ∙ stands);
+    size = size ∙ ap (size_of fixed) (sym stands);
+    ends = ends;
+  };
+  stands = stands;
+}
 
-module _ {now : Mutator} {slot fill : ℕ} (may : MayFollow now slot fill) where
-  -- the regions are those of the start
-  same_space : now.seat.space ≡ may.start.seat.space
-  same_space = may.scavenging.changes.seat.space
+-- What is known of a cell before it is copied to an address.
+pub record MayBeCopied (main : Mutator) (cell : Cell) (to : ℕ) : Type 0 where
+  pub quiet : main.seat.phase ≡ Quiet
+  pub is : IsCell main.seat.space (heap_words main.seat) cell
+  pub room : to + cell.size ≤ marks_start main.seat.space
+  pub apart : AreDisjoint cell.at to cell.size
 
-  -- and so is the half that is left
-  same_half : now.young.half ≡ may.start.young.half
-  same_half = ap (λ (young : Young). young.half) may.scavenging.changes.young
+module _ {start now : Mutator} {all : Bool} {progress : Progress} {todo : List ℕ} {front : Front}
+    (state : Scavenging start now all progress todo front) where
+  -- a live slot stands before the marks
+  pub slot_before_marks : (slot place : ℕ) → StoodAt state.fixed state.homes slot place
+      → length (heap_words now.seat) ≡ marks_start now.seat.space → slot < marks_start now.seat.space
+  slot_before_marks slot place stood counted =
+      let copying = state.filled.copying in
+      omega (arith, live_is_there slot place state.begun.laid copying stood, counted, copying.long)
 
-  -- the slot stands before the marks
-  pub slot_before_marks : length (heap_words now.seat) ≡ marks_start now.seat.space
-      → slot < marks_start now.seat.space
-  slot_before_marks counted =
-      let copying = may.scavenging.filled.copying in
-      let there : slot < length may.scavenging.fixed.before =
-      live_is_there slot may.place may.scavenging.begun.laid copying may.stood in
-      omega (arith, there, counted, copying.long)
-
-  -- what it refers to has a target, where that is left
-  pub has_target : (at : ℕ) → RefersToAddress (heap_words now.seat) slot at
-      → IsLeft now.seat.space now.young.half at
-      → Contains may.scavenging.fixed.cells at
-      × IsTarget now.seat.space may.scavenging.fixed (heap_words now.seat)
-      (room_end now.seat.space (other_half now.young.half)) fill at
-  has_target at refers left =
-      let fixed : Fixed = may.scavenging.fixed in
-      let Has : Space → ℕ → Type 0 = λ space half. IsLeft space half at → Contains fixed.cells at
-      × IsTarget space fixed (heap_words now.seat) (room_end space (other_half half)) fill at in
-      let start = may.start in
-      let has : Has start.seat.space start.young.half =
-      slots_have_targets (heap_of start) (other_half start.young.half) start.young.half fixed (heap_words now.seat)
-      may.scavenging.homes may.scan fill slot may.place at may.scavenging.begun
-      (two_halves start.young.half may.scavenging.two) may.scavenging.filled may.stood refers in
-      subst (λ (space : Space). Has space now.young.half) (sym same_space)
-      (subst (Has start.seat.space) (sym same_half) has) left
-
-  -- a cell that is to be copied stands before the marks
-  pub target_before_marks : (at : ℕ) → Contains may.scavenging.fixed.cells at
+  -- so does a cell that is to be copied
+  pub target_before_marks : (at : ℕ) → Contains state.fixed.cells at
       → length (heap_words now.seat) ≡ marks_start now.seat.space → at < marks_start now.seat.space
   target_before_marks at is counted =
-      let fixed : Fixed = may.scavenging.fixed in
-      let there : at < length fixed.before = cell_within fixed at (may.scavenging.begun.laid.cells_are at is) in
-      omega (arith, there, counted, may.scavenging.filled.copying.long)
+      let there = cell_within state.fixed at (state.begun.laid.cells_are at is) in
+      omega (arith, there, counted, state.filled.copying.long)
 
-  -- the room that copies go to is that of the start
-  same_room : room_end now.seat.space (other_half now.young.half)
-      ≡ room_end may.start.seat.space (other_half may.start.young.half)
-  same_room = ap (λ (half : ℕ). room_end now.seat.space (other_half half)) same_half
-      ∙ ap (λ (space : Space). room_end space (other_half may.start.young.half)) same_space
+  -- what is left is what was to be left at the start
+  pub left_at_start : (at : ℕ) → IsLeft now.seat.space now.young.half at
+      → IsLeft start.seat.space start.young.half at
+  left_at_start at left =
+      subst (λ (space : Space). IsLeft space start.young.half at) state.changes.seat.space
+      (subst (λ (young : Young). IsLeft now.seat.space young.half at) state.changes.young left)
 
-  -- the cell shares no word with the place of its copy
-  pub target_apart : (at : ℕ) (cell : Cell) → Contains may.scavenging.fixed.cells at
-      → cell.size ≡ size_of may.scavenging.fixed at
-      → fill + cell.size ≤ room_end now.seat.space (other_half now.young.half) → AreDisjoint at fill cell.size
-  target_apart at cell is size room =
-      let begun = may.scavenging.begun in
-      let from = fill_above may.scavenging.filled in
-      let same = same_room in
-      disjoint_by at fill cell.size (λ one at_from at_below fill_from fill_below.
-      begun.laid.cell_in_no_room one
-      (at, is, record { from = at_from; below = omega (arith, at_below, size) })
-      (in_the_room one begun (omega (arith, from, fill_from)) (omega (arith, fill_below, room, same))))
+  -- a cell that is to be copied is left
+  pub cell_left : (at : ℕ) → Contains state.fixed.cells at → IsLeft now.seat.space now.young.half at
+  cell_left at is =
+      subst (λ (young : Young). IsLeft now.seat.space young.half at) (sym state.changes.young)
+      (subst (λ (space : Space). IsLeft space start.young.half at) (sym state.changes.seat.space)
+      (cell_is_left start.young.half at state.begun (two_halves start.young.half state.two) is))
+
+  -- each free run is a free cell
+  pub stand_free : StandFree now
+  stand_free run is =
+      let stands = free_runs_stand (start_of start) state.fixed (heap_words now.seat) now.free state.homes
+      progress.fill run state.begun state.filled is in (
+        stands.free,
+        subst (λ (space : Space). IsFreeAt space (heap_words now.seat) stands.free run.at)
+            (sym state.changes.seat.space) stands.is,
+        stands.size,
+      )
+
+  module _ (slot place at : ℕ) (stood : StoodAt state.fixed state.homes slot place)
+      (refers : RefersToAddress (heap_words now.seat) slot at) (left : IsLeft now.seat.space now.young.half at) where
+    -- what a live slot refers to has a target, and is one of the cells
+    pub has_target : Contains state.fixed.cells at
+        × IsTarget start.seat.space state.fixed (heap_words now.seat) state.homes
+        (room_start start.seat.space (start_of start).half + start.seat.space.sizes.young) progress.fill at
+    has_target =
+        slots_have_targets (start_of start) start.young.half state.fixed (heap_words now.seat) now.free state.homes
+        progress.fill slot place at state.begun (two_halves start.young.half state.two) state.filled stood refers
+        (left_at_start at left)
+
+    -- where the word there is no reference, a cell stands there that has no home
+    pub new_at : reference_in (get_or (heap_words now.seat) at 0) ≡ None
+        → NewAt (start_of start) state.fixed (heap_words now.seat) state.homes progress.fill at
+    new_at none =
+        let target = has_target in
+        let reached = (as_before state.fixed (heap_words now.seat) state.homes slot place at state.begun.laid
+        state.filled.copying stood refers target.0).1 in
+        new_target target.0 reached none target.1
+
+  module _ {cell : Cell} (new : IsNew (start_of start) state.fixed (heap_words now.seat) state.homes progress.fill cell)
+    where
+      -- it is a cell of the words
+      pub new_is_cell : IsCell now.seat.space (heap_words now.seat) cell
+      new_is_cell =
+          subst (λ (space : Space). IsCell space (heap_words now.seat) cell) (sym state.changes.seat.space) new.is_cell
+
+      -- behind the copies it ends before the marks
+      pub copy_before_marks : progress.fill + cell.size ≤ marks_start now.seat.space
+      copy_before_marks =
+          let ends = room_before_marks start.seat.space start.young.half in
+          subst (λ (space : Space). progress.fill + cell.size ≤ marks_start space) (sym state.changes.seat.space)
+          (omega (arith, new.ends, ends))
+
+      -- all copies and this have no more words than the young generation
+      pub few_words : progress.copied + cell.size ≤ now.seat.space.sizes.young
+      few_words =
+          let few = few_with_one cell.at state.begun state.filled new.is new.none in
+          let most = state.begun.whole.rows.few in
+          subst (λ (space : Space). progress.copied + cell.size ≤ space.sizes.young) (sym state.changes.seat.space)
+          (omega (arith, few, most, new.size, state.copied))
+
+      -- it may be copied behind the other copies
+      copied_behind : MayBeCopied now cell progress.fill
+      copied_behind =
+          let fits = fits_behind state.begun state.filled new in
+          record {
+            quiet = state.quiet;
+            is = new_is_cell;
+            room = copy_before_marks;
+            apart = disjoint_by cell.at progress.fill cell.size (λ at at_from at_below fill_from fill_below.
+                state.begun.laid.cell_in_no_room at
+                (cell.at, new.is, record { from = at_from; below = omega (arith, at_below, new.size) }) (
+                  fits.room,
+                  fits.lies.among,
+                  record {
+                    from = omega (arith, fits.lies.from, fill_from);
+                    below = omega (arith, fits.lies.ends, fill_below);
+                  },
+                ));
+          }
+
+      -- and to the front of a free run that was taken
+      copied_in_run : {mid : Mutator} (run : Run) (free : Cell) → TakesFront now.free mid.free cell.size run
+          → IsFreeAt now.seat.space (heap_words now.seat) free run.at → TakesRun now mid cell.size run free
+          → MayBeCopied mid cell run.at
+      copied_in_run {mid} run free takes is_free taken =
+          let words : List ℕ = heap_words now.seat in
+          let at_start : IsFreeAt start.seat.space words free run.at =
+          subst (λ (space : Space). IsFreeAt space words free run.at) state.changes.seat.space is_free in
+          let room = takes_room state.begun state.filled takes at_start in
+          let young = ((state.begun.begins.cells cell.at).0 new.is).young in
+          let kinds = kinds_by_number start.seat.space in
+          let from : ℕ = run.at + cell.size in
+          let count : ℕ = free.size - cell.size in
+          let beside : IsCell start.seat.space (with_free_cell words from count) cell =
+          cell_beside start.seat.space words from count cell
+          (omega (arith, room.enough, room.in_page, kinds.roots, kinds.layouts)) new.is_cell
+          (inr (omega (arith, room.enough, room.in_page, young))) in
+          let space_is : mid.seat.space ≡ start.seat.space = taken.changes.seat.space ∙ state.changes.seat.space in
+          record {
+            quiet = taken.changes.seat.phase ∙ state.quiet;
+            is = subst (λ (all_words : List ℕ). IsCell mid.seat.space all_words cell) (sym taken.words)
+                (subst (λ (space : Space). IsCell space (with_free_cell words from count) cell) (sym space_is) beside);
+            room = subst (λ (space : Space). from ≤ marks_start space) (sym space_is)
+                (omega (arith, room.enough, room.in_page, kinds.roots, kinds.layouts, kinds.marks));
+            apart = inr (omega (arith, room.enough, room.in_page, young));
+          }
+
+      -- so it may be where it goes
+      pub may_be_copied : {mid : Mutator} {after : Progress} {to : ℕ}
+          → Places now mid all cell.at cell.size progress after to
+          → MayBeCopied mid cell to
+      may_be_copied (Places.stays same not_to) =
+          subst (λ (main : Mutator). MayBeCopied main cell progress.fill) (sym same) copied_behind
+      may_be_copied (Places.passes same many) =
+          subst (λ (main : Mutator). MayBeCopied main cell progress.fill) (sym same) copied_behind
+      may_be_copied (Places.refuses same less none) =
+          subst (λ (main : Mutator). MayBeCopied main cell progress.fill) (sym same) copied_behind
+      may_be_copied (Places.promotes run free promote takes is_free taken) = copied_in_run run free takes is_free taken

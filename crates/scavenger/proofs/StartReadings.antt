@@ -13,7 +13,7 @@ use Rattle.heap_model.specs.Types.{Cell}
 use Rattle.heap_model.specs.Heaps.{Heap}
 use Rattle.heap_model.specs.Wholeness.{HasSizes}
 use Rattle.scav_copy.specs.Places.{Fixed, last_address, cell_before, words_in, offsets_in, size_of, offsets_of}
-use Rattle.scavenger.specs.Starts.{Begins}
+use Rattle.scavenger.specs.Starts.{Start, Begins}
 
 -- no address before the roots is past the greatest one
 abbrev pub IsLow : Space → Type 0
@@ -52,21 +52,21 @@ cell_reads space words cell low is_cell =
       there = reads.there;
     }
 
-module _ {heap : Heap} {half : ℕ} {fixed : Fixed} (begins : Begins heap half fixed) (low : IsLow heap.space) where
+module _ {start : Start} {fixed : Fixed} (begins : Begins start fixed) (low : IsLow start.heap.space) where
   -- a cell of the heap's words is read where a scavenge begins
-  pub cell_before_is : (cell : Cell) → IsCell heap.space heap.words cell
+  pub cell_before_is : (cell : Cell) → IsCell start.heap.space start.heap.words cell
       → cell_before fixed cell.at ≡ Some (reading_of cell)
   unfolding cell_before
   cell_before_is cell is_cell =
       ap (λ words. read_cell words fixed.layouts cell.at last_address) begins.before
-      ∙ ap (λ layouts. read_cell heap.words layouts cell.at last_address) begins.layouts
-      ∙ cell_reads heap.space heap.words cell low is_cell
+      ∙ ap (λ layouts. read_cell start.heap.words layouts cell.at last_address) begins.layouts
+      ∙ cell_reads start.heap.space start.heap.words cell low is_cell
 
   -- it has the size of the cell
-  pub size_is : (cell : Cell) → IsCell heap.space heap.words cell → size_of fixed cell.at ≡ cell.size
+  pub size_is : (cell : Cell) → IsCell start.heap.space start.heap.words cell → size_of fixed cell.at ≡ cell.size
   size_is cell is_cell = ap words_in (cell_before_is cell is_cell)
 
   -- and the slots of the cell
-  pub offsets_are : (cell : Cell) → IsCell heap.space heap.words cell
+  pub offsets_are : (cell : Cell) → IsCell start.heap.space start.heap.words cell
       → offsets_of fixed cell.at ≡ scavenge_offsets cell.layout cell.length
   offsets_are cell is_cell = ap offsets_in (cell_before_is cell is_cell)

@@ -1,12 +1,13 @@
--- What a slot refers to, from the first address of eden on, is a young cell.
-use Rattle.std.proofs.Common.{◌≡◌, ℕ, ◌+◌, ◌<◌, Bool, true, false, List, [], Some, Contains}
+-- What a slot refers to is a cell that is not free.
+use Rattle.std.proofs.Common.{◌≡◌, ℕ, ◌+◌, ◌<◌, Bool, true, false, IsTrue, List, [], Some, Contains}
 use Rattle.std.proofs.Common.{ℤ, refl, sym, ◌∙◌, ap, subst, inl, inr, arith}
 use Rattle.std.specs.Prelude.{slice_index}
+use Rattle.std.proofs.lemmas.Bool.{false≢true}
 use Rattle.std.proofs.lemmas.Option.{get_or_from_slice_get, unwrap_or-slice_get}
 use Rattle.tagged_word.specs.declared.layout.Kind.TheVariants as kind
 use Rattle.tagged_word.specs.Words.{small}
 use Rattle.tagged_word.specs.Readings.{reference_in}
-use Rattle.tagged_word.specs.Cells.{scavenge_offsets, scavenge_offsets_of}
+use Rattle.tagged_word.specs.Cells.{scavenge_offsets, scavenge_offsets_of, is_free_kind}
 use Rattle.tagged_word.proofs.Readings.{reference_from}
 use Rattle.page_space.proofs.Lists.{contains_none}
 use Rattle.cell_layout.proofs.OneCell.{slots_lie_within}
@@ -18,34 +19,44 @@ use Rattle.heap_model.specs.Heaps.{Heap, HasCell}
 use Rattle.heap_model.specs.Slots.{reference_word, IsSlotWord, RefersTo, IsPlace}
 use Rattle.heap_model.specs.Kinds.{HasWord, IsSoundOf, IsSoundCell}
 use Rattle.heap_model.specs.Wholeness.{Whole, IsHeld, HasSizes}
+use Rattle.heap_model.specs.Remembered.{IsPageSlot}
 use Rattle.heap_model.proofs.WordClasses.{same_reference, undefined_refers_not, hole_refers_not, small_refers_not}
 use Rattle.heap_model.proofs.CellsApart.{has_is_cell}
 use Rattle.heap_model.proofs.CellWords.{word_there}
 use Rattle.heap_model.proofs.WordsRead.{word_of_cell}
-use Rattle.heap_model.proofs.SlotWords.{IsStoreWord}
+use Rattle.heap_model.proofs.SlotWords.{IsStoreWord, store_is_owned}
+use Rattle.heap_model.proofs.StaysCollectable.{object_not_free, owned_not_free}
 use Rattle.heap_model.proofs.SlotsHold.{Holding, own_slot_holds, beside_holds}
 use Rattle.scav_copy.specs.Renamings.{RefersToAddress}
 
--- a cell of the heap stands at the address
+-- a cell of the heap that is not free stands at the address
 pub record StandsAt (heap : Heap) (at : ℕ) : Type 0 where
   pub cell : Cell
   pub words : List ℕ
   pub has : HasCell heap cell words
   pub stands : cell.at ≡ at
+  pub used : IsTrue (is_free_kind cell.layout.kind) → ⊥
 
 -- what a reference refers to stands at its address
 to_cell : {heap : Heap} {word : ℕ} {cell : Cell} {words : List ℕ} (at : ℕ) → word ≡ reference_word at
-    → RefersTo heap word cell words → StandsAt heap at
-to_cell {cell = cell} {words} at is refers = record {
+    → RefersTo heap word cell words → (IsTrue (is_free_kind cell.layout.kind) → ⊥) → StandsAt heap at
+to_cell {cell = cell} {words} at is refers used = record {
   cell = cell;
   words = words;
   has = refers.has;
   stands = same_reference cell.at at (sym refers.refers ∙ is);
+  used = used;
 }
 
 -- an object of a place stands there
 of_place : {heap : Heap} {number : ℕ} (at : ℕ) → IsPlace heap number at → StandsAt heap at
-of_place at place = record { cell = place.cell; words = place.words; has = place.has; stands = place.stands }
+of_place at place = record {
+  cell = place.cell;
+  words = place.words;
+  has = place.has;
+  stands = place.stands;
+  used = object_not_free place.cell.layout.kind place.object;
+}
 
 -- a slot word that is a reference refers to a cell
 slot_to_cell : {heap : Heap} {word : ℕ} (at : ℕ) → word ≡ reference_word at → IsSlotWord heap word → StandsAt heap at
@@ -55,12 +66,14 @@ slot_to_cell at is IsSlotWord.hole = absurd (hole_refers_not at is)
 slot_to_cell {heap} at is (IsSlotWord.object word refers) =
     let same : refers.1.at ≡ at = same_reference refers.1.at at (sym refers.1.refers ∙ is) in
     of_place at (subst (IsPlace heap refers.0) same refers.1.place)
-slot_to_cell at is (IsSlotWord.boxed word v refers) = to_cell at is refers.target
+slot_to_cell at is (IsSlotWord.boxed word v refers) =
+    to_cell at is refers.target (λ free. false≢true (sym (ap is_free_kind refers.box) ∙ free))
 
 -- so does the slot of a store or a table
 store_to_cell : {heap : Heap} {word : ℕ} (at : ℕ) → word ≡ reference_word at → IsStoreWord heap word → StandsAt heap at
 store_to_cell at is (IsStoreWord.none same) = absurd (undefined_refers_not at (sym same ∙ is))
-store_to_cell at is (IsStoreWord.store cell words refers of_kind) = to_cell at is refers
+store_to_cell at is (IsStoreWord.store cell words refers of_kind) =
+    to_cell at is refers (owned_not_free cell.layout.kind (store_is_owned of_kind))
 
 -- so does each slot of an object
 held_to_cell : {heap : Heap} {word : ℕ} (at : ℕ) → word ≡ reference_word at → Holding heap word → StandsAt heap at
@@ -107,6 +120,13 @@ cell_targets {heap} {cell} {words} offset at whole has there refers =
     let reads : reference_in slot.0 ≡ Some at = ap reference_in (sym (word_reads offset slot.0 has slot.1)) ∙ refers in
     kind_to_cell cell.layout.kind offset slot.0 at whole.sized has refl (whole.sound cell words has) there slot.1
     (reference_from slot.0 at reads).1
+
+-- what a slot of a cell of a page refers to is one
+pub recorded_targets : {heap : Heap} {place : ℕ} (at : ℕ) → Whole heap → IsPageSlot heap place
+    → RefersToAddress heap.words place at → StandsAt heap at
+recorded_targets {heap} at whole slot refers =
+    cell_targets slot.slot.offset at whole slot.has slot.slot.visited
+    (subst (λ (one : ℕ). RefersToAddress heap.words one at) (sym slot.slot.stands) refers)
 
 -- no integer in a root word is a reference
 no_integer : (b : Bool) (v : ℤ) (at : ℕ) → first_of b v ≡ reference_word at → ⊥

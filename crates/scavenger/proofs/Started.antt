@@ -1,44 +1,53 @@
 -- A heap that shows a graph may be scavenged: what a scavenge of it begins with.
-use Rattle.std.proofs.Common.{◌≡◌, ℕ, ◌+◌, ◌≤◌, ◌<◌, ◌↔◌, List, [], ◌∷◌, map, Contains, inl, inr, refl, sym, ◌∙◌}
-use Rattle.std.proofs.Common.{ap, subst, arith}
-use Rattle.std.specs.List.{All, AllPairs, range_with_len, sum_by}
+use Rattle.std.proofs.Common.{◌≡◌, ℕ, ◌+◌, ◌≤◌, ◌<◌, ◌↔◌, ◌⊎◌, inl, inr, List, ◌∷◌, ◌++◌, map, Contains}
+use Rattle.std.proofs.Common.{refl, sym, ◌∙◌, ap, subst, arith}
+use Rattle.std.specs.List.{All, AllPairs, range_with_len, sum_by, flat_map}
 use Rattle.std.proofs.lemmas.List.Elements.{All-contains_itself, All-weaker}
-use Rattle.tagged_word.proofs.Members.{in_map, map_from, in_range, range_bounds}
+use Rattle.std.proofs.lemmas.List.Elements.{Contains-append_left, Contains-append_right, Contains-append_cases}
+use Rattle.tagged_word.proofs.Members.{first_in, rest_in, in_cases, in_map, map_from, in_range, range_bounds}
 use Rattle.page_space.specs.Extents.{Space, eden_start, cell_stretches}
 use Rattle.page_space.specs.RegionLaws.{IsSpace}
 use Rattle.cell_layout.specs.Cells.{layouts_in}
+use Rattle.free_runs.specs.FreeRuns.{AreFree}
 use Rattle.handle_roots.specs.Roots.{root_at}
-use Rattle.heap_model.specs.Types.{Cell}
+use Rattle.heap_model.specs.Types.{Cell, Run}
 use Rattle.heap_model.specs.Heaps.{Heap, Row, words_of_cell}
 use Rattle.heap_model.specs.Wholeness.{HasRows, Whole}
-use Rattle.heap_model.specs.Collectable.{IsCollectable}
+use Rattle.heap_model.specs.Collectable.{IsCollectable, AreFreeRuns}
+use Rattle.heap_model.specs.Remembered.{AreRemembered}
 use Rattle.heap_model.proofs.RegionRows.{row_is}
+use Rattle.heap_model.proofs.RowCovers.{from_one, of_one}
 use Rattle.heap_model.proofs.CellsApart.{has_is_cell, ends_within, used_few}
-use Rattle.nursery.specs.Young.{other_half}
-use Rattle.write_barrier.specs.MutatorState.{heap_of}
+use Rattle.scav_copy.specs.declared.places.Room.{Room}
 use Rattle.scav_copy.specs.Places.{Fixed, size_of, offsets_of}
 use Rattle.scav_copy.specs.Renamings.{RefersToAddress}
-use Rattle.scavenger.specs.Starts.{Begins, IsBegun, IsSlotPlace, IsYoungCell, IsRootAt, room_of}
+use Rattle.scavenger.specs.Starts.{Start, Begins, IsBegun, IsSlotPlace, IsYoungCell, IsRootAt, IsRunOf, room_of}
+use Rattle.scavenger.specs.Starts.{room_of_run, start_of}
 use Rattle.scavenger.specs.Laws.{ShownHeapsMayBegin}
 use Rattle.scavenger.proofs.StartReadings.{low_within, size_is, offsets_are}
 use Rattle.scavenger.proofs.StartRows.{young_cells, young_has, young_in}
 use Rattle.scavenger.proofs.StartAscends.{addresses, climbs_pairs, StandsIn, rows_climb}
 use Rattle.scavenger.proofs.StartSums.{sum_by-map, sum_by-same, young_words}
-use Rattle.scavenger.proofs.StartTargets.{StandsAt, cell_targets, root_targets}
+use Rattle.scavenger.proofs.StartTargets.{StandsAt, cell_targets, root_targets, recorded_targets}
+use Rattle.scavenger.proofs.StartRooms.{IsReady}
 use Rattle.scavenger.proofs.StartLaid.{laid_out}
 
 -- the first root words of the variables, in order
 abbrev root_slots : Space → List ℕ
 root_slots space = map (root_at space) (range_with_len 0 space.variables)
 
--- what a scavenge of a heap with these rows to a half begins with
-abbrev pub fixed_of : (heap : Heap) → HasRows heap → ℕ → Fixed
-fixed_of heap rows half = record {
-  before = heap.words;
-  layouts = layouts_in heap.space heap.words;
+-- the free runs as rooms
+abbrev run_rooms : Space → List (List Run) → List Room
+run_rooms space rows = flat_map (map (room_of_run space)) rows
+
+-- what a scavenge begins with, where the heap has these rows of cells
+abbrev pub fixed_of : (start : Start) → HasRows start.heap → Fixed
+fixed_of start rows = record {
+  before = start.heap.words;
+  layouts = layouts_in start.heap.space start.heap.words;
   cells = addresses (young_cells rows.rows);
-  slots = root_slots heap.space;
-  rooms = room_of heap.space half ∷ [];
+  slots = root_slots start.heap.space ++ start.recorded;
+  rooms = room_of start.heap.space start.half ∷ run_rooms start.heap.space start.rows;
 }
 
 -- its cells are the young ones
@@ -61,7 +70,7 @@ cells_are_young heap rows at = (
       (in_map (λ (cell : Cell). cell.at) (young_cells rows.rows) is.cell (young_in rows is.cell is.has young)),
 )
 
--- its slots are the first root words
+-- the first root words are those of the variables
 slots_are_roots : (space : Space) (at : ℕ) → Contains (root_slots space) at ↔ IsRootAt space at
 slots_are_roots space at = (
   λ among.
@@ -77,14 +86,63 @@ slots_are_roots space at = (
       (in_map (root_at space) (range_with_len 0 space.variables) is.variable there),
 )
 
+-- its slots are the first root words and the recorded ones
+slots_are : (start : Start) (rows : HasRows start.heap) (at : ℕ) → Contains (fixed_of start rows).slots at
+    ↔ (IsRootAt start.heap.space at ⊎ Contains start.recorded at)
+slots_are start rows at =
+    let roots : List ℕ = root_slots start.heap.space in (
+      λ among. elim (Contains-append_cases roots start.recorded at among) [
+        | inl root ↦ inl ((slots_are_roots start.heap.space at).0 root)
+        | inr recorded ↦ inr recorded
+      ],
+      λ either. elim either [
+        | inl root ↦ Contains-append_left roots start.recorded at ((slots_are_roots start.heap.space at).1 root)
+        | inr recorded ↦ Contains-append_right roots start.recorded at recorded
+      ],
+    )
+
+-- a free run as a room is one of those of all rows
+run_rooms_are : (space : Space) (rows : List (List Run)) (room : Room) → Contains (run_rooms space rows) room
+    ↔ ((run : Run) × IsRunOf rows run × (room ≡ room_of_run space run))
+run_rooms_are space rows room =
+    let of_row : List Run → List Room = map (room_of_run space) in (
+      λ among.
+          let row = from_one of_row rows room among in
+          let found = map_from (room_of_run space) row.one room row.has in
+          (found.0, record { row = row.one; of_rows = row.among; among = found.1 }, sym found.2),
+      λ is.
+          let run : Run = is.0 in
+          let there = in_map (room_of_run space) is.1.row run is.1.among in
+          subst (Contains (run_rooms space rows)) (sym is.2)
+          (of_one of_row rows is.1.row (room_of_run space run) is.1.of_rows there),
+    )
+
+-- its rooms are the segment and the free runs
+rooms_are : (start : Start) (rows : HasRows start.heap) (room : Room) → Contains (fixed_of start rows).rooms room
+    ↔ ((room ≡ room_of start.heap.space start.half)
+    ⊎ ((run : Run) × IsRunOf start.rows run × (room ≡ room_of_run start.heap.space run)))
+rooms_are start rows room =
+    let space : Space = start.heap.space in
+    let own : Room = room_of space start.half in
+    let runs : List Room = run_rooms space start.rows in (
+      λ among. elim (in_cases own runs room among) [
+        | inl same ↦ inl (sym same)
+        | inr there ↦ inr ((run_rooms_are space start.rows room).0 there)
+      ],
+      λ either. elim either [
+        | inl same ↦ subst (Contains (own ∷ runs)) (sym same) (first_in own runs)
+        | inr run ↦ rest_in own runs room ((run_rooms_are space start.rows room).1 run)
+      ],
+    )
+
 -- a scavenge begins with it
-fixed_begins : (heap : Heap) (rows : HasRows heap) (half : ℕ) → Begins heap half (fixed_of heap rows half)
-fixed_begins heap rows half = record {
+fixed_begins : (start : Start) (rows : HasRows start.heap) → Begins start (fixed_of start rows)
+fixed_begins start rows = record {
   before = refl;
   layouts = refl;
-  cells = cells_are_young heap rows;
-  slots = slots_are_roots heap.space;
-  rooms = refl;
+  cells = cells_are_young start.heap rows;
+  slots = slots_are start rows;
+  rooms = rooms_are start rows;
 }
 
 -- each row stands in its region
@@ -103,74 +161,96 @@ cells_ascend heap rows =
     (rows_climb heap 0 (cell_stretches heap.space) rows.rows rows.are.everywhere (rows_stand heap rows))
 
 -- they have as many words as survivors and eden's used words
-cells_counted : (heap : Heap) (rows : HasRows heap) (half : ℕ) → IsSpace heap.space
-    → sum_by (size_of (fixed_of heap rows half)) (addresses (young_cells rows.rows)) ≡ heap.survivors + heap.used
-cells_counted heap rows half limits =
-    let fixed : Fixed = fixed_of heap rows half in
-    let begins = fixed_begins heap rows half in
-    let low = low_within heap.space limits in
+cells_counted : (start : Start) (rows : HasRows start.heap) → IsSpace start.heap.space
+    → sum_by (size_of (fixed_of start rows)) (addresses (young_cells rows.rows))
+    ≡ start.heap.survivors + start.heap.used
+cells_counted start rows limits =
+    let fixed : Fixed = fixed_of start rows in
+    let begins = fixed_begins start rows in
+    let low = low_within start.heap.space limits in
     sum_by-map (size_of fixed) (λ (cell : Cell). cell.at) (young_cells rows.rows)
     ∙ sum_by-same (λ (cell : Cell). size_of fixed cell.at) (λ (cell : Cell). cell.size) (young_cells rows.rows)
     (λ cell there. size_is begins low cell (has_is_cell (young_has rows cell there).has))
-    ∙ young_words heap rows
+    ∙ young_words start.heap rows
 
-module _ {heap : Heap} {half : ℕ} {fixed : Fixed} (limits : IsSpace heap.space) (whole : Whole heap)
-    (begins : Begins heap half fixed) where
+module _ {start : Start} {fixed : Fixed} (ready : IsReady start fixed) where
   -- a cell that stands from eden on is one of the cells
-  young_among : (at : ℕ) → StandsAt heap at → eden_start heap.space ≤ at → Contains fixed.cells at
-  young_among at is young =
-      (begins.cells at).1 record { cell = is.cell; words = is.words; has = is.has; stands = is.stands; young = young }
+  young_among : (at : ℕ) → StandsAt start.heap at → eden_start start.heap.space ≤ at → Contains fixed.cells at
+  young_among at is young = (ready.begins.cells at).1 record {
+    cell = is.cell;
+    words = is.words;
+    has = is.has;
+    stands = is.stands;
+    young = young;
+  }
 
-  -- what a slot outside refers to stands there
-  outside_targets : (place at : ℕ) → Contains fixed.slots place → RefersToAddress fixed.before place at
-      → StandsAt heap at
-  outside_targets place at among refers =
-      let is : IsRootAt heap.space place = (begins.slots place).0 among in
-      let here = subst (λ (words : List ℕ). RefersToAddress words place at) begins.before refers in
-      root_targets is.variable at whole is.known
-      (subst (λ (slot : ℕ). RefersToAddress heap.words slot at) is.stands here)
+  -- what a slot outside refers to from eden on stands there
+  outside_targets : (place at : ℕ) → Contains fixed.slots place → RefersToAddress start.heap.words place at
+      → StandsAt start.heap at
+  outside_targets place at among refers = elim ((ready.begins.slots place).0 among) [
+    | inl root ↦
+        root_targets root.variable at ready.whole root.known
+        (subst (λ (slot : ℕ). RefersToAddress start.heap.words slot at) root.stands refers)
+    | inr recorded ↦ recorded_targets at ready.whole ((ready.remembered place).0 recorded).0 refers
+  ]
 
   -- what a slot of one of the cells refers to stands there
   inside_targets : (cell offset place at : ℕ) → Contains fixed.cells cell → Contains (offsets_of fixed cell) offset
-      → cell + offset ≡ place → RefersToAddress fixed.before place at → StandsAt heap at
+      → cell + offset ≡ place → RefersToAddress start.heap.words place at → StandsAt start.heap at
   inside_targets cell offset place at among slot is_place refers =
-      let is : IsYoungCell heap cell = (begins.cells cell).0 among in
+      let is : IsYoungCell start.heap cell = (ready.begins.cells cell).0 among in
       let own = ap (offsets_of fixed) (sym is.stands)
-      ∙ offsets_are begins (low_within heap.space limits) is.cell (has_is_cell is.has) in
+      ∙ offsets_are ready.begins (low_within start.heap.space ready.limits) is.cell (has_is_cell is.has) in
       let there = subst (λ (offsets : List ℕ). Contains offsets offset) own slot in
-      let here = subst (λ (words : List ℕ). RefersToAddress words place at) begins.before refers in
-      let stands : place ≡ is.cell.at + offset = omega (arith, is.stands) in
-      cell_targets offset at whole is.has there
-      (subst (λ (one : ℕ). RefersToAddress heap.words one at) stands here)
+      let stands : place ≡ is.cell.at + offset = omega (arith, is.stands, is_place) in
+      cell_targets offset at ready.whole is.has there
+      (subst (λ (one : ℕ). RefersToAddress start.heap.words one at) stands refers)
 
   -- what a slot refers to from eden on is one of the cells
   slot_targets : (place at : ℕ) → IsSlotPlace fixed place → RefersToAddress fixed.before place at
-      → eden_start heap.space ≤ at → Contains fixed.cells at
-  slot_targets place at (inl among) refers young = young_among at (outside_targets place at among refers) young
-  slot_targets place at (inr (cell, offset, among, slot, is_place)) refers young =
-      young_among at (inside_targets cell offset place at among slot is_place refers) young
+      → eden_start start.heap.space ≤ at → Contains fixed.cells at
+  slot_targets place at slot refers young =
+      let here = subst (λ (words : List ℕ). RefersToAddress words place at) ready.begins.before refers in
+      elim slot [
+        | inl among ↦ young_among at (outside_targets place at among here) young
+        | inr in_cell ↦
+            young_among at (inside_targets in_cell.0 in_cell.1 place at in_cell.2 in_cell.3 in_cell.4 here) young
+      ]
 
--- a whole heap with an empty half may be scavenged to it
-pub may_begin : (heap : Heap) (half : ℕ) → IsSpace heap.space → (whole : Whole heap) → half ≤ 1
-    → IsCollectable heap half → IsBegun heap half (fixed_of heap whole.rows half)
-may_begin heap half limits whole is_half collectable =
-    let begins = fixed_begins heap whole.rows half in
-    record {
-      begins = begins;
-      laid = laid_out limits whole is_half collectable begins;
+-- A whole heap with an empty half may be scavenged to it, where its free runs are known, and what is recorded is right.
+pub may_begin : (start : Start) → IsSpace start.heap.space → (whole : Whole start.heap) → start.half ≤ 1
+    → IsCollectable start.heap start.half → AreFreeRuns start.heap start.rows → AreFree start.rows
+    → AreRemembered start.heap start.recorded → IsBegun start (fixed_of start whole.rows)
+may_begin start limits whole is_half collectable free apart remembered =
+    let begins = fixed_begins start whole.rows in
+    let ready : IsReady start (fixed_of start whole.rows) = record {
+      limits = limits;
       whole = whole;
       is_half = is_half;
       collectable = collectable;
-      targets = slot_targets limits whole begins;
-      ascend = cells_ascend heap whole.rows;
-      counted = cells_counted heap whole.rows half limits;
+      free = free;
+      apart = apart;
+      remembered = remembered;
+      begins = begins;
+    } in
+    record {
+      begins = begins;
+      laid = laid_out ready;
+      whole = whole;
+      is_half = is_half;
+      collectable = collectable;
+      free = free;
+      apart = apart;
+      remembered = remembered;
+      targets = slot_targets ready;
+      ascend = cells_ascend start.heap whole.rows;
+      counted = cells_counted start whole.rows limits;
     }
 
 -- a heap that shows a graph may be scavenged
 pub shown_heaps_may_begin : ShownHeapsMayBegin
-shown_heaps_may_begin main graph limits shows young =
-    let half : ℕ = other_half main.young.half in
+shown_heaps_may_begin main graph limits shows young free =
     let whole = shows.shows.whole in (
-      fixed_of (heap_of main) whole.rows half,
-      may_begin (heap_of main) half limits whole (omega arith) shows.collectable,
+      fixed_of (start_of main) whole.rows,
+      may_begin (start_of main) limits whole (omega arith) shows.collectable shows.free free shows.remembered,
     )

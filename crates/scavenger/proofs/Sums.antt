@@ -9,9 +9,9 @@ use Rattle.scav_copy.specs.Places.{Fixed, size_of}
 use Rattle.scav_copy.specs.Copies.{with_home, HasNoHome}
 use Rattle.scav_copy.proofs.Ascending.{Ascends, by_place, joined_ascends, joined_is}
 use Rattle.scav_copy.proofs.Spots.{none_in, from_is}
-use Rattle.scavenger.specs.Starts.{IsBegun, room_start}
+use Rattle.scavenger.specs.Starts.{Start, IsBegun, room_start}
 use Rattle.scavenger.specs.Filling.{IsFilled}
-use Rattle.heap_model.specs.Heaps.{Heap}
+use Rattle.heap_model.specs.Types.{Run}
 
 -- the first of a list is related to each later one, where all pairs are related
 first_to : {X : Type 0} (R : X → X → Type 0) (x y : X) (xs : List X) → AllPairs R (x ∷ xs) → Contains xs y → R x y
@@ -125,19 +125,18 @@ one_home_more measure (home ∷ homes) new =
     omega (arith, first, parts, rest))
 
 -- the homes are of cells that are to be copied
-pub homes_are : {fixed : Fixed} {words : List ℕ} {homes : List Home} {start scan fill : ℕ}
-    → IsFilled fixed words homes start scan fill → AreOf fixed.cells homes
+pub homes_are : {start : Start} {fixed : Fixed} {words : List ℕ} {rows : List (List Run)} {homes : List Home} {fill : ℕ}
+    → IsFilled start fixed words rows homes fill → AreOf fixed.cells homes
 homes_are filled home there = from_is home filled.copying there
 
 -- the copies have no more words than survivors and used words together
-pub few_filled : {heap : Heap} {half : ℕ} {fixed : Fixed} {words : List ℕ} {homes : List Home} {scan fill : ℕ}
-    → IsBegun heap half fixed → IsFilled fixed words homes (room_start heap.space half) scan fill
-    → fill ≤ room_start heap.space half + (heap.survivors + heap.used)
-few_filled {heap} {half} {fixed} {words} {homes} {scan} {fill} begun filled =
+pub few_filled : {start : Start} {fixed : Fixed} {words : List ℕ} {rows : List (List Run)} {homes : List Home}
+    {fill : ℕ} → IsBegun start fixed → IsFilled start fixed words rows homes fill
+    → fill ≤ room_start start.heap.space start.half + (start.heap.survivors + start.heap.used)
+few_filled {start} {fixed} {homes = homes} begun filled =
     let few : sum_of_homes (size_of fixed) homes ≤ sum_by (size_of fixed) fixed.cells =
     few_homes (size_of fixed) fixed.cells homes begun.ascend filled.copying.ascend (homes_are filled) in
-    let long : room_start heap.space half + sum_of_homes (size_of fixed) homes ≡ fill = filled.long in
-    omega (arith, few, long, begun.counted)
+    omega (arith, few, filled.long, begun.counted)
 
 -- the cell has a home afterwards, and the other homes are of cells as before
 more_are : (cells : List ℕ) (homes : List Home) (new : Home) → Contains cells new.from → AreOf cells homes
@@ -147,28 +146,24 @@ more_are cells homes new is are home there = elim (joined_is homes new home ther
   | inr among ↦ are home among
 ]
 
--- Behind the copies there is room for the copy of a cell that has no home: these too have no more words than survivors
--- and used words together.
-pub few_with_one : {heap : Heap} {half : ℕ} {fixed : Fixed} {words : List ℕ} {homes : List Home} {scan fill : ℕ}
-    (cell : ℕ) → IsBegun heap half fixed → IsFilled fixed words homes (room_start heap.space half) scan fill
+-- The copies, with that of a cell that has no home, have no more words than survivors and used words together.
+pub few_with_one : {start : Start} {fixed : Fixed} {words : List ℕ} {rows : List (List Run)} {homes : List Home}
+    {fill : ℕ} (cell : ℕ) → IsBegun start fixed → IsFilled start fixed words rows homes fill
     → Contains fixed.cells cell → HasNoHome homes cell
-    → fill + size_of fixed cell ≤ room_start heap.space half + (heap.survivors + heap.used)
-few_with_one {heap} {half} {fixed} {words} {homes} {scan} {fill} cell begun filled is none =
+    → sum_of_homes (size_of fixed) homes + size_of fixed cell ≤ start.heap.survivors + start.heap.used
+few_with_one {start} {fixed} {homes = homes} cell begun filled is none =
     let new : Home = record { from = cell; to = 0 } in
     let few : sum_of_homes (size_of fixed) (with_home homes new) ≤ sum_by (size_of fixed) fixed.cells =
     few_homes (size_of fixed) fixed.cells (with_home homes new) begun.ascend
     (joined_ascends homes new filled.copying.ascend none) (more_are fixed.cells homes new is (homes_are filled)) in
-    let more = one_home_more (size_of fixed) homes new in
-    let long : room_start heap.space half + sum_of_homes (size_of fixed) homes ≡ fill = filled.long in
-    omega (arith, few, more, long, begun.counted)
+    omega (arith, few, one_home_more (size_of fixed) homes new, begun.counted)
 
--- the copy of a cell that has no home ends in the room
-pub room_for_one : {heap : Heap} {half : ℕ} {fixed : Fixed} {words : List ℕ} {homes : List Home} {scan fill : ℕ}
-    (cell : ℕ) → IsBegun heap half fixed → IsFilled fixed words homes (room_start heap.space half) scan fill
+-- so the copy of a cell that has no home ends in the room
+pub room_for_one : {start : Start} {fixed : Fixed} {words : List ℕ} {rows : List (List Run)} {homes : List Home}
+    {fill : ℕ} (cell : ℕ) → IsBegun start fixed → IsFilled start fixed words rows homes fill
     → Contains fixed.cells cell → HasNoHome homes cell
-    → fill + size_of fixed cell ≤ room_start heap.space half + heap.space.sizes.young
-room_for_one {heap} {half} {fixed} {words} {homes} {scan} {fill} cell begun filled is none =
-    let few : fill + size_of fixed cell ≤ room_start heap.space half + (heap.survivors + heap.used) =
+    → fill + size_of fixed cell ≤ room_start start.heap.space start.half + start.heap.space.sizes.young
+room_for_one {start} {fixed} {homes = homes} cell begun filled is none =
+    let few : sum_of_homes (size_of fixed) homes + size_of fixed cell ≤ start.heap.survivors + start.heap.used =
     few_with_one cell begun filled is none in
-    let most : heap.survivors + heap.used ≤ heap.space.sizes.young = begun.whole.rows.few in
-    omega (arith, few, most)
+    omega (arith, few, filled.long, begun.whole.rows.few)

@@ -1,14 +1,23 @@
--- How far a scavenge has come: the copies that fill the room, and which slots are to do.
-use Rattle.std.specs.Prelude.{◌≡◌, ℕ, ◌+◌, ◌<◌, ◌≤◌, ◌↔◌, ◌⊎◌, List, [], ◌∷◌, ◌++◌, Contains, sum_by, slice_get, Some}
-use Rattle.std.specs.Prelude.{length}
+-- How far a scavenge has come: the copies that fill the rooms, what stands in pages, and which slots are to do.
+use Rattle.std.specs.Prelude.{◌≡◌, ℕ, ◌+◌, ◌*◌, ◌<◌, ◌≤◌, ◌↔◌, ◌⊎◌, List, [], ◌∷◌, ◌++◌, Contains, sum_by, slice_get, Some}
+use Rattle.std.specs.Prelude.{length, IsTrue}
+use Rattle.tagged_word.specs.Cells.{is_free_kind}
 use Rattle.page_space.specs.declared.region.Region.TheVariants.{Segment}
-use Rattle.page_space.specs.Extents.{Space, StartsAt}
+use Rattle.page_space.specs.Sizes.{page_words}
+use Rattle.page_space.specs.Extents.{Space, StartsAt, eden_start}
+use Rattle.cell_layout.specs.Cells.{IsRow}
 use Rattle.heap_table.specs.Seats.{RestStays, heap_words}
+use Rattle.free_runs.specs.FreeRuns.{AreFree}
+use Rattle.free_runs.specs.Laws.{IsFreeWord}
+use Rattle.heap_model.specs.Types.{Cell, Run}
+use Rattle.heap_model.specs.Heaps.{HasCell}
+use Rattle.heap_model.specs.Kinds.{HasNoNumber}
 use Rattle.write_barrier.specs.MutatorState.{Mutator}
 use Rattle.scav_copy.specs.declared.places.Home.{Home}
-use Rattle.scav_copy.specs.Places.{Fixed, size_of, StoodAt}
+use Rattle.scav_copy.specs.Places.{Fixed, size_of, IsInCopy, IsInCopies, StoodAt}
 use Rattle.scav_copy.specs.Renamings.{RefersToAddress}
 use Rattle.scav_copy.specs.Copies.{Copying}
+use Rattle.scavenger.specs.Starts.{Start, IsRunOf, room_start}
 
 -- the copies stand one behind another from an address to another, in this order
 pub data Tiles (fixed : Fixed) : ℕ → ℕ → List Home → Type 0 where
@@ -16,26 +25,87 @@ pub data Tiles (fixed : Fixed) : ℕ → ℕ → List Home → Type 0 where
   next : (home : Home) (end : ℕ) (homes : List Home) → Tiles fixed (home.to + size_of fixed home.from) end homes
       → Tiles fixed home.to end (home ∷ homes)
 
--- Words and homes between two slots. The home copies fill the room from its start to `fill`. Those before `scan` are
--- done, and those from it on are to do.
-pub record IsFilled (fixed : Fixed) (words : List ℕ) (homes : List Home) (start scan fill : ℕ) : Type 0 where
-  pub copying : Copying fixed words homes
-  pub done : List Home
-  pub todo : List Home
-  pub tiles_done : Tiles fixed start scan done
-  pub tiles_todo : Tiles fixed scan fill todo
-  pub same : (home : Home) → Contains homes home ↔ Contains (done ++ todo) home
-  pub long : start + sum_by (λ home. size_of fixed home.from) homes ≡ fill
+-- What a cell of a page is while a scavenge goes on: one that stood there before and is no free run; a home copy; or
+-- what a free run is now.
+pub data IsOfPage (start : Start) (rows : List (List Run)) (homes : List Home) (cell : Cell) : Type 0 where
+  stays : (words : List ℕ) → HasCell start.heap cell words
+      → ((run : Run) → IsRunOf start.rows run → run.at ≡ cell.at → ⊥) → IsOfPage start rows homes cell
+  copy : (home : Home) → Contains homes home → home.to ≡ cell.at → IsOfPage start rows homes cell
+  free : (run : Run) → IsRunOf rows run → run.at ≡ cell.at → run.words ≡ cell.size
+      → IsTrue (is_free_kind cell.layout.kind) → HasNoNumber cell → IsOfPage start rows homes cell
 
--- the slot is to do: it stands in the room from `scan` on, or among the roots from `root` on
-abbrev pub IsToDo : ℕ → ℕ → ℕ → ℕ → Type 0
-IsToDo end scan root slot = ((scan ≤ slot) × (slot < end)) ⊎ (root ≤ slot)
+-- the address is one of the page's
+pub record IsInPage (page at : ℕ) : Type 0 where
+  pub from : page_words * page ≤ at
+  pub below : at < page_words * page + page_words
+
+-- one of these cells stands at the address
+pub record StandsIn (cells : List Cell) (at : ℕ) : Type 0 where
+  pub cell : Cell
+  pub among : Contains cells cell
+  pub stands : cell.at ≡ at
+
+-- A page while a scavenge goes on: a row of such cells, and of all of them.
+pub record PageStands (start : Start) (words : List ℕ) (rows : List (List Run)) (homes : List Home) (page : ℕ)
+    : Type 0 where
+  pub cells : List Cell
+  pub row : IsRow start.heap.space words (page_words * page) (page_words * page + page_words) cells
+  pub each : (cell : Cell) → Contains cells cell → IsOfPage start rows homes cell
+  pub stay : (cell : Cell) (were : List ℕ) → HasCell start.heap cell were → IsInPage page cell.at
+      → ((run : Run) → IsRunOf start.rows run → run.at ≡ cell.at → ⊥) → Contains cells cell
+  pub copies : (home : Home) → Contains homes home → IsInPage page home.to → StandsIn cells home.to
+  pub runs : (run : Run) → IsRunOf rows run → IsInPage page run.at → StandsIn cells run.at
+
+-- all pages
+abbrev pub PagesStand : Start → List ℕ → List (List Run) → List Home → Type 0
+PagesStand start words rows homes =
+    (page : ℕ) → page < start.heap.space.sizes.pages → PageStands start words rows homes page
+
+-- the address is a word of a home copy in a page
+abbrev pub IsInPromoted : Start → Fixed → List Home → ℕ → Type 0
+IsInPromoted start fixed homes at =
+    (home : Home) × Contains homes home × (home.to < eden_start start.heap.space) × IsInCopy fixed home at
+
+-- Words, free runs and homes between two slots. Some home copies fill the segment from its start to `fill`, one behind
+-- another; the others stand in pages. Each word that was in a free run is in one, or in a copy.
+pub record IsFilled (start : Start) (fixed : Fixed) (words : List ℕ) (rows : List (List Run)) (homes : List Home) (fill : ℕ)
+    : Type 0 where
+  pub copying : Copying fixed words homes
+  pub stayed : List Home
+  pub tiles : Tiles fixed (room_start start.heap.space start.half) fill stayed
+  pub promoted : List Home
+  pub in_pages : (home : Home) → Contains promoted home → home.to < eden_start start.heap.space
+  pub same : (home : Home) → Contains homes home ↔ Contains (stayed ++ promoted) home
+  pub long : fill ≤ room_start start.heap.space start.half + sum_by (λ home. size_of fixed home.from) homes
+  pub pages : PagesStand start words rows homes
+  pub left : (at : ℕ) → IsFreeWord start.rows at ↔ (IsFreeWord rows at ⊎ IsInPromoted start fixed homes at)
+  pub free : AreFree rows
+  pub apart : (at : ℕ) → IsFreeWord rows at → IsInCopies fixed homes at → ⊥
+
+-- Up to where slots are done: first root words before `root`, recorded ones before `recorded`; and of the copy at hand
+-- the words from one address to another are still to do.
+pub record Front : Type 0 where
+  pub root : ℕ
+  pub recorded : ℕ
+  pub from : ℕ
+  pub to : ℕ
+
+-- The slot is to do: it is a root or a recorded slot that is not done, one of the copy at hand, or one of a copy on the
+-- list.
+pub data IsToDo (start : Start) (fixed : Fixed) (homes : List Home) (todo : List ℕ) (front : Front) (slot : ℕ)
+    : Type 0 where
+  root : front.root ≤ slot → IsToDo start fixed homes todo front slot
+  recorded : front.recorded ≤ slot → slot < eden_start start.heap.space → Contains start.recorded slot
+      → IsToDo start fixed homes todo front slot
+  at_hand : front.from ≤ slot → slot < front.to → IsToDo start fixed homes todo front slot
+  listed : (home : Home) → Contains homes home → Contains todo home.to → IsInCopy fixed home slot
+      → IsToDo start fixed homes todo front slot
 
 -- each live slot that refers to one of the cells is to do
-abbrev pub OthersAreDone : Fixed → List ℕ → List Home → (end scan root : ℕ) → Type 0
-OthersAreDone fixed words homes end scan root =
+abbrev pub OthersAreDone : Start → Fixed → List ℕ → List Home → List ℕ → Front → Type 0
+OthersAreDone start fixed words homes todo front =
     (slot place cell : ℕ) → StoodAt fixed homes slot place → RefersToAddress words slot cell
-    → Contains fixed.cells cell → IsToDo end scan root slot
+    → Contains fixed.cells cell → IsToDo start fixed homes todo front slot
 
 -- no live slot refers to one of the cells
 abbrev pub AllAreDone : Fixed → List ℕ → List Home → Type 0
@@ -43,12 +113,13 @@ AllAreDone fixed words homes =
     (slot place cell : ℕ) → StoodAt fixed homes slot place → RefersToAddress words slot cell
     → Contains fixed.cells cell → ⊥
 
--- of all that the mutator has only heap words are others
+-- of all that the mutator has only heap words, free runs and what is recorded are others
 pub record ChangesWords (old new : Mutator) : Type 0 where
   pub seat : RestStays old.seat new.seat
   pub paths : new.paths ≡ old.paths
   pub young : new.young ≡ old.young
   pub count : length (heap_words new.seat) ≡ length (heap_words old.seat)
+  pub bound : new.recorded.bound ≡ old.recorded.bound
 
 -- the address is the first one of a segment of this half
 abbrev pub IsSegmentStart : Space → ℕ → ℕ → Type 0

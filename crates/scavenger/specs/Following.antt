@@ -1,18 +1,23 @@
--- Following one slot: what is found where it refers to, and what becomes of the words.
-use Rattle.std.specs.Prelude.{◌≡◌, ◌≢◌, ℕ, ◌+◌, ◌*◌, ◌<◌, ◌≤◌, ◌⊎◌, List, Contains, slice_index, slice_set, None}
+-- Following one slot: what is found where it refers to, what a copy makes of words and free runs, and what is done
+-- then.
+use Rattle.std.specs.Prelude.{◌≡◌, ◌≢◌, ℕ, ◌+◌, ◌-◌, ◌*◌, ◌<◌, ◌≤◌, ◌⊎◌, List, ◌∷◌, Contains, slice_index, slice_set, None}
+use Rattle.std.specs.Prelude.{IsTrue}
+use Rattle.tagged_word.specs.Cells.{is_free_kind}
 use Rattle.tagged_word.specs.declared.word.Class.TheVariants.{Ref}
 use Rattle.tagged_word.specs.Words.{bits_of}
 use Rattle.tagged_word.specs.Readings.{reference_in}
 use Rattle.page_space.specs.Extents.{Space, eden_start, segments_start, half_segments}
 use Rattle.word_store.specs.Copies.{copied}
 use Rattle.cell_layout.specs.Cells.{IsCell}
-use Rattle.heap_model.specs.Types.{Cell}
-use Rattle.heap_model.specs.Heaps.{Heap}
+use Rattle.free_runs.specs.FreeRuns.{TakesFront}
+use Rattle.heap_model.specs.Types.{Cell, Run}
+use Rattle.write_barrier.specs.FreeCells.{with_free_cell}
 use Rattle.scav_copy.specs.declared.places.Home.{Home}
 use Rattle.scav_copy.specs.Places.{Fixed, size_of, StoodAt}
 use Rattle.scav_copy.specs.Renamings.{RefersToAddress}
-use Rattle.scavenger.specs.Starts.{IsBegun, room_start}
-use Rattle.scavenger.specs.Filling.{IsFilled}
+use Rattle.scav_copy.specs.Copies.{with_home}
+use Rattle.scavenger.specs.Starts.{Start, IsBegun, room_start}
+use Rattle.scavenger.specs.Filling.{IsFilled, Front, OthersAreDone}
 
 -- the first address of the segments of a half, and the first one behind them
 abbrev pub half_start : Space → ℕ → ℕ
@@ -27,53 +32,76 @@ IsLeft space left at =
     ((eden_start space ≤ at) × (at < segments_start space)) ⊎ ((half_start space left ≤ at) × (at < half_end space left))
 
 -- What stands where a live slot refers to, among the words that are left: a header that is the reference to a home; or
--- the cell as it was, for which the room has words behind the copies.
-pub data IsTarget (space : Space) (fixed : Fixed) (words : List ℕ) (end fill at : ℕ) : Type 0 where
-  forwarded : (home : ℕ) → RefersToAddress words at home → IsTarget space fixed words end fill at
+-- the cell as it was, for which the segment has words behind the copies.
+pub data IsTarget (space : Space) (fixed : Fixed) (words : List ℕ) (homes : List Home) (end fill at : ℕ) : Type 0 where
+  forwarded : (home : Home) → Contains homes home → home.from ≡ at → RefersToAddress words at home.to
+      → IsTarget space fixed words homes end fill at
   unmoved : (cell : Cell) → reference_in (slice_index words at) ≡ None → IsCell space words cell → cell.at ≡ at
-      → cell.size ≡ size_of fixed at → fill + cell.size ≤ end → IsTarget space fixed words end fill at
+      → cell.size ≡ size_of fixed at → fill + cell.size ≤ end → ((home : Home) → Contains homes home → home.from ≢ at)
+      → IsTarget space fixed words homes end fill at
 
 -- Each live slot that refers to such words has a target there, and it is one of the cells.
 abbrev pub SlotsHaveTargets : Type 0
 SlotsHaveTargets =
-    (heap : Heap) (half left : ℕ) (fixed : Fixed) (words : List ℕ) (homes : List Home) (scan fill slot place at : ℕ)
-    → IsBegun heap half fixed → half + left ≡ 1 → IsFilled fixed words homes (room_start heap.space half) scan fill
-    → StoodAt fixed homes slot place → RefersToAddress words slot at → IsLeft heap.space left at
+    (start : Start) (left : ℕ) (fixed : Fixed) (words : List ℕ) (rows : List (List Run)) (homes : List Home)
+    (fill slot place at : ℕ)
+    → IsBegun start fixed → start.half + left ≡ 1 → IsFilled start fixed words rows homes fill
+    → StoodAt fixed homes slot place → RefersToAddress words slot at → IsLeft start.heap.space left at
     → Contains fixed.cells at
-    × IsTarget heap.space fixed words (room_start heap.space half + heap.space.sizes.young) fill at
+    × IsTarget start.heap.space fixed words homes (room_start start.heap.space start.half + start.heap.space.sizes.young)
+    fill at
 
--- What becomes of the words, and up to where the room is filled then, where a slot is followed. It refers to nothing
--- that is left, and nothing changes. Or it refers to a cell that has a home, and comes to refer to that. Or it refers
--- to one that has none: its words are copied to the room, and its header and the slot come to refer to the copy.
-pub data Follows (space : Space) (left : ℕ) (words : List ℕ) (slot fill : ℕ) : List ℕ → ℕ → Type 0 where
-  stays : ((at : ℕ) → RefersToAddress words slot at → IsLeft space left at → ⊥)
-      → Follows space left words slot fill words fill
-  renames : (at home : ℕ) → RefersToAddress words slot at → IsLeft space left at → RefersToAddress words at home
-      → Follows space left words slot fill (slice_set words slot (bits_of (Ref home))) fill
-  copies : (cell : Cell) → RefersToAddress words slot cell.at → IsLeft space left cell.at
-      → reference_in (slice_index words cell.at) ≡ None → IsCell space words cell
-      → Follows space left words slot fill
-      (slice_set (slice_set (copied words cell.at fill cell.size) cell.at (bits_of (Ref fill))) slot (bits_of (Ref fill)))
-      (fill + cell.size)
+-- the words of the cell copied to an address, and its header made the reference to the copy
+abbrev pub moved_words : List ℕ → Cell → ℕ → List ℕ
+moved_words words cell to = slice_set (copied words cell.at to cell.size) cell.at (bits_of (Ref to))
 
--- The slot is done. The copies go on to another address. A live slot that refers to one of the cells then did so
--- before, or is one of the copy that was made.
-pub record HasFollowed (fixed : Fixed) (words now : List ℕ) (homes : List Home) (start scan fill behind slot : ℕ)
-    : Type 0 where
+-- a free cell stands at the address
+pub record IsFreeAt (space : Space) (words : List ℕ) (free : Cell) (at : ℕ) : Type 0 where
+  pub is_cell : IsCell space words free
+  pub stands : free.at ≡ at
+  pub is_free : IsTrue (is_free_kind free.layout.kind)
+
+-- What a copy of a cell to an address makes of the words and the free runs, and up to where the segment is filled then.
+-- It goes behind the other copies of the segment; or to a free run, of which the rest is made one free cell first.
+pub data Copies (space : Space) (words : List ℕ) (rows : List (List Run)) (fill : ℕ) (cell : Cell)
+    : (now : List ℕ) (left : List (List Run)) (behind to : ℕ) → Type 0 where
+  stays : Copies space words rows fill cell (moved_words words cell fill) rows (fill + cell.size) fill
+  promotes : (left : List (List Run)) (run : Run) (free : Cell) → TakesFront rows left cell.size run
+      → IsFreeAt space words free run.at
+      → Copies space words rows fill cell
+      (moved_words (with_free_cell words (run.at + cell.size) (free.size - cell.size)) cell run.at) left fill run.at
+
+-- So where a live slot refers to a cell that has no home, a copy of it is its home, and is on the list.
+pub record HasCopied (start : Start) (fixed : Fixed) (words now : List ℕ) (left : List (List Run)) (homes : List Home)
+    (todo : List ℕ) (front : Front) (behind at to : ℕ) : Type 0 where
   pub all : List Home
-  pub filled : IsFilled fixed now all start scan behind
-  pub kept : (home : Home) → Contains homes home → Contains all home
-  pub on : fill ≤ behind
-  pub others : (other place cell : ℕ) → StoodAt fixed all other place → RefersToAddress now other cell
-      → Contains fixed.cells cell
-      → (other ≢ slot)
-      × ((StoodAt fixed homes other place × RefersToAddress words other cell) ⊎ ((fill ≤ other) × (other < behind)))
+  pub are : all ≡ with_home homes (record { from = at; to = to })
+  pub filled : IsFilled start fixed now left all behind
+  pub others : OthersAreDone start fixed words homes todo front → OthersAreDone start fixed now all (to ∷ todo) front
 
--- Each live slot may be followed.
-abbrev pub FollowingGoesOn : Type 0
-FollowingGoesOn =
-    (heap : Heap) (half left : ℕ) (fixed : Fixed) (words now : List ℕ) (homes : List Home)
-    (scan fill behind slot place : ℕ) → IsBegun heap half fixed → half + left ≡ 1
-    → IsFilled fixed words homes (room_start heap.space half) scan fill → StoodAt fixed homes slot place
-    → Follows heap.space left words slot fill now behind
-    → HasFollowed fixed words now homes (room_start heap.space half) scan fill behind slot
+abbrev pub CopyingGoesOn : Type 0
+CopyingGoesOn =
+    (start : Start) (left : ℕ) (fixed : Fixed) (words now : List ℕ) (rows after : List (List Run)) (homes : List Home)
+    (todo : List ℕ) (front : Front) (cell : Cell) (fill behind to slot place : ℕ)
+    → IsBegun start fixed → start.half + left ≡ 1 → IsFilled start fixed words rows homes fill
+    → StoodAt fixed homes slot place → RefersToAddress words slot cell.at → IsLeft start.heap.space left cell.at
+    → reference_in (slice_index words cell.at) ≡ None → IsCell start.heap.space words cell
+    → Copies start.heap.space words rows fill cell now after behind to
+    → HasCopied start fixed words now after homes todo front behind cell.at to
+
+-- A live slot that refers to a cell with a home comes to refer to that, and no other is to do beside those before.
+pub record HasRenamed (start : Start) (fixed : Fixed) (words now : List ℕ) (rows : List (List Run)) (homes : List Home)
+    (todo : List ℕ) (front : Front) (fill slot : ℕ) : Type 0 where
+  pub filled : IsFilled start fixed now rows homes fill
+  pub others : OthersAreDone start fixed words homes todo front
+      → (other place cell : ℕ) → StoodAt fixed homes other place → RefersToAddress now other cell
+      → Contains fixed.cells cell → (other ≢ slot) × RefersToAddress words other cell
+
+abbrev pub RenamingGoesOn : Type 0
+RenamingGoesOn =
+    (start : Start) (left : ℕ) (fixed : Fixed) (words : List ℕ) (rows : List (List Run)) (homes : List Home)
+    (todo : List ℕ) (front : Front) (home : Home) (fill slot place : ℕ)
+    → IsBegun start fixed → start.half + left ≡ 1 → IsFilled start fixed words rows homes fill
+    → StoodAt fixed homes slot place → RefersToAddress words slot home.from → IsLeft start.heap.space left home.from
+    → Contains homes home
+    → HasRenamed start fixed words (slice_set words slot (bits_of (Ref home.to))) rows homes todo front fill slot

@@ -1,6 +1,7 @@
 pub mod Starts
 pub mod Filling
 pub mod Following
+pub mod Paging
 pub mod Scavenged
 pub mod Laws
 pub mod Walking

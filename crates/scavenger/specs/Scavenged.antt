@@ -1,47 +1,80 @@
 -- What a scavenge comes to.
-use Rattle.std.specs.Prelude.{◌≡◌, ℕ, ◌+◌, ◌<◌, ◌≤◌, ◌⊎◌, List, [], ◌∷◌, Option, Some, None, Contains, sum_by}
-use Rattle.std.specs.Prelude.{slice_get, nat_lt, ◌==◌, if◌then◌else◌}
+use Rattle.std.specs.Prelude.{◌≡◌, ℕ, ◌+◌, ◌<◌, ◌≤◌, ◌↔◌, ◌⊎◌, Bool, false, ◌||◌, List, [], ◌∷◌, Option, Some, None, Contains}
+use Rattle.std.specs.Prelude.{sum_by, slice_get, nat_lt, ◌==◌, if◌then◌else◌}
 use Rattle.page_space.specs.Extents.{eden_start, roots_start}
-use Rattle.nursery.specs.Young.{turned, other_half}
+use Rattle.nursery.specs.Young.{turned}
+use Rattle.free_runs.specs.FreeRuns.{longest_of}
+use Rattle.free_runs.specs.Laws.{IsFreeWord}
 use Rattle.heap_table.specs.Seats.{RestStays, heap_words}
-use Rattle.heap_model.specs.Types.{Cell}
-use Rattle.heap_model.specs.Heaps.{Heap, HasCell}
+use Rattle.heap_model.specs.Types.{Cell, Run}
+use Rattle.heap_model.specs.Heaps.{HasCell}
 use Rattle.heap_moves.specs.Moved.{IsMoved}
 use Rattle.write_barrier.specs.MutatorState.{Mutator, heap_of}
 use Rattle.scav_copy.specs.declared.places.Home.{Home}
 use Rattle.scav_copy.specs.Places.{Fixed, size_of}
 use Rattle.scav_copy.specs.Renamings.{Renaming}
 use Rattle.scav_copy.specs.Copies.{AreHoused}
-use Rattle.scavenger.specs.Starts.{Begins, IsRootAt}
+use Rattle.scavenger.specs.Starts.{Start, Begins, IsRootAt, start_of, room_start}
+use Rattle.scavenger.specs.Filling.{Tiles, IsInPromoted}
+use Rattle.scavenger.specs.Walking.{IsToPromote}
 
 -- the home of the cell at an address, if it has one
 abbrev pub home_of : List Home → ℕ → Option ℕ
 home_of [] at = None
 home_of (home ∷ homes) at = if home.from == at then Some home.to else home_of homes at
 
--- where the cell at an address stands afterwards, if it stays: one of a page where it stood, and a young one at its home
-abbrev pub place_after : Heap → List Home → ℕ → Option ℕ
-place_after heap homes at = if nat_lt at (eden_start heap.space) then Some at else home_of homes at
+-- whether one of these runs begins at the address
+abbrev pub begins_run : List Run → ℕ → Bool
+begins_run [] at = false
+begins_run (run ∷ more) at = (run.at == at) || begins_run more at
+
+-- whether a free run does
+abbrev pub begins_free : List (List Run) → ℕ → Bool
+begins_free [] at = false
+begins_free (row ∷ more) at = begins_run row at || begins_free more at
+
+-- Where the cell at an address stands afterwards, if it stays: one of a page where it stood, unless it is a free run,
+-- which copies may fill; and a young one at its home.
+abbrev pub place_after : Start → List Home → ℕ → Option ℕ
+place_after start homes at =
+    if nat_lt at (eden_start start.heap.space)
+    then (if begins_free start.rows at then None else Some at)
+    else home_of homes at
 
 -- how many words the home copies have
 abbrev pub words_of_homes : Fixed → List Home → ℕ
 words_of_homes fixed homes = sum_by (λ home. size_of fixed home.from) homes
 
--- A scavenge. Exactly the young cells that were reached, from variables through slots of such cells, have homes: they
--- stand there, in the main side's segment of the half that was empty, and all that referred to them refers to that. Eden
--- is empty then, and the survivors are the home copies alone. In pages, in second root words and in layout words nothing changed.
-pub record Scavenges (old new : Mutator) : Type 0 where
+-- A scavenge, which promotes survivors alone, or all. Exactly the young cells that were reached, from variables and
+-- recorded slots through slots of such cells, have homes: they stand there, and all that referred to them refers to
+-- that. Those that stay young fill the main side's segment of the half that was empty, from its start on; they are the
+-- survivors, and eden is empty. A survivor, or any where all are promoted, has its home in a page, unless it is longer
+-- than each free run that is left; no other has. Each word that was in a free run is in one, or in such a copy. Else
+-- nothing changed in pages, in second root words and in layout words.
+pub record Scavenges (old new : Mutator) (all : Bool) : Type 0 where
   pub fixed : Fixed
   pub homes : List Home
-  pub begins : Begins (heap_of old) (other_half old.young.half) fixed
+  pub begins : Begins (start_of old) fixed
   pub renaming : Renaming fixed (heap_words new.seat) homes
   pub housed : AreHoused fixed homes
   pub outside : (at : ℕ) → (at < eden_start old.seat.space) ⊎ (roots_start old.seat.space ≤ at)
-      → (IsRootAt old.seat.space at → ⊥) → slice_get (heap_words new.seat) at ≡ slice_get (heap_words old.seat) at
+      → (IsRootAt old.seat.space at → ⊥) → (Contains old.recorded.slots at → ⊥) → (IsFreeWord old.free at → ⊥)
+      → slice_get (heap_words new.seat) at ≡ slice_get (heap_words old.seat) at
   pub seat : RestStays old.seat new.seat
   pub paths : new.paths ≡ old.paths
-  pub young : new.young ≡ turned old.young (words_of_homes fixed homes)
-  pub few : words_of_homes fixed homes ≤ old.young.survivors + old.young.used
-  pub moved : IsMoved (heap_of old) (heap_of new) (place_after (heap_of old) homes)
+  pub stayed : List Home
+  pub stayed_are : (home : Home) → Contains stayed home
+      ↔ (Contains homes home × (eden_start old.seat.space ≤ home.to))
+  pub tiles : let from = room_start old.seat.space (start_of old).half in
+      Tiles fixed from (from + words_of_homes fixed stayed) stayed
+  pub young : new.young ≡ turned old.young (words_of_homes fixed stayed)
+  pub few : words_of_homes fixed stayed ≤ old.young.survivors + old.young.used
+  pub moved : IsMoved (heap_of old) (heap_of new) (place_after (start_of old) homes)
   pub alone : (cell : Cell) (words : List ℕ) → HasCell (heap_of new) cell words
       → eden_start old.seat.space ≤ cell.at → (home : Home) × Contains homes home × (home.to ≡ cell.at)
+  pub promotes : (home : Home) → Contains homes home → IsToPromote old.seat.space all home.from
+      → (home.to < eden_start old.seat.space) ⊎ (longest_of new.free < size_of fixed home.from)
+  pub stays : (home : Home) → Contains homes home → home.to < eden_start old.seat.space
+      → IsToPromote old.seat.space all home.from
+  pub left : (at : ℕ) → IsFreeWord old.free at
+      ↔ (IsFreeWord new.free at ⊎ IsInPromoted (start_of old) fixed homes at)

@@ -1,16 +1,36 @@
 -- What a scavenge of a heap begins with: which cells may be copied, which slots outside refer to them, and where copies
 -- go.
-use Rattle.std.specs.Prelude.{◌≡◌, ℕ, ◌+◌, ◌*◌, ◌<◌, ◌≤◌, ◌↔◌, ◌⊎◌, List, [], ◌∷◌, Contains, AllPairs, sum_by}
+use Rattle.std.specs.Prelude.{◌≡◌, ℕ, ◌+◌, ◌*◌, ◌<◌, ◌≤◌, ◌↔◌, ◌⊎◌, List, Contains, AllPairs, sum_by}
 use Rattle.page_space.specs.Extents.{Space, eden_start, segments_start, half_segments}
 use Rattle.cell_layout.specs.Cells.{layouts_in}
+use Rattle.free_runs.specs.FreeRuns.{AreFree}
 use Rattle.handle_roots.specs.Roots.{root_at}
-use Rattle.heap_model.specs.Types.{Cell}
+use Rattle.nursery.specs.Young.{other_half}
+use Rattle.heap_model.specs.Types.{Cell, Run}
 use Rattle.heap_model.specs.Heaps.{Heap, HasCell}
 use Rattle.heap_model.specs.Wholeness.{Whole}
-use Rattle.heap_model.specs.Collectable.{IsCollectable}
+use Rattle.heap_model.specs.Collectable.{IsCollectable, AreFreeRuns}
+use Rattle.heap_model.specs.Remembered.{AreRemembered}
+use Rattle.write_barrier.specs.MutatorState.{Mutator, heap_of}
 use Rattle.scav_copy.specs.declared.places.Room.{Room}
 use Rattle.scav_copy.specs.Places.{Fixed, size_of, offsets_of, IsLaidOut}
 use Rattle.scav_copy.specs.Renamings.{RefersToAddress}
+
+-- the heap before, the half to which copies go, the slots of pages that are recorded, and the free runs of pages
+pub record Start : Type 0 where
+  pub heap : Heap
+  pub half : ℕ
+  pub recorded : List ℕ
+  pub rows : List (List Run)
+
+-- those of a mutator
+abbrev pub start_of : Mutator → Start
+start_of main = record {
+  heap = heap_of main;
+  half = other_half main.young.half;
+  recorded = main.recorded.slots;
+  rows = main.free;
+}
 
 -- the first address of the main side's segment of this half, which is the last one
 abbrev pub room_start : Space → ℕ → ℕ
@@ -24,6 +44,16 @@ room_of space half = record {
   from = room_start space half;
   to = room_start space half + space.sizes.young;
 }
+
+-- a free run as such a room
+abbrev pub room_of_run : Space → Run → Room
+room_of_run space run = record { worker = space.sizes.helpers; from = run.at; to = run.at + run.words }
+
+-- the run is one of these rows
+pub record IsRunOf (rows : List (List Run)) (run : Run) : Type 0 where
+  pub row : List Run
+  pub of_rows : Contains rows row
+  pub among : Contains row run
 
 -- a cell of the young generation stands at the address
 pub record IsYoungCell (heap : Heap) (at : ℕ) : Type 0 where
@@ -39,14 +69,16 @@ pub record IsRootAt (space : Space) (at : ℕ) : Type 0 where
   pub known : variable < space.variables
   pub stands : at ≡ root_at space variable
 
--- The words before are the heap's. The cells are the young ones, the slots the first root words of the variables, and
--- copies go to the main side's segment of this half.
-pub record Begins (heap : Heap) (half : ℕ) (fixed : Fixed) : Type 0 where
-  pub before : fixed.before ≡ heap.words
-  pub layouts : fixed.layouts ≡ layouts_in heap.space heap.words
-  pub cells : (at : ℕ) → Contains fixed.cells at ↔ IsYoungCell heap at
-  pub slots : (at : ℕ) → Contains fixed.slots at ↔ IsRootAt heap.space at
-  pub rooms : fixed.rooms ≡ room_of heap.space half ∷ []
+-- The words before are the heap's. The cells are the young ones, the slots the first root words of the variables and
+-- the recorded ones, and copies go to the main side's segment of this half and to free runs.
+pub record Begins (start : Start) (fixed : Fixed) : Type 0 where
+  pub before : fixed.before ≡ start.heap.words
+  pub layouts : fixed.layouts ≡ layouts_in start.heap.space start.heap.words
+  pub cells : (at : ℕ) → Contains fixed.cells at ↔ IsYoungCell start.heap at
+  pub slots : (at : ℕ) → Contains fixed.slots at ↔ (IsRootAt start.heap.space at ⊎ Contains start.recorded at)
+  pub rooms : (room : Room) → Contains fixed.rooms room
+      ↔ ((room ≡ room_of start.heap.space start.half)
+      ⊎ ((run : Run) × IsRunOf start.rows run × (room ≡ room_of_run start.heap.space run)))
 
 -- the word at this place is that of a slot: one of the slots outside, or one that a scavenge visits in one of the cells
 abbrev pub IsSlotPlace : Fixed → ℕ → Type 0
@@ -55,16 +87,19 @@ IsSlotPlace fixed place =
     ⊎ ((cell : ℕ) × (offset : ℕ) × Contains fixed.cells cell × Contains (offsets_of fixed cell) offset
     × (cell + offset ≡ place))
 
--- What is known throughout a scavenge of what it began with. No address is named for two things. What a slot refers to
--- in the young generation is one of the cells. The cells ascend, and have as many words as survivors and eden's used
--- words together.
-pub record IsBegun (heap : Heap) (half : ℕ) (fixed : Fixed) : Type 0 where
-  pub begins : Begins heap half fixed
+-- What is known throughout a scavenge of what it began with. No address is named for two things. Each free run is one
+-- free cell, and recorded are the slots of pages that refer to young cells. What a slot refers to in the young
+-- generation is one of the cells. The cells ascend, and have as many words as survivors and eden's used words together.
+pub record IsBegun (start : Start) (fixed : Fixed) : Type 0 where
+  pub begins : Begins start fixed
   pub laid : IsLaidOut fixed
-  pub whole : Whole heap
-  pub is_half : half ≤ 1
-  pub collectable : IsCollectable heap half
+  pub whole : Whole start.heap
+  pub is_half : start.half ≤ 1
+  pub collectable : IsCollectable start.heap start.half
+  pub free : AreFreeRuns start.heap start.rows
+  pub apart : AreFree start.rows
+  pub remembered : AreRemembered start.heap start.recorded
   pub targets : (place at : ℕ) → IsSlotPlace fixed place → RefersToAddress fixed.before place at
-      → eden_start heap.space ≤ at → Contains fixed.cells at
+      → eden_start start.heap.space ≤ at → Contains fixed.cells at
   pub ascend : AllPairs (λ one other. one < other) fixed.cells
-  pub counted : sum_by (size_of fixed) fixed.cells ≡ heap.survivors + heap.used
+  pub counted : sum_by (size_of fixed) fixed.cells ≡ start.heap.survivors + start.heap.used

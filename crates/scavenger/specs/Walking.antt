@@ -1,29 +1,33 @@
 -- How a scavenge goes on: what is known before and behind each of its steps.
-use Rattle.std.specs.Prelude.{◌≡◌, ℕ, ◌+◌, ◌<◌, ◌≤◌, List, length, Contains, Some, slice_get, slice_set}
-use Rattle.tagged_word.specs.declared.word.Class.TheVariants.{Ref}
-use Rattle.tagged_word.specs.Words.{bits_of}
+use Rattle.std.specs.Prelude.{◌≡◌, ℕ, ◌+◌, ◌-◌, ◌<◌, ◌≤◌, ◌↔◌, ◌⊎◌, Bool, true, List, length, Contains, sum_by}
+use Rattle.std.specs.Prelude.{Some, slice_get}
 use Rattle.tagged_word.specs.Cells.{scavenge_offsets}
+use Rattle.page_space.specs.Sizes.{page_words}
 use Rattle.page_space.specs.Extents.{Space, eden_start, segments_start, marks_start}
-use Rattle.word_store.specs.Copies.{AreDisjoint, copied}
-use Rattle.cell_layout.specs.Cells.{IsCell, IsSized}
+use Rattle.cell_layout.specs.Cells.{IsSized}
 use Rattle.nursery.specs.Young.{other_half}
+use Rattle.free_runs.specs.FreeRuns.{FitsNowhere, TakesFront}
 use Rattle.heap_table.specs.declared.phase.Phase.TheVariants.{Quiet}
 use Rattle.heap_table.specs.Seats.{heap_words}
-use Rattle.heap_model.specs.Types.{Cell}
-use Rattle.write_barrier.specs.MutatorState.{Mutator, heap_of}
+use Rattle.heap_model.specs.Types.{Cell, Run}
+use Rattle.heap_model.specs.Remembered.{RefersToYoung}
+use Rattle.write_barrier.specs.MutatorState.{Mutator}
+use Rattle.write_barrier.specs.FreeCells.{with_free_cell}
 use Rattle.scav_copy.specs.declared.places.Home.{Home}
 use Rattle.scav_copy.specs.Places.{Fixed, size_of, offsets_of, StoodAt}
+use Rattle.scav_copy.specs.Renamings.{RefersToAddress}
 use Rattle.scavenger.specs.declared.spaces.Spaces.{Spaces}
-use Rattle.scavenger.specs.Starts.{IsBegun, room_start}
-use Rattle.scavenger.specs.Filling.{IsFilled, OthersAreDone, ChangesWords, IsSegmentStart}
-use Rattle.scavenger.specs.Following.{half_start, half_end}
+use Rattle.scavenger.specs.declared.progress.Progress.{Progress}
+use Rattle.scavenger.specs.Starts.{Start, IsBegun, IsRunOf, start_of, room_start}
+use Rattle.scavenger.specs.Filling.{IsFilled, Front, OthersAreDone, ChangesWords, IsSegmentStart}
+use Rattle.scavenger.specs.Following.{half_start, half_end, moved_words, IsFreeAt, IsLeft}
 
 -- the address behind the room that copies go to
 abbrev pub room_end : Space → ℕ → ℕ
 room_end space half = room_start space half + space.sizes.young
 
--- these are the spaces of a scavenge that leaves a half
-pub record AreSpaces (space : Space) (emptied : ℕ) (spaces : Spaces) : Type 0 where
+-- these are the spaces of a scavenge that leaves a half, and promotes all or only what was a survivor already
+pub record AreSpaces (space : Space) (emptied : ℕ) (all : Bool) (spaces : Spaces) : Type 0 where
   pub eden : spaces.eden ≡ eden_start space
   pub eden_end : spaces.eden_end ≡ segments_start space
   pub half : spaces.half ≡ emptied
@@ -32,61 +36,194 @@ pub record AreSpaces (space : Space) (emptied : ℕ) (spaces : Spaces) : Type 0 
   pub room : spaces.room ≡ room_start space (other_half emptied)
   pub room_end : spaces.room_end ≡ room_end space (other_half emptied)
   pub before_marks : spaces.room_end ≤ marks_start space
+  pub promote_all : spaces.promote_all ≡ all
+
+-- the cell at the address is to be promoted: it is a survivor, or all are
+abbrev pub IsToPromote : Space → Bool → ℕ → Type 0
+IsToPromote space all at = (all ≡ true) ⊎ (segments_start space ≤ at)
+
+-- Where copies are, by a size that no free run has: only cells that are to be promoted are in pages, and such a cell is
+-- not in a page only where it has that many words or more.
+pub record IsPlaced (start : Start) (fixed : Fixed) (rows : List (List Run)) (homes : List Home) (all : Bool)
+    (refused : ℕ) : Type 0 where
+  pub promoted : (home : Home) → Contains homes home → home.to < eden_start start.heap.space
+      → IsToPromote start.heap.space all home.from
+  pub stayed : (home : Home) → Contains homes home → IsToPromote start.heap.space all home.from
+      → (home.to < eden_start start.heap.space) ⊎ (refused ≤ size_of fixed home.from)
+  pub none_fits : (n : ℕ) → 1 ≤ n → refused ≤ n → n ≤ page_words → FitsNowhere rows n
+
+-- the address is that of a slot of a home copy in a page
+pub record IsPromotedSlot (start : Start) (fixed : Fixed) (homes : List Home) (at : ℕ) : Type 0 where
+  pub home : Home
+  pub among : Contains homes home
+  pub in_page : home.to < eden_start start.heap.space
+  pub offset : ℕ
+  pub visited : Contains (offsets_of fixed home.from) offset
+  pub stands : home.to + offset ≡ at
+
+-- the word at the address refers to the segment that copies go to
+pub record RefersToRoom (start : Start) (words : List ℕ) (at : ℕ) : Type 0 where
+  pub cell : ℕ
+  pub refers : RefersToAddress words at cell
+  pub from : room_start start.heap.space start.half ≤ cell
+  pub below : cell < room_start start.heap.space start.half + start.heap.space.sizes.young
+
+-- Recorded are, of the slots that were, those that refer to a young cell, and of the slots of copies in pages those
+-- that refer to a copy in the segment.
+abbrev pub AreKept : Start → Fixed → List ℕ → List Home → List ℕ → Type 0
+AreKept start fixed words homes now =
+    (at : ℕ) → Contains now at
+    ↔ ((Contains start.recorded at × RefersToYoung (eden_start start.heap.space) words at)
+    ⊎ (IsPromotedSlot start fixed homes at × RefersToRoom start words at))
 
 -- A scavenge may begin with what the mutator has.
 pub record MayBegin (main : Mutator) : Type 0 where
   pub fixed : Fixed
-  pub begun : IsBegun (heap_of main) (other_half main.young.half) fixed
+  pub begun : IsBegun (start_of main) fixed
   pub two : main.young.half ≤ 1
+  pub bounded : main.recorded.bound ≡ eden_start main.seat.space
 
--- A scavenge that began with one mutator has come to another. Copies fill the room, those before `scan` are done, and
--- each live slot that refers to a cell is to do: it stands in the room from `reached` on, or from `root` on.
-pub record Scavenging (start now : Mutator) (scan reached root fill : ℕ) : Type 0 where
+-- A scavenge that began with one mutator has come to another. The list has home copies, no more than words were copied,
+-- and each live slot that refers to a cell is to do.
+pub record Scavenging (start now : Mutator) (all : Bool) (progress : Progress) (todo : List ℕ) (front : Front)
+    : Type 0 where
   pub fixed : Fixed
   pub homes : List Home
   pub two : start.young.half ≤ 1
+  pub bounded : start.recorded.bound ≡ eden_start start.seat.space
   pub quiet : now.seat.phase ≡ Quiet
-  pub begun : IsBegun (heap_of start) (other_half start.young.half) fixed
-  pub filled : let from = room_start start.seat.space (other_half start.young.half) in
-      IsFilled fixed (heap_words now.seat) homes from scan fill
-  pub others : let end = room_end start.seat.space (other_half start.young.half) in
-      OthersAreDone fixed (heap_words now.seat) homes end reached root
+  pub begun : IsBegun (start_of start) fixed
+  pub filled : IsFilled (start_of start) fixed (heap_words now.seat) now.free homes progress.fill
+  pub copied : progress.copied ≡ sum_by (λ home. size_of fixed home.from) homes
+  pub placed : IsPlaced (start_of start) fixed now.free homes all progress.refused
+  pub kept : AreKept (start_of start) fixed (heap_words now.seat) homes now.recorded.slots
+  pub listed : (at : ℕ) → Contains todo at → (home : Home) × Contains homes home × (home.to ≡ at)
+  pub few : length todo ≤ progress.copied
+  pub others : OthersAreDone (start_of start) fixed (heap_words now.seat) homes todo front
   pub changes : ChangesWords start now
 
 -- The slot is live in a scavenge, so it may be followed.
-pub record MayFollow (now : Mutator) (slot fill : ℕ) : Type 0 where
+pub record MayFollow (now : Mutator) (all : Bool) (progress : Progress) (todo : List ℕ) (slot : ℕ) : Type 0 where
   pub start : Mutator
-  pub scan : ℕ
-  pub reached : ℕ
-  pub root : ℕ
-  pub scavenging : Scavenging start now scan reached root fill
+  pub front : Front
+  pub scavenging : Scavenging start now all progress todo front
   pub place : ℕ
   pub stood : StoodAt scavenging.fixed scavenging.homes slot place
 
--- A cell stands at an address, and there is room for its words at another, with no word in common.
-pub record MayMove (main : Mutator) (at to : ℕ) : Type 0 where
-  pub cell : Cell
-  pub is_cell : IsCell main.seat.space (heap_words main.seat) cell
-  pub stands : cell.at ≡ at
-  pub room : to + cell.size ≤ marks_start main.seat.space
-  pub apart : AreDisjoint at to cell.size
+-- More words were copied, and the list became longer by no more than these.
+pub record HasGrown (before after : Progress) (todo left : List ℕ) : Type 0 where
+  pub more : before.copied ≤ after.copied
+  pub grows : length left + before.copied ≤ length todo + after.copied
 
--- the words of the cell were copied to an address, and its header refers to the copy; it has so many words
-pub record Moves (old new : Mutator) (cell : Cell) (to many : ℕ) : Type 0 where
-  pub words : let words = heap_words old.seat in
-      heap_words new.seat ≡ slice_set (copied words cell.at to cell.size) cell.at (bits_of (Ref to))
-  pub size : many ≡ cell.size
+-- A scavenge went on: no home was lost.
+pub record GoesOn (start old new : Mutator) (all : Bool) (before after : Progress) (todo left : List ℕ) (front : Front)
+    (state : Scavenging start old all before todo front) : Type 0 where
+  pub next : Scavenging start new all after left front
+  pub same : next.fixed ≡ state.fixed
+  pub kept : (home : Home) → Contains state.homes home → Contains next.homes home
+  pub grown : HasGrown before after todo left
 
--- The copy at the address is next: it is this cell, with all its slots. Those before `reached` are done.
-pub record IsScanned (start now : Mutator) (cell : Cell) (reached root fill : ℕ) : Type 0 where
-  pub scavenging : Scavenging start now cell.at reached root fill
+-- And the slot is done: it refers to no cell that is to be copied.
+pub record HasFollowed (start old new : Mutator) (all : Bool) (before after : Progress) (todo left : List ℕ)
+    (front : Front) (slot : ℕ) (state : Scavenging start old all before todo front) : Type 0 where
+  pub on : GoesOn start old new all before after todo left front state
+  pub done : (place cell : ℕ) → StoodAt on.next.fixed on.next.homes slot place
+      → RefersToAddress (heap_words new.seat) slot cell → Contains on.next.fixed.cells cell → ⊥
+
+-- A live slot refers to an address that is left.
+pub record MayMove (now : Mutator) (all : Bool) (progress : Progress) (todo : List ℕ) (at : ℕ) : Type 0 where
+  pub slot : ℕ
+  pub may : MayFollow now all progress todo slot
+  pub refers : RefersToAddress (heap_words now.seat) slot at
+  pub left : IsLeft now.seat.space now.young.half at
+
+-- The cell at an address has its home at another then, and each slot that was live refers to what it did.
+pub record HasMoved (start old new : Mutator) (all : Bool) (before after : Progress) (todo left : List ℕ)
+    (front : Front) (at to : ℕ) (state : Scavenging start old all before todo front) : Type 0 where
+  pub on : GoesOn start old new all before after todo left front state
+  pub home : Home
+  pub among : Contains on.next.homes home
+  pub from : home.from ≡ at
+  pub stands : home.to ≡ to
+  pub live : (slot place cell : ℕ) → StoodAt state.fixed state.homes slot place
+      → RefersToAddress (heap_words old.seat) slot cell → RefersToAddress (heap_words new.seat) slot cell
+
+-- The first words of a free cell, so many, were taken, and the others are one free cell, of which nothing is recorded;
+-- else what was recorded is.
+pub record TakesRun (old new : Mutator) (size : ℕ) (run : Run) (free : Cell) : Type 0 where
+  pub changes : ChangesWords old new
+  pub words : heap_words new.seat ≡ with_free_cell (heap_words old.seat) (run.at + size) (free.size - size)
+  pub recorded : (a : ℕ) → a < old.recorded.bound → Contains new.recorded.slots a
+      ↔ (Contains old.recorded.slots a × ((run.at + size ≤ a) × (a < run.at + free.size) → ⊥))
+  pub beyond : (a : ℕ) → old.recorded.bound ≤ a → Contains new.recorded.slots a → Contains old.recorded.slots a
+
+-- Where a copy of so many words goes. To the segment: the cell is not to be promoted, or no free run has its words,
+-- which is kept. Or to a free run, and what is left of that is one free cell.
+pub data Places (old new : Mutator) (all : Bool) (at size : ℕ) (before : Progress) : Progress → ℕ → Type 0 where
+  stays : new ≡ old → (IsToPromote old.seat.space all at → ⊥)
+      → Places old new all at size before (record before { fill = before.fill + size }) before.fill
+  passes : new ≡ old → before.refused ≤ size
+      → Places old new all at size before (record before { fill = before.fill + size }) before.fill
+  refuses : new ≡ old → size < before.refused → FitsNowhere old.free size
+      → Places old new all at size before (record before { fill = before.fill + size; refused = size }) before.fill
+  promotes : (run : Run) (free : Cell) → IsToPromote old.seat.space all at → TakesFront old.free new.free size run
+      → IsFreeAt old.seat.space (heap_words old.seat) free run.at → TakesRun old new size run free
+      → Places old new all at size before before run.at
+
+-- The words of the cell were copied to an address, and its header refers to the copy. Nothing is recorded of the copy;
+-- else what was recorded is, but for the word of the cell's header.
+pub record CopiesCell (old new : Mutator) (cell : Cell) (to : ℕ) : Type 0 where
+  pub changes : ChangesWords old new
+  pub free : new.free ≡ old.free
+  pub words : heap_words new.seat ≡ moved_words (heap_words old.seat) cell to
+  pub recorded : (a : ℕ) → Contains new.recorded.slots a → Contains old.recorded.slots a
+  pub others : (a : ℕ) → Contains old.recorded.slots a → ((to ≤ a) × (a < to + cell.size) → ⊥)
+      → (a ≡ cell.at → ⊥) → Contains new.recorded.slots a
+  pub wiped : (a : ℕ) → a < old.recorded.bound → to ≤ a → a < to + cell.size → Contains new.recorded.slots a → ⊥
+
+-- the home copy is this cell, with all its slots
+pub record IsCopyOf (fixed : Fixed) (home : Home) (cell : Cell) : Type 0 where
+  pub stands : home.to ≡ cell.at
+  pub size : size_of fixed home.from ≡ cell.size
+  pub offsets : offsets_of fixed home.from ≡ scavenge_offsets cell.layout cell.length
+  pub sized : IsSized cell
+
+-- A copy is at hand: it is this cell. The front says which of its slots are to do.
+pub record IsScanned (start now : Mutator) (all : Bool) (progress : Progress) (todo : List ℕ) (cell : Cell)
+    (front : Front) : Type 0 where
+  pub scavenging : Scavenging start now all progress todo front
   pub home : Home
   pub among : Contains scavenging.homes home
-  pub stands : home.to ≡ cell.at
-  pub size : size_of scavenging.fixed home.from ≡ cell.size
-  pub offsets : offsets_of scavenging.fixed home.from ≡ scavenge_offsets cell.layout cell.length
-  pub sized : IsSized cell
-  pub before : cell.at < fill
+  pub is : IsCopyOf scavenging.fixed home cell
+
+-- a copy stands at the address
+pub record IsCopyAt (now : Mutator) (at : ℕ) : Type 0 where
+  pub start : Mutator
+  pub all : Bool
+  pub progress : Progress
+  pub todo : List ℕ
+  pub front : Front
+  pub scavenging : Scavenging start now all progress todo front
+  pub home : Home
+  pub among : Contains scavenging.homes home
+  pub stands : home.to ≡ at
+
+-- each free run is a free cell
+abbrev pub StandFree : Mutator → Type 0
+StandFree main =
+    (run : Run) → IsRunOf main.free run
+    → (free : Cell) × IsFreeAt main.seat.space (heap_words main.seat) free run.at × (free.size ≡ run.words)
+
+-- the front when the roots are being followed, from an address on; when the recorded slots are; when copies are; and
+-- with the slots of a copy still to do from an address on
+abbrev pub at_root : ℕ → Front
+at_root root = record { root = root; recorded = 0; from = 0; to = 0 }
+
+abbrev pub at_recorded : ℕ → ℕ → Front
+at_recorded end slot = record { root = end; recorded = slot; from = 0; to = 0 }
+
+abbrev pub at_copy : (end eden from to : ℕ) → Front
+at_copy end eden from to = record { root = end; recorded = eden; from = from; to = to }
 
 -- where the room has a word more behind the copies, that is 0, and no other word has changed
 pub record EndsCopies (old new : List ℕ) (fill end : ℕ) : Type 0 where
@@ -100,3 +237,12 @@ pub record EmptiesSegments (space : Space) (half : ℕ) (old new : List ℕ) : T
   pub zeros : (at : ℕ) → slice_get old at ≡ Some 0 → slice_get new at ≡ Some 0
   pub starts : (at : ℕ) → IsSegmentStart space half at → slice_get new at ≡ Some 0
   pub others : (at : ℕ) → (IsSegmentStart space half at → ⊥) → slice_get new at ≡ slice_get old at
+
+-- all slots of the copy at hand are to do
+pub record MayScan (now : Mutator) (spaces : Spaces) (progress : Progress) (todo : List ℕ) (cell : Cell) : Type 0 where
+  pub start : Mutator
+  pub all : Bool
+  pub end : ℕ
+  pub are : AreSpaces now.seat.space now.young.half all spaces
+  pub scanned : IsScanned start now all progress todo cell
+      (at_copy end (eden_start now.seat.space) cell.at (cell.at + cell.size))

@@ -1,6 +1,6 @@
 //! Emptying what a scavenge leaves: where no cell is to stand, the first word is 0.
 ghost use Rattle.std.specs.Prelude.{◌≡◌, ◌≤◌};
-ghost use Rattle.page_space.specs.Extents.{marks_start};
+ghost use Rattle.page_space.specs.Extents.{eden_start, marks_start};
 ghost use Rattle.heap_table.specs.declared.phase.Phase.TheVariants.{Quiet};
 ghost use Rattle.heap_table.specs.Seats.{heap_words};
 ghost use Rattle.scavenger.specs.Filling.{ChangesWords, IsEmptied};
@@ -15,6 +15,8 @@ fn end_copies(main: &mut Main, fill: u32, end: u32)
     requires within { end ≤ marks_start main.old.seat.space }
     ensures ends { EndsCopies (heap_words main.old.seat) (heap_words main.new.seat) fill end }
     ensures changes { ChangesWords main.old main.new }
+    ensures free { main.new.free ≡ main.old.free }
+    ensures recorded { main.old.recorded.bound ≤ fill → main.new.recorded ≡ main.old.recorded }
 {
     // There is a word for each address before the marks.
     main.addresses_fit();
@@ -30,6 +32,9 @@ fn empty_segments(main: &mut Main, half: u32)
     ensures empties { let space = main.old.seat.space in
         EmptiesSegments space half (heap_words main.old.seat) (heap_words main.new.seat) }
     ensures changes { ChangesWords main.old main.new }
+    ensures free { main.new.free ≡ main.old.free }
+    ensures recorded { main.old.recorded.bound ≤ eden_start main.old.seat.space →
+        main.new.recorded ≡ main.old.recorded }
 {
     let regions = main.regions();
     for worker in 0..regions.sizes().helpers + 1 {
@@ -45,6 +50,9 @@ pub(crate) fn empty_left(main: &mut Main, half: u32, fill: u32, end: u32)
     ensures emptied { let space = main.old.seat.space in
         IsEmptied space half fill end (heap_words main.old.seat) (heap_words main.new.seat) }
     ensures changes { ChangesWords main.old main.new }
+    ensures free { main.new.free ≡ main.old.free }
+    ensures recorded { main.old.recorded.bound ≤ eden_start main.old.seat.space →
+        main.old.recorded.bound ≤ fill → main.new.recorded ≡ main.old.recorded }
 {
     end_copies(main, fill, end);
     empty_segments(main, half);

@@ -1,24 +1,28 @@
 //! What a scavenge begins with, what slots refer to throughout, and what becomes of the words where one
 //! is followed.
-ghost use Rattle.scavenger.specs.Following.{SlotsHaveTargets, FollowingGoesOn};
+ghost use Rattle.scavenger.specs.Following.{SlotsHaveTargets, CopyingGoesOn, RenamingGoesOn};
 ghost use Rattle.scavenger.specs.Laws.{ShownHeapsMayBegin, EndsAreScavenges, ScavengesAreTight};
+ghost use Rattle.scavenger.specs.Laws.{ScavengesFillPages};
 
-/// A heap that shows a graph may be scavenged. What a scavenge keeps of it is reached from variables.
+/// A heap that shows a graph may be scavenged. What is young behind a scavenge is reached, from variables
+/// or from slots of pages; what came to pages is so too, or free.
 pub fn laws_of_scavenges()
     ensures begin { ShownHeapsMayBegin }
     ensures tight { ScavengesAreTight }
+    ensures pages { ScavengesFillPages }
 {}
 
 /// Each live slot that refers to words that are left refers to one of the cells there: to a header
-/// that is the reference to a home, or to the cell as it was, for which the room has words.
+/// that is the reference to a home, or to the cell as it was, for which the segment has words.
 pub fn laws_of_slots()
     ensures targets { SlotsHaveTargets }
 {}
 
-/// Each live slot may be followed: it is done then, no home is lost, and where its cell had no home,
-/// the copy of that stands behind the others and is the cell's home.
+/// Where a live slot refers to a cell that has no home, a copy of it may be made its home, in the
+/// segment or in a free run. A slot that refers to a cell with a home may come to refer to that.
 pub fn laws_of_following()
-    ensures { FollowingGoesOn }
+    ensures copying { CopyingGoesOn }
+    ensures renaming { RenamingGoesOn }
 {}
 
 /// Where all is done and the words that are left were emptied, it is a scavenge: the heap that is left

@@ -1,14 +1,19 @@
-//! Copying the live cells of the young generation by one thread: eden and one half are emptied into
-//! the other half.
+//! Copying the live cells of the young generation by one thread: eden and one half are emptied. What
+//! survived before goes to a page, if a free run has its words, or whatever lives where all is to be
+//! promoted; all else goes to the other half.
 //!
 //! Model: none of its own. `Scavenges` of `specs/Scavenged.antt` is what a scavenge comes to.
-//! Invariant: `IsFilled` of `specs/Filling.antt`, between two slots: home copies fill the room one
-//! behind another, and each live slot that refers to a cell that is to be copied is to do.
+//! Invariant: `Scavenging` of `specs/Walking.antt`, between two slots: home copies fill the segment one
+//! behind another, or stand in pages, which are rows of cells; each live slot that refers to a cell that
+//! is to be copied is to do; and recorded are those slots that were and still refer to a young cell, and
+//! the slots of copies in pages that refer to a copy in the segment.
 #![tactic(auto)]
 
+mod copying;
 mod emptying;
 mod known_cells;
 mod laws;
+mod progress;
 mod scanning;
 mod scavenging;
 mod slots;

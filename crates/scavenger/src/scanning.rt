@@ -1,88 +1,137 @@
-//! The slots that a scavenge follows, in order: those of the variables, and then those of the copies.
-//!
-//! The room is the list of what is to do, since copies are looked at in the order in which they were
-//! made.
-ghost use Rattle.std.specs.Prelude.{◌≡◌, ℕ, ◌+◌, ◌<◌};
-ghost use Rattle.page_space.specs.Extents.{layouts_start};
+//! The slots that a scavenge follows, in order: those of the variables, the recorded ones, and then those
+//! of the copies on the list.
+ghost use Rattle.std.specs.Prelude.{◌≡◌, ℕ, ◌+◌, ◌≤◌, Bool, List, [], Contains};
+ghost use Rattle.std.specs.Vec.{vec_capacity};
+ghost use Rattle.page_space.specs.Extents.{eden_start, layouts_start, roots_start};
 ghost use Rattle.heap_table.specs.declared.phase.Phase.TheVariants.{Quiet};
 ghost use Rattle.write_barrier.specs.MutatorState.{Mutator};
-ghost use Rattle.scavenger.specs.Filling.{ChangesWords};
-ghost use Rattle.scavenger.specs.Walking.{AreSpaces, MayBegin, Scavenging, IsScanned};
+ghost use Rattle.scav_copy.specs.declared.places.Home.{Home};
+ghost use Rattle.scavenger.specs.Filling.{ChangesWords, Front};
+ghost use Rattle.scavenger.specs.Walking.{AreSpaces, HasGrown, IsCopyAt, IsCopyOf, IsScanned, MayScan, Scavenging};
+ghost use Rattle.scavenger.specs.Walking.{at_copy, at_recorded, at_root};
 
 use crate::known_cells::known_cell;
+use crate::progress::Progress;
 use crate::slots::follow;
 use crate::spaces::Spaces;
 use cell_layout::{Cell, next_scavenge_slot};
 use write_barrier::Main;
 
-/// Follows the first root word of each variable, and answers where the copies end.
-pub(crate) fn scavenge_roots(main: &mut Main, spaces: &Spaces) -> u32
-    requires quiet { main.old.seat.phase ≡ Quiet }
-    requires spaces { AreSpaces main.old.seat.space main.old.young.half spaces.now }
-    requires may { MayBegin main.old }
-    ensures scavenging { let end = layouts_start main.old.seat.space in
-        Scavenging main.old main.new spaces.now.room spaces.now.room end result }
+/// Follows the first root word of each variable.
+pub(crate) fn scavenge_roots(
+    main: &mut Main,
+    spaces: &Spaces,
+    progress: &mut Progress,
+    list: &mut Vec<u32>,
+)
+    requires scavenging { (start : Mutator) × (all : Bool) ×
+        AreSpaces main.old.seat.space main.old.young.half all spaces.now ×
+        let root = roots_start main.old.seat.space in
+        Scavenging start main.old all progress.old list.old.items (at_root root) }
+    requires room { main.old.seat.space.sizes.young ≤ vec_capacity list.old }
+    ensures scavenging { (start : Mutator) (all : Bool) →
+        AreSpaces main.old.seat.space main.old.young.half all spaces.now →
+        let root = roots_start main.old.seat.space in
+        Scavenging start main.old all progress.old list.old.items (at_root root) →
+        let end = layouts_start main.old.seat.space in
+        Scavenging start main.new all progress.new list.new.items (at_root end) }
+    ensures capacity { vec_capacity list.new ≡ vec_capacity list.old }
 {
     let regions = main.regions();
-    let mut fill = spaces.room;
     for variable in 0..regions.variables() {
-        fill = follow(main, spaces, regions.root_at(variable), fill);
+        follow(main, spaces, progress, list, regions.root_at(variable));
     }
-    fill
+}
+
+/// Follows the recorded slots in order.
+pub(crate) fn scavenge_recorded(
+    main: &mut Main,
+    spaces: &Spaces,
+    progress: &mut Progress,
+    list: &mut Vec<u32>,
+)
+    requires scavenging { (start : Mutator) × (all : Bool) × (end : ℕ) ×
+        AreSpaces main.old.seat.space main.old.young.half all spaces.now ×
+        Scavenging start main.old all progress.old list.old.items (at_recorded end 0) }
+    requires room { main.old.seat.space.sizes.young ≤ vec_capacity list.old }
+    ensures scavenging { (start : Mutator) (all : Bool) (end : ℕ) →
+        AreSpaces main.old.seat.space main.old.young.half all spaces.now →
+        Scavenging start main.old all progress.old list.old.items (at_recorded end 0) →
+        let eden = eden_start main.old.seat.space in
+        Scavenging start main.new all progress.new list.new.items (at_recorded end eden) }
+    ensures capacity { vec_capacity list.new ≡ vec_capacity list.old }
+{
+    // No address is past 32 bits.
+    main.addresses_fit();
+    let mut from = 0;
+    'recorded: while let Some(slot) = main.next_recorded(from) {
+        follow(main, spaces, progress, list, slot);
+        from = slot + 1;
+    }
 }
 
 /// The cell that the copy at an address is.
 fn copy_at(main: &Main, at: u32) -> Cell
-    requires { (start : Mutator) × (root : ℕ) × (fill : ℕ) ×
-        Scavenging start main.now at at root fill × (at < fill) }
-    ensures at { result.at ≡ at }
-    ensures scanned { (start : Mutator) (root fill : ℕ) →
-        Scavenging start main.now at at root fill → at < fill →
-        IsScanned start main.now result at root fill }
+    requires there { IsCopyAt main.now at }
+    ensures { (start : Mutator) (all : Bool) (progress : Progress) (todo : List ℕ) (front : Front)
+        (state : Scavenging start main.now all progress todo front) (home : Home) →
+        Contains state.homes home → home.to ≡ at → IsCopyOf state.fixed home result }
 {
     // There is a word for each address before the marks.
     main.addresses_fit();
     known_cell(main, at, main.word(at))
 }
 
-/// Follows each slot of a copy, and answers where the copies end.
-fn follow_slots(main: &mut Main, spaces: &Spaces, cell: &Cell, filled: u32) -> u32
-    requires spaces { AreSpaces main.old.seat.space main.old.young.half spaces.now }
-    requires scanned { (start : Mutator) × (root : ℕ) ×
-        IsScanned start main.old cell.now cell.now.at root filled }
-    ensures scavenging { (start : Mutator) (root : ℕ) →
-        IsScanned start main.old cell.now cell.now.at root filled →
-        let end = cell.now.at + cell.now.size in Scavenging start main.new end end root result }
-    ensures changes { ChangesWords main.old main.new }
+/// Follows each slot of a copy.
+fn follow_slots(
+    main: &mut Main,
+    spaces: &Spaces,
+    progress: &mut Progress,
+    list: &mut Vec<u32>,
+    cell: &Cell,
+)
+    requires scanned { MayScan main.old spaces.now progress.old list.old.items cell.now }
+    requires room { main.old.seat.space.sizes.young ≤ vec_capacity list.old }
+    ensures scavenging { (start : Mutator) (all : Bool) (end : ℕ) →
+        AreSpaces main.old.seat.space main.old.young.half all spaces.now →
+        let eden = eden_start main.old.seat.space in
+        let front = at_copy end eden cell.now.at (cell.now.at + cell.now.size) in
+        IsScanned start main.old all progress.old list.old.items cell.now front →
+        Scavenging start main.new all progress.new list.new.items (at_copy end eden 0 0) }
+    ensures grows { HasGrown progress.old progress.new list.old.items list.new.items }
+    ensures keeps { ChangesWords main.old main.new }
+    ensures capacity { vec_capacity list.new ≡ vec_capacity list.old }
 {
     // No address is past 32 bits.
     main.addresses_fit();
-    let mut fill = filled;
     let mut from = 0;
     'slots: while let Some(offset) = next_scavenge_slot(cell, from) {
-        fill = follow(main, spaces, cell.at + offset, fill);
+        follow(main, spaces, progress, list, cell.at + offset);
         from = offset + 1;
     }
-    fill
 }
 
-/// Follows the slots of all copies, also of those that are made on the way, and answers where they
-/// end.
-pub(crate) fn scavenge_copies(main: &mut Main, spaces: &Spaces, filled: u32) -> u32
-    requires spaces { AreSpaces main.old.seat.space main.old.young.half spaces.now }
-    requires scavenging { (start : Mutator) × (root : ℕ) ×
-        Scavenging start main.old spaces.now.room spaces.now.room root filled }
-    ensures scavenging { (start : Mutator) (root : ℕ) →
-        Scavenging start main.old spaces.now.room spaces.now.room root filled →
-        Scavenging start main.new result result root result }
-    ensures changes { ChangesWords main.old main.new }
+/// Follows the slots of all copies on the list, also of those that are made on the way.
+pub(crate) fn scavenge_copies(
+    main: &mut Main,
+    spaces: &Spaces,
+    progress: &mut Progress,
+    list: &mut Vec<u32>,
+)
+    requires scavenging { (start : Mutator) × (all : Bool) × (end : ℕ) ×
+        AreSpaces main.old.seat.space main.old.young.half all spaces.now ×
+        Scavenging start main.old all progress.old list.old.items (at_copy end (eden_start main.old.seat.space) 0 0) }
+    requires room { main.old.seat.space.sizes.young ≤ vec_capacity list.old }
+    ensures scavenging { (start : Mutator) (all : Bool) (end : ℕ) →
+        AreSpaces main.old.seat.space main.old.young.half all spaces.now →
+        let front = at_copy end (eden_start main.old.seat.space) 0 0 in
+        Scavenging start main.old all progress.old list.old.items front →
+        Scavenging start main.new all progress.new [] front }
+    ensures empty { list.new.items ≡ [] }
+    ensures capacity { vec_capacity list.new ≡ vec_capacity list.old }
 {
-    let mut fill = filled;
-    let mut scan = spaces.room;
-    'copies: while scan < fill {
-        let cell = copy_at(main, scan);
-        fill = follow_slots(main, spaces, &cell, fill);
-        scan += cell.size;
+    'copies: while let Some(at) = list.pop() {
+        let cell = copy_at(main, at);
+        follow_slots(main, spaces, progress, list, &cell);
     }
-    fill
 }

@@ -1,28 +1,47 @@
 //! A scavenge from its start to its end.
+ghost use Rattle.std.specs.Prelude.{◌≡◌, ◌≤◌};
+ghost use Rattle.std.specs.Vec.{vec_capacity};
 ghost use Rattle.object_graph.specs.Graphs.{Graph};
 ghost use Rattle.write_barrier.specs.MutatorState.{MainShows};
 ghost use Rattle.scavenger.specs.Laws.{KeepsGraphs};
 ghost use Rattle.scavenger.specs.Scavenged.{Scavenges};
 
 use crate::emptying::empty_left;
-use crate::scanning::{scavenge_copies, scavenge_roots};
+use crate::progress::Progress;
+use crate::scanning::{scavenge_copies, scavenge_recorded, scavenge_roots};
 use crate::spaces::Spaces;
+use page_space::PAGE_WORDS;
 use write_barrier::Main;
 
-/// Copies what lives of eden and of the half that the survivors are in to the other half. It is
-/// Cheney's copying of 1970, in breadth: the room that copies fill is the list of what is to do. All
-/// that lives stays in the young generation, as a first survivor does in V8's scavenger.
-pub fn scavenge(main: &mut Main)
+/// Copies what lives of eden and of the half that the survivors are in: a survivor, or any cell where
+/// all are to be promoted, to a page, if a free run has its words, and else to the other half. What is to
+/// do is kept on a list, which has a place for each word of the young generation.
+///
+/// Generations by the number of survivals are Ungar's of 1984; that an object goes to the old space at
+/// its second survival is V8's rule.
+pub fn scavenge(main: &mut Main, list: &mut Vec<u32>, promote_all: bool)
     requires shown { (graph : Graph) × MainShows main.old graph }
-    ensures scavenged { Scavenges main.old main.new }
+    requires room { main.old.seat.space.sizes.young ≤ vec_capacity list.old }
+    ensures scavenged { Scavenges main.old main.new promote_all }
     ensures keeps { KeepsGraphs main.old main.new }
+    ensures capacity { vec_capacity list.new ≡ vec_capacity list.old }
 {
+    list.clear();
     // There are two halves.
     main.used_fits();
+    // Free runs are apart.
+    let _longest = main.longest_free();
     let half = main.nursery_mut().half();
-    let spaces = Spaces::new(&main.regions(), half);
-    let roots_end = scavenge_roots(main, &spaces);
-    let fill = scavenge_copies(main, &spaces, roots_end);
-    empty_left(main, half, fill, spaces.room_end);
-    main.nursery_mut().turn(fill - spaces.room);
+    let spaces = Spaces::new(&main.regions(), half, promote_all);
+    let mut progress = Progress {
+        fill: spaces.room,
+        copied: 0,
+        refused: PAGE_WORDS + 1,
+    };
+    scavenge_roots(main, &spaces, &mut progress, list);
+    scavenge_recorded(main, &spaces, &mut progress, list);
+    scavenge_copies(main, &spaces, &mut progress, list);
+    let _left = main.longest_free();
+    empty_left(main, half, progress.fill, spaces.room_end);
+    main.nursery_mut().turn(progress.fill - spaces.room);
 }

@@ -1,8 +1,8 @@
 //! Where a scavenge takes cells from, and where their copies go.
-ghost use Rattle.std.specs.Prelude.{ℕ, ◌≤◌, ◌↔◌, IsTrue};
+ghost use Rattle.std.specs.Prelude.{ℕ, ◌≤◌, ◌↔◌, Bool, IsTrue};
 ghost use Rattle.page_space.specs.Extents.{Space};
 ghost use Rattle.scavenger.specs.Following.{IsLeft};
-ghost use Rattle.scavenger.specs.Walking.{AreSpaces};
+ghost use Rattle.scavenger.specs.Walking.{AreSpaces, IsToPromote};
 
 use page_space::{Region, Regions};
 
@@ -24,13 +24,15 @@ pub(crate) struct Spaces {
     pub(crate) room: u32,
     /// The address behind the last word of it.
     pub(crate) room_end: u32,
+    /// Whether all cells are to be promoted, and not survivors alone.
+    pub(crate) promote_all: bool,
 }
 
 impl Spaces {
     /// The spaces of a scavenge that leaves a half.
-    pub(crate) fn new(regions: &Regions, half: u32) -> Spaces
+    pub(crate) fn new(regions: &Regions, half: u32, promote_all: bool) -> Spaces
         requires { half ≤ 1 }
-        ensures { AreSpaces regions.now half result }
+        ensures { AreSpaces regions.now half promote_all result }
     {
         // The sizes are within their limits.
         let _words_count = regions.count();
@@ -50,13 +52,23 @@ impl Spaces {
             left_end: left + sizes.young * (helpers + 1),
             room,
             room_end: room + sizes.young,
+            promote_all,
         }
+    }
+
+    /// Whether a cell at an address, which is left, is to be promoted: it is a survivor, or all are.
+    #[inline(always)]
+    pub(crate) fn are_promoted(&self, at: u32) -> bool
+        ensures { (space : Space) (half : ℕ) (all : Bool) → AreSpaces space half all self.now →
+            IsTrue result ↔ IsToPromote space all at }
+    {
+        self.promote_all || self.eden_end <= at
     }
 
     /// Whether an address is in eden or in the half that is left.
     #[inline(always)]
     pub(crate) fn are_left(&self, at: u32) -> bool
-        ensures { (space : Space) (half : ℕ) → AreSpaces space half self.now →
+        ensures { (space : Space) (half : ℕ) (all : Bool) → AreSpaces space half all self.now →
             IsTrue result ↔ IsLeft space half at }
     {
         (self.eden <= at && at < self.eden_end) || (self.left <= at && at < self.left_end)

@@ -13,6 +13,7 @@ use Rattle.heap_model.specs.Kinds.{IsPlainCell}
 use Rattle.heap_model.specs.Showing.{ShowsPlain}
 use Rattle.heap_model.proofs.CellsApart.{one_at}
 use Rattle.write_barrier.specs.MutatorState.{Mutator, heap_of, MainShows, reserved}
+use Rattle.write_barrier.specs.Recording.{Remembers}
 use Rattle.object_cells.specs.PlainObjects.{IsPlainAt, LacksFields, ShowsRefilled}
 use Rattle.object_cells.specs.HeldValues.{IsValueHeld}
 use Rattle.object_cells.specs.Refills.{AreNewFields}
@@ -20,6 +21,7 @@ use Rattle.object_cells.specs.SlotChanges.{WritesFields}
 use Rattle.object_cells.specs.Contents.{held_rep}
 use Rattle.shape_change.specs.Additions.{CanAdd, AddsPath, added_path, count_of}
 use Rattle.object_cells.specs.Made.{PutsWords}
+use Rattle.object_cells.specs.CellWrites.{reshaped}
 use Rattle.object_cells.proofs.PlainFields.{plain_sound, plain_shown}
 use Rattle.object_cells.proofs.FieldsFound.{path_long}
 use Rattle.object_cells.proofs.NewFields.{written_fields_are_new}
@@ -111,8 +113,9 @@ module _ {old : Mutator} {graph : Graph} {plain : PlainObject} {object : ℕ} {h
       → AddsPath (reserved old need) mid (added_path old.paths header.shape name value) next → PutsWords mid new words
       → WritesFields (heap_of old) (heap_of new) known.cell next others made
       → AddsSlot (heap_of old) (heap_of new) known.cell next others made plain.fields (new_field name what)
+      → Remembers old new (known.cell ∷ others) (reshaped new.paths known.cell next ∷ others)
       → ShowsRefilled new graph plain (with_field plain.fields name what)
-  added_shows {mid} {new} {next} {others = others} {made} need known path puts writes adds =
+  added_shows {mid} {new} {next} {others = others} {made} need known path puts writes adds remembers =
       let fields : List Field = plain.fields ++ new_field name what ∷ [] in
       let with : with_field plain.fields name what ≡ fields = with_field-new plain.fields name what known.fresh in
       let are = written_fields_are_new graph plain name what known.shows.is_graph known.is.object known.is.reached
@@ -127,4 +130,4 @@ module _ {old : Mutator} {graph : Graph} {plain : PlainObject} {object : ℕ} {h
       subst (ShowsRefilled new graph plain) (sym with)
       (written_fields_show old new graph plain known.cell next others made fields known.shows known.is.object
       known.carries known.caps known.shown (subst (AreNewFields graph) with are) added
-      (keeps_regions beside (puts.young ∙ path.young)) writes (added_refills adds))
+      (keeps_regions beside (puts.young ∙ path.young)) writes (added_refills adds) remembers)

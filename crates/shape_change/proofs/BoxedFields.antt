@@ -4,6 +4,7 @@ use Rattle.std.specs.Int.{w64}
 use Rattle.std.proofs.Common.{◌≡◌, ◌≢◌, ℕ, ◌+◌, ◌<◌, ◌≤◌, List, [], ◌∷◌, length, Some, slice_get, nat_lt, refl, sym}
 use Rattle.std.proofs.Common.{◌∙◌, ap, subst, arith, inl, inr}
 use Rattle.std.proofs.lemmas.List.Elements.{Contains-append_right}
+use Rattle.std.proofs.lemmas.Bool.{lt-ltb}
 use Rattle.tagged_word.specs.declared.layout.Kind.TheVariants as kind
 use Rattle.tagged_word.specs.Headers.{header_bits}
 use Rattle.tagged_word.proofs.Members.{one_in, first_in}
@@ -18,14 +19,17 @@ use Rattle.heap_model.specs.Slots.{reference_word, raw_word}
 use Rattle.heap_model.specs.Kinds.{HasWord, IsBoxCell}
 use Rattle.heap_model.specs.Needs.{box_words}
 use Rattle.heap_model.specs.Wholeness.{HasSizes}
+use Rattle.heap_model.specs.Remembered.{Touch}
 use Rattle.heap_model.proofs.CellsApart.{IsOfCell, first_of_cell}
-use Rattle.write_barrier.specs.MutatorState.{Mutator, heap_of, with_word}
+use Rattle.write_barrier.specs.MutatorState.{Mutator, heap_of, with_word, with_slot}
+use Rattle.write_barrier.specs.Recording.{touched, touched_one}
 use Rattle.object_cells.specs.Formats.{box_header}
 use Rattle.object_cells.specs.declared.content.SlotContent.TheVariants as content
-use Rattle.object_cells.specs.Contents.{next_at, with_box}
 use Rattle.object_cells.specs.CellWrites.{reshaped}
 use Rattle.object_cells.specs.OwnSlots.{ComesFrom}
 use Rattle.object_cells.specs.SlotChanges.{IsTaggedSlot}
+use Rattle.object_cells.specs.declared.content.SlotWrite.TheVariants as filling
+use Rattle.object_cells.specs.Contents.{next_at, with_box, filled_touch}
 use Rattle.object_cells.proofs.SlotBoxes.{IsBoxOf}
 use Rattle.object_cells.proofs.FieldWords.{path_field, field_is_tagged}
 use Rattle.object_cells.proofs.MadeBoxes.{BoxStands, boxed_integer, made_is_box, refers_to_made, made_row, row_of_none}
@@ -38,14 +42,18 @@ use Rattle.object_cells.proofs.OwnCells.{cell_below_layouts, beside_not_header}
 use Rattle.object_cells.proofs.PlainFields.{plain_sound}
 use Rattle.heap_model.proofs.OneBeside.{one_slots}
 use Rattle.object_cells.proofs.UnusedWords.{cell_is_used, next_before_segments}
-use Rattle.object_cells.proofs.WordsPut.{PutsTwo, HasHead, puts_two, sizes_put}
+use Rattle.object_cells.proofs.TouchedCells.{young_touched, young_then}
+use Rattle.object_cells.proofs.TouchedFields.{TouchesObject, object_alike}
+use Rattle.object_cells.proofs.WordsPut.{PutsTwo, HasHead, puts_no_slot, puts_slot, puts_two, sizes_put}
 use Rattle.shape_change.proofs.ContentsShown.{box_shows}
 use Rattle.shape_change.proofs.FilledFields.{next_head, head_below, address, slot_below, before_marks, slot_puts}
-use Rattle.shape_change.proofs.FilledFields.{slot_shown}
+use Rattle.shape_change.proofs.FilledFields.{touches_slot, slot_shown}
 use Rattle.shape_change.proofs.FilledSlots.{RefersToOld, fills_box}
 use Rattle.shape_change.proofs.ReadyHeaps.{ready_boxed, puts_box}
 use Rattle.shape_change.proofs.Settings.{Setting}
 use Rattle.shape_change.proofs.SetFields.{IsNextShape, ShowsSet, sets_one, field_shown}
+use Rattle.shape_change.proofs.FieldsAlike.{replaced_alike}
+use Rattle.shape_change.proofs.TouchedSlots.{set_refields, boxed_not_raw, box_remembered}
 
 -- A field that is set comes to hold a box of an integer.
 module _ {old : Mutator} {graph : Graph} {object slot : ℕ} {plain : PlainObject} {what : Value} {name : ℕ}
@@ -68,8 +76,9 @@ module _ {old : Mutator} {graph : Graph} {object slot : ℕ} {plain : PlainObjec
 
   module _ (at : ℕ) (numbered : IsNumbered (heap_of old) s.cell (words_of_cell (heap_of old) s.cell) slot at)
       {mid new : Mutator} {next : ℕ} (ready : IsReady old mid box_words) (shape : IsNextShape s new next)
-      (head : HasHead mid (with_word (with_box mid (next_at old) v) at (reference_word (next_at old))) new s.cell.at
-      (next_head s next)) where
+      (head : HasHead mid (with_slot (with_box mid (next_at old) v) at (reference_word (next_at old))) new s.cell.at
+      (next_head s next))
+      (touches : TouchesObject old new s.cell.at (filled_touch (filling.NewBox (next_at old) v) at)) where
     -- the address of the box that is made
     abbrev box : ℕ
     box = next_at old
@@ -98,9 +107,12 @@ module _ {old : Mutator} {graph : Graph} {object slot : ℕ} {plain : PlainObjec
     boxed : IsReady old (with_box mid box v) box_words
     boxed = ready_boxed v s.shows.tied ready
 
+    -- the word of the slot is put then
+    abbrev put : Mutator
+    put = with_slot (with_box mid box v) at (reference_word box)
+
     -- the header stays
-    head_now : HasHead (with_box mid box v) (with_word (with_box mid box v) at (reference_word box)) new s.cell.at
-        (next_head s next)
+    head_now : HasHead (with_box mid box v) put new s.cell.at (next_head s next)
     head_now = elim head [
       | inl is ↦ inl (
         is.0,
@@ -111,7 +123,7 @@ module _ {old : Mutator} {graph : Graph} {object slot : ℕ} {plain : PlainObjec
     ]
 
     puts : PutsTwo (with_box mid box v) new s.cell.at (next_head s next) at (reference_word box)
-    puts = slot_puts s at numbered (reference_word box) next boxed head_now
+    puts = slot_puts s at numbered (reference_word box) next boxed (puts_slot refl) head_now
 
     -- so the words of the box stand in the new heap
     put_stays : (free : ℕ) → box ≤ free → free < box + box_words
@@ -144,7 +156,13 @@ module _ {old : Mutator} {graph : Graph} {object slot : ℕ} {plain : PlainObjec
     -- and the heap shows the graph with the field
     pub new_box_shown : ShowsSet s new
     new_box_shown =
-        slot_shown s at numbered shape (reference_word box) (box_cell box ∷ []) boxed head_now
+        let eden : ℕ = old.recorded.bound in
+        let stored = touched_one Touch.Stored at in
+        let only_slot : TouchesObject old new s.cell.at stored =
+        object_alike (young_then eden (touched Touch.Wiped box (box + box_words)) stored (λ a of_page.
+        young_touched Touch.Wiped eden box (box + box_words) a (omega (arith, s.shows.bounded)) of_page)) touches in
+        slot_shown s at numbered shape (reference_word box) (box_cell box ∷ []) boxed (puts_slot refl) head_now
+        (touches_slot s at numbered (content.Boxed v) holds only_slot)
         (made_row (heap_of new) (content.Boxed v) box sized stands) (λ others sets.
         let came : List Cell = reshaped new.paths s.cell next ∷ others in
         let has = sets.puts.cells.comes (box_cell box) (Contains-append_right came (box_cell box ∷ []) (box_cell box)
@@ -162,8 +180,9 @@ module _ {old : Mutator} {graph : Graph} {object slot : ℕ} {plain : PlainObjec
   -- the integer is put into the box to which the slot refers
   pub old_box_shown : {mid new : Mutator} {next : ℕ} (word box : ℕ) → HasWord s.shown.slots slot word
       → IsBoxOf (heap_of old) word box → IsReady old mid 0 → IsNextShape s new next
-      → HasHead mid (with_word mid (box + 1) (raw_word v)) new s.cell.at (next_head s next) → ShowsSet s new
-  old_box_shown {mid} {new} {next} word box there is ready shape head =
+      → HasHead mid (with_word mid (box + 1) (raw_word v)) new s.cell.at (next_head s next)
+      → TouchesObject old new s.cell.at (touched_one Touch.Wiped (box + 1)) → ShowsSet s new
+  old_box_shown {mid} {new} {next} word box there is ready shape head touches =
       let whole = s.shows.shows.whole in
       let one : Cell = is.cell in
       let has = is.refers.has in
@@ -173,7 +192,8 @@ module _ {old : Mutator} {graph : Graph} {object slot : ℕ} {plain : PlainObjec
       let put = subst (λ n. HasHead mid (with_word mid (n + 1) (raw_word v)) new s.cell.at (next_head s next))
       (sym is.stands) head in
       let not_header = beside_not_header (one.at + 1) whole s.has s.shown.of_kind has (inr is.box) of_box in
-      let puts = puts_two mid new s.cell.at (next_head s next) (one.at + 1) (raw_word v)
+      let puts = puts_two mid (with_word mid (one.at + 1) (raw_word v)) new s.cell.at (next_head s next) (one.at + 1)
+      (raw_word v) (puts_no_slot refl)
       (before_marks (one.at + 1) ready below) (before_marks s.cell.at ready (head_below s)) ready.sized.words
       (λ same. not_header (sym same)) put in
       let sets = sets_one s shape ready (one ∷ []) [] (box_place has is.box)
@@ -187,4 +207,9 @@ module _ {old : Mutator} {graph : Graph} {object slot : ℕ} {plain : PlainObjec
         refers = is.refers;
         of_kind = is.box;
       } in
+      let cap : ℕ = s.cell.layout.cap in
+      let not_raw = λ (below : slot < cap). boxed_not_raw v holds (lt-ltb slot cap below) in
       field_shown s shape ready puts sets (fills_box v sets to_old fits (box_shows v holds).shows)
+      (box_remembered one (set_refields sets) is.box
+      (replaced_alike cap plain.fields slot s.field (revalued s.field what) s.there not_raw)
+      (subst (λ n. TouchesObject old new s.cell.at (touched_one Touch.Wiped (n + 1))) (sym is.stands) touches))

@@ -39,6 +39,7 @@ use Rattle.shape_change.proofs.FullPaths.{full_of_paths}
 use Rattle.shape_change.proofs.DeletedSlots.{Deleting}
 use Rattle.shape_change.proofs.DeletedCells.{slot_stays, others_of, deleted_writes}
 use Rattle.shape_change.proofs.DeletedFields.{deleted_refills, store_belongs}
+use Rattle.shape_change.proofs.DeletedTouches.{deleted_remembers}
 use Rattle.shape_change.proofs.ShownFields.{ShownCell, FieldFound, shown_cell, shown_path, name_is_new}
 
 module _ {old : Mutator} {graph : Graph} {object : ℕ} {plain : PlainObject} {header : Header} {slot name : ℕ}
@@ -94,6 +95,7 @@ module _ {old : Mutator} {graph : Graph} {object : ℕ} {plain : PlainObject} {h
         (rest_of_fields_are_new graph plain name shows.is_graph is.object is.reached) added
         (keeps_regions taken.beside taken.young)
         (deleted_writes deleting_of) (deleted_refills deleting_of name less)
+        (deleted_remembers deleting_of shows.bounded)
 
   -- a field that was found is taken out, or there are too many paths
   pub field_deleted : (new : Mutator) (result : Result Unit ShapesFull) → TakingOut old new object header slot result
@@ -102,7 +104,8 @@ module _ {old : Mutator} {graph : Graph} {object : ℕ} {plain : PlainObject} {h
       let value = value_found plain.fields slot found.field name (names_distinct shows is) found.there found.named in
       record {
         none = λ none. absurd (none-some found.field.value (sym none ∙ value));
-        uses = uses_none taken.beside taken.young;
+        uses = uses_none taken.beside taken.young
+            (deleted_remembers (deleting_of taken) shows.bounded).touches.free;
         changes = stores_stay taken;
         shows = field_less taken;
       }
@@ -141,7 +144,7 @@ pub none_deleted : {main : Mutator} {graph : Graph} {object : ℕ} {plain : Plai
 none_deleted {main} {graph} {plain = plain} name shows is header_at none =
     record {
       none = λ _. refl;
-      uses = uses_none (rest_stays_itself main.seat) refl;
+      uses = uses_none (rest_stays_itself main.seat) refl refl;
       changes = record {
         words = λ word below not_own not_new. refl;
         own = refl;

@@ -30,6 +30,10 @@ pub record Deleting (old new : Mutator) (cell : Cell) (slot : ℕ) (fields : Lis
   pub taken : TakesFieldOut old new cell.at cell.header slot
   pub there : slot < length fields
 
+-- the next slot stands in the object exactly where this one does, unless it is the first that does not
+next_alike : (one cap : ℕ) → suc one ≢ cap → nat_lt one cap ≡ nat_lt (suc one) cap
+next_alike one cap apart = grind (arith, nat_tests)
+
 -- What a slot holds now: what the slot held from which it comes, where both stand in the object or both in the store;
 -- or what was drawn in, where it is the last in the object; or nothing.
 pub data NowHolds {old new : Mutator} {cell : Cell} {slot : ℕ} {fields : List Field}
@@ -118,9 +122,8 @@ module _ {old new : Mutator} {cell : Cell} {slot : ℕ} {fields : List Field}
       sym read ∙ ap (slice_get (heap_words old.seat)) (sym (address_is (suc one) (omega (arith, below))))
       ∙ sym (taken.moved one from below (λ same. apart (same ∙ caps)))
       ∙ ap (slice_get (heap_words new.seat)) (address_is one (omega (arith, below))) ∙ stands in
-      let alike : nat_lt one cell.layout.cap ≡ nat_lt (suc one) cell.layout.cap = grind (arith, nat_tests) in
       NowHolds.moved below (ap (slice_get deleting.shows.slots) behind ∙ moved)
-      (alike ∙ ap (λ n. nat_lt n cell.layout.cap) (sym behind))
+      (next_alike one cell.layout.cap apart ∙ ap (λ n. nat_lt n cell.layout.cap) (sym behind))
 
   -- what each slot holds
   pub now_holds : (one word : ℕ) → one < length deleting.shows.slots

@@ -83,7 +83,7 @@ module _ {old new : Mutator} {graph : Graph} {plain : PlainObject} {object : ℕ
       let over = own_over known own adds in
       let held : ℕ = capacity_at (heap_of old) known.cell.at in
       set_by held 0 held (ap (capacity_at (heap_of old)) (sym known.stands)) (need_own held _ _ value own) over.room
-      (record { beside = over_beside over; young = over_young over })
+      (record { beside = over_beside over; young = over_young over; free = adds.touches.free ∙ adds.path.free })
       (capacity_own held _ _ own) (own_keeps known own adds) (own_shown known own adds)
   field_is_set within (AddsField.to_store store behind is room adds) =
       let adding : StoreAdding old new graph plain object header name value what store =
@@ -93,12 +93,12 @@ module _ {old new : Mutator} {graph : Graph} {plain : PlainObject} {object : ℕ
       let at_cell : capacity_at (heap_of old) object ≡ held = ap (capacity_at (heap_of old)) (sym known.stands) in
       let has_room : behind_cap old.paths header.shape < held = omega (arith, room, is.capacity, at_cell) in
       set_by held _ held at_cell (need_to_store held _ _ value behind has_room) over.room
-      (record { beside = over_beside over; young = over_young over })
+      (record { beside = over_beside over; young = over_young over; free = adds.touches.free ∙ adds.path.free })
       (capacity_to_store held _ _ behind has_room) (store_keeps adding) (store_shown adding)
   field_is_set within (AddsField.to_new_store store behind is full adds) =
       let growing : StoreGrowing old new graph plain object header name value what store =
       record { known = known; behind = behind; is = is; full = full; adds = adds } in
       let over = grown_over growing in
       set_by store.capacity _ _ is.capacity (need_to_new_store store.capacity _ _ value behind full) over.room
-      (record { beside = over_beside over; young = over_young over })
+      (record { beside = over_beside over; young = over_young over; free = adds.touches.free ∙ adds.path.free })
       (capacity_to_new_store store.capacity _ _ behind full) (grown_becomes growing within) (grown_shown growing)

@@ -36,7 +36,7 @@ pub origins_apart : (gone place other : ℕ) → origin_of gone place ≡ origin
 origins_apart gone place other same = grind (arith, nat_tests)
 
 -- an element before the one that is taken out
-less_before : {A : Type 0} (xs : List A) (gone place : ℕ) → place < gone
+pub less_before : {A : Type 0} (xs : List A) (gone place : ℕ) → place < gone
     → slice_get (take gone xs ++ drop (suc gone) xs) place ≡ slice_get xs place
 less_before xs zero place before = absurd (omega arith)
 less_before [] (suc gone) place before = refl

@@ -17,14 +17,18 @@ use Rattle.heap_table.specs.Seats.{heap_words}
 use Rattle.heap_model.specs.Types.{Word, Value, Field, Path, PathField, Cell}
 use Rattle.heap_model.specs.Heaps.{Heap, words_of_cell}
 use Rattle.heap_model.specs.Showing.{ShowsField}
+use Rattle.heap_model.specs.Remembered.{Touch}
 use Rattle.heap_model.proofs.BoundHeaps.{none_in}
 use Rattle.heap_model.proofs.CellsApart.{first_of_cell}
-use Rattle.write_barrier.specs.MutatorState.{Mutator, heap_of, with_word}
+use Rattle.write_barrier.specs.MutatorState.{Mutator, heap_of}
+use Rattle.write_barrier.specs.Recording.{touched_one}
 use Rattle.object_cells.specs.declared.content.SlotContent.TheVariants as content
 use Rattle.object_cells.specs.Contents.{next_at}
 use Rattle.object_cells.specs.CellWrites.{reshaped}
 use Rattle.object_cells.specs.OwnSlots.{ComesFrom}
 use Rattle.object_cells.specs.SlotChanges.{IsTaggedSlot, HasTagged}
+use Rattle.object_cells.specs.declared.content.SlotContent.{SlotContent}
+use Rattle.object_cells.specs.Made.{slot_touch}
 use Rattle.object_cells.proofs.FieldWords.{path_field, tagged_is_field}
 use Rattle.object_cells.proofs.HeldContents.{HoldsValue}
 use Rattle.object_cells.proofs.NumberedSlots.{IsNumbered, number_is_not_store}
@@ -34,13 +38,17 @@ use Rattle.object_cells.proofs.OwnPlaces.{IsSlotPlace, plain_is_object, slot_pla
 use Rattle.object_cells.proofs.OwnCells.{cell_below_layouts}
 use Rattle.object_cells.proofs.MadeBoxes.{row_of_none}
 use Rattle.object_cells.proofs.SlotsNow.{IsSlotAddress, numbered_address}
-use Rattle.object_cells.proofs.WordsPut.{PutsTwo, HasHead, puts_two}
 use Rattle.object_cells.proofs.OwnSteps.{written_places_stay}
 use Rattle.object_cells.proofs.OwnerWrites.{plain_owns, becomes_cap}
+use Rattle.object_cells.proofs.TouchedFields.{TouchesObject}
+use Rattle.object_cells.proofs.WordsPut.{PutsWord, PutsTwo, HasHead, puts_two}
+use Rattle.shape_change.specs.Shifts.{field_touch}
 use Rattle.shape_change.proofs.ContentsShown.{word_shows, raw_shows}
 use Rattle.shape_change.proofs.FilledSlots.{AreBoxes, fills_slot}
-use Rattle.shape_change.proofs.Settings.{Setting}
 use Rattle.shape_change.proofs.SetFields.{IsNextShape, ShowsSet, sets_one, field_shown}
+use Rattle.shape_change.proofs.FieldsAlike.{set_alike}
+use Rattle.shape_change.proofs.TouchedSlots.{content_touches, set_refields, slot_remembered}
+use Rattle.shape_change.proofs.Settings.{Setting, slot_is_field}
 
 -- an address before the layout words is before the marks
 pub before_marks : {old mid : Mutator} {need : ℕ} (a : ℕ) → IsReady old mid need → a < layouts_start old.seat.space
@@ -92,23 +100,36 @@ module _ {old : Mutator} {graph : Graph} {object slot : ℕ} {plain : PlainObjec
     slot_below = cell_below_layouts s.shows.shows.whole address.has address.of_cell
 
     -- a word was put in the slot, and the header is there
-    pub slot_puts : {mid new : Mutator} {need : ℕ} (word next : ℕ) → IsReady old mid need
-        → HasHead mid (with_word mid at word) new s.cell.at (next_head next)
+    pub slot_puts : {mid put new : Mutator} {need : ℕ} (word next : ℕ) → IsReady old mid need
+        → PutsWord mid put at word → HasHead mid put new s.cell.at (next_head next)
         → PutsTwo mid new s.cell.at (next_head next) at word
-    slot_puts {mid} {new} word next ready head =
-        puts_two mid new s.cell.at (next_head next) at word (before_marks at ready slot_below)
+    slot_puts {mid} {put} {new} word next ready puts head =
+        puts_two mid put new s.cell.at (next_head next) at word puts (before_marks at ready slot_below)
         (before_marks s.cell.at ready head_below) ready.sized.words (λ same. address.not_header (sym same)) head
 
-    module _ {mid new : Mutator} {next : ℕ} (shape : IsNextShape s new next) where
+    -- of pages the slot was touched, as the representation of the field says, and maybe the header
+    abbrev pub TouchesSlot : Mutator → Type 0
+    TouchesSlot new = TouchesObject old new s.cell.at
+        (touched_one (field_touch (nat_lt slot s.cell.layout.cap)
+        (Some (record { name = s.field.name; rep = (revalued s.field what).rep }))) at)
+
+    -- so it is where the slot was touched as what it comes to hold says
+    pub touches_slot : {new : Mutator} (holds : SlotContent)
+        → HoldsValue (heap_of old) (nat_lt slot s.cell.layout.cap) s.field.rep (revalued s.field what).rep what holds
+        → TouchesObject old new s.cell.at (touched_one (slot_touch holds) at) → TouchesSlot new
+    touches_slot {new} holds is touches =
+        subst (λ how. TouchesObject old new s.cell.at (touched_one how at)) (content_touches s.field.name is) touches
+
+    module _ {mid put new : Mutator} {next : ℕ} (shape : IsNextShape s new next) where
       -- where a word was put in the slot, the heap shows the graph with the field
-      pub slot_shown : {need : ℕ} (word : ℕ) (made : List Cell) → IsReady old mid need
-          → HasHead mid (with_word mid at word) new s.cell.at (next_head next)
+      pub slot_shown : {need : ℕ} (word : ℕ) (made : List Cell) → IsReady old mid need → PutsWord mid put at word
+          → HasHead mid put new s.cell.at (next_head next) → TouchesSlot new
           → IsRow new.seat.space (heap_words new.seat) (next_at old) (next_at old + need) made
           → ((others : List Cell) (sets : SetsOne (heap_of old) (heap_of new) s.cell next at word slot others made
           plain.fields (revalued s.field what)) → ShowsPut sets) → ShowsSet s new
-      slot_shown {need} word made ready head row owed =
+      slot_shown {need} word made ready word_put head touches row owed =
           let whole = s.shows.shows.whole in
-          let puts = slot_puts word next ready head in
+          let puts = slot_puts word next ready word_put head in
           let place = slot_place slot at whole s.has s.shown.of_kind s.shown.has numbered in
           let not_store : s.cell.at + store_slot ≢ at =
           λ same. number_is_not_store slot at whole.rows s.has (plain_is_object s.shown.of_kind) numbered (sym same) in
@@ -117,15 +138,24 @@ module _ {old : Mutator} {graph : Graph} {object slot : ℕ} {plain : PlainObjec
           let store : s.shown.has.store ≡ sets.shown.has.store =
           same_Some _ _ (sym s.shown.has.slot ∙ sets.shown.has.slot) in
           let stands = subst (λ n. IsSlotPlace (heap_of old) s.cell n at place.0) store place.1 in
+          let cap : ℕ = s.cell.layout.cap in
+          let field : Field = revalued s.field what in
           field_shown s shape ready puts sets (fills_slot sets numbered stands shows.boxes shows.comes shows.shows)
+          (slot_remembered (record { name = field.name; rep = field.rep }) (set_refields sets) whole s.shown.of_kind
+          numbered place.1
+          (path_field cap (set plain.fields slot field) slot field
+          (slice_get-set_same plain.fields slot field (slot_is_field s)))
+          (set_alike cap plain.fields slot field) touches)
 
       -- so it does where it is tagged
-      pub tagged_shown : (word : Word) → IsReady old mid 0
-          → HasHead mid (with_word mid at word.0) new s.cell.at (next_head next)
+      pub tagged_shown : (word : Word) → IsReady old mid 0 → PutsWord mid put at word.0
+          → HasHead mid put new s.cell.at (next_head next)
+          → TouchesObject old new s.cell.at (touched_one Touch.Stored at)
           → HoldsValue (heap_of old) (nat_lt slot s.cell.layout.cap) s.field.rep (revalued s.field what).rep what
           (content.Tagged word) → ShowsSet s new
-      tagged_shown word ready head holds =
-          slot_shown word.0 [] ready head (row_of_none (heap_of new) (next_at old)) (λ others sets.
+      tagged_shown word ready word_put head touches holds =
+          slot_shown word.0 [] ready word_put head (touches_slot (content.Tagged word) holds touches)
+          (row_of_none (heap_of new) (next_at old)) (λ others sets.
           let shown = word_shows word (written_places_stay plain_owns sets.puts.whole sets.puts.writes) holds in
           record {
             boxes = λ other there. absurd (none_in other there);
@@ -134,12 +164,14 @@ module _ {old : Mutator} {graph : Graph} {object slot : ℕ} {plain : PlainObjec
           })
 
       -- and where it is raw
-      pub raw_shown : (word : ℕ) → IsReady old mid 0
-          → HasHead mid (with_word mid at word) new s.cell.at (next_head next)
+      pub raw_shown : (word : ℕ) → IsReady old mid 0 → PutsWord mid put at word
+          → HasHead mid put new s.cell.at (next_head next)
+          → TouchesObject old new s.cell.at (touched_one Touch.Wiped at)
           → HoldsValue (heap_of old) (nat_lt slot s.cell.layout.cap) s.field.rep (revalued s.field what).rep what
           (content.Raw word) → ShowsSet s new
-      raw_shown word ready head holds =
-          slot_shown word [] ready head (row_of_none (heap_of new) (next_at old)) (λ others sets.
+      raw_shown word ready word_put head touches holds =
+          slot_shown word [] ready word_put head (touches_slot (content.Raw word) holds touches)
+          (row_of_none (heap_of new) (next_at old)) (λ others sets.
           let shown = raw_shows word (length graph.objects) s.value holds in
           record {
             boxes = λ other there. absurd (none_in other there);

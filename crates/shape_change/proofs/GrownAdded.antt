@@ -23,13 +23,14 @@ use Rattle.heap_model.proofs.BoundHeaps.{none_in}
 use Rattle.heap_model.proofs.CellsApart.{IsOfCell}
 use Rattle.heap_model.proofs.CellWords.{words_by_kind}
 use Rattle.write_barrier.specs.MutatorState.{Mutator, heap_of}
+use Rattle.write_barrier.specs.Recording.{Remembers}
 use Rattle.object_cells.specs.declared.stores.Store.{Store}
 use Rattle.object_cells.specs.Capacities.{ChangesObject}
 use Rattle.object_cells.specs.CellWrites.{reshaped}
 use Rattle.object_cells.specs.Contents.{next_at}
-use Rattle.object_cells.specs.Made.{store_content, content_word}
 use Rattle.object_cells.specs.PlainObjects.{ShowsRefilled}
 use Rattle.object_cells.specs.SlotChanges.{HasTagged, WritesFields}
+use Rattle.object_cells.specs.Made.{store_content, content_word}
 use Rattle.object_cells.proofs.CopiedSlots.{NewSlotIs, new_slot_is}
 use Rattle.object_cells.proofs.HeldNeeds.{new_value_held}
 use Rattle.object_cells.proofs.MadeBoxes.{made_boxes}
@@ -43,15 +44,19 @@ use Rattle.object_cells.proofs.StoreRuns.{CopiesSlots, copies_slots}
 use Rattle.object_cells.proofs.TakenValues as taken
 use Rattle.object_cells.proofs.TakenValues.{TakesValue, only_store}
 use Rattle.object_cells.proofs.UnusedWords.{marks_fit}
+use Rattle.object_cells.proofs.TouchedFields.{refields}
 use Rattle.shape_change.proofs.AddedContents.{content_shows}
 use Rattle.shape_change.proofs.AddedFields.{new_field}
 use Rattle.shape_change.proofs.AddedShown.{added_shows}
 use Rattle.shape_change.proofs.AddedSlots.{SlotIs, PutsOne, AddsSlot}
 use Rattle.shape_change.proofs.AddedWords.{over_writes_one}
 use Rattle.shape_change.proofs.FullStores.{length-slots}
+use Rattle.shape_change.proofs.GrownTouches.{grown_touches}
 use Rattle.shape_change.proofs.GrownWords as grows
 use Rattle.shape_change.proofs.GrownWords.{StoreGrowing, over}
 use Rattle.shape_change.proofs.OneAdding.{path_after, shape_after}
+use Rattle.shape_change.proofs.FieldsAlike.{added_alike}
+use Rattle.shape_change.proofs.TouchedSlots.{store_remembered}
 
 module _ {old new : Mutator} {graph : Graph} {plain : PlainObject} {object : ℕ} {header : Header} {name : ℕ}
     {value : Held} {what : Value} {store : Store}
@@ -242,10 +247,20 @@ module _ {old new : Mutator} {graph : Graph} {plain : PlainObject} {object : ℕ
         boxes = taken.boxes_told takes;
       }
 
+  -- of pages only the slot for the store and the header were touched, so the change is remembered
+  remembered : Remembers old new (growing.known.cell ∷ []) (came ∷ [])
+  remembered =
+      let known = growing.known in
+      let cap : ℕ = known.cell.layout.cap in
+      store_remembered (refields known.shows.shows.whole known.has known.sound.shape known.was
+      (path_after known (over growing)) refl writes)
+      (λ number few. added_alike cap plain.fields (new_field name what) number
+      (λ same. omega (arith, same, few, fields_full))) (grown_touches growing)
+
   -- and the graph is shown in which the object has the field
   pub grown_shown : ShowsRefilled new graph plain (with_field plain.fields name what)
   grown_shown =
-      added_shows (grows.need growing) growing.known (over growing).adds (over growing).puts writes adds_slot
+      added_shows (grows.need growing) growing.known (over growing).adds (over growing).puts writes adds_slot remembered
 
   -- the object's property store has as many slots as the new one
   pub grown_becomes : AreWithin old.seat.space.sizes old.seat.space.variables

@@ -3,6 +3,8 @@ mod ReadyHeaps
 mod FieldsSet
 mod SettingNeeds
 mod ContentsShown
+mod FieldsAlike
+mod TouchedSlots
 mod FilledSlots
 mod FoundPlaces
 mod Settings
@@ -10,6 +12,7 @@ mod SetFields
 mod FilledFields
 mod BoxedFields
 mod SetShown
+mod SetTouches
 mod SetOutcomes
 mod SetRefused
 mod SetThere
@@ -17,6 +20,8 @@ mod SetByPlace
 mod ShownFields
 mod NewLayouts
 mod SlotAddresses
+mod SlotTouches
+mod WordsMoved
 mod SlotsClosed
 mod NewNeeds
 mod FullStores
@@ -29,6 +34,7 @@ mod TakenOut
 mod DeletedSlots
 mod DeletedCells
 mod MovedInFields
+mod DeletedTouches
 mod DeletedFields
 mod DeletedGraphs
 mod AddedWords
@@ -36,9 +42,11 @@ mod OneAdded
 mod AddedContents
 mod AddedShown
 mod OneAdding
+mod AddedTouches
 mod OwnAdded
 mod StoreAdded
 mod GrownWords
+mod GrownTouches
 mod GrownAdded
 mod FieldAdded
 mod NewNames

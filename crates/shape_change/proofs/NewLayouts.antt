@@ -58,6 +58,8 @@ led_paths {old = old} {mid = mid} {new = new} rest changes =
     record {
       beside = subst (λ (one : Seat). RestStays one new.seat) seat changes.seat;
       young = changes.young ∙ ap (λ (main : Mutator). main.young) rest;
+      free = changes.free ∙ ap (λ (main : Mutator). main.free) rest;
+      recorded = changes.recorded ∙ ap (λ (main : Mutator). main.recorded) rest;
       count = changes.count ∙ ap (λ (one : Seat). length (heap_words one)) seat;
       same = λ at below.
           changes.beside at (inl (subst (λ (one : Seat). at < layouts_start one.space) (sym seat) below))

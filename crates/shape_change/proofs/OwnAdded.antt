@@ -1,5 +1,4 @@
 -- A field that comes to an in-object slot is shown.
-use Rattle.std.proofs.Common.{◌≡◌, ℕ, ◌+◌, ◌<◌, true, [], length, refl, sym, ◌∙◌, ap, subst, arith, nat_lt}
 use Rattle.std.specs.Prelude.{slice_set}
 use Rattle.std.proofs.lemmas.Bool.{lt-ltb}
 use Rattle.heap_model.specs.Types.{Header, Value, Held, Field, Path}
@@ -14,10 +13,11 @@ use Rattle.heap_model.specs.Heaps.{words_of_cell}
 use Rattle.heap_model.proofs.CellsApart.{IsOfCell, first_of_cell}
 use Rattle.heap_model.proofs.BoundHeaps.{none_in}
 use Rattle.write_barrier.specs.MutatorState.{Mutator, heap_of}
+use Rattle.write_barrier.specs.Recording.{touched_one}
 use Rattle.object_cells.specs.PlainObjects.{ShowsRefilled}
 use Rattle.object_cells.specs.Contents.{next_at}
 use Rattle.shape_change.specs.Additions.{AddsOwn, AddsPath, added_path, count_of, own_content, with_shape}
-use Rattle.object_cells.specs.Made.{content_word}
+use Rattle.shape_change.specs.Shifts.{field_touch}
 use Rattle.heap_model.specs.Needs.{capacity_at}
 use Rattle.object_cells.specs.Capacities.{ChangesObject}
 use Rattle.object_cells.proofs.OwnCapacities.{one_keeps}
@@ -29,8 +29,10 @@ use Rattle.object_cells.proofs.ContentValues.{content_comes}
 use Rattle.shape_change.proofs.TaggedBefore.{wide_not_tagged}
 use Rattle.object_cells.specs.SlotChanges.{IsTaggedSlot, HasTagged}
 use Rattle.object_cells.specs.CellWrites.{reshaped}
+use Rattle.object_cells.specs.Made.{content_word, slot_touch}
 use Rattle.heap_model.specs.Showing.{ShowsField}
 use Rattle.std.proofs.lemmas.List.{length-map}
+use Rattle.std.proofs.Common.{◌≡◌, ℕ, ◌+◌, ◌<◌, true, [], length, Some, refl, sym, ◌∙◌, ap, subst, arith, nat_lt}
 use Rattle.shape_tree.specs.ShapeLayouts.{layout_of}
 use Rattle.object_graph.specs.Paths.{path_of}
 use Rattle.shape_change.proofs.OneAdded.{one_adds}
@@ -43,8 +45,11 @@ use Rattle.shape_change.proofs.AddedFields.{new_field, path_of-push}
 use Rattle.shape_change.proofs.AddedWords.{PutsOver, over_last}
 use Rattle.object_cells.proofs.FilledSlots.{reserved_none}
 use Rattle.object_cells.proofs.NothingUsed.{room_for_none}
+use Rattle.object_cells.proofs.TouchedFields.{TouchesObject}
 use Rattle.shape_change.proofs.AddedShown.{Adding, added_shows}
 use Rattle.shape_change.proofs.OneAdding.{OneAdding, one_adding, path_after}
+use Rattle.shape_change.proofs.TouchedSlots.{content_touches}
+use Rattle.shape_change.proofs.AddedTouches.{path_touches, one_remembered}
 
 -- the address of the slot behind those of the fields, in the object
 abbrev own_place : Mutator → ℕ → Header → ℕ
@@ -104,6 +109,25 @@ module _ {old : Mutator} {graph : Graph} {plain : PlainObject} {object : ℕ} {h
       (sym (length-map plain.fields (λ (f : Field). record { name = f.name; rep = f.rep })))
       (omega (arith, known.count, known.cap, own)) tagged
 
+  -- only the slot and the header were touched
+  own_touches : {new : Mutator} → AddsOwn old new object header name value
+      → TouchesObject old new known.cell.at
+      (touched_one (field_touch (nat_lt (length plain.fields) known.cell.layout.cap)
+      (Some (record { name = name; rep = rep_of what }))) (own_place old object header))
+  own_touches {new} adds =
+      let place : ℕ = own_place old object header in
+      let slot : ℕ = length plain.fields in
+      let test : nat_lt slot known.cell.layout.cap ≡ true =
+      lt-ltb slot known.cell.layout.cap (omega (arith, known.count, known.cap, own)) in
+      let how : slot_touch (own_content value)
+      ≡ field_touch (nat_lt slot known.cell.layout.cap) (Some (record { name = name; rep = rep_of what })) =
+      content_touches name (new_value_held true value what known.held.shows)
+      ∙ ap (λ o. field_touch o (Some (record { name = name; rep = rep_of what }))) (sym test) in
+      subst (λ a. TouchesObject old new a (touched_one (field_touch (nat_lt slot known.cell.layout.cap)
+      (Some (record { name = name; rep = rep_of what }))) place)) (sym known.stands)
+      (subst (λ h. TouchesObject old new object (touched_one h place)) how
+      (path_touches 0 (own_over adds).adds known.shows.bounded adds.touches))
+
   -- and the graph is shown in which the object has it
   pub own_shown : {new : Mutator} → AddsOwn old new object header name value
       → ShowsRefilled new graph plain (with_field plain.fields name what)
@@ -124,6 +148,7 @@ module _ {old : Mutator} {graph : Graph} {plain : PlainObject} {object : ℕ} {h
       (λ tagged. content_comes (HasTagged known.cell one.adds.sound.slots) [] slot slot 0 holds places
       (λ is_own wide. own_not_tagged adds tagged wide) (λ v boxed. absurd (own_holds_no_box v holds boxed)))
       (λ other there. absurd (none_in other there)) (λ other there. absurd (none_in other there)))
+      (one_remembered one.adds (own_touches adds))
 
   -- each property store has as many slots as before
   pub own_keeps : {new : Mutator} → AddsOwn old new object header name value

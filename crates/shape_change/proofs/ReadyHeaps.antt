@@ -11,16 +11,16 @@ use Rattle.heap_table.specs.Seats.{heap_words}
 use Rattle.heap_model.specs.Slots.{raw_word}
 use Rattle.heap_model.specs.Needs.{box_words}
 use Rattle.heap_model.specs.Wholeness.{HasSizes}
-use Rattle.write_barrier.specs.MutatorState.{Mutator, heap_of, IsTied, reserved}
 use Rattle.write_barrier.specs.Opening.{ChangesWithin}
+use Rattle.write_barrier.specs.MutatorState.{Mutator, heap_of, IsTied, reserved, with_word}
 use Rattle.object_cells.specs.Formats.{box_header}
 use Rattle.object_cells.specs.declared.content.SlotWrite.{SlotWrite}
 use Rattle.object_cells.specs.declared.content.SlotWrite.TheVariants as filling
 use Rattle.object_cells.specs.Contents.{next_at, with_box, AllocatesBox, filling_need}
 use Rattle.shape_change.specs.Fillings.{with_paths}
-use Rattle.object_cells.proofs.WordsPut.{PutsTwo, puts_two, sizes_put}
 use Rattle.object_cells.proofs.OneWord.{IsReady, still_new}
 use Rattle.object_cells.proofs.UnusedWords.{next_before_segments}
+use Rattle.object_cells.proofs.WordsPut.{PutsTwo, puts_no_slot, puts_two, sizes_put}
 
 -- words are used
 ready_reserved : (old : Mutator) (need : ℕ) → HasSizes (heap_of old) → HasRoom old.young need
@@ -101,8 +101,9 @@ pub puts_box : (mid : Mutator) (at : ℕ) (v : ℤ) → at + box_words ≤ marks
     → length (heap_words mid.seat) ≡ marks_start mid.seat.space
     → PutsTwo mid (with_box mid at v) (at + 1) (raw_word v) at (header_bits box_header)
 puts_box mid at v within counted =
-    puts_two mid (with_box mid at v) (at + 1) (raw_word v) at (header_bits box_header) (omega arith) (omega arith)
-    counted (λ same. omega (arith, same)) (inr refl)
+    puts_two mid (with_word mid at (header_bits box_header)) (with_box mid at v) (at + 1) (raw_word v) at
+    (header_bits box_header) (puts_no_slot refl) (omega arith) (omega arith) counted (λ same. omega (arith, same))
+    (inr refl)
 
 -- so a box is made
 pub ready_boxed : {old mid : Mutator} (v : ℤ) → IsTied old → IsReady old mid box_words

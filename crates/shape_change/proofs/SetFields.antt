@@ -1,5 +1,4 @@
 -- A heap in which a slot of a plain object was filled shows the graph in which the field of this slot has the value.
-use Rattle.std.proofs.Common.{◌≡◌, ◌≢◌, ℕ, ◌+◌, ◌<◌, List, Some, set, sym, ◌∙◌, ap, subst}
 use Rattle.tagged_word.specs.Headers.{header_bits}
 use Rattle.tagged_word.specs.Cells.{store_slot}
 use Rattle.page_space.specs.Extents.{layouts_start}
@@ -17,11 +16,13 @@ use Rattle.heap_model.specs.Needs.{capacity_at}
 use Rattle.heap_model.specs.Showing.{ShowsPlain}
 use Rattle.heap_model.proofs.CellsApart.{first_of_cell}
 use Rattle.write_barrier.specs.MutatorState.{Mutator, heap_of}
+use Rattle.write_barrier.specs.Recording.{Remembers}
 use Rattle.object_cells.specs.PlainObjects.{ShowsRefilled}
 use Rattle.object_cells.specs.Refills.{AreNewFields}
 use Rattle.object_cells.specs.Uses.{KeepsRegions}
 use Rattle.object_cells.specs.Capacities.{ChangesObject}
 use Rattle.object_cells.specs.Contents.{next_at}
+use Rattle.object_cells.specs.CellWrites.{reshaped}
 use Rattle.object_cells.proofs.OwnerWrites.{plain_owns, written_own_keeps_cells}
 use Rattle.object_cells.proofs.OwnCapacities.{one_keeps}
 use Rattle.object_cells.proofs.RefilledHeaps.{written_fields_show}
@@ -30,6 +31,7 @@ use Rattle.object_cells.proofs.OneWord.{IsReady, writes_two}
 use Rattle.object_cells.proofs.OwnCells.{IsOwnWord, writes_cells, cell_below_layouts}
 use Rattle.object_cells.proofs.SlotsNow.{PutsOwn}
 use Rattle.object_cells.proofs.OneField.{SetsOne, FillsOne, slots_after, refills_slots}
+use Rattle.std.proofs.Common.{◌≡◌, ◌≢◌, ℕ, ◌+◌, ◌<◌, List, ◌∷◌, Some, set, sym, ◌∙◌, ap, subst}
 use Rattle.shape_change.proofs.Settings.{Setting, fields_are, fields_are_new, slot_is_field}
 
 module _ {old : Mutator} {graph : Graph} {object slot : ℕ} {plain : PlainObject} {what : Value} {name : ℕ}
@@ -84,8 +86,9 @@ module _ {old : Mutator} {graph : Graph} {object slot : ℕ} {plain : PlainObjec
       -- so the heap shows the graph with the field
       pub field_shown : {others made : List Cell} {head : ℕ} → PutsTwo mid new s.cell.at head at word
           → (sets : SetsOne (heap_of old) (heap_of new) s.cell next at word slot others made plain.fields
-          (revalued s.field what)) → FillsOne sets → ShowsSet new
-      field_shown {others} {made} puts sets fills =
+          (revalued s.field what)) → FillsOne sets
+          → Remembers old new (s.cell ∷ others) (reshaped new.paths s.cell next ∷ others) → ShowsSet new
+      field_shown {others} {made} puts sets fills remembers =
           let heap = heap_of old in
           let same : with_field plain.fields name what ≡ fields = fields_are s in
           let new_fields = subst (AreNewFields graph) same (fields_are_new s) in
@@ -102,6 +105,6 @@ module _ {old : Mutator} {graph : Graph} {object slot : ℕ} {plain : PlainObjec
           record {
             shows = subst (ShowsRefilled new graph plain) (sym same)
                 (written_fields_show old new graph plain s.cell next others made fields s.shows s.is.object s.carries
-                s.cap shown new_fields added regions sets.puts.writes (refills_slots sets fills));
+                s.cap shown new_fields added regions sets.puts.writes (refills_slots sets fills) remembers);
             changes = one_keeps sets.puts fills.belong fills.kinds;
           }

@@ -23,12 +23,14 @@ use Rattle.object_cells.specs.declared.content.SlotWrite.TheVariants as filling
 use Rattle.object_cells.specs.Uses.{UsesMore}
 use Rattle.object_cells.specs.Capacities.{ChangesObject}
 use Rattle.object_cells.specs.Contents.{box_in, next_at, filling_of, filling_at, filling_need, filled, FillsSlot}
+use Rattle.object_cells.specs.Contents.{filled_touch}
 use Rattle.object_cells.proofs.NothingUsed.{room_for_none}
 use Rattle.object_cells.proofs.OneWord.{IsReady}
 use Rattle.object_cells.proofs.OwnCells.{cell_below_layouts}
 use Rattle.object_cells.proofs.PlainFields.{plain_sound, names_distinct}
 use Rattle.object_cells.proofs.UnusedWords.{cell_is_used, next_before_segments}
 use Rattle.object_cells.proofs.WordsPut.{HasHead}
+use Rattle.object_cells.proofs.TouchedFields.{TouchesObject, object_free}
 use Rattle.shape_change.specs.declared.slots.Place.{Place}
 use Rattle.shape_change.specs.FieldChanges.{HasSetField}
 use Rattle.shape_change.specs.Fillings.{FillsWider}
@@ -41,6 +43,7 @@ use Rattle.shape_change.proofs.Settings.{Setting, name_is_there, path_is_there}
 use Rattle.shape_change.proofs.SettingNeeds.{need_there}
 use Rattle.shape_change.proofs.SetFields.{IsNextShape}
 use Rattle.shape_change.proofs.SetShown.{FillsAt, fill_shown}
+use Rattle.shape_change.proofs.SetTouches.{as_it_is_touches, wider_touches}
 
 -- where a slot is filled, what is used stays
 filled_young : (main : Mutator) (at : ℕ) (filling : SlotWrite) → (filled main at filling).young ≡ main.young
@@ -70,10 +73,12 @@ head_rest before old new object head (inr is) = (
 
 -- so many words of eden more are used
 uses_more : {old mid new : Mutator} {need : ℕ} (object head at : ℕ) (filling : SlotWrite) → IsReady old mid need
-    → RestStays old.seat new.seat → HasHead mid (filled mid at filling) new object head → UsesMore old new need
-uses_more {mid = mid} {new} object head at filling ready beside put = record {
+    → RestStays old.seat new.seat → HasHead mid (filled mid at filling) new object head → new.free ≡ old.free
+    → UsesMore old new need
+uses_more {mid = mid} {new} object head at filling ready beside put free = record {
   beside = beside;
   young = (head_rest mid (filled mid at filling) new object head put).0 ∙ filled_young mid at filling ∙ ready.young;
+  free = free;
 }
 
 -- the paths are those from before it was filled
@@ -154,13 +159,14 @@ module _ {old : Mutator} {graph : Graph} {object slot : ℕ} {plain : PlainObjec
     -- the field has the value where its slot was filled, and the object's header is that of the shape
     has_set_field : {mid new : Mutator} {next : ℕ} → IsReady old mid (filling_need fill) → IsNextShape s new next
         → RestStays old.seat new.seat → HasHead mid (filled mid at fill) new s.cell.at (next_head s next)
+        → TouchesObject old new s.cell.at (filled_touch fill at)
         → HasSetField old new graph object plain name what
-    has_set_field {new = new} {next} ready shape beside head =
+    has_set_field {new = new} {next} ready shape beside head touches =
         let capacity : ℕ = capacity_at (heap_of old) object in
         let P : ℕ → Type 0 = λ n. HasRoom old.young n × UsesMore old new n in
-        let uses = uses_more s.cell.at (next_head s next) at fill ready beside head in
+        let uses = uses_more s.cell.at (next_head s next) at fill ready beside head (object_free touches) in
         let used = subst P (sym (setting_need capacity)) (ready.room, uses) in
-        let shown = fill_shown s at word shape content fills ready head in
+        let shown = fill_shown s at word shape content fills ready head touches in
         let Q : ℕ → ℕ → Type 0 = λ a n. ChangesObject (heap_of old) (heap_of new) a n in
         record {
           few = λ lacks. name_is_there s lacks;
@@ -181,7 +187,7 @@ module _ {old : Mutator} {graph : Graph} {object slot : ℕ} {plain : PlainObjec
         inl (filled_so.fills, head_was ready) in
         let paths = filled_with_paths between new s.cell.at (next_head s s.cell.header.shape) at fill head
         ∙ allocates_paths old between fill filled_so.allocates in
-        has_set_field ready (same_shape same paths) filled_so.beside head
+        has_set_field ready (same_shape same paths) filled_so.beside head (as_it_is_touches s at fills filled_so)
 
     -- and where it became wider as well
     pub set_wider_has : {new : Mutator} (path : Path)
@@ -204,4 +210,4 @@ module _ {old : Mutator} {graph : Graph} {object slot : ℕ} {plain : PlainObjec
               (subst (λ all. IsShapeOf all path wider.next) (sym paths) wider.leads.shape_is);
           added = ap (with_path (Some paths_most) old.paths) is_path ∙ wider.leads.added ∙ ap Some (sym paths);
         } in
-        has_set_field ready shape wider.beside head
+        has_set_field ready shape wider.beside head (wider_touches s at fills wider)

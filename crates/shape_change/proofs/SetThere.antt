@@ -27,11 +27,11 @@ use Rattle.object_cells.proofs.FieldWords.{path_field}
 use Rattle.object_cells.proofs.FieldsFound.{path_long}
 use Rattle.shape_change.proofs.FieldsSet.{path_changed}
 use Rattle.shape_change.proofs.FoundPlaces.{place_numbered}
-use Rattle.object_cells.proofs.HeldContents.{HoldsValue, held_rep_is, value_held, held_slot_word}
 use Rattle.object_cells.proofs.PlainFields.{slots_held, plain_shown, shape_there}
 use Rattle.shape_change.proofs.Settings.{Setting, mapped, setting, slot_is_field}
-use Rattle.shape_change.proofs.SetShown.{FillsAt, was_field_word}
+use Rattle.shape_change.proofs.SetShown.{FillsAt, held_slot}
 use Rattle.object_cells.proofs.SlotsNow.{numbered_stands}
+use Rattle.object_cells.proofs.HeldContents.{HoldsValue, held_rep_is, value_held}
 
 -- The slot of the field is at the place, in the object itself or not; the field had this representation, and the
 -- shape's path is that of the fields.
@@ -123,10 +123,9 @@ module _ {old : Mutator} {graph : Graph} {object slot : ℕ} {plain : PlainObjec
   pub held_there : {word : ℕ} {content : SlotContent} (place : Place)
       → FillsAt s (place_at s.cell.at place) word content
       → HoldsSlotWord (heap_of old) (word_at (heap_of old) (place_at object place)) content
-  held_there {word = word} {content} place fills =
-      let slot_word = held_slot_word word fills.comes (was_field_word s fills) in
+  held_there {content = content} place fills =
       subst (λ a. HoldsSlotWord (heap_of old) (word_at (heap_of old) (place_at a place)) content) s.stands
-      (subst (λ w. HoldsSlotWord (heap_of old) w content) (sym fills.reads) slot_word)
+      (held_slot s fills)
 
   -- the path with the wider representation is that of the fields with the one set
   pub wider_path : {shape : ℕ} {place : Place} {own : Bool} (was one : Rep) (held : Held)

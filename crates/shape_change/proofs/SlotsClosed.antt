@@ -1,87 +1,21 @@
 -- Slots of a plain object that moved down by one, in the object and in its store.
-use Rattle.std.proofs.Common.{◌≡◌, ◌≢◌, ℕ, suc, ◌+◌, ◌-◌, ◌<◌, ◌≤◌, ◌⊎◌, inl, inr, slice_get, Some, length, sym, ◌∙◌}
-use Rattle.std.proofs.Common.{ap, subst, arith, length-set}
-use Rattle.std.specs.Prelude.{slice_set}
-use Rattle.std.proofs.lemmas.Bool.{cases_lt}
+use Rattle.std.proofs.Common.{◌≡◌, ◌≢◌, ℕ, suc, ◌+◌, ◌-◌, ◌<◌, ◌≤◌, ◌⊎◌, inl, inr, slice_get, sym, ◌∙◌, ap, arith}
+use Rattle.std.specs.Prelude.{nat_lt}
+use Rattle.std.proofs.lemmas.Bool.{cases_lt, lt-ltb, le-ltb}
 use Rattle.tagged_word.specs.Cells.{plain_head, store_head}
-use Rattle.page_space.specs.Extents.{marks_start}
-use Rattle.object_graph.proofs.Lists.{slice_get-set_same, slice_get-set_other}
 use Rattle.heap_table.specs.Seats.{heap_words}
-use Rattle.heap_table.specs.Staying.{rest_stays_itself, rest_stays_again}
+use Rattle.heap_model.specs.Types.{Path}
 use Rattle.heap_model.specs.Slots.{hole_word}
-use Rattle.write_barrier.specs.MutatorState.{Mutator, with_word}
-use Rattle.object_cells.proofs.RestOfWords.{put_rest}
-use Rattle.shape_change.specs.Shifts.{KeepsRest, KeepsBeside, MovesDown, ClosesGap, ClosesSlots, slot_at}
+use Rattle.heap_model.specs.Remembered.{Touch}
+use Rattle.write_barrier.specs.MutatorState.{Mutator}
+use Rattle.write_barrier.specs.Recording.{touched_again, touched_then}
+use Rattle.write_barrier.proofs.Recording.{then_touch}
+use Rattle.object_cells.proofs.TouchedCells.{again_behind}
+use Rattle.shape_change.specs.Shifts.{ClosesGap, ClosesSlots, slot_at}
+use Rattle.shape_change.specs.Shifts.{field_touch, own_touch, beside_touch, touched_by}
 use Rattle.shape_change.proofs.SlotAddresses.{slot_at-own, slot_at-beside}
-
--- one word was put
-pub rest_put : (old new : Mutator) (a word : ℕ) → new ≡ with_word old a word
-    → heap_words new.seat ≡ slice_set (heap_words old.seat) a word → a < marks_start old.seat.space → KeepsRest old new
-rest_put old new a word is heap below = record {
-  beside = put_rest a word (rest_stays_itself old.seat) is below;
-  paths = ap (λ (main : Mutator). main.paths) is;
-  young = ap (λ (main : Mutator). main.young) is;
-  count = ap length heap ∙ length-set (heap_words old.seat) a word;
-}
-
--- words change after others
-pub rest_then : (old mid new : Mutator) → KeepsRest old mid → KeepsRest mid new → KeepsRest old new
-rest_then old mid new before then = record {
-  beside = rest_stays_again old.seat mid.seat new.seat before.beside then.beside;
-  paths = then.paths ∙ before.paths;
-  young = then.young ∙ before.young;
-  count = then.count ∙ before.count;
-}
-
-module _ {old mid new : Mutator} {from to : ℕ} (word : ℕ) (moves : MovesDown old mid from to)
-    (is : new ≡ with_word mid to word) (heap : heap_words new.seat ≡ slice_set (heap_words mid.seat) to word)
-    (ordered : from ≤ to) (below : to < marks_start old.seat.space) (within : to < length (heap_words old.seat)) where
-  -- only words have changed
-  rest_there : KeepsRest old new
-  rest_there =
-      rest_then old mid new moves.rest
-      (rest_put mid new to word is heap (omega (arith, below, ap marks_start moves.rest.beside.space)))
-
-  -- each other word stays
-  other : (a : ℕ) → a ≢ to → slice_get (heap_words new.seat) a ≡ slice_get (heap_words mid.seat) a
-  other a apart = ap (λ all. slice_get all a) heap ∙ slice_get-set_other (heap_words mid.seat) to a word apart
-
-  -- and this one stands there
-  put_there : slice_get (heap_words new.seat) to ≡ Some word
-  put_there =
-      ap (λ all. slice_get all to) heap
-      ∙ slice_get-set_same (heap_words mid.seat) to word (omega (arith, within, moves.rest.count))
-
-  -- so the words beside are as they were
-  beside_stay : KeepsBeside old new from (to + 1)
-  beside_stay a out = elim out [
-    | inl before ↦ other a (λ same. omega (arith, same, before, ordered)) ∙ moves.beside a (inl before)
-    | inr behind ↦ other a (λ same. omega (arith, same, behind)) ∙ moves.beside a (inr (omega (arith, behind)))
-  ]
-
-  -- the gap is closed
-  pub gap_closed : ClosesGap old new from to word
-  gap_closed = record {
-    rest = rest_there;
-    moved = λ a low high. other a (λ same. omega (arith, same, high)) ∙ moves.moved a low high;
-    filled = put_there;
-    beside = beside_stay;
-  }
-
-  -- and one word more has moved, where it is the next
-  pub moved_more : {next : ℕ} → slice_get (heap_words mid.seat) next ≡ Some word → next ≡ to + 1
-      → MovesDown old new from next
-  moved_more {next} read behind = subst (MovesDown old new from) (sym behind) (record {
-    rest = rest_there;
-    moved = λ a low high. elim (cases_lt a to) [
-      | inl before ↦ gap_closed.moved a low before
-      | inr from_it ↦
-          let same : a ≡ to = omega (arith, high, from_it) in
-          ap (slice_get (heap_words new.seat)) same ∙ put_there ∙ sym read ∙ moves.beside next (inr (omega arith))
-          ∙ ap (slice_get (heap_words old.seat)) (behind ∙ ap (λ n. n + 1) (sym same))
-    ];
-    beside = beside_stay;
-  })
+use Rattle.shape_change.proofs.SlotTouches.{by_inside, by_outside, own_touch_at}
+use Rattle.shape_change.proofs.WordsMoved.{rest_then}
 
 -- what is none of so many addresses is before or behind them
 outside : (at base first last : ℕ) → ((k : ℕ) → first ≤ k → k ≤ last → base + k ≢ at)
@@ -115,11 +49,37 @@ outside_beside object cap store slot last first at some order out =
     (slot_at-beside object cap store (cap + k) (omega arith) ∙ omega (arith, same)) in
     elim (outside at base first (last - cap) apart) [ inl before ↦ inl (omega arith) | inr behind ↦ inr (omega arith) ]
 
+-- a slot that moved in the object was touched as its field says
+own_touched : (path : Path) (object cap store slot end one : ℕ) → slot ≤ one → one ≤ end → one < cap
+    → touched_by (own_touch path object) (object + (plain_head + slot)) (object + (plain_head + end) + 1)
+    (slot_at object cap store one)
+    ≡ field_touch (nat_lt one cap) (slice_get path.fields one)
+own_touched path object cap store slot end one low high own =
+    let from : ℕ = object + (plain_head + slot) in
+    let to : ℕ = object + (plain_head + end) + 1 in
+    ap (touched_by (own_touch path object) from to) (slot_at-own object cap store one own)
+    ∙ by_inside (own_touch path object) from to (object + (plain_head + one)) (omega (arith, low)) (omega (arith, high))
+    ∙ own_touch_at path object one
+    ∙ ap (λ test. field_touch test (slice_get path.fields one)) (sym (lt-ltb one cap own))
+
+-- and one in the store as a slot
+beside_touched : (path : Path) (object cap store first last one : ℕ) → cap ≤ one → first ≤ one - cap → one ≤ last
+    → touched_by beside_touch (store + (store_head + first)) (store + (store_head + (last - cap)) + 1)
+    (slot_at object cap store one)
+    ≡ field_touch (nat_lt one cap) (slice_get path.fields one)
+beside_touched path object cap store first last one behind low high =
+    let from : ℕ = store + (store_head + first) in
+    let to : ℕ = store + (store_head + (last - cap)) + 1 in
+    ap (touched_by beside_touch from to) (slot_at-beside object cap store one behind)
+    ∙ by_inside beside_touch from to (store + (store_head + (one - cap))) (omega (arith, low))
+    (omega (arith, high, behind))
+    ∙ ap (λ test. field_touch test (slice_get path.fields one)) (sym (le-ltb one cap behind))
+
 -- Where all slots that move stand in the object, they are closed once the gap between their words is.
-pub own_closed : (old new : Mutator) (object cap store slot last first : ℕ) → slot ≤ last → last < cap
-    → ClosesGap old new (object + (plain_head + slot)) (object + (plain_head + last)) hole_word
-    → ClosesSlots old new object cap store slot last first
-own_closed old new object cap store slot last first order own gap = record {
+pub own_closed : (old new : Mutator) (path : Path) (object cap store slot last first : ℕ) → slot ≤ last → last < cap
+    → ClosesGap old new (object + (plain_head + slot)) (object + (plain_head + last)) hole_word (own_touch path object)
+    → ClosesSlots old new object cap store slot last first path
+own_closed old new path object cap store slot last first order own gap = record {
   rest = gap.rest;
   moved = λ one low high apart.
       let next : object + (plain_head + one) + 1 ≡ object + (plain_head + suc one) = omega arith in
@@ -129,13 +89,19 @@ own_closed old new object cap store slot last first order own gap = record {
   drawn_in = λ one low high same. absurd (omega (arith, same));
   hole = ap (slice_get (heap_words new.seat)) (slot_at-own object cap store last own) ∙ gap.filled;
   beside = λ at out. gap.beside at (outside_own object cap store slot last last at own (omega arith) out);
+  touch = touched_by (own_touch path object) (object + (plain_head + slot)) (object + (plain_head + last) + 1);
+  touches = gap.touches;
+  slot_touches = λ one low high. own_touched path object cap store slot last one low high (omega (arith, high, own));
+  others_touch = λ at out. by_outside (own_touch path object) (object + (plain_head + slot))
+      (object + (plain_head + last) + 1) at (outside_own object cap store slot last last at own (omega arith) out);
 }
 
 -- where all of them stand in the store, likewise
-pub beside_closed : (old new : Mutator) (object cap store slot last first : ℕ) → cap ≤ slot → slot ≤ last
+pub beside_closed : (old new : Mutator) (path : Path) (object cap store slot last first : ℕ) → cap ≤ slot → slot ≤ last
     → ClosesGap old new (store + (store_head + (slot - cap))) (store + (store_head + (last - cap))) hole_word
-    → ClosesSlots old new object cap store slot last first
-beside_closed old new object cap store slot last first behind order gap = record {
+    beside_touch
+    → ClosesSlots old new object cap store slot last first path
+beside_closed old new path object cap store slot last first behind order gap = record {
   rest = gap.rest;
   moved = λ one low high apart.
       let next : store + (store_head + (one - cap)) + 1 ≡ store + (store_head + (suc one - cap)) = omega arith in
@@ -146,6 +112,13 @@ beside_closed old new object cap store slot last first behind order gap = record
   hole = ap (slice_get (heap_words new.seat)) (slot_at-beside object cap store last (omega arith)) ∙ gap.filled;
   beside = λ at out.
       gap.beside at (outside_beside object cap store slot last (slot - cap) at (omega arith) (omega arith) out);
+  touch = touched_by beside_touch (store + (store_head + (slot - cap))) (store + (store_head + (last - cap)) + 1);
+  touches = gap.touches;
+  slot_touches = λ one low high. beside_touched path object cap store (slot - cap) last one (omega (arith, behind, low))
+      (omega arith) high;
+  others_touch = λ at out. by_outside beside_touch (store + (store_head + (slot - cap)))
+      (store + (store_head + (last - cap)) + 1) at
+      (outside_beside object cap store slot last (slot - cap) at (omega arith) (omega arith) out);
 }
 
 -- the words of the object and those of its store have no address in common
@@ -168,12 +141,12 @@ beside_is_not_own object cap store last slot one apart some few = grind (arith, 
 
 -- Where some stand in the object and some in the store, both gaps are closed, and the first of the store comes into the
 -- object as this word.
-pub both_closed : (old mid new : Mutator) (object cap store slot last first : ℕ) → slot < cap → cap ≤ last
+pub both_closed : (old mid new : Mutator) (path : Path) (object cap store slot last first : ℕ) → slot < cap → cap ≤ last
     → RangesDisjoint object cap store last
-    → ClosesGap old mid (object + (plain_head + slot)) (object + (plain_head + (cap - 1))) first
-    → ClosesGap mid new (store + (store_head + 0)) (store + (store_head + (last - cap))) hole_word
-    → ClosesSlots old new object cap store slot last first
-both_closed old mid new object cap store slot last first own some apart gap then = record {
+    → ClosesGap old mid (object + (plain_head + slot)) (object + (plain_head + (cap - 1))) first (own_touch path object)
+    → ClosesGap mid new (store + (store_head + 0)) (store + (store_head + (last - cap))) hole_word beside_touch
+    → ClosesSlots old new object cap store slot last first path
+both_closed old mid new path object cap store slot last first own some apart gap then = record {
   rest = rest_then old mid new gap.rest then.rest;
   moved = λ one low high other. elim (cases_lt one cap) [
     | inl below ↦
@@ -201,4 +174,45 @@ both_closed old mid new object cap store slot last first own some apart gap then
   beside = λ at out.
       then.beside at (outside_beside object cap store slot last 0 at some (omega arith) out)
       ∙ gap.beside at (outside_own object cap store slot last (cap - 1) at (omega arith) (omega arith) out);
+  touch = touched_then
+      (touched_by (own_touch path object) (object + (plain_head + slot)) (object + (plain_head + (cap - 1)) + 1))
+      (touched_by beside_touch (store + (store_head + 0)) (store + (store_head + (last - cap)) + 1));
+  touches = then_touch gap.touches then.touches;
+  slot_touches = λ one low high. elim (cases_lt one cap) [
+    | inl below ↦
+        let at : ℕ = object + (plain_head + one) in
+        let from : ℕ = object + (plain_head + slot) in
+        let end : ℕ = object + (plain_head + (cap - 1)) + 1 in
+        let own_touches = touched_by (own_touch path object) from end in
+        let store_from : ℕ = store + (store_head + 0) in
+        let store_end : ℕ = store + (store_head + (last - cap)) + 1 in
+        let out = own_is_not_beside object cap store last one apart below in
+        ap (touched_then own_touches (touched_by beside_touch store_from store_end))
+        (slot_at-own object cap store one below)
+        ∙ ap (touched_again (own_touches at)) (by_outside beside_touch store_from store_end at out)
+        ∙ ap own_touches (sym (slot_at-own object cap store one below))
+        ∙ own_touched path object cap store slot (cap - 1) one low (omega (arith, below)) below
+    | inr behind ↦
+        let at : ℕ = store + (store_head + (one - cap)) in
+        let from : ℕ = object + (plain_head + slot) in
+        let end : ℕ = object + (plain_head + (cap - 1)) + 1 in
+        let own_touches = touched_by (own_touch path object) from end in
+        let store_touches = touched_by beside_touch (store + (store_head + 0))
+        (store + (store_head + (last - cap)) + 1) in
+        let out =
+        beside_is_not_own object cap store last slot (one - cap) apart (omega (arith, own)) (omega (arith, high)) in
+        ap (touched_then own_touches store_touches) (slot_at-beside object cap store one behind)
+        ∙ ap (λ (t : Touch). touched_again t (store_touches at)) (by_outside (own_touch path object) from end at out)
+        ∙ again_behind (store_touches at)
+        ∙ ap store_touches (sym (slot_at-beside object cap store one behind))
+        ∙ beside_touched path object cap store 0 last one behind (omega arith) high
+  ];
+  others_touch = λ at out.
+      let own_touches = touched_by (own_touch path object) (object + (plain_head + slot))
+      (object + (plain_head + (cap - 1)) + 1) in
+      ap (touched_again (own_touches at)) (by_outside beside_touch (store + (store_head + 0))
+      (store + (store_head + (last - cap)) + 1) at
+      (outside_beside object cap store slot last 0 at some (omega arith) out))
+      ∙ by_outside (own_touch path object) (object + (plain_head + slot)) (object + (plain_head + (cap - 1)) + 1) at
+      (outside_own object cap store slot last (cap - 1) at (omega arith) (omega arith) out);
 }

@@ -1,6 +1,6 @@
 -- A field that comes to a slot that the property store has is shown, in a box where it needs one.
 use Rattle.std.proofs.Common.{◌≡◌, ◌≢◌, ℕ, ◌+◌, ◌≤◌, ◌<◌, false, List, ◌∷◌, length, sym}
-use Rattle.std.proofs.Common.{◌∙◌, ap, subst, arith, inl, inr, nat_lt, slice_get, Contains}
+use Rattle.std.proofs.Common.{◌∙◌, ap, subst, arith, inl, inr, nat_lt, slice_get, Some, Contains}
 use Rattle.std.specs.Prelude.{ℤ, slice_set}
 use Rattle.std.proofs.lemmas.Bool.{false≢true}
 use Rattle.std.proofs.lemmas.Bool.Decides.{nat_tests}
@@ -17,6 +17,7 @@ use Rattle.heap_model.specs.Heaps.{HasCell, words_of_cell}
 use Rattle.heap_model.specs.Showing.{ShowsField}
 use Rattle.heap_model.proofs.CellsApart.{IsOfCell, first_of_cell}
 use Rattle.write_barrier.specs.MutatorState.{Mutator, heap_of}
+use Rattle.write_barrier.specs.Recording.{touched_one, touched_then}
 use Rattle.object_cells.specs.declared.content.SlotContent.TheVariants as content
 use Rattle.object_cells.specs.declared.stores.Store.{Store}
 use Rattle.object_cells.specs.CellWrites.{reshaped}
@@ -24,14 +25,16 @@ use Rattle.object_cells.specs.PlainObjects.{ShowsRefilled}
 use Rattle.object_cells.specs.Contents.{next_at}
 use Rattle.shape_change.specs.Additions.{AddsToStore, added_path, count_of, behind_cap}
 use Rattle.object_cells.specs.Made.{IsStoreAt, content_need}
-use Rattle.object_cells.specs.Made.{content_word}
 use Rattle.shape_change.specs.Additions.{with_shape}
+use Rattle.shape_change.specs.Shifts.{field_touch}
 use Rattle.object_cells.specs.Made.{store_content, with_content}
+use Rattle.object_cells.specs.Made.{content_word, content_touch}
 use Rattle.shape_change.proofs.FullStores.{length-slots}
 use Rattle.object_cells.proofs.NumberedSlots.{IsNumbered}
 use Rattle.object_cells.proofs.OwnCells.{cell_below_layouts, beside_not_header}
 use Rattle.object_cells.proofs.StoresRead.{StoredAt, stored_at}
 use Rattle.heap_model.specs.Needs.{capacity_at}
+use Rattle.heap_model.specs.Remembered.{Touch}
 use Rattle.object_cells.specs.Capacities.{ChangesObject}
 use Rattle.object_cells.proofs.OwnCapacities.{one_keeps}
 use Rattle.object_cells.proofs.OwnSteps.{written_places_stay}
@@ -48,8 +51,12 @@ use Rattle.object_cells.proofs.MadeBoxes.{made_boxes, BoxStands, made_row, made_
 use Rattle.object_cells.proofs.MadeBoxes.{made_boxed}
 use Rattle.object_cells.proofs.MadeBoxes.{made_sound, length-with_content, with_content_stays, put_box}
 use Rattle.object_cells.proofs.NewBoxes.{box_cell}
+use Rattle.object_cells.proofs.FittingCells.{content_kept}
+use Rattle.object_cells.proofs.TouchedCells.{young_then}
+use Rattle.object_cells.proofs.TouchedFields.{TouchesObject, object_alike}
 use Rattle.shape_change.proofs.OneAdded.{one_adds}
 use Rattle.shape_change.proofs.OneAdding.{OneAdding, one_adding}
+use Rattle.shape_change.proofs.AddedTouches.{path_touches, one_remembered}
 
 -- What is known where a field comes to a store that has room.
 pub record StoreAdding (old new : Mutator) (graph : Graph) (plain : PlainObject) (object : ℕ) (header : Header)
@@ -187,6 +194,28 @@ module _ {old new : Mutator} {graph : Graph} {plain : PlainObject} {object : ℕ
       one.adds.puts.cells.comes cell
       (Contains-append_right came (made_boxes (store_content value) (next_at old)) cell there)
 
+  -- of pages only the slot and the header were touched
+  touches : TouchesObject old new adding.known.cell.at
+      (touched_one (field_touch (nat_lt (length plain.fields) adding.known.cell.layout.cap)
+      (Some (record { name = name; rep = rep_of what }))) (store_place old header store))
+  touches =
+      let known = adding.known in
+      let eden : ℕ = old.recorded.bound in
+      let place : ℕ = store_place old header store in
+      let slot : ℕ = length plain.fields in
+      let from : known.cell.layout.cap ≤ slot = omega (arith, known.count, known.cap, adding.behind) in
+      let test : nat_lt slot known.cell.layout.cap ≡ false = grind (arith, nat_tests) in
+      let boxed = content_touch (store_content value) (next_at old) in
+      let put = touched_one Touch.Stored place in
+      let all : TouchesObject old new object (touched_then boxed put) =
+      path_touches (content_need (store_content value)) adding.adds.path known.shows.bounded adding.adds.touches in
+      let one : TouchesObject old new object put =
+      object_alike (young_then eden boxed put (λ at below.
+      content_kept (store_content value) eden (next_at old) at (omega (arith, known.shows.bounded)) below)) all in
+      subst (λ o. TouchesObject old new known.cell.at
+      (touched_one (field_touch o (Some (record { name = name; rep = rep_of what }))) place)) (sym test)
+      (subst (λ a. TouchesObject old new a put) (sym known.stands) one)
+
   -- and the graph is shown in which the object has the field
   pub store_shown : ShowsRefilled new graph plain (with_field plain.fields name what)
   store_shown =
@@ -211,6 +240,7 @@ module _ {old new : Mutator} {graph : Graph} {plain : PlainObject} {object : ℕ
       holds places (λ is_own wide. false≢true is_own) (λ v boxed. is_made_box box (made_box holds_all box v boxed)))
       (made_boxed holds_all box)
       (λ other there. made_sound count box other holds known.fits box_stands (made_has other there) there))
+      (one_remembered one.adds touches)
 
   -- each property store has as many slots as before
   pub store_keeps : ChangesObject (heap_of old) (heap_of new) adding.known.cell.at

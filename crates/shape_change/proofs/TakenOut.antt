@@ -1,7 +1,7 @@
 -- A field is taken out of a plain object: its path is added, its slots are closed, and its header is put.
 use Rattle.std.proofs.Common.{◌≡◌, ◌≢◌, ℕ, suc, ◌+◌, ◌<◌, ◌≤◌, List, length, Some, slice_get, sym, ◌∙◌, ap, subst}
 use Rattle.std.proofs.Common.{arith, length-append, length-take, length-drop, take, drop, refl}
-use Rattle.std.specs.Prelude.{slice_set, Ok}
+use Rattle.std.specs.Prelude.{slice_set, Ok, nat_lt}
 use Rattle.std.proofs.lemmas.Bool.Decides.{nat_tests}
 use Rattle.heap_model.specs.Types.{Header, Path}
 use Rattle.page_space.specs.Extents.{Space, layouts_start, marks_start}
@@ -12,11 +12,18 @@ use Rattle.shape_tree.specs.ShapeLayouts.{layout_word}
 use Rattle.heap_table.specs.Seats.{heap_words}
 use Rattle.heap_table.specs.Staying.{rest_stays_again}
 use Rattle.heap_model.specs.Wholeness.{HasSizes, Whole}
+use Rattle.heap_model.specs.Remembered.{Touch}
 use Rattle.write_barrier.specs.MutatorState.{Mutator, heap_of, with_word}
-use Rattle.shape_change.specs.Shifts.{KeepsRest, ClosesSlots, slot_at, ClosesGap, SlotsWithin}
+use Rattle.write_barrier.specs.Recording.{Touches, touched_one, touched_again, touched_then}
+use Rattle.write_barrier.proofs.Recording.{same_touch, touch_alike, then_touch}
+use Rattle.write_barrier.proofs.TouchedRanges.{touched_here, touched_other}
+use Rattle.object_cells.proofs.TouchedCells.{again_behind}
+use Rattle.shape_change.specs.Shifts.{KeepsRest, ClosesSlots, slot_at, ClosesGap, SlotsWithin, field_touch, own_touch}
 use Rattle.shape_change.specs.Deletions.{AddsPaths, HasFirstInStore, shaped_bits, TakesFieldOut, HasStoreAt}
 use Rattle.shape_change.specs.Deletions.{DrawsInFirst, FindsWithout}
-use Rattle.shape_change.proofs.SlotsClosed.{rest_put, rest_then, own_closed}
+use Rattle.shape_change.proofs.SlotTouches.{word_put}
+use Rattle.shape_change.proofs.WordsMoved.{rest_word, rest_then}
+use Rattle.shape_change.proofs.SlotsClosed.{own_closed}
 use Rattle.shape_change.proofs.SlotAddresses.{SlotsStand}
 use Rattle.tagged_word.specs.Cells.{plain_head}
 use Rattle.heap_model.specs.Slots.{hole_word}
@@ -61,6 +68,14 @@ sized_stays old new sized rest same = record {
       ∙ ap (λ (paths : List Path). Some (layout_word paths shape)) (sym rest.paths);
 }
 
+-- where paths were added first, the touches of what follows are all, since layout words stand in no page
+paths_then : {old mid new : Mutator} {touch : ℕ → Touch} → AddsPaths old mid
+    → old.recorded.bound ≤ layouts_start old.seat.space → Touches mid new touch → Touches old new touch
+paths_then {old} {mid} {touch = touch} adds below touches =
+    touch_alike (λ at of_page. again_behind (touch at))
+    (then_touch
+    (same_touch old mid adds.free adds.recorded (λ at of_page. adds.same at (omega (arith, of_page, below)))) touches)
+
 -- a field was taken out, once its header is put
 pub took_out : (old mid closed new : Mutator) (object : ℕ) (header : Header) (slot next cap last store first : ℕ)
     → Leads old.paths mid.paths (without (shape_path old.paths header.shape) slot) next → HasSizes (heap_of mid)
@@ -68,7 +83,7 @@ pub took_out : (old mid closed new : Mutator) (object : ℕ) (header : Header) (
     → length (shape_path old.paths header.shape).fields ≡ suc last
     → SlotsStand (heap_of old) object cap store (suc last)
     → (cap ≤ last → HasFirstInStore (heap_of old) object header.shape store first)
-    → ClosesSlots mid closed object cap store slot last first
+    → ClosesSlots mid closed object cap store slot last first (shape_path mid.paths next)
     → new ≡ with_word closed object (shaped_bits header next)
     → heap_words new.seat ≡ slice_set (heap_words closed.seat) object (shaped_bits header next)
     → TakesFieldOut old new object header slot
@@ -82,7 +97,7 @@ took_out old mid closed new object header slot next cap last store first leads s
     ap marks_start (closes.rest.beside.space ∙ adds.beside.space) in
     let within : object < marks_start closed.seat.space = omega (arith, marks, before, marks_start_is space) in
     let rest : KeepsRest mid new =
-    rest_then mid closed new closes.rest (rest_put closed new object bits is heap within) in
+    rest_then mid closed new closes.rest (rest_word object bits is within) in
     let other : (at : ℕ) → object ≢ at → slice_get (heap_words new.seat) at ≡ slice_get (heap_words closed.seat) at =
     λ at apart. ap (λ words. slice_get words at) heap
     ∙ slice_get-set_other (heap_words closed.seat) object at bits (λ same. apart (sym same)) in
@@ -123,6 +138,19 @@ took_out old mid closed new object header slot next cap last store first leads s
           ∙ slice_get-set_same (heap_words closed.seat) object bits
           (omega (arith, long, before, marks_start_is space));
       stay = λ at below apart out. stay at apart out ∙ adds.same at below;
+      touch = touched_then closes.touch (touched_one Touch.Wiped object);
+      touches = λ below. then_touch (paths_then adds below closes.touches) (word_put object bits is within);
+      headed_touch = ap (touched_again (closes.touch object)) (touched_here Touch.Wiped object);
+      slot_touches = λ one low high.
+          let at : ℕ = slot_at object cap store one in
+          ap (touched_again (closes.touch at))
+          (touched_other Touch.Wiped object at (λ same. (stands one high).behind (sym same)))
+          ∙ closes.slot_touches one low high
+          ∙ ap (λ (paths : List Path). field_touch (nat_lt one cap) (slice_get (shape_path paths next).fields one))
+          (sym rest.paths);
+      others_touch = λ at apart out.
+          ap (touched_again (closes.touch at)) (touched_other Touch.Wiped object at (λ same. apart (sym same)))
+          ∙ closes.others_touch at out;
     }
 
 -- the path without the field: as many in-object slots, and one field fewer
@@ -179,6 +207,7 @@ module _ {old mid closed new : Mutator} {object : ℕ} {header : Header} {slot n
   pub own_taken : length (shape_path old.paths header.shape).fields ≤ (shape_path old.paths header.shape).cap
       → ClosesGap mid closed (object + (plain_head + slot))
       (object + (plain_head + length (shape_path mid.paths next).fields)) hole_word
+      (own_touch (shape_path mid.paths next) object)
       → TakesFieldOut old new object header slot
   own_taken own gap =
       let path = shape_path old.paths header.shape in
@@ -188,7 +217,8 @@ module _ {old mid closed new : Mutator} {object : ℕ} {header : Header} {slot n
       let stand_last = subst (λ n. SlotsStand (heap_of old) object path.cap 0 n) (sym fewer.fields) stand in
       took_out old mid closed new object header slot next path.cap last 0 0 found.0 found.1 found.2 refl
       (sym fewer.fields) stand_last (λ some. absurd (omega (arith, some, own, fewer.fields)))
-      (own_closed mid closed object path.cap 0 slot last 0 (omega (arith, there.below, fewer.fields))
+      (own_closed mid closed (shape_path mid.paths next) object path.cap 0 slot last 0
+      (omega (arith, there.below, fewer.fields))
       (omega (arith, own, fewer.fields)) gap)
       is heap
 
@@ -196,7 +226,7 @@ module _ {old mid closed new : Mutator} {object : ℕ} {header : Header} {slot n
   pub beside_taken : (store first : ℕ) → HasStoreAt (heap_of old) object store
       → DrawsInFirst (heap_of old) store header.shape first
       → ClosesSlots mid closed object (shape_path mid.paths next).cap store slot
-      (length (shape_path mid.paths next).fields) first
+      (length (shape_path mid.paths next).fields) first (shape_path mid.paths next)
       → TakesFieldOut old new object header slot
   beside_taken store first stored drawn closes =
       let fewer = one_fewer whole there found in

@@ -3,7 +3,7 @@ use Rattle.std.specs.Prelude.{◌≡◌, ℕ, ◌+◌, ◌-◌, ◌<◌, ◌≤�
 use Rattle.std.specs.Prelude.{length, slice_get, slice_set}
 use Rattle.heap_model.specs.Types.{Header, Path, Cell, Held}
 use Rattle.tagged_word.specs.declared.layout.Kind.TheVariants as kind
-use Rattle.tagged_word.specs.Cells.{plain_head, store_head}
+use Rattle.tagged_word.specs.Cells.{plain_head, store_head, store_slot}
 use Rattle.object_graph.specs.Paths.{missing}
 use Rattle.object_graph.specs.Invariants.{fields_most}
 use Rattle.object_graph.specs.Limits.{paths_most}
@@ -15,7 +15,9 @@ use Rattle.heap_table.specs.Seats.{heap_words, RestStays}
 use Rattle.heap_model.specs.Heaps.{Heap, HasCell}
 use Rattle.heap_model.specs.Wholeness.{HasSizes}
 use Rattle.heap_model.specs.Needs.{grown}
+use Rattle.heap_model.specs.Remembered.{Touch}
 use Rattle.write_barrier.specs.MutatorState.{Mutator, heap_of, IsTied, reserved}
+use Rattle.write_barrier.specs.Recording.{Touches, touched_one, touched_then}
 use Rattle.shape_change.specs.declared.add_field.NewField.{NewField}
 use Rattle.shape_change.specs.declared.stop.FieldStop.{FieldStop}
 use Rattle.shape_change.specs.declared.stop.FieldStop.TheVariants as stop
@@ -24,7 +26,7 @@ use Rattle.object_cells.specs.declared.content.SlotContent.{SlotContent}
 use Rattle.object_cells.specs.declared.stores.Store.{Store}
 use Rattle.object_cells.specs.CellsAt.{IsQuietWhole}
 use Rattle.object_cells.specs.Made.{IsStoreAt, PutsWords, with_store, with_content, content_need}
-use Rattle.object_cells.specs.Made.{content_word, store_content}
+use Rattle.object_cells.specs.Made.{content_word, store_content, content_touch, slot_touch, store_touch}
 use Rattle.object_cells.specs.Contents.{held_rep, content_of, next_at}
 
 -- there may be as many paths as these and those that the path lacks
@@ -94,6 +96,8 @@ RefusesField paths shape name value (stop.Full full) = ⊥
 pub record AddsPath (old new : Mutator) (path : Path) (shape : ℕ) : Type 0 where
   pub beside : RestStays old.seat new.seat
   pub young : new.young ≡ old.young
+  pub free : new.free ≡ old.free
+  pub recorded : new.recorded ≡ old.recorded
   pub leads : Leads old.paths new.paths path shape
   pub sized : HasSizes (heap_of new)
   pub stay : (at : ℕ) → at < layouts_start old.seat.space
@@ -115,6 +119,9 @@ pub record AddsOwn (old new : Mutator) (object : ℕ) (header : Header) (name : 
   pub words : let place = object + (plain_head + count_of old.paths header.shape) in
       let put = slice_set (heap_words mid.seat) place (content_word (own_content value) 0) in
       PutsWords mid new (with_shape put object header next)
+  pub touches : let place = object + (plain_head + count_of old.paths header.shape) in
+      Touches mid new (touched_then (touched_one (slot_touch (own_content value)) place)
+      (touched_one Touch.Wiped object))
 
 -- The field comes to the next slot of the property store; a box that it needs is made.
 pub record AddsToStore (old new : Mutator) (object : ℕ) (header : Header) (name : ℕ) (value : Held) (store : Store)
@@ -128,6 +135,10 @@ pub record AddsToStore (old new : Mutator) (object : ℕ) (header : Header) (nam
       let boxed = with_content (heap_words mid.seat) (store_content value) (next_at old) in
       let put = slice_set boxed place (content_word (store_content value) (next_at old)) in
       PutsWords mid new (with_shape put object header next)
+  pub touches : let place = store.at + (store_head + behind_cap old.paths header.shape) in
+      let boxed = content_touch (store_content value) (next_at old) in
+      Touches mid new (touched_then (touched_then boxed (touched_one Touch.Stored place))
+      (touched_one Touch.Wiped object))
 
 -- A store is made in place of the one before, and the field comes to its first slot behind the slots of that one; a
 -- box that it needs is made behind the store.
@@ -144,6 +155,13 @@ pub record AddsToNewStore (old new : Mutator) (object : ℕ) (header : Header) (
       let boxed = with_content stored (store_content value) behind in
       let put = slice_set boxed place (content_word (store_content value) behind) in
       PutsWords mid new (with_shape put object header next)
+  pub touches : let behind = next_at old + (store_head + grown store.capacity) in
+      let place = next_at old + (store_head + store.capacity) in
+      let named = touched_one Touch.Stored (object + store_slot) in
+      let stored = touched_then (store_touch (grown store.capacity) (next_at old)) named in
+      let boxed = touched_then stored (content_touch (store_content value) behind) in
+      Touches mid new (touched_then (touched_then boxed (touched_one Touch.Stored place))
+      (touched_one Touch.Wiped object))
 
 -- How the field comes to the object: to an in-object slot below the cap, and else to the property store, which is
 -- made anew where it is full or absent.

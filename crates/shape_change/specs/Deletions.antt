@@ -1,6 +1,6 @@
 -- How a field is taken out of the cells of a plain object.
 use Rattle.std.specs.Prelude.{◌≡◌, ◌≢◌, ℕ, suc, ◌+◌, ◌<◌, ◌≤◌, List, length, Some, slice_get, ℤ}
-use Rattle.std.specs.Prelude.{false, Result, Ok, Err}
+use Rattle.std.specs.Prelude.{false, nat_lt, Result, Ok, Err}
 use Rattle.heap_model.specs.Types.{Header, PathField, Rep, ShapesFull, Cell}
 use Rattle.tagged_word.specs.declared.layout.Kind.TheVariants as kind
 use Rattle.tagged_word.specs.Headers.{header_bits}
@@ -13,8 +13,10 @@ use Rattle.heap_model.specs.Heaps.{Heap, HasCell}
 use Rattle.heap_model.specs.Slots.{raw_word, hole_word, RefersTo, RefersToBox, IsFieldWord}
 use Rattle.heap_model.specs.Kinds.{HasWord}
 use Rattle.heap_model.specs.Wholeness.{HasSizes}
+use Rattle.heap_model.specs.Remembered.{Touch}
 use Rattle.write_barrier.specs.MutatorState.{Mutator, heap_of}
-use Rattle.shape_change.specs.Shifts.{slot_at}
+use Rattle.write_barrier.specs.Recording.{Touches}
+use Rattle.shape_change.specs.Shifts.{slot_at, field_touch}
 
 -- a plain object's cell stands at the address, and its property store at the other
 pub record HasStoreAt (heap : Heap) (object store : ℕ) : Type 0 where
@@ -53,10 +55,12 @@ DrawsInFirst heap store shape drawn =
     → slice_get (shape_path heap.paths shape).fields (shape_path heap.paths shape).cap ≡ Some field
     → slice_get heap.words (store + store_head) ≡ Some word → IsDrawnIn heap field.rep word drawn
 
--- all words before the layout words are the same, and so is all but the paths
+-- all words before the layout words are the same, what is recorded too, and so is all but the paths
 pub record AddsPaths (old new : Mutator) : Type 0 where
   pub beside : RestStays old.seat new.seat
   pub young : new.young ≡ old.young
+  pub free : new.free ≡ old.free
+  pub recorded : new.recorded ≡ old.recorded
   pub count : length (heap_words new.seat) ≡ length (heap_words old.seat)
   pub same : (at : ℕ) → at < layouts_start old.seat.space
       → slice_get (heap_words new.seat) at ≡ slice_get (heap_words old.seat) at
@@ -83,7 +87,7 @@ shaped_bits header shape = header_bits (record header { shape = shape })
 -- How the field of a number is taken out of the plain object at an address, whose header was this one. The path without
 -- it was added, and the header is of its shape. From the field on each slot holds the word of the next, up to the last
 -- field's, which holds nothing; what comes into the object from the store is drawn in. No other word before the layout
--- words changed.
+-- words changed, nor what is recorded of it.
 pub record TakesFieldOut (old new : Mutator) (object : ℕ) (header : Header) (slot : ℕ) : Type 0 where
   pub next : ℕ
   pub leads : Leads old.paths new.paths (without (shape_path old.paths header.shape) slot) next
@@ -107,6 +111,14 @@ pub record TakesFieldOut (old new : Mutator) (object : ℕ) (header : Header) (s
   pub stay : (at : ℕ) → at < layouts_start old.seat.space → object ≢ at
       → ((one : ℕ) → slot ≤ one → one ≤ last → slot_at object cap store one ≢ at)
       → slice_get (heap_words new.seat) at ≡ slice_get (heap_words old.seat) at
+  pub touch : ℕ → Touch
+  pub touches : old.recorded.bound ≤ layouts_start old.seat.space → Touches old new touch
+  pub headed_touch : touch object ≡ Touch.Wiped
+  pub slot_touches : (one : ℕ) → slot ≤ one → one ≤ last
+      → touch (slot_at object cap store one)
+      ≡ field_touch (nat_lt one cap) (slice_get (shape_path new.paths next).fields one)
+  pub others_touch : (at : ℕ) → object ≢ at
+      → ((one : ℕ) → slot ≤ one → one ≤ last → slot_at object cap store one ≢ at) → touch at ≡ Touch.Kept
 
 -- it is taken out; or there may not be as many paths, and nothing has changed
 abbrev pub TakingOut : Mutator → Mutator → ℕ → Header → ℕ → Result Unit ShapesFull → Type 0

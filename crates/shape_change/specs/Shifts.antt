@@ -1,15 +1,43 @@
 -- Slots that move down by one, where a field before them is taken out of a plain object.
 use Rattle.std.specs.Prelude.{◌≡◌, ◌≢◌, ℕ, suc, ◌+◌, ◌-◌, ◌<◌, ◌≤◌, ◌⊎◌, Some, length}
-use Rattle.std.specs.Prelude.{slice_get, nat_lt, if◌then◌else◌}
+use Rattle.std.specs.Prelude.{Bool, true, false, Option, None, slice_get, nat_lt, if◌then◌else◌}
 use Rattle.tagged_word.specs.Cells.{plain_head, store_head}
 use Rattle.page_space.specs.Extents.{marks_start}
-use Rattle.heap_model.specs.Types.{Path}
+use Rattle.heap_model.specs.Types.{Path, PathField, Rep}
+use Rattle.object_graph.specs.declared.value.Rep.TheVariants.{Small, Wide, Tagged}
+use Rattle.remembered_set.specs.Recorded.{is_between}
 use Rattle.shape_tree.specs.Shapes.{shape_path}
 use Rattle.heap_table.specs.Seats.{heap_words, RestStays}
 use Rattle.heap_model.specs.Slots.{hole_word}
+use Rattle.heap_model.specs.Remembered.{Touch}
 use Rattle.write_barrier.specs.MutatorState.{Mutator}
+use Rattle.write_barrier.specs.Recording.{Touches}
 
--- of all that the mutator has, at most words before the marks have changed
+-- how the slot of a field is touched that stands in the object: as no slot where it is wide, and so raw
+abbrev pub rep_touch : Rep → Touch
+rep_touch Small = Touch.Stored
+rep_touch Wide = Touch.Wiped
+rep_touch Tagged = Touch.Stored
+
+-- the same of a slot in the object (`true`) or in the store; one in the object of no field is no slot
+abbrev pub field_touch : Bool → Option PathField → Touch
+field_touch false field = Touch.Stored
+field_touch true (Some field) = rep_touch field.rep
+field_touch true None = Touch.Wiped
+
+-- how the addresses of an object's own slots are touched, whose fields are those of the path
+abbrev pub own_touch : Path → ℕ → ℕ → Touch
+own_touch path object at = field_touch true (slice_get path.fields (at - (object + plain_head)))
+
+-- how those of a store are
+abbrev pub beside_touch : ℕ → Touch
+beside_touch at = Touch.Stored
+
+-- the addresses from one up to another are touched so, and no others
+abbrev pub touched_by : (ℕ → Touch) → ℕ → ℕ → ℕ → Touch
+touched_by how from to at = if is_between from to at then how at else Touch.Kept
+
+-- of the seat, the paths and the young generation at most words before the marks have changed
 pub record KeepsRest (old new : Mutator) : Type 0 where
   pub beside : RestStays old.seat new.seat
   pub paths : new.paths ≡ old.paths
@@ -21,20 +49,23 @@ abbrev pub KeepsBeside : Mutator → Mutator → ℕ → ℕ → Type 0
 KeepsBeside old new from to =
     (a : ℕ) → (a < from) ⊎ (to ≤ a) → slice_get (heap_words new.seat) a ≡ slice_get (heap_words old.seat) a
 
--- the words from an address up to another became those one further, and nothing else changed
-pub record MovesDown (old new : Mutator) (from to : ℕ) : Type 0 where
+-- The words from an address up to another became those one further, and nothing else changed; `how` tells how each is
+-- touched.
+pub record MovesDown (old new : Mutator) (from to : ℕ) (how : ℕ → Touch) : Type 0 where
   pub rest : KeepsRest old new
   pub moved : (a : ℕ) → from ≤ a → a < to
       → slice_get (heap_words new.seat) a ≡ slice_get (heap_words old.seat) (a + 1)
   pub beside : KeepsBeside old new from to
+  pub touches : Touches old new (touched_by how from to)
 
 -- the same up to the last, which became this word
-pub record ClosesGap (old new : Mutator) (from last word : ℕ) : Type 0 where
+pub record ClosesGap (old new : Mutator) (from last word : ℕ) (how : ℕ → Touch) : Type 0 where
   pub rest : KeepsRest old new
   pub moved : (a : ℕ) → from ≤ a → a < last
       → slice_get (heap_words new.seat) a ≡ slice_get (heap_words old.seat) (a + 1)
   pub filled : slice_get (heap_words new.seat) last ≡ Some word
   pub beside : KeepsBeside old new from (last + 1)
+  pub touches : Touches old new (touched_by how from (last + 1))
 
 -- where the slot of this number stands, of a plain object with so many in-object slots and its store at this address
 abbrev pub slot_at : ℕ → ℕ → ℕ → ℕ → ℕ
@@ -42,8 +73,8 @@ slot_at object cap store slot =
     if nat_lt slot cap then object + (plain_head + slot) else store + (store_head + (slot - cap))
 
 -- The slots from one on became those one further, up to the last, which holds nothing; the one that comes into the
--- object from the store is this word. Nothing else changed.
-pub record ClosesSlots (old new : Mutator) (object cap store slot last first : ℕ) : Type 0 where
+-- object from the store is this word. Nothing else changed. The fields are those of the path then.
+pub record ClosesSlots (old new : Mutator) (object cap store slot last first : ℕ) (path : Path) : Type 0 where
   pub rest : KeepsRest old new
   pub moved : (one : ℕ) → slot ≤ one → one < last → suc one ≢ cap
       → slice_get (heap_words new.seat) (slot_at object cap store one)
@@ -53,6 +84,12 @@ pub record ClosesSlots (old new : Mutator) (object cap store slot last first : �
   pub hole : slice_get (heap_words new.seat) (slot_at object cap store last) ≡ Some hole_word
   pub beside : (at : ℕ) → ((one : ℕ) → slot ≤ one → one ≤ last → slot_at object cap store one ≢ at)
       → slice_get (heap_words new.seat) at ≡ slice_get (heap_words old.seat) at
+  pub touch : ℕ → Touch
+  pub touches : Touches old new touch
+  pub slot_touches : (one : ℕ) → slot ≤ one → one ≤ last
+      → touch (slot_at object cap store one) ≡ field_touch (nat_lt one cap) (slice_get path.fields one)
+  pub others_touch : (at : ℕ) → ((one : ℕ) → slot ≤ one → one ≤ last → slot_at object cap store one ≢ at)
+      → touch at ≡ Touch.Kept
 
 -- how many fields of the path stand in the property store
 abbrev pub fields_beside : Path → ℕ

@@ -12,6 +12,7 @@ ghost use Rattle.shape_tree.specs.Shapes.{IsPathShape, shape_path, has_name};
 ghost use Rattle.heap_table.specs.declared.phase.Phase.TheVariants.{Quiet};
 ghost use Rattle.heap_table.specs.Seats.{heap_words};
 ghost use Rattle.write_barrier.specs.MutatorState.{heap_of, MainShows};
+ghost use Rattle.write_barrier.specs.Recording.{Touches, touched_one};
 ghost use Rattle.object_cells.specs.CellsAt.{IsHeaderAt};
 ghost use Rattle.object_cells.specs.PlainObjects.{IsPlainAt};
 ghost use Rattle.object_cells.specs.HeldValues.{IsValueHeld};
@@ -20,7 +21,7 @@ ghost use Rattle.shape_change.specs.Additions.{IsNewField, RefusesField, CanAdd,
 ghost use Rattle.shape_change.specs.Additions.{AddsToNewStore, AddsField, count_of, behind_cap};
 ghost use Rattle.shape_change.specs.Additions.{ComesBehind};
 ghost use Rattle.object_cells.specs.Made.{PutsWords, IsStoreAt, RefusesRoom, is_wide_held};
-ghost use Rattle.object_cells.specs.Made.{with_content, content_need, content_word, store_content};
+ghost use Rattle.object_cells.specs.Made.{with_content, content_need, content_word, slot_touch, store_content};
 
 use crate::stop::FieldStop;
 use crate::transitions::{set_shape, step_to};
@@ -152,10 +153,14 @@ fn put_own(main: &mut Main, object: u32, offset: u32, content: SlotContent)
     requires quiet { main.old.seat.phase ≡ Quiet }
     requires within { object + offset < marks_start main.old.seat.space }
     requires own { (v : ℤ) → content ≡ SlotContent.Boxed v → ⊥ }
-    ensures { let words = heap_words main.old.seat in
+    ensures puts { let words = heap_words main.old.seat in
         PutsWords main.old main.new
         (slice_set words (object + offset) (content_word content 0)) }
+    ensures touches { let how = slot_touch content in
+        Touches main.old main.new (touched_one how (object + offset)) }
 {
+    // There are as many words as addresses before the marks.
+    main.addresses_fit();
     match content {
         SlotContent::Tagged(word) => main.store(object, offset, word),
         SlotContent::Raw(word) => main.write_slot(object, offset, word),

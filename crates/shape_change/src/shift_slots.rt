@@ -1,13 +1,14 @@
 //! Slots that move down by one, where a field before them is taken out.
-ghost use Rattle.std.specs.Prelude.{◌≡◌, ◌+◌, ◌-◌, ◌<◌, ◌≤◌, ◌⊎◌, length, slice_set};
+ghost use Rattle.std.specs.Prelude.{◌≡◌, ◌+◌, ◌-◌, ◌<◌, ◌≤◌, ◌⊎◌, true, length, slice_get, slice_set};
 ghost use Rattle.tagged_word.specs.Cells.{plain_head, store_head};
 ghost use Rattle.page_space.specs.Extents.{marks_start};
 ghost use Rattle.shape_tree.specs.Shapes.{IsPathShape, shape_path};
 ghost use Rattle.heap_table.specs.declared.phase.Phase.TheVariants.{Quiet};
 ghost use Rattle.heap_table.specs.Seats.{heap_words};
 ghost use Rattle.heap_model.specs.Slots.{hole_word};
-ghost use Rattle.write_barrier.specs.MutatorState.{with_word};
-ghost use Rattle.shape_change.specs.Shifts.{MovesDown, ClosesGap, ClosesSlots, SlotsWithin};
+ghost use Rattle.write_barrier.specs.Recording.{Touches, touched_one};
+ghost use Rattle.shape_change.specs.Shifts.{KeepsRest, MovesDown, ClosesGap, ClosesSlots, SlotsWithin};
+ghost use Rattle.shape_change.specs.Shifts.{beside_touch, field_touch, own_touch};
 
 use object_graph::Rep;
 use tagged_word::cell::{PLAIN_HEAD, STORE_HEAD};
@@ -21,7 +22,10 @@ fn put_own(main: &mut Main, object: u32, shape: u32, slot: u32, word: u64)
     requires path { IsPathShape main.old.paths shape }
     requires field { slot < length (shape_path main.old.paths shape).fields }
     requires within { object + (plain_head + slot) < marks_start main.old.seat.space }
-    ensures put { main.new ≡ with_word main.old (object + (plain_head + slot)) word }
+    ensures rest { KeepsRest main.old main.new }
+    ensures touches { let path = shape_path main.old.paths shape in
+        let how = field_touch true (slice_get path.fields slot) in
+        Touches main.old main.new (touched_one how (object + (plain_head + slot))) }
     ensures heap { let words = heap_words main.old.seat in
         heap_words main.new.seat ≡ slice_set words (object + (plain_head + slot)) word }
 {
@@ -41,7 +45,8 @@ fn move_own(main: &mut Main, object: u32, shape: u32, from: u32, to: u32)
     requires order { from ≤ to }
     requires within { object + (plain_head + to) < marks_start main.old.seat.space }
     ensures { let at = object + (plain_head + from) in
-        MovesDown main.old main.new at (object + (plain_head + to)) }
+        let how = own_touch (shape_path main.old.paths shape) object in
+        MovesDown main.old main.new at (object + (plain_head + to)) how }
 {
     main.addresses_fit();
     for slot in from..to {
@@ -57,7 +62,7 @@ fn move_beside(main: &mut Main, store: u32, from: u32, to: u32)
     requires order { from ≤ to }
     requires within { store + (store_head + to) < marks_start main.old.seat.space }
     ensures { let at = store + (store_head + from) in
-        MovesDown main.old main.new at (store + (store_head + to)) }
+        MovesDown main.old main.new at (store + (store_head + to)) beside_touch }
 {
     main.addresses_fit();
     for slot in from..to {
@@ -74,7 +79,8 @@ fn draw_in(main: &mut Main, object: u32, shape: u32, from: u32, last: u32, word:
     requires order { from ≤ last }
     requires within { object + (plain_head + last) < marks_start main.old.seat.space }
     ensures { let at = object + (plain_head + from) in
-        ClosesGap main.old main.new at (object + (plain_head + last)) word }
+        let how = own_touch (shape_path main.old.paths shape) object in
+        ClosesGap main.old main.new at (object + (plain_head + last)) word how }
 {
     move_own(main, object, shape, from, last);
     // The table has a word for each address.
@@ -92,7 +98,8 @@ pub(crate) fn close_own(main: &mut Main, object: u32, shape: u32, from: u32)
         object + (plain_head + last) < marks_start main.old.seat.space }
     ensures { let last = length (shape_path main.old.paths shape).fields in
         let at = object + (plain_head + from) in
-        ClosesGap main.old main.new at (object + (plain_head + last)) hole_word }
+        let how = own_touch (shape_path main.old.paths shape) object in
+        ClosesGap main.old main.new at (object + (plain_head + last)) hole_word how }
 {
     let last = main.shapes().fields(shape);
     move_own(main, object, shape, from, last);
@@ -106,7 +113,7 @@ fn close_beside(main: &mut Main, store: u32, from: u32, last: u32)
     requires order { from ≤ last }
     requires within { store + (store_head + last) < marks_start main.old.seat.space }
     ensures { let at = store + (store_head + from) in
-        ClosesGap main.old main.new at (store + (store_head + last)) hole_word }
+        ClosesGap main.old main.new at (store + (store_head + last)) hole_word beside_touch }
 {
     move_beside(main, store, from, last);
     main.addresses_fit();
@@ -131,7 +138,7 @@ pub(crate) fn close_both(
         path.cap ≤ length path.fields }
     requires within { SlotsWithin main.old object store shape }
     ensures { let path = shape_path main.old.paths shape in
-        ClosesSlots main.old main.new object path.cap store slot (length path.fields) first }
+        ClosesSlots main.old main.new object path.cap store slot (length path.fields) first path }
 {
     let shapes = main.shapes();
     let cap = shapes.cap(shape);

@@ -14,11 +14,11 @@ use Rattle.handle_roots.specs.Roots.{root_at}
 use Rattle.heap_table.specs.Seats.{RestStays, heap_words, fresh}
 use Rattle.heap_table.specs.Staying.{rest_stays_itself, rest_stays_again}
 use Rattle.heap_table.proofs.HeapWords.{slice_get-heap_words, stays_beside-put}
-use Rattle.write_barrier.specs.MutatorState.{Mutator, with_word, IsOneGap, gap_header}
+use Rattle.write_barrier.specs.MutatorState.{Mutator, put_word, IsOneGap, gap_header}
 use Rattle.write_barrier.specs.Opening.{ChangesWithin, AreZero}
 
 -- one word that is put changes no other
-pub put_changes : (old new : Mutator) (a word from to : ℕ) → new ≡ with_word old a word
+pub put_changes : (old new : Mutator) (a word from to : ℕ) → new ≡ put_word old a word
     → heap_words new.seat ≡ slice_set (heap_words old.seat) a word
     → from ≤ a → a < to → to ≤ marks_start old.seat.space
     → ChangesWithin old new from to
@@ -27,6 +27,8 @@ put_changes old new a word from to is heap low high before = record {
       (stays_beside-put old.seat a word (omega arith));
   paths = ap (λ (main : Mutator). main.paths) is;
   young = ap (λ (main : Mutator). main.young) is;
+  free = ap (λ (main : Mutator). main.free) is;
+  recorded = ap (λ (main : Mutator). main.recorded) is;
   count = ap length heap ∙ length-set (heap_words old.seat) a word;
   beside = λ at out.
       let apart : at ≢ a = omega arith in
@@ -36,7 +38,15 @@ put_changes old new a word from to is heap low high before = record {
 -- nothing has changed
 pub changes_none : (main : Mutator) (from to : ℕ) → ChangesWithin main main from to
 changes_none main from to =
-    record { seat = rest_stays_itself main.seat; paths = refl; young = refl; count = refl; beside = λ at out. refl }
+    record {
+      seat = rest_stays_itself main.seat;
+      paths = refl;
+      young = refl;
+      free = refl;
+      recorded = refl;
+      count = refl;
+      beside = λ at out. refl;
+    }
 
 -- what is beside a stretch is beside a part of it
 still_out : (at from to start end : ℕ) → from ≤ start → end ≤ to → (at < from) ⊎ (to ≤ at)
@@ -51,6 +61,8 @@ changes_then first old new from to start end before then low high = record {
   seat = rest_stays_again first.seat old.seat new.seat before.seat then.seat;
   paths = then.paths ∙ before.paths;
   young = then.young ∙ before.young;
+  free = then.free ∙ before.free;
+  recorded = then.recorded ∙ before.recorded;
   count = then.count ∙ before.count;
   beside = λ at out. then.beside at (still_out at from to start end low high out) ∙ before.beside at out;
 }

@@ -1,5 +1,5 @@
 -- A heap that was just opened is whole, and shows the graph of no object; no cell stands in a half.
-use Rattle.std.proofs.Common.{◌≡◌, ℕ, ◌-◌, ◌<◌, List, [], ◌∷◌, map, IsTrue}
+use Rattle.std.proofs.Common.{◌≡◌, ℕ, ◌-◌, ◌<◌, List, [], ◌∷◌, map, length, Contains, IsTrue}
 use Rattle.std.proofs.Common.{refl, sym, ◌∙◌, ap, subst, arith}
 use Rattle.std.specs.Ordering.{nat_cmp}
 use Rattle.std.specs.FinMap.{get-empty}
@@ -9,11 +9,13 @@ use Rattle.std.proofs.lemmas.List.{map-id}
 use Rattle.std.proofs.lemmas.List.Elements.{All-nil, All-map, All-contains_itself}
 use Rattle.std.proofs.lemmas.List.Sums.{sum_by-cons}
 use Rattle.std.proofs.lemmas.Simd.{map-map}
-use Rattle.tagged_word.specs.Cells.{is_free_kind}
+use Rattle.tagged_word.specs.Cells.{scavenge_offsets}
 use Rattle.heap_model.specs.Types.{Region, Cell}
 use Rattle.page_space.specs.declared.region.Region.TheVariants.{Page, Eden, Segment, Root, Layout, Mark, Board, Outside}
 use Rattle.page_space.specs.Extents.{Extent}
+use Rattle.page_space.proofs.Lists.{contains_none}
 use Rattle.nursery.specs.Young.{Young, other_half}
+use Rattle.remembered_set.specs.Recorded.{Recorded}
 use Rattle.object_graph.specs.declared.object.Object.TheVariants.{Weak}
 use Rattle.object_graph.specs.Graphs.{start}
 use Rattle.object_graph.specs.Invariants.{IsObject, HasItsPath, IsGraph}
@@ -26,12 +28,15 @@ use Rattle.heap_model.specs.Slots.{is_object_kind, IsPlace}
 use Rattle.heap_model.specs.Kinds.{IsSoundCell}
 use Rattle.heap_model.specs.Wholeness.{Whole, HasSizes, HasRows}
 use Rattle.heap_model.specs.Collectable.{IsCollectable}
+use Rattle.heap_model.specs.Remembered.{IsSlotOf, AreRemembered}
 use Rattle.heap_model.proofs.StaysCollectable.{half_behind}
 use Rattle.heap_model.specs.Showing.{Shows, ShowsHeld}
 use Rattle.heap_model.specs.Showing.ShowsHeld.{unbound}
 use Rattle.write_barrier.specs.MutatorState.{Mutator, MainShows, IsOpened, heap_of}
 use Rattle.write_barrier.specs.Opening.{IsStarted}
-use Rattle.write_barrier.proofs.FirstCells.{first_row, first_end, first_row_stands, has_gaps, begins_below_eden}
+use Rattle.write_barrier.proofs.FirstCells.{page_gap, first_row, first_end, first_row_stands, has_gaps}
+use Rattle.write_barrier.proofs.FirstCells.{begins_below_eden}
+use Rattle.write_barrier.proofs.FirstRuns.{first_are_free}
 
 -- the graph of no object is a graph
 pub start_is : IsGraph start
@@ -133,14 +138,31 @@ first_shows main is = record {
   made = λ number at place. absurd (no_places main number at is place);
 }
 
--- no cell stands in either half, and those of pages are gaps
+-- no cell stands in either half
 first_is_collectable : (main : Mutator) (half : ℕ) → IsStarted main → IsCollectable (heap_of main) half
 first_is_collectable main half is = record {
   empty = λ cell words has inside.
       omega (arith, begins_below_eden main cell words is has, half_behind main.seat.space half cell.at inside);
-  pages = λ cell words has below. let gap = has_gaps main cell words is has in
-      subst (λ (c : Cell). IsTrue (is_free_kind c.layout.kind)) gap.1 refl;
 }
+
+-- a gap has no slot
+gap_no_slot : (cell : Cell) (begin at : ℕ) → page_gap begin ≡ cell → IsSlotOf cell at → ⊥
+gap_no_slot cell begin at is slot =
+    let visited : Contains [] slot.offset =
+    subst (λ (c : Cell). Contains (scavenge_offsets c.layout c.length) slot.offset) (sym is) slot.visited in
+    contains_none [] slot.offset refl visited
+
+-- nothing is recorded, and no page has a slot
+first_are_remembered : (main : Mutator) → IsStarted main → AreRemembered (heap_of main) main.recorded.slots
+first_are_remembered main is at = (
+  λ there.
+      let none : length main.recorded.slots ≡ 0 = ap (λ (recorded : Recorded). length recorded.slots) is.recorded in
+      contains_none main.recorded.slots at none there,
+  λ both.
+      let slot = both.0 in
+      let gap = has_gaps main slot.cell slot.words is slot.has in
+      absurd (gap_no_slot slot.cell gap.0 at gap.1 slot.slot),
+)
 
 -- a heap that was just opened
 pub started_shows : (main : Mutator) → IsStarted main → MainShows main start × IsOpened main
@@ -152,9 +174,14 @@ started_shows main is = (
     shows = first_shows main is;
     counts = λ number at entries there marked place. absurd (none-some (Weak entries) there);
     collectable = first_is_collectable main (other_half main.young.half) is;
+    free = first_are_free main is;
+    bounded = ap (λ (recorded : Recorded). recorded.bound) is.recorded;
+    remembered = first_are_remembered main is;
   },
   record {
     young = is.young;
+    free = is.free;
+    recorded = is.recorded;
     beside = is.beside;
     pages = is.gaps;
   },

@@ -1,9 +1,15 @@
 pub mod Places
 pub mod Headers
 mod FirstCells
+pub mod FirstRuns
 mod FirstHeaps
 mod Changes
 mod PutLayouts
 mod Starting
 mod ClassValues
+pub mod JudgedSlots
+pub mod TouchedRanges
+pub mod Recording
+pub mod WipedAgain
+pub mod FreeCells
 pub mod ShownHeld

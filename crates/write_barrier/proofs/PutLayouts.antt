@@ -14,7 +14,7 @@ use Rattle.heap_model.specs.Types.{Path}
 use Rattle.object_graph.proofs.Lists.{slice_get-set_same, slice_get-set_other}
 use Rattle.shape_tree.specs.ShapeLayouts.{layout_of, layout_word, layout_words}
 use Rattle.heap_table.specs.Seats.{heap_words}
-use Rattle.write_barrier.specs.MutatorState.{Mutator, with_word}
+use Rattle.write_barrier.specs.MutatorState.{Mutator, put_word}
 use Rattle.write_barrier.specs.Opening.{AreZero, HasLayouts, LayoutsBelow}
 
 -- before any is put, shape 0 has its word, which is 0
@@ -63,7 +63,7 @@ layouts_rest old words shape is below other from few =
 
 -- one layout word more
 pub layouts_more : (old new : Mutator) (shape : ℕ)
-    → new ≡ with_word old (layouts_start old.seat.space + shape) (layout_word old.paths shape)
+    → new ≡ put_word old (layouts_start old.seat.space + shape) (layout_word old.paths shape)
     → heap_words new.seat
     ≡ slice_set (heap_words old.seat) (layouts_start old.seat.space + shape) (layout_word old.paths shape)
     → layouts_start old.seat.space + shape < length (heap_words old.seat) → LayoutsBelow old shape

@@ -152,6 +152,12 @@ all_started space first gaps bound last all within counted =
       young = all.layouts.young ∙ all.put.roots.young ∙ all.put.pages.young
           ∙ ap (λ (main : Mutator). main.young) all.put.is
           ∙ ap (λ (s : Space). (blank s).young) same;
+      free = all.layouts.free ∙ all.put.roots.free ∙ all.put.pages.free
+          ∙ ap (λ (main : Mutator). main.free) all.put.is
+          ∙ ap (λ (s : Space). (blank s).free) same;
+      recorded = all.layouts.recorded ∙ all.put.roots.recorded ∙ all.put.pages.recorded
+          ∙ ap (λ (main : Mutator). main.recorded) all.put.is
+          ∙ ap (λ (s : Space). (blank s).recorded) same;
       within = subst (λ (s : Space). AreWithin s.sizes s.variables) same within;
       count = counted;
       gaps = subst (λ (s : Space). (page : ℕ) → page < s.sizes.pages → IsOneGap words page) same (all_gaps all);

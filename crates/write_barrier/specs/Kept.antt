@@ -2,6 +2,12 @@
 use Rattle.write_barrier.specs.declared.main_side.Main.TheInside.{Inside}
 use Rattle.write_barrier.specs.MutatorState.{Mutator}
 
--- the seat, the field paths, and the young generation
+-- the seat, the field paths, the young generation, the free runs of pages, and what is recorded
 abbrev pub mutator_of : Inside → Mutator
-mutator_of main = record { seat = main.seat; paths = main.shapes; young = main.nursery }
+mutator_of main = record {
+  seat = main.seat;
+  paths = main.shapes;
+  young = main.nursery;
+  free = main.free;
+  recorded = main.remembered;
+}

@@ -1,4 +1,6 @@
 pub mod MutatorState
+pub mod Recording
+pub mod FreeCells
 pub mod Kept
 pub mod Lending
 pub mod Reading

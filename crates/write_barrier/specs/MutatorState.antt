@@ -1,27 +1,34 @@
 -- The mutator's side of a heap as those above it see it.
-use Rattle.std.specs.Prelude.{◌≡◌, ℕ, ◌+◌, ◌*◌, ◌<◌, ◌≤◌, List, Some, slice_get, slice_set}
+use Rattle.std.specs.Prelude.{◌≡◌, ℕ, ◌+◌, ◌*◌, ◌<◌, ◌≤◌, Bool, false, not, nat_lt, if◌then◌else◌}
+use Rattle.std.specs.Prelude.{List, [], Option, Some, None, slice_get, slice_set}
 use Rattle.heap_model.specs.Types.{Path, Header, Run, Held}
 use Rattle.object_graph.specs.Graphs.{Graph}
 use Rattle.object_graph.specs.Invariants.{IsGraph}
 use Rattle.tagged_word.specs.Headers.{header_bits}
+use Rattle.tagged_word.specs.Readings.{reference_in}
 use Rattle.tagged_word.specs.Shapes.{gap_shape}
 use Rattle.tagged_word.specs.Cells.{length_offset}
 use Rattle.page_space.specs.Sizes.{page_words}
 use Rattle.page_space.specs.Extents.{Space, eden_start, segments_start, marks_start}
 use Rattle.handle_roots.specs.Roots.{with_root}
 use Rattle.nursery.specs.Young.{Young, new_young, other_half}
+use Rattle.free_runs.specs.FreeRuns.{whole_rows}
+use Rattle.remembered_set.specs.Recorded.{Recorded, noted, forgotten}
 use Rattle.heap_table.specs.declared.phase.Phase.TheVariants.{Quiet}
 use Rattle.heap_table.specs.Seats.{Seat, RestStays, fresh, heap_words}
 use Rattle.heap_model.specs.Heaps.{Heap}
 use Rattle.heap_model.specs.Showing.{Shows}
 use Rattle.heap_model.specs.Counting.{CountsEntries}
-use Rattle.heap_model.specs.Collectable.{IsCollectable}
+use Rattle.heap_model.specs.Collectable.{IsCollectable, AreFreeRuns}
+use Rattle.heap_model.specs.Remembered.{AreRemembered}
 
--- the seat, the shapes, and the young generation
+-- the seat, the shapes, the young generation, the free runs of pages, and which slots of pages are recorded
 pub record Mutator : Type 0 where
   pub seat : Seat
   pub paths : List Path
   pub young : Young
+  pub free : List (List Run)
+  pub recorded : Recorded
 
 -- the heap that stands in the words
 abbrev pub heap_of : Mutator → Heap
@@ -38,8 +45,8 @@ abbrev pub IsTied : Mutator → Type 0
 IsTied main = main.young.space ≡ main.seat.space
 
 -- The parts agree, only the mutator runs, and the heap shows the graph, which is one that a script makes. No entry of a
--- weak map was cleared. A scavenge may come: the half that the survivors are not in is empty, and what stands in pages
--- is free.
+-- weak map was cleared. A scavenge may come: the half that the survivors are not in is empty, each free run is one free
+-- cell, and recorded are exactly the slots of pages that refer to young cells.
 pub record MainShows (main : Mutator) (graph : Graph) : Type 0 where
   pub tied : IsTied main
   pub is_graph : IsGraph graph
@@ -47,10 +54,41 @@ pub record MainShows (main : Mutator) (graph : Graph) : Type 0 where
   pub shows : Shows (heap_of main) graph
   pub counts : CountsEntries (heap_of main) graph
   pub collectable : IsCollectable (heap_of main) (other_half main.young.half)
+  pub free : AreFreeRuns (heap_of main) main.free
+  pub bounded : main.recorded.bound ≡ eden_start main.seat.space
+  pub remembered : AreRemembered (heap_of main) main.recorded.slots
 
 -- one word of the table is another
+abbrev pub put_word : Mutator → ℕ → ℕ → Mutator
+put_word main at word = record main { seat = record main.seat { table = slice_set main.seat.table at word } }
+
+-- the words from an address of a page up to another are not recorded
+abbrev pub wiped : Recorded → ℕ → ℕ → Recorded
+wiped recorded from to = if nat_lt from recorded.bound then forgotten recorded from to else recorded
+
+-- the same of what the mutator has
+abbrev pub forgets : Mutator → ℕ → ℕ → Mutator
+forgets main from to = record main { recorded = wiped main.recorded from to }
+
+-- whether a reference is one to the young generation, which begins at the bound of pages
+abbrev pub is_young : ℕ → Option ℕ → Bool
+is_young bound (Some at) = not (nat_lt at bound)
+is_young bound None = false
+
+-- the address of a page is recorded where the word refers to a young cell, and not else
+abbrev pub judged : Recorded → ℕ → ℕ → Recorded
+judged recorded at word =
+    if nat_lt at recorded.bound
+    then (if is_young recorded.bound (reference_in word) then noted recorded at else forgotten recorded at (at + 1))
+    else recorded
+
+-- one word, which is no slot's, is another
 abbrev pub with_word : Mutator → ℕ → ℕ → Mutator
-with_word main at word = record main { seat = record main.seat { table = slice_set main.seat.table at word } }
+with_word main at word = put_word (forgets main at (at + 1)) at word
+
+-- the word of one slot is another
+abbrev pub with_slot : Mutator → ℕ → ℕ → Mutator
+with_slot main at word = put_word (record main { recorded = judged main.recorded at word }) at word
 
 -- so many words more are used
 abbrev pub reserved : Mutator → ℕ → Mutator
@@ -81,9 +119,15 @@ pub record IsOneGap (words : List ℕ) (page : ℕ) : Type 0 where
   pub header : slice_get words (page_words * page) ≡ Some (header_bits gap_header)
   pub size : slice_get words (page_words * page + length_offset) ≡ Some page_words
 
--- A heap that was just opened: nothing is used and nothing has survived, each page is one gap, and the phase is quiet,
--- each mark white and each place of the board empty, as in words of 0.
+-- nothing of the pages is recorded
+abbrev pub none_recorded : Space → Recorded
+none_recorded space = record { bound = eden_start space; slots = [] }
+
+-- A heap that was just opened: nothing is used and nothing has survived, each page is one gap and one free run, nothing
+-- is recorded, and the phase is quiet, each mark white and each place of the board empty, as in words of 0.
 pub record IsOpened (main : Mutator) : Type 0 where
   pub young : main.young ≡ new_young main.seat.space
+  pub free : main.free ≡ whole_rows main.seat.space.sizes.pages
+  pub recorded : main.recorded ≡ none_recorded main.seat.space
   pub beside : RestStays (fresh main.seat.space) main.seat
   pub pages : (page : ℕ) → page < main.seat.space.sizes.pages → IsOneGap (heap_words main.seat) page

@@ -2,6 +2,7 @@
 use Rattle.std.specs.Prelude.{◌≡◌, ℕ, ◌+◌, ◌<◌, ◌≤◌, ◌⊎◌, List, length, Some, slice_get}
 use Rattle.tagged_word.specs.Shapes.{shapes_most}
 use Rattle.page_space.specs.Sizes.{AreWithin}
+use Rattle.free_runs.specs.FreeRuns.{whole_rows}
 use Rattle.page_space.specs.Extents.{Space, segments_start, roots_start, layouts_start, marks_start}
 use Rattle.nursery.specs.Young.{new_young}
 use Rattle.object_graph.specs.Paths.{empty_paths}
@@ -9,13 +10,15 @@ use Rattle.shape_tree.specs.ShapeLayouts.{layout_word}
 use Rattle.handle_roots.specs.declared.held.Held.TheVariants.{Unbound}
 use Rattle.handle_roots.specs.Roots.{root_at, first_word}
 use Rattle.heap_table.specs.Seats.{RestStays, fresh, heap_words}
-use Rattle.write_barrier.specs.MutatorState.{Mutator, IsOneGap}
+use Rattle.write_barrier.specs.MutatorState.{Mutator, IsOneGap, none_recorded}
 
 -- of all that the mutator has, only heap words from an address to another have changed
 pub record ChangesWithin (old new : Mutator) (from to : ℕ) : Type 0 where
   pub seat : RestStays old.seat new.seat
   pub paths : new.paths ≡ old.paths
   pub young : new.young ≡ old.young
+  pub free : new.free ≡ old.free
+  pub recorded : new.recorded ≡ old.recorded
   pub count : length (heap_words new.seat) ≡ length (heap_words old.seat)
   pub beside : (a : ℕ) → (a < from) ⊎ (to ≤ a) → slice_get (heap_words new.seat) a ≡ slice_get (heap_words old.seat) a
 
@@ -44,16 +47,24 @@ AreUnbound main = (variable : ℕ) → variable < main.seat.space.variables
 abbrev pub AreGaps : Mutator → Type 0
 AreGaps main = (page : ℕ) → page < main.seat.space.sizes.pages → IsOneGap (heap_words main.seat) page
 
--- nothing is written, nothing is used, and there are the nine empty paths
+-- nothing is written, nothing is used, each page is a free run, nothing is recorded, and there are the nine empty paths
 abbrev pub blank : Space → Mutator
-blank space = record { seat = fresh space; paths = empty_paths; young = new_young space }
+blank space = record {
+  seat = fresh space;
+  paths = empty_paths;
+  young = new_young space;
+  free = whole_rows space.sizes.pages;
+  recorded = none_recorded space;
+}
 
--- Nothing is used, each page is one gap, segments hold 0, each variable is bound to nothing, the layout words are there,
--- and all behind them is as in words of 0.
+-- Nothing is used, each page is one gap, segments hold 0, each variable is bound to nothing, the layout words are
+-- there, and all behind them is as in words of 0.
 pub record IsStarted (main : Mutator) : Type 0 where
   pub beside : RestStays (fresh main.seat.space) main.seat
   pub paths : main.paths ≡ empty_paths
   pub young : main.young ≡ new_young main.seat.space
+  pub free : main.free ≡ whole_rows main.seat.space.sizes.pages
+  pub recorded : main.recorded ≡ none_recorded main.seat.space
   pub within : AreWithin main.seat.space.sizes main.seat.space.variables
   pub count : length (heap_words main.seat) ≡ marks_start main.seat.space
   pub gaps : AreGaps main

@@ -1,12 +1,14 @@
 //! The mutator's side of a heap: stores with their barrier, and room for new cells.
 //!
-//! Model: a `Mutator` of `specs/MutatorState.antt`: the seat with its words, the field paths, and the
-//! young generation. `heap_of` is the heap that stands in the words.
+//! Model: a `Mutator` of `specs/MutatorState.antt`: the seat with its words, the field paths, the young
+//! generation, the free runs of pages, and which slots of pages are recorded. `heap_of` is the heap that
+//! stands in the words.
 //! Invariant: none over its parts, which it lends. `MainShows` of `specs/MutatorState.antt` is what holds
 //! between two commands; each call here says what it changes, in the middle of a change too.
 #![tactic(auto)]
 
 mod fills;
+mod free_cells;
 mod laws;
 mod main_side;
 mod opening;

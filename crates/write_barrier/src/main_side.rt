@@ -1,5 +1,5 @@
-//! What the thread that runs commands has, and what it reads. Stores are in `writes.rt`, room for
-//! new cells in `room.rt`, variables in `roots.rt`.
+//! What the thread that runs commands has, and what it reads. Stores are in `writes.rt` and `fills.rt`,
+//! room for new cells in `room.rt`, free runs of pages in `free_cells.rt`, variables in `roots.rt`.
 ghost use Rattle.std.specs.Prelude.{◌≡◌, ◌+◌, ◌<◌, ◌^◌, length, slice_get, Some, refl};
 ghost use Rattle.std.specs.Borrow.{sem};
 ghost use Rattle.std.proofs.Common.{◌∙◌, subst, sym};
@@ -14,20 +14,25 @@ ghost use Rattle.write_barrier.specs.Lending.{LendsShapes, LendsNursery};
 ghost use Rattle.write_barrier.specs.MutatorState.{heap_of};
 ghost use Rattle.write_barrier.specs.Reading.{HasHeader, IsHeaderAt, stays_quiet};
 
+use free_runs::FreeRuns;
 use heap_table::MainSeat;
 use nursery::Nursery;
 use page_space::Regions;
+use remembered_set::Remembered;
 use shape_tree::ShapeTree;
 use std::marker::Model;
 use tagged_word::{Header, Word};
 use word_store::Reads;
 
-/// The mutator: the seat of the thread that runs commands, the shapes, and the young generation.
+/// The mutator: the seat of the thread that runs commands, the shapes, the young generation, the
+/// free runs of pages, and which slots of pages refer to young cells.
 #[derive(Drop)]
 pub struct Main {
     pub(crate) seat: MainSeat,
     pub(crate) shapes: ShapeTree,
     pub(crate) nursery: Nursery,
+    pub(crate) free: FreeRuns,
+    pub(crate) remembered: Remembered,
 }
 
 impl Model for Main {

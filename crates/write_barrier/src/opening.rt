@@ -11,19 +11,22 @@ ghost use Rattle.write_barrier.specs.Opening.{ChangesWithin, AreZero, AreGaps, A
 ghost use Rattle.write_barrier.specs.Opening.{HasLayouts, IsStarted, blank};
 
 use crate::main_side::Main;
+use free_runs::FreeRuns;
 use heap_table::MainSeat;
 use nursery::Nursery;
 use page_space::{PAGE_WORDS, Regions};
+use remembered_set::Remembered;
 use shape_tree::ShapeTree;
 use std::alloc::Global;
 use tagged_word::cell::LENGTH;
 use tagged_word::{Header, NoMemory, Word, odd, shape};
 
 impl Main {
-    /// Opens a heap over words of 0: no object, each page one gap, each variable bound to nothing.
+    /// Opens a heap over words of 0: no object, each page one gap and one free run, each variable bound to
+    /// nothing.
     ///
     /// # Errors
-    /// Memory was refused, for the shapes.
+    /// Memory was refused, for the shapes, the free runs, or what is recorded of pages.
     pub fn open(alloc: Global, seat: MainSeat, regions: Regions) -> Result<Main, NoMemory>
         requires { seat ≡ fresh regions }
         ensures opened { IfOk result (λ main. MainShows main start × IsOpened main) }
@@ -31,10 +34,17 @@ impl Main {
     {
         let shapes = ShapeTree::new(alloc)?;
         let nursery = Nursery::new(&regions);
+        // The sizes are within their limits.
+        let _words_count = regions.count();
+        let pages = regions.sizes().pages;
+        let free = FreeRuns::new(alloc, pages)?;
+        let remembered = Remembered::new(alloc, pages)?;
         let mut main = Main {
             seat,
             shapes,
             nursery,
+            free,
+            remembered,
         };
         main.start(&regions);
         Ok(main)
@@ -68,8 +78,8 @@ impl Main {
             shape: shape::GAP,
             object: 0,
         };
-        self.set_header(at, header);
-        self.write_slot(at, LENGTH, PAGE_WORDS as u64);
+        self.put(at, header.word().0);
+        self.put(at + LENGTH, PAGE_WORDS as u64);
     }
 
     /// Makes each page one gap.
@@ -97,7 +107,7 @@ impl Main {
     {
         let regions = self.regions();
         for variable in 0..regions.variables() {
-            self.write(regions.root_at(variable), Word::odd(odd::UNBOUND).0);
+            self.put(regions.root_at(variable), Word::odd(odd::UNBOUND).0);
         }
     }
 

@@ -1,20 +1,72 @@
-//! Stores: the calls by which the words of the heap change.
-ghost use Rattle.std.specs.Prelude.{◌≡◌, ◌+◌, ◌<◌, ◌≤◌, ◌⊎◌, length, slice_get, slice_set, Some};
+//! Stores: the calls by which the words of the heap change. What is put in a page is recorded where it
+//! is a slot's and refers to a young cell, and not else; so no record outlives its slot.
+ghost use Rattle.std.specs.Prelude.{◌≡◌, ◌+◌, ◌^◌, ◌<◌, ◌≤◌, ◌⊎◌, length, slice_get, slice_set, Some};
 ghost use Rattle.tagged_word.specs.Headers.{IsHeader, header_bits};
+ghost use Rattle.tagged_word.specs.Readings.{reference_in};
 ghost use Rattle.page_space.specs.Extents.{layouts_start, marks_start};
 ghost use Rattle.heap_table.specs.declared.phase.Phase.TheVariants.{Quiet};
 ghost use Rattle.heap_table.specs.Seats.{heap_words};
 ghost use Rattle.shape_tree.specs.ShapeLayouts.{IsInUse, layout_word};
 ghost use Rattle.tagged_word.specs.Shapes.{first_path_shape};
-ghost use Rattle.write_barrier.specs.MutatorState.{with_word};
+ghost use Rattle.write_barrier.specs.MutatorState.{put_word, forgets, is_young, judged, with_slot, with_word};
 ghost use Rattle.write_barrier.specs.Opening.{ChangesWithin, HasLayouts, LayoutsBelow};
 
 use crate::main_side::Main;
 use tagged_word::{Header, Word, shape};
 
 impl Main {
-    /// Puts a word at an address before the marks: one that is no slot of a cell that marking may
-    /// have seen. No other word changes.
+    /// Puts a word at an address before the marks. Nothing is recorded.
+    #[inline(always)]
+    pub(crate) fn put(&mut self, a: u32, word: u64)
+        requires quiet { self.old.seat.phase ≡ Quiet }
+        requires within { a < marks_start self.old.seat.space }
+        ensures put { self.new ≡ put_word self.old a word }
+        ensures heap { let words = heap_words self.old.seat in
+            heap_words self.new.seat ≡ slice_set words a word }
+    {
+        self.seat.put(a, word);
+    }
+
+    /// Forgets what is recorded of the words from an address up to, not including, another: no slot is
+    /// there any more.
+    #[inline(always)]
+    pub fn forget(&mut self, from: u32, to: u32)
+        ensures { self.new ≡ forgets self.old from to }
+    {
+        if self.remembered.covers(from) {
+            self.remembered.forget_range(from, to);
+        }
+    }
+
+    /// Whether a word refers to a young cell.
+    #[inline(always)]
+    fn is_young(&self, word: Word) -> bool
+        ensures { result ≡ is_young self.now.recorded.bound (reference_in word.0) }
+    {
+        match word.address() {
+            Some(at) => !self.remembered.covers(at),
+            None => false,
+        }
+    }
+
+    /// Records the slot at an address of a page where the word refers to a young cell, and forgets it
+    /// where it does not.
+    #[cold]
+    #[inline(never)]
+    fn judge(&mut self, slot: u32, word: Word)
+        requires of_page { slot < self.old.recorded.bound }
+        requires few { slot + 1 < 2 ^ 32 }
+        ensures { self.new ≡ record self.old { recorded = judged self.old.recorded slot word.0 } }
+    {
+        if self.is_young(word) {
+            self.remembered.note(slot);
+        } else {
+            self.remembered.forget_range(slot, slot + 1);
+        }
+    }
+
+    /// Puts a word at an address before the marks: one that is no slot of a cell. No other word
+    /// changes.
     #[inline]
     pub fn write(&mut self, a: u32, word: u64)
         requires quiet { self.old.seat.phase ≡ Quiet }
@@ -23,11 +75,12 @@ impl Main {
         ensures heap { let words = heap_words self.old.seat in
             heap_words self.new.seat ≡ slice_set words a word }
     {
-        self.seat.put(a, word);
+        self.addresses_fit();
+        self.forget(a, a + 1);
+        self.put(a, word);
     }
 
-    /// Puts a word at an offset of a cell, before the marks: in no slot that marking may have seen. No
-    /// other word changes.
+    /// Puts a word at an offset of a cell, before the marks: in no slot. No other word changes.
     #[inline]
     pub fn write_slot(&mut self, cell: u32, offset: u32, word: u64)
         requires quiet { self.old.seat.phase ≡ Quiet }
@@ -45,24 +98,29 @@ impl Main {
     pub fn store(&mut self, cell: u32, offset: u32, value: Word)
         requires quiet { self.old.seat.phase ≡ Quiet }
         requires within { cell + offset < marks_start self.old.seat.space }
-        ensures stored { self.new ≡ with_word self.old (cell + offset) value.0 }
+        ensures stored { self.new ≡ with_slot self.old (cell + offset) value.0 }
         ensures heap { let words = heap_words self.old.seat in
             heap_words self.new.seat ≡ slice_set words (cell + offset) value.0 }
     {
-        self.write_slot(cell, offset, value.0);
+        self.addresses_fit();
+        let slot = cell + offset;
+        if self.remembered.covers(slot) {
+            self.judge(slot, value);
+        }
+        self.put(slot, value.0);
     }
 
-    /// Puts a value in the slot of a weak table at an offset. No other word changes. It keeps nothing
-    /// alive: marking never looks at what a pair of a table refers to.
+    /// Puts a value in the slot of a weak table at an offset. No other word changes. Marking never looks at
+    /// what a pair of a table refers to; a scavenge takes it as a slot like others.
     #[inline]
     pub fn store_weak(&mut self, cell: u32, offset: u32, value: Word)
         requires quiet { self.old.seat.phase ≡ Quiet }
         requires within { cell + offset < marks_start self.old.seat.space }
-        ensures stored { self.new ≡ with_word self.old (cell + offset) value.0 }
+        ensures stored { self.new ≡ with_slot self.old (cell + offset) value.0 }
         ensures heap { let words = heap_words self.old.seat in
             heap_words self.new.seat ≡ slice_set words (cell + offset) value.0 }
     {
-        self.write_slot(cell, offset, value.0);
+        self.store(cell, offset, value);
     }
 
     /// Puts the header of a cell at an address. No other word changes.
@@ -87,7 +145,7 @@ impl Main {
             let stands = slice_get (heap_words self.old.seat) at in
             (stands ≡ Some 0) ⊎ (stands ≡ Some (layout_word self.old.paths shape)) }
         ensures written { let at = layouts_start self.old.seat.space + shape in
-            self.new ≡ with_word self.old at (layout_word self.old.paths shape) }
+            self.new ≡ put_word self.old at (layout_word self.old.paths shape) }
         ensures heap { let at = layouts_start self.old.seat.space + shape in
             let words = heap_words self.old.seat in
             heap_words self.new.seat ≡ slice_set words at (layout_word self.old.paths shape) }
@@ -95,7 +153,7 @@ impl Main {
         self.paths_fit();
         let word = self.shapes.layout(shape).word();
         let at = self.regions().layout_at(shape);
-        self.write(at, word);
+        self.put(at, word);
     }
 
     /// Puts the layout words of the shapes from one on: those of the shapes below it are there, and

@@ -1,14 +1,18 @@
 -- The table and the box that are made stand in the words that were reserved.
-use Rattle.std.proofs.Common.{◌≡◌, ℕ, ◌+◌, ◌*◌, ◌<◌, ◌≤◌, sym, ap, subst, ◌∙◌, arith, rules}
+use Rattle.std.proofs.Common.{◌≡◌, ℕ, ◌+◌, ◌*◌, ◌<◌, ◌≤◌, length, sym, ap, subst, ◌∙◌, arith, rules}
 use Rattle.tagged_word.specs.Cells.{store_head}
 use Rattle.page_space.specs.Extents.{Space, marks_start}
-use Rattle.heap_table.specs.Seats.{RestStays}
+use Rattle.heap_table.specs.Seats.{heap_words, RestStays}
 use Rattle.heap_table.specs.Staying.{rest_stays_again}
-use Rattle.write_barrier.specs.MutatorState.{Mutator}
+use Rattle.heap_model.specs.Remembered.{Touch}
+use Rattle.write_barrier.specs.MutatorState.{Mutator, with_slot}
+use Rattle.write_barrier.specs.Recording.{Touches, touched_one}
+use Rattle.write_barrier.proofs.Recording.{slot_touch}
 use Rattle.object_cells.specs.Made.{content_need}
 use Rattle.object_cells.proofs.RestOfWords.{same_rest, reserved_rest, put_rest}
-use Rattle.ephemeron_table.proofs.GrowingTables.{begun_within, boxed_free, grown_apart, grown_before_marks}
-use Rattle.ephemeron_table.proofs.GrowingTables.{grown_keys, grown_more, grown_nothing}
+use Rattle.object_cells.proofs.TouchedWords.{then_wiped}
+use Rattle.ephemeron_table.proofs.GrowingTables.{begun_touch, begun_within, boxed_free, grown_apart, grown_before_marks}
+use Rattle.ephemeron_table.proofs.GrowingTables.{grown_keys, grown_more, grown_nothing, inserted_long}
 use Rattle.ephemeron_table.proofs.growing.put_in_new_table.Goals as goal
 
 -- a table begins before it ends, and a map's slot stands before its count
@@ -30,7 +34,7 @@ pub rehash-requires-clause-to : goal.rehash-requires-clause-to
 rehash-requires-clause-to c =
     begun_within c.requires.can c.addresses_fit.ensures.heap_counted c.need_of.result c.in_ok-at.ensures.room
     c.in_ok-at.ensures.at c.grown-capacity.ensures c.in_ok-at.ensures.reserved
-    c.begin_table.ensures
+    c.begin_table.ensures.puts
 
 pub begin_table-requires-clause-quiet : goal.begin_table-requires-clause-quiet
 begin_table-requires-clause-quiet c =
@@ -38,12 +42,12 @@ begin_table-requires-clause-quiet c =
 
 pub rehash-requires-clause-quiet : goal.rehash-requires-clause-quiet
 rehash-requires-clause-quiet c =
-    c.begin_table.ensures.beside.phase ∙ ap (λ (main : Mutator). main.seat.phase) c.in_ok-at.ensures.reserved
+    c.begin_table.ensures.puts.beside.phase ∙ ap (λ (main : Mutator). main.seat.phase) c.in_ok-at.ensures.reserved
     ∙ c.requires.can.quiet
 
 pub rehash-requires-clause-from : goal.rehash-requires-clause-from
 rehash-requires-clause-from c =
-    let space = c.begin_table.ensures.beside.space
+    let space = c.begin_table.ensures.puts.beside.space
     ∙ ap (λ (main : Mutator). main.seat.space) c.in_ok-at.ensures.reserved in
     subst (λ (s : Space). c.args.table.at + (store_head + 2 * c.args.table.capacity) ≤ marks_start s) (sym space)
     c.requires.can.within
@@ -62,18 +66,18 @@ pub rehash-requires-clause-keys : goal.rehash-requires-clause-keys
 rehash-requires-clause-keys c =
     grown_keys c.requires.can c.addresses_fit.ensures.heap_counted c.need_of.result c.in_ok-at.ensures.room
     c.in_ok-at.ensures.at c.grown-capacity.ensures c.in_ok-at.ensures.reserved
-    c.begin_table.ensures
+    c.begin_table.ensures.puts
 
 pub rehash-requires-clause-empty : goal.rehash-requires-clause-empty
 rehash-requires-clause-empty c =
     grown_nothing c.requires.can c.addresses_fit.ensures.heap_counted c.need_of.result c.in_ok-at.ensures.room
     c.in_ok-at.ensures.at c.grown-capacity.ensures c.in_ok-at.ensures.reserved
-    c.begin_table.ensures
+    c.begin_table.ensures.puts
 
 pub boxed_word-word-requires-clause-within : goal.boxed_word-word-requires-clause-within
 boxed_word-word-requires-clause-within c v boxed =
     let two : c.need_of.result ≡ 2 = c.need_of.ensures ∙ ap content_need boxed in
-    let space = c.rehash.ensures.changes.rest.space ∙ c.begin_table.ensures.beside.space
+    let space = c.rehash.ensures.changes.rest.space ∙ c.begin_table.ensures.puts.beside.space
     ∙ ap (λ (main : Mutator). main.seat.space) c.in_ok-at.ensures.reserved in
     let before = grown_before_marks c.requires.can c.addresses_fit.ensures.heap_counted c.need_of.result
     c.in_ok-at.ensures.room
@@ -82,13 +86,13 @@ boxed_word-word-requires-clause-within c v boxed =
 
 pub boxed_word-word-requires-clause-quiet : goal.boxed_word-word-requires-clause-quiet
 boxed_word-word-requires-clause-quiet c =
-    c.rehash.ensures.changes.rest.phase ∙ c.begin_table.ensures.beside.phase
+    c.rehash.ensures.changes.rest.phase ∙ c.begin_table.ensures.puts.beside.phase
     ∙ ap (λ (main : Mutator). main.seat.phase) c.in_ok-at.ensures.reserved ∙ c.requires.can.quiet
 
 pub insert_rehashed-requires-clause-quiet : goal.insert_rehashed-requires-clause-quiet
 insert_rehashed-requires-clause-quiet c =
     c.boxed_word-word.ensures.made.beside.phase ∙ c.rehash.ensures.changes.rest.phase
-    ∙ c.begin_table.ensures.beside.phase ∙ ap (λ (main : Mutator). main.seat.phase) c.in_ok-at.ensures.reserved
+    ∙ c.begin_table.ensures.puts.beside.phase ∙ ap (λ (main : Mutator). main.seat.phase) c.in_ok-at.ensures.reserved
     ∙ c.requires.can.quiet
 
 pub insert_rehashed-requires-clause-within : goal.insert_rehashed-requires-clause-within
@@ -96,20 +100,20 @@ insert_rehashed-requires-clause-within c =
     let within = begun_within c.requires.can c.addresses_fit.ensures.heap_counted c.need_of.result
     c.in_ok-at.ensures.room
     c.in_ok-at.ensures.at c.grown-capacity.ensures c.in_ok-at.ensures.reserved
-    c.begin_table.ensures in
+    c.begin_table.ensures.puts in
     subst (λ (s : Space). c.in_ok-at.at + (store_head + 2 * c.grown-capacity.result) ≤ marks_start s)
     (sym (c.boxed_word-word.ensures.made.beside.space ∙ c.rehash.ensures.changes.rest.space)) within
 
 pub insert_rehashed-requires-clause-key : goal.insert_rehashed-requires-clause-key
 insert_rehashed-requires-clause-key c =
     let space = c.boxed_word-word.ensures.made.beside.space ∙ c.rehash.ensures.changes.rest.space
-    ∙ c.begin_table.ensures.beside.space ∙ ap (λ (main : Mutator). main.seat.space) c.in_ok-at.ensures.reserved in
+    ∙ c.begin_table.ensures.puts.beside.space ∙ ap (λ (main : Mutator). main.seat.space) c.in_ok-at.ensures.reserved in
     subst (λ (s : Space). c.args.key < marks_start s) (sym space) c.requires.can.key_within
 
 pub made-requires-clause-quiet : goal.made-requires-clause-quiet
 made-requires-clause-quiet c =
     c.insert_rehashed.ensures.words.beside.phase ∙ c.boxed_word-word.ensures.made.beside.phase
-    ∙ c.rehash.ensures.changes.rest.phase ∙ c.begin_table.ensures.beside.phase
+    ∙ c.rehash.ensures.changes.rest.phase ∙ c.begin_table.ensures.puts.beside.phase
     ∙ ap (λ (main : Mutator). main.seat.phase) c.in_ok-at.ensures.reserved ∙ c.requires.can.quiet
 
 pub made-requires-clause-within : goal.made-requires-clause-within
@@ -117,7 +121,7 @@ made-requires-clause-within c =
     let within = begun_within c.requires.can c.addresses_fit.ensures.heap_counted c.need_of.result
     c.in_ok-at.ensures.room
     c.in_ok-at.ensures.at c.grown-capacity.ensures c.in_ok-at.ensures.reserved
-    c.begin_table.ensures in
+    c.begin_table.ensures.puts in
     let space = c.insert_rehashed.ensures.words.beside.space ∙ c.boxed_word-word.ensures.made.beside.space
     ∙ c.rehash.ensures.changes.rest.space in
     subst (λ (s : Space). c.in_ok-at.at < marks_start s) (sym space) (begins_before _ _ _ within)
@@ -126,7 +130,7 @@ pub store-requires-clause-quiet : goal.store-requires-clause-quiet
 store-requires-clause-quiet c =
     ap (λ (main : Mutator). main.seat.phase) c.made.ensures.same ∙ c.insert_rehashed.ensures.words.beside.phase
     ∙ c.boxed_word-word.ensures.made.beside.phase ∙ c.rehash.ensures.changes.rest.phase
-    ∙ c.begin_table.ensures.beside.phase ∙ ap (λ (main : Mutator). main.seat.phase) c.in_ok-at.ensures.reserved
+    ∙ c.begin_table.ensures.puts.beside.phase ∙ ap (λ (main : Mutator). main.seat.phase) c.in_ok-at.ensures.reserved
     ∙ c.requires.can.quiet
 
 pub store-requires-clause-within : goal.store-requires-clause-within
@@ -134,7 +138,7 @@ store-requires-clause-within c =
     let space = ap (λ (main : Mutator). main.seat.space) c.made.ensures.same
     ∙ c.insert_rehashed.ensures.words.beside.space
     ∙ c.boxed_word-word.ensures.made.beside.space ∙ c.rehash.ensures.changes.rest.space
-    ∙ c.begin_table.ensures.beside.space ∙ ap (λ (main : Mutator). main.seat.space) c.in_ok-at.ensures.reserved in
+    ∙ c.begin_table.ensures.puts.beside.space ∙ ap (λ (main : Mutator). main.seat.space) c.in_ok-at.ensures.reserved in
     subst (λ (s : Space). c.args.map + 1 < marks_start s) (sym space) (slot_before _ _ c.requires.can.map_within)
 
 pub write_slot-requires-clause-quiet : goal.write_slot-requires-clause-quiet
@@ -142,7 +146,7 @@ write_slot-requires-clause-quiet c =
     ap (λ (main : Mutator). main.seat.phase) c.store.ensures.stored
     ∙ ap (λ (main : Mutator). main.seat.phase) c.made.ensures.same ∙ c.insert_rehashed.ensures.words.beside.phase
     ∙ c.boxed_word-word.ensures.made.beside.phase ∙ c.rehash.ensures.changes.rest.phase
-    ∙ c.begin_table.ensures.beside.phase ∙ ap (λ (main : Mutator). main.seat.phase) c.in_ok-at.ensures.reserved
+    ∙ c.begin_table.ensures.puts.beside.phase ∙ ap (λ (main : Mutator). main.seat.phase) c.in_ok-at.ensures.reserved
     ∙ c.requires.can.quiet
 
 pub write_slot-requires-clause-within : goal.write_slot-requires-clause-within
@@ -150,14 +154,14 @@ write_slot-requires-clause-within c =
     let space = ap (λ (main : Mutator). main.seat.space) c.store.ensures.stored
     ∙ ap (λ (main : Mutator). main.seat.space) c.made.ensures.same ∙ c.insert_rehashed.ensures.words.beside.space
     ∙ c.boxed_word-word.ensures.made.beside.space ∙ c.rehash.ensures.changes.rest.space
-    ∙ c.begin_table.ensures.beside.space ∙ ap (λ (main : Mutator). main.seat.space) c.in_ok-at.ensures.reserved in
+    ∙ c.begin_table.ensures.puts.beside.space ∙ ap (λ (main : Mutator). main.seat.space) c.in_ok-at.ensures.reserved in
     subst (λ (s : Space). c.args.map + 2 < marks_start s) (sym space) c.requires.can.map_within
 
 pub insert_rehashed-requires-clause-free : goal.insert_rehashed-requires-clause-free
 insert_rehashed-requires-clause-free c =
     boxed_free c.requires.can c.addresses_fit.ensures.heap_counted c.need_of.result c.in_ok-at.ensures.room
     c.in_ok-at.ensures.at c.grown-capacity.ensures c.in_ok-at.ensures.reserved
-    c.begin_table.ensures c.content_for-content.result
+    c.begin_table.ensures.puts c.content_for-content.result
     c.rehash.ensures c.boxed_word-word.ensures.made
 
 pub returns-clause-ok : goal.returns-clause-ok
@@ -174,28 +178,45 @@ returns-clause-ok c =
     (rest_stays_again old.seat moved.seat boxed.seat
     (rest_stays_again old.seat begun.seat moved.seat
     (rest_stays_again old.seat c.room_for.new.main.seat begun.seat
-    (reserved_rest old _ c.in_ok-at.ensures.reserved) c.begin_table.ensures.beside)
+    (reserved_rest old _ c.in_ok-at.ensures.reserved) c.begin_table.ensures.puts.beside)
     c.rehash.ensures.changes.rest) c.boxed_word-word.ensures.made.beside) c.insert_rehashed.ensures.words.beside in
     let still : RestStays inserted.seat told.seat = same_rest c.made.ensures.same in
     let marks = ap (λ (s : Space). marks_start s) reached.space in
     let named : RestStays inserted.seat linked.seat =
-    put_rest (c.args.map + 1) _ still c.store.ensures.stored
+    put_rest (c.args.map + 1) _ still (ap (λ (main : Mutator). main.seat) c.store.ensures.stored)
     (omega (arith, c.requires.can.map_within, marks, ap (λ (s : Space). marks_start s) still.space)) in
+    let counted = c.addresses_fit.ensures.heap_counted in
+    let long : length (heap_words inserted.seat) ≡ marks_start inserted.seat.space =
+    inserted_long c.requires.can counted c.need_of.result c.in_ok-at.ensures.room c.in_ok-at.ensures.at
+    c.grown-capacity.ensures c.in_ok-at.ensures.reserved c.begin_table.ensures.puts c.content_for-content.result
+    c.rehash.ensures c.boxed_word-word.ensures.made c.insert_rehashed.ensures ∙ counted ∙ sym marks in
+    let stored = c.store.ensures.stored
+    ∙ ap (λ (main : Mutator). with_slot main (c.args.map + 1) c.reference.result.0) c.made.ensures.same in
+    let slot : Touches inserted linked (touched_one Touch.Stored (c.args.map + 1)) =
+    subst (λ (main : Mutator). Touches inserted main (touched_one Touch.Stored (c.args.map + 1))) (sym stored)
+    (slot_touch inserted (c.args.map + 1) c.reference.result.0 long
+    (omega (arith, c.requires.can.map_within, marks))) in
     record {
       room = search rules;
       begun = begun;
       begins = search rules;
+      begin_touches = begun_touch c.requires.can counted c.need_of.result c.in_ok-at.ensures.room
+          c.in_ok-at.ensures.at c.grown-capacity.ensures c.in_ok-at.ensures.reserved c.begin_table.ensures.puts
+          c.begin_table.ensures.touches;
       moved = moved;
       moves = search rules;
       boxed = boxed;
       boxes = search rules;
+      box_touches = search rules;
       inserted = inserted;
       inserts = search rules;
       words = record {
-        beside = put_rest (c.args.map + 2) _ named c.write_slot.ensures.written
+        beside = put_rest (c.args.map + 2) _ named (ap (λ (main : Mutator). main.seat) c.write_slot.ensures.written)
             (omega (arith, c.requires.can.map_within, marks, ap (λ (s : Space). marks_start s) named.space));
         paths = search rules;
         young = search rules;
         heap = search rules;
       };
+      touches = then_wiped (c.args.map + 2) (c.args.count + 1) slot c.write_slot.ensures.written
+          (omega (arith, c.requires.can.map_within, marks, ap (λ (s : Space). marks_start s) named.space));
     }

@@ -112,7 +112,7 @@ loop-passed-smaller c =
     less_left (heap_of c.args.main.now) (heap_of c.loop-passed.main) c.args.table within far.changes.long far.shifting
     next few c.place-next.ensures far.changes.beside c.in-Some.key refers c.requires.keys
     c.number_at-number.result c.steps.result c.number_at-number.ensures c.steps.ensures c.if-steps-passed.false
-    c.copy_pair.ensures.heap
+    c.copy_pair.ensures.puts.heap
 
 pub loop-passed-preserved : goal.loop-passed-preserved
 loop-passed-preserved c =
@@ -127,11 +127,11 @@ loop-passed-preserved c =
     record {
       changes = pair_changed c.args.table c.loop-passed.hole _ far.changes (hole_below (heap_of c.args.main.now)
           (heap_of c.loop-passed.main) c.args.table within far.changes.long far.shifting)
-          c.copy_pair.ensures;
+          c.copy_pair.ensures.puts c.copy_pair.ensures.touches;
       shifting = moves_on (heap_of c.args.main.now) (heap_of c.loop-passed.main) c.args.table within far.changes.long
           far.shifting next few c.place-next.ensures far.changes.beside c.in-Some.key refers c.requires.keys
           c.number_at-number.result c.steps.result c.number_at-number.ensures c.steps.ensures c.if-steps-passed.false
-          c.copy_pair.ensures.heap;
+          c.copy_pair.ensures.puts.heap;
     }
 
 pub returns : goal.returns

@@ -12,9 +12,10 @@ returns c =
     let shifted : Mutator = c.backward_shift-hole.new.main in
     let puts = subst (λ pair. PutsWords shifted c.put_pair.new.main
     (with_pair (heap_words shifted.seat) c.args.table.at c.backward_shift-hole.result pair))
-    (ap (λ w. made_pair w w) c.odd-free.ensures) c.put_pair.ensures in
+    (ap (λ w. made_pair w w) c.odd-free.ensures) c.put_pair.ensures.puts in
     removes_at c.args.map c.args.at c.backward_shift-hole.result c.slot-count.result c.args.table
     (omega (arith, c.requires.within, c.addresses_fit.ensures.heap_counted))
     (omega (arith, c.requires.map, c.addresses_fit.ensures.heap_counted))
-    c.requires.map c.requires.beside c.backward_shift-hole.ensures puts c.slot-count.ensures.of_heap
+    c.requires.map c.requires.beside c.backward_shift-hole.ensures puts c.put_pair.ensures.touches
+    c.slot-count.ensures.of_heap
     c.write_slot.ensures.written c.write_slot.ensures.heap

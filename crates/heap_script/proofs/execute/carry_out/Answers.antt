@@ -2,6 +2,8 @@ use Rattle.std.proofs.Common.{◌≡◌, ◌∙◌, refl}
 use Rattle.mutator.specs.declared.stop.Stop.TheVariants.{NoRoom}
 use Rattle.heap_script.proofs.Retrying.{IsReady, ready_shows, ready_space, was_first, refused_always, unchanged_first}
 use Rattle.heap_script.proofs.Retrying.{scavenged_for, made_room, fewer_tries, gives_up, carried_at}
+use Rattle.heap_script.proofs.execute.carry_out.Goals.{then-again-via-then-again}
+use Rattle.heap_script.proofs.execute.carry_out.Goals.{then-again-via-else-again+then-not-ensure_room}
 use Rattle.heap_script.proofs.execute.carry_out.Goals as goal
 
 pub tries-init : goal.tries-init
@@ -25,10 +27,10 @@ ensure_room-requires c =
     let now = c.tries.invariant in
     let names = c.args.script.now.fields in
     let (graph, shown, made) = c.requires.shown in
-    let told = refused_always names c.execute.new.heap now.ready now.objects c.requires.within c.in-NoRoom.is c.in-Err.ensures.carried
-    graph shown made in
-    let same = unchanged_first names c.execute.new.heap now.ready now.objects c.requires.within c.in-NoRoom.is c.in-Err.ensures.carried
-    c.in-Err.ensures.spare c.requires.shown in
+    let told = refused_always names c.execute.new.heap now.ready now.objects c.requires.within c.in-NoRoom.is
+    c.in-Err.ensures.carried graph shown made in
+    let same = unchanged_first names c.execute.new.heap now.ready now.objects c.requires.within c.in-NoRoom.is
+    c.in-Err.ensures.carried c.in-Err.ensures.spare c.requires.shown in
     record { some = told.some; few = told.few; shown = (graph, rw same shown) }
 
 pub tries-preserved : goal.tries-preserved
@@ -36,9 +38,10 @@ tries-preserved c =
     let now = c.tries.invariant in
     let names = c.args.script.now.fields in
     let (graph, shown, made) = c.requires.shown in
-    let told = refused_always names c.execute.new.heap now.ready now.objects c.requires.within c.in-NoRoom.is c.in-Err.ensures.carried in
-    let same = unchanged_first names c.execute.new.heap now.ready now.objects c.requires.within c.in-NoRoom.is c.in-Err.ensures.carried
-    c.in-Err.ensures.spare c.requires.shown in
+    let told = refused_always names c.execute.new.heap now.ready now.objects c.requires.within c.in-NoRoom.is
+    c.in-Err.ensures.carried in
+    let same = unchanged_first names c.execute.new.heap now.ready now.objects c.requires.within c.in-NoRoom.is
+    c.in-Err.ensures.carried c.in-Err.ensures.spare c.requires.shown in
     let gone = c.ensure_room.ensures in
     let one = told graph shown made in
     let scavenged = scavenged_for same one gone.scavenged gone.shows gone.rooms gone.spare in
@@ -50,32 +53,28 @@ tries-preserved c =
     }
 
 pub tries-smaller : goal.tries-smaller
-tries-smaller c =
-    let now = c.tries.invariant in
-    let names = c.args.script.now.fields in
-    let (graph, shown, made) = c.requires.shown in
-    let one = refused_always names c.execute.new.heap now.ready now.objects c.requires.within c.in-NoRoom.is c.in-Err.ensures.carried
-    graph shown made in
-    let first = was_first names c.execute.new.heap now.ready now.objects c.requires.within c.in-NoRoom.is c.in-Err.ensures.carried
-    c.requires.shown in
-    let same = unchanged_first names c.execute.new.heap now.ready now.objects c.requires.within c.in-NoRoom.is c.in-Err.ensures.carried
-    c.in-Err.ensures.spare c.requires.shown in
-    let gone = c.ensure_room.ensures in
-    fewer_tries first (scavenged_for same one gone.scavenged gone.shows gone.rooms gone.spare)
+tries-smaller c = fewer_tries c.if-again.false
 
-pub returns-then-not-ensure_room-clause-carried : goal.returns-then-not-ensure_room-clause-carried
-returns-then-not-ensure_room-clause-carried c = λ graph shown made.
+pub returns-then-again-clause-carried : goal.returns-then-again-clause-carried
+returns-then-again-clause-carried c = λ graph shown made.
     let now = c.tries.invariant in
     let names = c.args.script.now.fields in
-    let one = refused_always names c.execute.new.heap now.ready now.objects c.requires.within c.in-NoRoom.is c.in-Err.ensures.carried
-    graph shown made in
-    let same = unchanged_first names c.execute.new.heap now.ready now.objects c.requires.within c.in-NoRoom.is c.in-Err.ensures.carried
-    c.in-Err.ensures.spare c.requires.shown in
-    let gone = c.ensure_room.ensures in
-    let scavenged = scavenged_for same one gone.scavenged gone.shows gone.rooms gone.spare in
+    let first = was_first names c.execute.new.heap now.ready now.objects c.requires.within c.in-NoRoom.is
+    c.in-Err.ensures.carried c.requires.shown in
+    let one = refused_always names c.execute.new.heap now.ready now.objects c.requires.within c.in-NoRoom.is
+    c.in-Err.ensures.carried graph shown made in
+    let same = unchanged_first names c.execute.new.heap now.ready now.objects c.requires.within c.in-NoRoom.is
+    c.in-Err.ensures.carried c.in-Err.ensures.spare c.requires.shown in
     let (text, tries, out-is) = c.in-Err.ensures.carried graph (ready_shows now.ready shown) (now.objects ∙ made) in
-    let kept = gives_up scavenged shown one tries c.in-NoRoom.is (λ has. let granted = gone.room.1 has in cc) in
-    (text, kept, out-is ∙ now.out)
+    elim c.then-again.branch [
+      | then-again-via-then-again w ↦ let none = first.1 in let some = w.if-again.true in absurd (cc)
+      | then-again-via-else-again+then-not-ensure_room w ↦
+          let gone = w.ensure_room.ensures in
+          let refused = w.if-not-ensure_room.true in
+          let scavenged = scavenged_for same one gone.scavenged gone.shows gone.rooms gone.spare in
+          let kept = gives_up scavenged shown one tries c.in-NoRoom.is (λ has. let granted = gone.room.1 has in cc) in
+          (text, rw w.heap-is kept, out-is ∙ now.out)
+    ]
 
 pub returns-in_default-clause-carried : goal.returns-in_default-clause-carried
 returns-in_default-clause-carried c = λ graph shown made.

@@ -1,10 +1,14 @@
 -- The box that is made stands in the words that were reserved, and the length in the list's cell.
-use Rattle.std.proofs.Common.{◌≡◌, ◌+◌, ap, ◌∙◌, arith, rules}
+use Rattle.std.proofs.Common.{◌≡◌, ℕ, ◌+◌, ◌<◌, length, sym, ap, ◌∙◌, subst, arith, rules}
 use Rattle.page_space.specs.Extents.{Space, marks_start}
-use Rattle.heap_table.specs.Seats.{RestStays}
+use Rattle.heap_table.specs.Seats.{RestStays, heap_words}
 use Rattle.heap_table.specs.Staying.{rest_stays_again}
 use Rattle.write_barrier.specs.MutatorState.{Mutator}
-use Rattle.object_cells.specs.Made.{content_need}
+use Rattle.write_barrier.specs.Recording.{Touches}
+use Rattle.object_cells.specs.Contents.{next_at}
+use Rattle.object_cells.specs.Made.{content_need, content_touch, store_content}
+use Rattle.object_cells.proofs.MadeBoxes.{length-with_content}
+use Rattle.object_cells.proofs.TouchedWords.{content_reserved, then_stored, then_wiped}
 use Rattle.object_cells.proofs.RestOfWords.{put_rest, reserved_rest}
 use Rattle.object_cells.proofs.UnusedWords.{run_before_marks}
 use Rattle.object_cells.proofs.ListCells.{count_within}
@@ -26,6 +30,29 @@ write_slot-requires-clause-within c =
     ∙ ap (λ (main : Mutator). main.seat.space) c.in_ok-at.ensures.reserved in
     omega (arith, within, ap (λ (s : Space). marks_start s) space)
 
+-- there are as many words with the box
+box_counted : (c : goal.After-write_slot)
+    → length (heap_words c.boxed_word-word.new.main.seat) ≡ marks_start c.boxed_word-word.new.main.seat.space
+box_counted c =
+    let run : Mutator = c.room_for.new.main in
+    let made = c.boxed_word-word.ensures.made in
+    ap length made.heap ∙ length-with_content (heap_words run.seat) c.content_for-content.result c.in_ok-at.at
+    ∙ ap (λ (main : Mutator). length (heap_words main.seat)) c.in_ok-at.ensures.reserved
+    ∙ c.requires.can.ready.whole.whole.sized.words
+    ∙ sym (ap (λ (main : Mutator). marks_start main.seat.space) c.in_ok-at.ensures.reserved)
+    ∙ sym (ap (λ (s : Space). marks_start s) made.beside.space)
+
+-- its words were wiped
+box_made : (c : goal.After-write_slot)
+    → Touches c.args.main.now c.boxed_word-word.new.main
+    (content_touch (store_content c.args.value) (next_at c.args.main.now))
+box_made c =
+    let old : Mutator = c.args.main.now in
+    subst (λ one. Touches old c.boxed_word-word.new.main (content_touch one (next_at old)))
+    c.content_for-content.ensures
+    (content_reserved c.content_for-content.result c.in_ok-at.at c.need_of.result c.in_ok-at.ensures.reserved
+    (λ some. c.in_ok-at.ensures.at (omega (arith, some, c.need_of.ensures))) c.boxed_word-word.ensures.touches)
+
 pub returns-clause-ok : goal.returns-clause-ok
 returns-clause-ok c =
     let old : Mutator = c.args.main.now in
@@ -36,21 +63,24 @@ returns-clause-ok c =
     let first : RestStays old.seat boxed.seat =
     rest_stays_again old.seat c.room_for.new.main.seat boxed.seat (reserved_rest old _ c.in_ok-at.ensures.reserved)
     c.boxed_word-word.ensures.made.beside in
+    let place : ℕ = store.at + (2 + c.args.count) in
+    let place_within : place < marks_start boxed.seat.space =
+    omega (arith, c.requires.can.is.within, c.requires.room, ap (λ (s : Space). marks_start s) first.space) in
     let filled : RestStays old.seat put.seat =
-    put_rest (store.at + (2 + c.args.count)) c.boxed_word-word.result.0 first c.store.ensures.stored
-    (omega (
-      arith,
-      c.requires.can.is.within,
-      c.requires.room,
-      ap (λ (s : Space). marks_start s) first.space,
-    )) in
+    put_rest place c.boxed_word-word.result.0 first (ap (λ (main : Mutator). main.seat) c.store.ensures.stored)
+    place_within in
+    let count_before : c.args.list + 2 < marks_start put.seat.space =
+    omega (arith, count_within ready.whole.whole ready.there, ap (λ (s : Space). marks_start s) filled.space) in
+    let stored = then_stored place c.boxed_word-word.result.0 (box_made c) c.store.ensures.stored (box_counted c)
+    place_within in
     record {
       room = search rules;
       words = record {
-        beside = put_rest (c.args.list + 2) _ filled c.write_slot.ensures.written
-            (omega (arith, count_within ready.whole.whole ready.there, ap (λ (s : Space). marks_start s) filled.space));
+        beside = put_rest (c.args.list + 2) _ filled
+            (ap (λ (main : Mutator). main.seat) c.write_slot.ensures.written) count_before;
         paths = search rules;
         young = search rules;
         heap = search rules;
       };
+      touches = then_wiped (c.args.list + 2) _ stored c.write_slot.ensures.written count_before;
     }

@@ -5,6 +5,7 @@ use Rattle.mutator.specs.Making.{empty_counted}
 use Rattle.mutator.specs.declared.stop.Stop.TheVariants.{NoRoom}
 use Rattle.mutator.proofs.EmptyCounted.{list_is_counted}
 use Rattle.mutator.proofs.MadeCells.{list_making, counted_made}
+use Rattle.mutator.proofs.MadeRecords.{reserved_is_young}
 use Rattle.mutator.proofs.MadeObjects.{making_carried, making_stopped, binds_made}
 use Rattle.mutator.proofs.StoppedBy.{stopped_with}
 use Rattle.mutator.proofs.lists.new_list.Goals as goal
@@ -16,14 +17,18 @@ returns c = record {
       (record {
         run = c.in_ok-run.ensures.run.at;
         taken = c.in_ok-run.ensures.reserved;
-        put = c.fill_counted.ensures.filled;
+        put = c.fill_counted.ensures.filled
+            (reserved_is_young 3 shows c.in_ok-run.ensures.reserved c.in_ok-run.ensures.run.at);
         heap = c.fill_counted.ensures.heap;
         holds = record { held = c.hold.ensures.held; heap = c.hold.ensures.heap };
       })
       (counted_made c.args.x list_is_counted shows c.in_ok-run.ensures.room (omega arith) count)
       c.hold.ensures.holds.fits c.requires.within names c.in_ok-run.ensures.room;
   binds = binds_made c.args.x _ (empty_counted (record { shape = 1; object = c.args.object }))
-      c.in_ok-run.ensures.run.at refl c.in_ok-run.ensures.reserved c.fill_counted.ensures.filled c.hold.ensures.held;
+      c.in_ok-run.ensures.run.at refl c.in_ok-run.ensures.reserved
+      (c.fill_counted.ensures.filled
+      (reserved_is_young 3 c.requires.shown.1 c.in_ok-run.ensures.reserved c.in_ok-run.ensures.run.at))
+      c.hold.ensures.held;
 }
 
 pub returns-in_err-run-clause-carried : goal.returns-in_err-run-clause-carried

@@ -1,5 +1,5 @@
 -- The new object: its cell is put and bound, or there is no room for it.
-use Rattle.std.proofs.Common.{[], refl, ap, subst, arith}
+use Rattle.std.proofs.Common.{[], ◌+◌, refl, ap, subst, arith}
 use Rattle.heap_model.specs.Types.{Header}
 use Rattle.heap_command.specs.declared.command.Command.TheVariants.{New}
 use Rattle.page_space.specs.Extents.{Space}
@@ -8,6 +8,7 @@ use Rattle.mutator.specs.Making.{empty_plain}
 use Rattle.mutator.specs.declared.stop.Stop.TheVariants.{NoRoom}
 use Rattle.mutator.proofs.EmptyCells.{length-empty_plain}
 use Rattle.mutator.proofs.MadeCells.{plain_making, plain_made}
+use Rattle.mutator.proofs.MadeRecords.{reserved_is_young}
 use Rattle.mutator.proofs.MadeObjects.{making_carried, making_stopped, binds_made}
 use Rattle.mutator.proofs.StoppedBy.{stopped_with}
 use Rattle.mutator.proofs.making.new_plain.Goals as goal
@@ -22,7 +23,8 @@ returns c = record {
       (record {
         run = c.in_ok-run.ensures.run.at;
         taken = c.in_ok-run.ensures.reserved;
-        put = c.fill_plain.ensures.filled;
+        put = c.fill_plain.ensures.filled
+            (reserved_is_young (2 + c.args.cap) shows c.in_ok-run.ensures.reserved c.in_ok-run.ensures.run.at);
         heap = c.fill_plain.ensures.heap;
         holds = record { held = c.hold.ensures.held; heap = c.hold.ensures.heap };
       })
@@ -37,7 +39,9 @@ returns c = record {
   binds =
       let header : Header = record { shape = c.root-shape.result; object = c.args.object } in
       binds_made c.args.x _ (empty_plain header c.args.cap) c.in_ok-run.ensures.run.at
-      (length-empty_plain header c.args.cap) c.in_ok-run.ensures.reserved c.fill_plain.ensures.filled
+      (length-empty_plain header c.args.cap) c.in_ok-run.ensures.reserved
+      (c.fill_plain.ensures.filled
+      (reserved_is_young (2 + c.args.cap) c.requires.shown.1 c.in_ok-run.ensures.reserved c.in_ok-run.ensures.run.at))
       c.hold.ensures.held;
 }
 

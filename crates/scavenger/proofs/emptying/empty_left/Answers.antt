@@ -1,6 +1,7 @@
 -- The room behind the copies and then the half that is left are emptied.
-use Rattle.std.proofs.Common.{subst}
-use Rattle.page_space.specs.Extents.{Space}
+use Rattle.std.proofs.Common.{◌∙◌, ap, subst, arith}
+use Rattle.page_space.specs.Extents.{Space, eden_start}
+use Rattle.remembered_set.specs.Recorded.{Recorded}
 use Rattle.heap_table.specs.Seats.{heap_words}
 use Rattle.scavenger.specs.Walking.{EmptiesSegments}
 use Rattle.scavenger.proofs.EmptiedSegments.{emptied_all}
@@ -13,3 +14,10 @@ returns-clause-emptied c =
     let Empties : Space → Type 0 = λ (space : Space). EmptiesSegments space c.args.half mid new in
     emptied_all c.args.main.now.seat.space c.args.half c.args.fill c.args.end (heap_words c.args.main.now.seat) mid new
     c.end_copies.ensures.ends (subst Empties c.end_copies.ensures.changes.seat.space c.empty_segments.ensures.empties)
+
+pub returns-clause-recorded : goal.returns-clause-recorded
+returns-clause-recorded c in_pages behind =
+    let first = c.end_copies.ensures.recorded behind in
+    let bound = ap (λ (one : Recorded). one.bound) first in
+    let same = ap (λ (space : Space). eden_start space) c.end_copies.ensures.changes.seat.space in
+    c.empty_segments.ensures.recorded (omega (arith, bound, same, in_pages)) ∙ first

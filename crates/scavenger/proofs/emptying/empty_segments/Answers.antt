@@ -1,11 +1,14 @@
 -- The first words of a half's segments are made 0, one after another.
-use Rattle.std.proofs.Common.{◌<◌, ◌∙◌, length, sym, ap, subst, arith}
+use Rattle.std.proofs.Common.{◌+◌, ◌<◌, ◌∙◌, length, sym, ap, subst, arith}
 use Rattle.page_space.specs.declared.region.Region.TheVariants.{Segment}
 use Rattle.page_space.specs.declared.sizes.Sizes.{Sizes}
 use Rattle.page_space.specs.Extents.{Space, StartsAt, marks_start}
 use Rattle.heap_table.specs.Seats.{heap_words}
+use Rattle.remembered_set.specs.Recorded.{Recorded}
+use Rattle.write_barrier.specs.MutatorState.{Mutator}
+use Rattle.write_barrier.proofs.JudgedSlots.{wiped_behind}
 use Rattle.scavenger.proofs.CodeChanges.{changes_again, put_changes}
-use Rattle.scavenger.proofs.CodeSegments.{segment_before_marks}
+use Rattle.scavenger.proofs.CodeSegments.{segment_before_marks, segment_is_young}
 use Rattle.scavenger.proofs.EmptiedSegments.{empties_more, empties_all}
 use Rattle.scavenger.proofs.emptying.empty_segments.Goals as goal
 
@@ -32,6 +35,16 @@ loop-worker-preserved c =
       changes = changes_again changes
           (put_changes c.start.result 0 c.write.ensures.written c.write.ensures.heap
           (subst (λ (one : Space). c.start.result < marks_start one) (sym changes.seat.space) before));
+      free = ap (λ (main : Mutator). main.free) c.write.ensures.written ∙ c.loop-worker.invariant.free;
+      recorded = λ in_pages.
+          let same = c.loop-worker.invariant.recorded in_pages in
+          let young =
+          segment_is_young space c.args.half worker c.start.result c.regions-regions.ensures.within starts in
+          let bound = ap (λ (one : Recorded). one.bound) same in
+          ap (λ (main : Mutator). main.recorded) c.write.ensures.written
+          ∙ wiped_behind c.loop-worker.main.recorded c.start.result (c.start.result + 1)
+          (omega (arith, bound, in_pages, young))
+          ∙ same;
       empties = empties_more space c.args.half worker c.start.result (heap_words c.args.main.now.seat)
           (heap_words c.loop-worker.main.seat) (heap_words c.write.new.self.seat) c.loop-worker.invariant.empties starts
           within c.write.ensures.heap;

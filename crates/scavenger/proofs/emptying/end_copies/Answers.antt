@@ -1,7 +1,9 @@
 -- A 0 is put behind the copies, or nothing changes.
-use Rattle.std.proofs.Common.{◌≢◌, ◌<◌, ◌∙◌, ℕ, List, length, slice_get, ap, arith, length-set}
+use Rattle.std.proofs.Common.{◌≢◌, ◌+◌, ◌<◌, ◌∙◌, ℕ, List, length, slice_get, ap, arith, length-set}
 use Rattle.object_graph.proofs.Lists.{slice_get-set_same, slice_get-set_other}
 use Rattle.heap_table.specs.Seats.{heap_words}
+use Rattle.write_barrier.specs.MutatorState.{Mutator}
+use Rattle.write_barrier.proofs.JudgedSlots.{wiped_behind}
 use Rattle.scavenger.proofs.emptying.end_copies.Goals as goal
 
 pub returns-then-fill-end-clause-ends : goal.returns-then-fill-end-clause-ends
@@ -18,3 +20,8 @@ returns-then-fill-end-clause-ends c =
           let apart : at ≢ fill = λ same. not_fill (same, c.if-fill-end.true) in
           ap (λ (all : List ℕ). slice_get all at) is ∙ slice_get-set_other words fill at 0 apart;
     }
+
+pub returns-then-fill-end-clause-recorded : goal.returns-then-fill-end-clause-recorded
+returns-then-fill-end-clause-recorded c behind =
+    ap (λ (main : Mutator). main.recorded) c.write.ensures.written
+    ∙ wiped_behind c.args.main.now.recorded c.args.fill (c.args.fill + 1) behind

@@ -1,5 +1,6 @@
-use Rattle.scavenger.proofs.Following.{following_goes_on}
+use Rattle.scavenger.proofs.FollowSlots.{renaming_goes_on}
+use Rattle.scavenger.proofs.Following.{copying_goes_on}
 use Rattle.scavenger.proofs.laws.laws_of_following.Goals as goal
 
 pub returns : goal.returns
-returns c = following_goes_on
+returns c = record { copying = copying_goes_on; renaming = renaming_goes_on }

@@ -1,63 +1,86 @@
--- The copies are scanned in order.
-use Rattle.std.proofs.Common.{◌≡◌, ◌+◌, ℕ, ap, subst, arith}
-use Rattle.nursery.specs.Young.{other_half}
-use Rattle.scavenger.specs.Walking.{room_end, Scavenging}
-use Rattle.scavenger.proofs.CodeChanges.{changes_again}
-use Rattle.scavenger.proofs.LoopGoing.{same_room_end}
-use Rattle.scavenger.proofs.LoopSlots.{at_copy, scan_within, copy_has_words}
+-- The copies on the list are scanned.
+use Rattle.std.proofs.Common.{◌≡◌, ℕ, ◌+◌, ◌∙◌, Bool, List, [], ◌∷◌, ◌++◌, length}
+use Rattle.std.proofs.Common.{refl, sym, ap, subst, arith, length-append}
+use Rattle.page_space.specs.Extents.{eden_start}
+use Rattle.heap_model.specs.Types.{Cell}
+use Rattle.write_barrier.specs.MutatorState.{Mutator}
+use Rattle.scavenger.specs.declared.progress.Progress.{Progress}
+use Rattle.scavenger.specs.Walking.{Scavenging, IsScanned, at_copy}
+use Rattle.scavenger.proofs.LoopGoing.{same_spaces, same_young, same_eden, changes_since, copied_few}
+use Rattle.scavenger.proofs.LoopCopies.{CopiesAt, takes_copy, taken_is_there}
 use Rattle.scavenger.proofs.scanning.scavenge_copies.Goals as goal
+
+pub copies-init : goal.copies-init
+copies-init c = record { scavenging = λ start all end are state. state; capacity = refl }
 
 pub copy_at-cell-requires : goal.copy_at-cell-requires
 copy_at-cell-requires c =
     let given = c.requires.scavenging in
-    (given.0, given.1, c.copies.fill, c.copies.invariant.scavenging given.0 given.1 given.2, c.copies-test.true)
+    let state = c.copies.invariant.scavenging given.0 given.1 given.2 given.3 given.4 in
+    record { there = taken_is_there c.pop.new.self.items c.in-Some.at state c.in-Some.ensures.items }
 
-pub follow_slots-fill-requires-clause-scanned : goal.follow_slots-fill-requires-clause-scanned
-follow_slots-fill-requires-clause-scanned c =
-    let given = c.requires.scavenging in
-    let state = c.copies.invariant.scavenging given.0 given.1 given.2 in
-    let scanned = c.copy_at-cell.ensures.scanned given.0 given.1 c.copies.fill state c.copies-test.true in
-    (given.0, given.1, at_copy c.copy_at-cell.ensures.at scanned)
+-- the copy that is taken from the list is scanned, whatever the scavenge began with
+scanned : (start first old : Mutator) (all : Bool) (progress : Progress) (todo rest : List ℕ) (end at : ℕ) (cell : Cell)
+    → eden_start old.seat.space ≡ eden_start first.seat.space → todo ≡ rest ++ at ∷ []
+    → CopiesAt old at cell
+    → Scavenging start old all progress todo (at_copy end (eden_start first.seat.space) 0 0)
+    → IsScanned start old all progress rest cell
+    (at_copy end (eden_start old.seat.space) cell.at (cell.at + cell.size))
+scanned start first old all progress todo rest end at cell same is copies state =
+    subst (λ (eden : ℕ). IsScanned start old all progress rest cell
+    (at_copy end eden cell.at (cell.at + cell.size))) (sym same)
+    (takes_copy rest at cell state is (copies start all progress todo
+    (at_copy end (eden_start first.seat.space) 0 0) state))
 
-pub overflow_add-scan : goal.overflow_add-scan
-overflow_add-scan c =
+pub follow_slots-requires-clause-scanned : goal.follow_slots-requires-clause-scanned
+follow_slots-requires-clause-scanned c =
     let given = c.requires.scavenging in
-    let state = c.copies.invariant.scavenging given.0 given.1 given.2 in
-    let scanned = c.copy_at-cell.ensures.scanned given.0 given.1 c.copies.fill state c.copies-test.true in
-    let next = c.follow_slots-fill.ensures.scavenging given.0 given.1
-    (at_copy c.copy_at-cell.ensures.at scanned) in
-    omega (arith, scan_within next.filled, c.copy_at-cell.ensures.at, c.follow_slots-fill.type_inv)
+    let state = c.copies.invariant.scavenging given.0 given.1 given.2 given.3 given.4 in
+    let changes = changes_since given.4.changes state.changes in
+    record {
+      start = given.0;
+      all = given.1;
+      end = given.2;
+      are = same_spaces c.args.spaces.now changes given.3;
+      scanned = scanned given.0 c.args.main.now c.copies.main given.1 c.copies.progress c.copies.list.items
+          c.pop.new.self.items given.2 c.in-Some.at c.copy_at-cell.result (same_eden changes) c.in-Some.ensures.items
+          c.copy_at-cell.ensures state;
+    }
+
+pub follow_slots-requires-clause-room : goal.follow_slots-requires-clause-room
+follow_slots-requires-clause-room c =
+    let given = c.requires.scavenging in
+    let state = c.copies.invariant.scavenging given.0 given.1 given.2 given.3 given.4 in
+    let same = same_young (changes_since given.4.changes state.changes) in
+    omega (arith, same, c.requires.room, c.copies.invariant.capacity, c.pop.ensures.capacity)
 
 pub copies-smaller : goal.copies-smaller
 copies-smaller c =
     let given = c.requires.scavenging in
-    let state = c.copies.invariant.scavenging given.0 given.1 given.2 in
-    let scanned = at_copy c.copy_at-cell.ensures.at
-    (c.copy_at-cell.ensures.scanned given.0 given.1 c.copies.fill state c.copies-test.true) in
-    let has = copy_has_words 0 scanned (omega arith) in
-    let same : room_end c.args.main.now.seat.space (other_half c.args.main.now.young.half)
-    ≡ room_end given.0.seat.space (other_half given.0.young.half) = same_room_end given.2.changes in
-    omega (arith, has.0, has.1, c.copy_at-cell.ensures.at, same, c.requires.spaces.room_end)
+    let state = c.copies.invariant.scavenging given.0 given.1 given.2 given.3 given.4 in
+    let changes = changes_since given.4.changes state.changes in
+    let next = c.follow_slots.ensures.scavenging given.0 given.1 given.2
+    (same_spaces c.args.spaces.now changes given.3)
+    (scanned given.0 c.args.main.now c.copies.main given.1 c.copies.progress c.copies.list.items
+    c.pop.new.self.items given.2 c.in-Some.at c.copy_at-cell.result (same_eden changes) c.in-Some.ensures.items
+    c.copy_at-cell.ensures state) in
+    let few = copied_few next in
+    let young = same_young given.4.changes in
+    let grows = c.follow_slots.ensures.grows in
+    let long = ap (λ (list : List ℕ). length list) c.in-Some.ensures.items in
+    let more = length-append c.pop.new.self.items (c.in-Some.at ∷ []) in
+    omega (arith, few, young, grows.more, grows.grows, long, more)
 
 pub copies-preserved : goal.copies-preserved
 copies-preserved c = record {
-  changes = changes_again c.copies.invariant.changes c.follow_slots-fill.ensures.changes;
-  scavenging = λ start root begun.
-      let state = c.copies.invariant.scavenging start root begun in
-      let scanned = c.copy_at-cell.ensures.scanned start root c.copies.fill state c.copies-test.true in
-      let next = c.follow_slots-fill.ensures.scavenging start root
-      (at_copy c.copy_at-cell.ensures.at scanned) in
-      let end : ℕ = c.copy_at-cell.result.at + c.copy_at-cell.result.size in
-      let is : end ≡ c.copies.scan + c.copy_at-cell.result.size =
-      ap (λ (at : ℕ). at + c.copy_at-cell.result.size) c.copy_at-cell.ensures.at in
-      let At : ℕ → Type 0 = λ (scan : ℕ).
-      Scavenging start c.follow_slots-fill.new.main scan scan root c.follow_slots-fill.result in
-      subst At is next;
+  scavenging = λ start all end are begun.
+      let state = c.copies.invariant.scavenging start all end are begun in
+      let changes = changes_since begun.changes state.changes in
+      let next = c.follow_slots.ensures.scavenging start all end (same_spaces c.args.spaces.now changes are)
+      (scanned start c.args.main.now c.copies.main all c.copies.progress c.copies.list.items
+      c.pop.new.self.items end c.in-Some.at c.copy_at-cell.result (same_eden changes) c.in-Some.ensures.items
+      c.copy_at-cell.ensures state) in
+      subst (λ (eden : ℕ). Scavenging start c.follow_slots.new.main all c.follow_slots.new.progress
+      c.follow_slots.new.list.items (at_copy end eden 0 0)) (same_eden changes) next;
+  capacity = c.follow_slots.ensures.capacity ∙ c.pop.ensures.capacity ∙ c.copies.invariant.capacity;
 }
-
-pub returns-clause-scavenging : goal.returns-clause-scavenging
-returns-clause-scavenging c start root begun =
-    let state = c.copies.invariant.scavenging start root begun in
-    let is : c.copies.scan ≡ c.copies.fill = omega (arith, scan_within state.filled, c.copies-test.false) in
-    let At : ℕ → Type 0 = λ (scan : ℕ). Scavenging start c.copies.main scan scan root c.copies.fill in
-    subst At is state

@@ -1,16 +1,20 @@
--- The copies before an address are done.
-use Rattle.std.proofs.Common.{ℕ, ◌-◌}
+-- The slots of copies that are not on the list are done.
+use Rattle.std.proofs.Common.{◌≡◌, ℕ, ◌+◌, ◌-◌, Bool, length}
+use Rattle.std.specs.Vec.{vec_capacity}
+use Rattle.page_space.specs.Extents.{eden_start}
 use Rattle.write_barrier.specs.MutatorState.{Mutator}
-use Rattle.scavenger.specs.Filling.{ChangesWords}
-use Rattle.scavenger.specs.Walking.{Scavenging}
+use Rattle.scavenger.specs.Walking.{AreSpaces, Scavenging, at_copy}
 use Rattle.scavenger.proofs.scanning.scavenge_copies.Given as goal
 
 abbrev pub invariant-copies : goal.invariant-copies
 invariant-copies l = record {
-  changes : ChangesWords l.fn.main l.main;
-  scavenging : (start : Mutator) (root : ℕ) → Scavenging start l.fn.main l.spaces.room l.spaces.room root l.filled
-      → Scavenging start l.main l.scan l.scan root l.fill;
+  scavenging : (start : Mutator) (all : Bool) (end : ℕ)
+      → AreSpaces l.fn.main.seat.space l.fn.main.young.half all l.spaces
+      → Scavenging start l.fn.main all l.fn.progress l.fn.list.items
+      (at_copy end (eden_start l.fn.main.seat.space) 0 0)
+      → Scavenging start l.main all l.progress l.list.items (at_copy end (eden_start l.fn.main.seat.space) 0 0);
+  capacity : vec_capacity l.list ≡ vec_capacity l.fn.list;
 }
 
 abbrev pub decreases-copies : goal.decreases-copies
-decreases-copies l = l.spaces.room_end - l.scan
+decreases-copies l = (l.fn.main.seat.space.sizes.young - l.progress.copied) + length l.list.items

@@ -1,8 +1,17 @@
 -- The first root words of the variables before one are done.
+use Rattle.std.proofs.Common.{◌≡◌, Bool}
+use Rattle.std.specs.Vec.{vec_capacity}
+use Rattle.page_space.specs.Extents.{roots_start}
 use Rattle.handle_roots.specs.Roots.{root_at}
-use Rattle.scavenger.specs.Walking.{Scavenging}
+use Rattle.write_barrier.specs.MutatorState.{Mutator}
+use Rattle.scavenger.specs.Walking.{AreSpaces, Scavenging, at_root}
 use Rattle.scavenger.proofs.scanning.scavenge_roots.Given as goal
 
 abbrev pub invariant-loop-variable : goal.invariant-loop-variable
-invariant-loop-variable l =
-    Scavenging l.fn.main l.main l.spaces.room l.spaces.room (root_at l.fn.main.seat.space l.variable) l.fill
+invariant-loop-variable l = record {
+  scavenging : (start : Mutator) (all : Bool)
+      → AreSpaces l.fn.main.seat.space l.fn.main.young.half all l.spaces
+      → Scavenging start l.fn.main all l.fn.progress l.fn.list.items (at_root (roots_start l.fn.main.seat.space))
+      → Scavenging start l.main all l.progress l.list.items (at_root (root_at start.seat.space l.variable));
+  capacity : vec_capacity l.list ≡ vec_capacity l.fn.list;
+}

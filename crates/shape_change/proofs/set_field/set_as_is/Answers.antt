@@ -3,7 +3,7 @@ use Rattle.std.proofs.Common.{◌≡◌, ◌<◌, ℕ, refl, sym, subst}
 use Rattle.heap_model.specs.Types.{Word}
 use Rattle.page_space.specs.Extents.{marks_start}
 use Rattle.heap_table.specs.Seats.{RestStays}
-use Rattle.write_barrier.specs.MutatorState.{Mutator, with_word}
+use Rattle.write_barrier.specs.MutatorState.{Mutator, with_word, with_slot}
 use Rattle.object_cells.specs.declared.content.SlotContent.{SlotContent}
 use Rattle.object_cells.specs.declared.content.SlotContent.TheVariants as content
 use Rattle.object_cells.specs.declared.content.SlotWrite.TheVariants as filling
@@ -14,7 +14,7 @@ use Rattle.shape_change.proofs.set_field.set_as_is.Goals as goal
 
 -- a tagged word fills a slot before the marks
 tagged_fills : (old new : Mutator) (at : ℕ) (word : Word) → at < marks_start old.seat.space
-    → new ≡ with_word old at word.0 → FillsSlot old new at (content.Tagged word)
+    → new ≡ with_slot old at word.0 → FillsSlot old new at (content.Tagged word)
 tagged_fills old new at word below is = record {
   between = old;
   allocates = refl;

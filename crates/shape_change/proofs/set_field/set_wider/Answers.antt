@@ -60,5 +60,5 @@ returns c =
       header = c.args.header;
       is_header = c.requires.headed;
       fills = search rules;
-      beside = put_rest c.args.object _ stays c.set_shape.ensures.put below;
+      beside = put_rest c.args.object _ stays (ap (λ (main : Mutator). main.seat) c.set_shape.ensures.put) below;
     }

@@ -1,9 +1,9 @@
 -- The slots before have moved.
 use Rattle.std.proofs.Common.{◌+◌}
 use Rattle.tagged_word.specs.Cells.{store_head}
-use Rattle.shape_change.specs.Shifts.{MovesDown}
+use Rattle.shape_change.specs.Shifts.{MovesDown, beside_touch}
 use Rattle.shape_change.proofs.shift_slots.move_beside.Given as goal
 
 abbrev pub invariant-loop-slot : goal.invariant-loop-slot
 invariant-loop-slot l =
-    MovesDown l.fn.main l.main (l.store + (store_head + l.from)) (l.store + (store_head + l.slot))
+    MovesDown l.fn.main l.main (l.store + (store_head + l.from)) (l.store + (store_head + l.slot)) beside_touch

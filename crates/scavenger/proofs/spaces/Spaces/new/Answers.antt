@@ -9,7 +9,8 @@ use Rattle.scavenger.proofs.spaces.Spaces.new.Goals as goal
 pub returns : goal.returns
 returns c =
     spaces_are c.args.regions.now c.sizes-sizes.result c.args.half c.start-eden.result c.start-left.result
-    c.start-room.result c.sizes-sizes.ensures c.requires c.start-eden.ensures.starts c.start-left.ensures.starts
+    c.start-room.result c.args.promote_all c.sizes-sizes.ensures c.requires c.start-eden.ensures.starts
+    c.start-left.ensures.starts
     c.start-room.ensures.starts
 
 pub overflow_add-result : goal.overflow_add-result
@@ -31,7 +32,8 @@ overflow_add-result-3 c =
     let space = c.args.regions.now in
     let kinds = kinds_by_number space in
     let are = spaces_are space c.sizes-sizes.result c.args.half c.start-eden.result c.start-left.result
-    c.start-room.result c.sizes-sizes.ensures c.requires c.start-eden.ensures.starts c.start-left.ensures.starts
+    c.start-room.result c.args.promote_all c.sizes-sizes.ensures c.requires c.start-eden.ensures.starts
+    c.start-left.ensures.starts
     c.start-room.ensures.starts in
     omega (
       arith,

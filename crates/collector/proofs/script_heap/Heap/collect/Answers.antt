@@ -1,0 +1,31 @@
+use Rattle.std.proofs.Common.{ℕ, ap}
+use Rattle.std.specs.Vec.{vec_capacity}
+use Rattle.collector.specs.States.{Spare}
+use Rattle.collector.proofs.Keeping.{still_shows}
+use Rattle.collector.proofs.script_heap.Heap.collect.Goals as goal
+
+pub scavenge-requires : goal.scavenge-requires
+scavenge-requires c =
+    let (graph, shown) = c.requires.shown in
+    record {
+      shown = (graph, rw (← c.self.view_is) at shown.main);
+      room = rw (← c.self.view_is) at shown.listed;
+    }
+
+pub returns : goal.returns
+returns c =
+    let done = c.scavenge.ensures in
+    let old : Spare = record {
+      image = c.self.inside.spare;
+      reserved = vec_capacity c.self.inside.memory;
+      places = vec_capacity c.self.inside.list;
+    } in
+    let spare = ap (λ (places : ℕ). record old { places = places }) done.capacity in
+    rw (← c.self.view_is)
+    (record {
+      scavenged = done.scavenged;
+      shows = λ graph shown.
+          still_shows _ _ graph shown spare done.scavenged.seat.space (done.keeps.shows graph shown.main);
+      rooms = done.keeps;
+      spare = spare;
+    })

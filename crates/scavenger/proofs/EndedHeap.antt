@@ -1,0 +1,81 @@
+-- A scavenge that has come to its end: the heap that is left is the old one, moved, its young cells are the home copies
+-- that stayed young, and these fill the segment.
+use Rattle.std.proofs.Common.{◌≡◌, ℕ, ◌+◌, ◌-◌, ◌≤◌, ◌↔◌, Bool, List, Contains, sym, ◌∙◌, ap, subst, arith}
+use Rattle.page_space.specs.Extents.{eden_start}
+use Rattle.nursery.specs.Young.{Young, IsYoung, turned}
+use Rattle.heap_table.specs.Seats.{heap_words}
+use Rattle.heap_model.specs.Types.{Cell}
+use Rattle.heap_model.specs.Heaps.{HasCell}
+use Rattle.heap_moves.specs.Moved.{IsMoved}
+use Rattle.write_barrier.specs.MutatorState.{Mutator, heap_of}
+use Rattle.scav_copy.specs.declared.places.Home.{Home}
+use Rattle.scav_copy.specs.Places.{Fixed}
+use Rattle.scavenger.specs.Starts.{start_of, room_start}
+use Rattle.scavenger.specs.Filling.{Tiles}
+use Rattle.scavenger.specs.Laws.{IsEnded}
+use Rattle.scavenger.specs.Scavenged.{place_after, words_of_homes}
+use Rattle.scavenger.proofs.EndWords.{Ending, stayed_is, is_stayed}
+use Rattle.scavenger.proofs.EndRows.{ended_heap, stayed_words}
+use Rattle.scavenger.proofs.EndHeap.{few_stayed}
+use Rattle.scavenger.proofs.EndMoved.{is_moved, alone}
+
+module _ {old new : Mutator} {all : Bool} {fixed : Fixed} {homes : List Home} {words : List ℕ} {fill refused : ℕ}
+    (young : IsYoung old.young) (is : IsEnded old new all fixed homes words fill refused) where
+  -- an end of a scavenge, by its parts
+  abbrev pub ending_is : Ending (start_of old) old.young.half fixed homes new.free words (heap_words new.seat) fill
+  ending_is = record {
+    limits = is.limits;
+    halves = omega (arith, young.half);
+    begun = is.begun;
+    filled = is.filled;
+    done = is.done;
+    emptied = is.emptied;
+  }
+
+  -- the segment is filled as far as the copies that stayed young have words
+  pub left_words : fill - room_start old.seat.space (start_of old).half ≡ words_of_homes fixed is.filled.stayed
+  left_words = omega (arith, stayed_words ending_is)
+
+  -- so the nursery was turned to these
+  pub left_young : new.young ≡ turned old.young (words_of_homes fixed is.filled.stayed)
+  left_young = is.young ∙ ap (turned old.young) left_words
+
+  -- the heap that is left is the one at the end
+  pub left_is : heap_of new ≡ ended_heap (heap_of old) fixed is.filled.stayed (heap_words new.seat)
+  left_is = λ i. record {
+    space = is.seat.space i;
+    used = ap (λ (one : Young). one.used) left_young i;
+    survivors = ap (λ (one : Young). one.survivors) left_young i;
+    paths = is.paths i;
+    words = heap_words new.seat;
+  }
+
+  -- it is the old one, moved
+  pub left_is_moved : IsMoved (heap_of old) (heap_of new) (place_after (start_of old) homes)
+  left_is_moved =
+      subst (λ heap. IsMoved (heap_of old) heap (place_after (start_of old) homes)) (sym left_is) (is_moved ending_is)
+
+  -- its young cells are home copies
+  pub left_alone : (cell : Cell) (body : List ℕ) → HasCell (heap_of new) cell body → eden_start old.seat.space ≤ cell.at
+      → (home : Home) × Contains homes home × (home.to ≡ cell.at)
+  left_alone cell body has from =
+      alone ending_is cell body (subst (λ heap. HasCell heap cell body) left_is has) from
+
+  -- those that stay young are the ones that begin behind the pages
+  pub left_stayed : (home : Home) → Contains is.filled.stayed home
+      ↔ (Contains homes home × (eden_start old.seat.space ≤ home.to))
+  left_stayed home = (
+    λ there. stayed_is ending_is home there,
+    λ both. is_stayed ending_is home both.0 both.1,
+  )
+
+  -- they fill the segment from its start on
+  pub left_tiles : let from = room_start old.seat.space (start_of old).half in
+      Tiles fixed from (from + words_of_homes fixed is.filled.stayed) is.filled.stayed
+  left_tiles =
+      subst (λ end. Tiles fixed (room_start old.seat.space (start_of old).half) end is.filled.stayed)
+      (sym (stayed_words ending_is)) is.filled.tiles
+
+  -- and have no more words than survivors and eden's used words together
+  pub left_few : words_of_homes fixed is.filled.stayed ≤ old.young.survivors + old.young.used
+  left_few = few_stayed ending_is

@@ -1,0 +1,109 @@
+-- Each free run lies in one of the rooms that copies may go to.
+use Rattle.std.proofs.Common.{◌≡◌, ◌≢◌, ℕ, ◌+◌, ◌-◌, ◌*◌, ◌<◌, ◌≤◌, inl, inr, List, [], ◌∷◌, Contains}
+use Rattle.std.proofs.Common.{refl, ap, subst, arith}
+use Rattle.std.proofs.lemmas.Bool.{cases_lt}
+use Rattle.tagged_word.proofs.Members.{in_cases}
+use Rattle.page_space.specs.Sizes.{page_words}
+use Rattle.free_runs.specs.FreeRuns.{AscendIn, AreFree, row_of}
+use Rattle.free_runs.specs.Laws.{IsOfRun, IsFreeWord}
+use Rattle.heap_model.specs.Types.{Run}
+use Rattle.scav_copy.specs.declared.places.Home.{Home}
+use Rattle.scav_copy.specs.declared.places.Room.{Room}
+use Rattle.scav_copy.specs.Places.{Fixed}
+use Rattle.scav_copy.specs.Copies.{LiesInRoom}
+use Rattle.scav_copy.proofs.Spots.{none_in}
+use Rattle.scavenger.specs.Starts.{Start, IsBegun, IsRunOf, room_of_run}
+use Rattle.scavenger.specs.Filling.{IsFilled}
+use Rattle.scavenger.proofs.PagesRuns.{lies_in_row, run_in, one_run, run_of_word, word_of_run}
+
+-- no run of a row begins where another ends
+none_touches : (start end : ℕ) (runs : List Run) (run other : Run) → AscendIn start end runs → Contains runs run
+    → Contains runs other → run.at + run.words ≢ other.at
+none_touches start end [] run other ascend there there_too same = absurd (none_in run there)
+none_touches start end (first ∷ more) run other ascend there there_too same =
+    let behind = first.at + first.words + 1 in
+    elim (in_cases first more run there) [
+      | inl is ↦
+          let ends : first.at + first.words ≡ run.at + run.words = ap (λ (one : Run). one.at + one.words) is in
+          elim (in_cases first more other there_too) [
+            | inl is_too ↦
+                let at : first.at ≡ other.at = ap (λ (one : Run). one.at) is_too in
+                omega (arith, ends, at, same, ascend.0.some)
+            | inr later ↦
+                let lies = lies_in_row behind end more other ascend.1 later in omega (arith, ends, same, lies.from)
+          ]
+      | inr later ↦ elim (in_cases first more other there_too) [
+        | inl is_too ↦
+            let at : first.at ≡ other.at = ap (λ (one : Run). one.at) is_too in
+            let lies = lies_in_row behind end more run ascend.1 later in omega (arith, at, same, lies.from)
+        | inr later_too ↦ none_touches behind end more run other ascend.1 later later_too same
+      ]
+    ]
+
+-- where a run ends, in its page, no word is free
+behind_is_taken : (rows : List (List Run)) (run : Run) → (free : AreFree rows) → (is : IsRunOf rows run)
+    → run.at + run.words < page_words * (run_in rows run free is).page + page_words
+    → IsFreeWord rows (run.at + run.words) → ⊥
+behind_is_taken rows run free is within word =
+    let end : ℕ = run.at + run.words in
+    let has = run_of_word rows end word in
+    let other : Run = has.run in
+    let one = run_in rows run free is in
+    let two = run_in rows other free has.is in
+    elim (cases_lt other.at end) [
+      | inl before ↦
+          let same : run ≡ other =
+          one_run rows run other (end - 1) free is has.is
+          (record { from = omega (arith, one.some); below = omega (arith, one.some) })
+          (record { from = omega (arith, before); below = omega (arith, has.of_run.below) }) in
+          let ends : run.at + run.words ≡ other.at + other.words = ap (λ (r : Run). r.at + r.words) same in
+          omega (arith, ends, has.of_run.below)
+      | inr from ↦
+          let pages : two.page ≡ one.page =
+          omega (arith, one.from, one.some, within, two.from, two.below, has.of_run.from, has.of_run.below) in
+          none_touches (page_words * one.page) (page_words * (one.page + 1)) (row_of rows one.page) run other
+          (free one.page one.there) one.among
+          (subst (λ (page : ℕ). Contains (row_of rows page) other) pages two.among)
+          (omega (arith, from, has.of_run.from))
+    ]
+
+-- a free run lies in one of the free runs of before
+record LiesInRun (rows : List (List Run)) (run : Run) : Type 0 where
+  whole : Run
+  is : IsRunOf rows whole
+  from : whole.at ≤ run.at
+  ends : run.at + run.words ≤ whole.at + whole.words
+
+-- where each of its words was free
+lies_in_run : (rows now : List (List Run)) (run : Run) → AreFree rows → AreFree now → IsRunOf now run
+    → ((at : ℕ) → IsFreeWord now at → IsFreeWord rows at) → LiesInRun rows run
+lies_in_run rows now run free free_now is were =
+    let one = run_in now run free_now is in
+    let word : (at : ℕ) → IsOfRun run at → IsFreeWord rows at =
+    λ at of_run. were at (word_of_run now run at free_now is of_run) in
+    let first = run_of_word rows run.at
+    (word run.at (record { from = omega arith; below = omega (arith, one.some) })) in
+    let whole : Run = first.run in
+    let two = run_in rows whole free first.is in
+    elim (cases_lt (whole.at + whole.words) (run.at + run.words)) [
+      | inl less ↦
+          absurd (behind_is_taken rows whole free first.is
+          (omega (arith, one.from, one.below, two.from, two.below, first.of_run.from, first.of_run.below, less))
+          (word (whole.at + whole.words) (record { from = omega (arith, first.of_run.below); below = less })))
+      | inr ends ↦ record { whole = whole; is = first.is; from = first.of_run.from; ends = ends }
+    ]
+
+-- so it lies in a room
+pub run_lies : {start : Start} {fixed : Fixed} {words : List ℕ} {rows : List (List Run)} {homes : List Home}
+    {fill : ℕ} (run : Run) → IsBegun start fixed → IsFilled start fixed words rows homes fill → IsRunOf rows run
+    → (room : Room) × LiesInRoom fixed room run.at run.words
+run_lies {start} {rows = rows} run begun filled is =
+    let lies = lies_in_run start.rows rows run begun.apart filled.free is (λ at free. (filled.left at).1 (inl free)) in
+    let room : Room = room_of_run start.heap.space lies.whole in (
+      room,
+      record {
+        among = (begun.begins.rooms room).1 (inr (lies.whole, lies.is, refl));
+        from = lies.from;
+        ends = lies.ends;
+      },
+    )

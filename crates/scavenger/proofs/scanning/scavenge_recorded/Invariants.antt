@@ -1,0 +1,19 @@
+-- The recorded slots before an address are done.
+use Rattle.std.proofs.Common.{◌≡◌, ℕ, ◌-◌, Bool}
+use Rattle.std.specs.Vec.{vec_capacity}
+use Rattle.page_space.specs.Extents.{eden_start}
+use Rattle.write_barrier.specs.MutatorState.{Mutator}
+use Rattle.scavenger.specs.Walking.{AreSpaces, Scavenging, at_recorded}
+use Rattle.scavenger.proofs.scanning.scavenge_recorded.Given as goal
+
+abbrev pub invariant-recorded : goal.invariant-recorded
+invariant-recorded l = record {
+  scavenging : (start : Mutator) (all : Bool) (end : ℕ)
+      → AreSpaces l.fn.main.seat.space l.fn.main.young.half all l.spaces
+      → Scavenging start l.fn.main all l.fn.progress l.fn.list.items (at_recorded end 0)
+      → Scavenging start l.main all l.progress l.list.items (at_recorded end l.from);
+  capacity : vec_capacity l.list ≡ vec_capacity l.fn.list;
+}
+
+abbrev pub decreases-recorded : goal.decreases-recorded
+decreases-recorded l = eden_start l.fn.main.seat.space - l.from
