@@ -1,6 +1,6 @@
 -- A heap on which a command is tried: it is as it was, or a scavenge made room for the command.
-use Rattle.std.proofs.Common.{◌≡◌, ◌≢◌, ◌∙◌, ℕ, ◌<◌, List, [], Bool, true, false, length, Result, Err, if◌then◌else◌}
-use Rattle.std.proofs.Common.{ap, arith, sym, subst, refl}
+use Rattle.std.proofs.Common.{◌≡◌, ◌≢◌, ◌∙◌, ℕ, ◌<◌, List, [], Bool, true, false, length}
+use Rattle.std.proofs.Common.{Result, Err, if◌then◌else◌, ap, arith, sym, subst, refl}
 use Rattle.heap_model.specs.Types.{Command, FaultWord}
 use Rattle.heap_command.specs.declared.command.Command.TheVariants.{Scavenge}
 use Rattle.heap_command.specs.Commands.{IsWithin}
@@ -91,7 +91,8 @@ at_first (IsReady.first same) shown counted told = (same, refl)
 at_first (IsReady.again made) shown counted told = absurd (no_third made shown counted told)
 
 module _ (names : List (List ℕ)) {old now : HeapState} (after : HeapState) {objects counted need : ℕ} {command : Command}
-    {stop : Stop} {Rest : Type 0} {second : Bool} (ready : IsReady names old now objects command second) (same : counted ≡ objects)
+    {stop : Stop} {Rest : Type 0} {second : Bool} (ready : IsReady names old now objects command second)
+    (same : counted ≡ objects)
     (within : IsWithin old.main.seat.space.variables field_numbers command) (is : stop ≡ NoRoom need)
     (carried : (graph : Graph) → HeapShows now graph → counted ≡ length graph.objects
     → (text : List ℕ) × Tries names now.main after.main graph command text (Err stop) × Rest) where
@@ -123,8 +124,8 @@ module _ (names : List (List ℕ)) {old now : HeapState} (after : HeapState) {ob
       same_heap old after (refused_always graph shown made).same (spare ∙ ready_spare ready)
 
 -- a heap that was asked for the words that a refused command lacked was scavenged for them
-pub scavenged_for : {names : List (List ℕ)} {old mid new : HeapState} {graph : Graph} {command : Command} {need : ℕ} → mid ≡ old
-    → IsRefused names old.main mid.main graph command need
+pub scavenged_for : {names : List (List ℕ)} {old mid new : HeapState} {graph : Graph} {command : Command} {need : ℕ}
+    → mid ≡ old → IsRefused names old.main mid.main graph command need
     → ((HasRoom mid.main.young need → ⊥) → ScavengesFor mid.main new.main need)
     → ((graph : Graph) → HeapShows mid graph → HeapShows new graph) → KeepsGraphs mid.main new.main
     → new.spare ≡ mid.spare → IsScavenged old new need

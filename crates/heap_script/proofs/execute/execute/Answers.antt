@@ -95,7 +95,8 @@ returns-in-Weak-clause-carried c = λ graph shown made.
 
 pub returns-in-LetValue-clause-carried : goal.returns-in-LetValue-clause-carried
 returns-in-LetValue-clause-carried c = λ graph shown made.
-    let carries = c.let_value.ensures.carried graph c.args.script.now.fields (shows_lent c.main_mut-in-LetValue.ensures.main shown) in (
+    let carries =
+    c.let_value.ensures.carried graph c.args.script.now.fields (shows_lent c.main_mut-in-LetValue.ensures.main shown) in (
       [],
       rw c.in-LetValue.is (tried c.main_mut-in-LetValue.ensures.main (λ e. cc) carries),
       written_nothing (is_ok c.let_value.result) c.args.out.now,
@@ -103,7 +104,8 @@ returns-in-LetValue-clause-carried c = λ graph shown made.
 
 pub returns-in-DropVar-clause-carried : goal.returns-in-DropVar-clause-carried
 returns-in-DropVar-clause-carried c = λ graph shown made.
-    let carries = c.drop_var.ensures.carried graph c.args.script.now.fields (shows_lent c.main_mut-in-DropVar.ensures.main shown) in (
+    let carries =
+    c.drop_var.ensures.carried graph c.args.script.now.fields (shows_lent c.main_mut-in-DropVar.ensures.main shown) in (
       [],
       rw c.in-DropVar.is (tried c.main_mut-in-DropVar.ensures.main (λ e. cc) carries),
       written_nothing (is_ok c.drop_var.result) c.args.out.now,
@@ -207,17 +209,20 @@ returns-in-WDel-clause-carried c = λ graph shown made.
 
 pub returns-in-Print-clause-carried : goal.returns-in-Print-clause-carried
 returns-in-Print-clause-carried c = λ graph shown made.
-    let (text, carries, out-is) = c.print.ensures.carried graph c.args.script.now.fields (shows_lent c.main_mut-in-Print.ensures.main shown) in
+    let (text, carries, out-is) =
+    c.print.ensures.carried graph c.args.script.now.fields (shows_lent c.main_mut-in-Print.ensures.main shown) in
     (text, rw c.in-Print.is (tried c.main_mut-in-Print.ensures.main (λ e. cc) carries), out-is)
 
 pub returns-in-Same-clause-carried : goal.returns-in-Same-clause-carried
 returns-in-Same-clause-carried c = λ graph shown made.
-    let (text, carries, out-is) = c.same.ensures.carried graph c.args.script.now.fields (shows_lent c.main_mut-in-Same.ensures.main shown) in
+    let (text, carries, out-is) =
+    c.same.ensures.carried graph c.args.script.now.fields (shows_lent c.main_mut-in-Same.ensures.main shown) in
     (text, rw c.in-Same.is (tried c.main_mut-in-Same.ensures.main (λ e. cc) carries), out-is)
 
 pub returns-in-Alike-clause-carried : goal.returns-in-Alike-clause-carried
 returns-in-Alike-clause-carried c = λ graph shown made.
-    let (text, carries, out-is) = c.alike.ensures.carried graph c.args.script.now.fields (shows_lent c.main_mut-in-Alike.ensures.main shown) in
+    let (text, carries, out-is) =
+    c.alike.ensures.carried graph c.args.script.now.fields (shows_lent c.main_mut-in-Alike.ensures.main shown) in
     (text, rw c.in-Alike.is (tried c.main_mut-in-Alike.ensures.main (λ e. cc) carries), out-is)
 
 pub returns-in-Shape-clause-carried : goal.returns-in-Shape-clause-carried
